@@ -1,0 +1,33 @@
+-- Labels of vertices, read as functions from the vertex: when they are least, settled, sound.
+use Rattle.std.specs.Prelude.{ℕ, ◌+◌, ◌<◌, ◌≤◌, min, List, All}
+use Rattle.route_walks.specs.declared.graph.ArcRec.{ArcRec}
+use Rattle.route_walks.specs.declared.graph.Seed.{Seed}
+use Rattle.route_walks.specs.declared.graph.TheConstants.{INF}
+use Rattle.route_walks.specs.Walk.{IsAttained}
+
+-- d is the least label of v: the smallest number attained there, or INF where none below INF is
+pub record IsLeast (arcs : List ArcRec) (seeds : List Seed) (v d : ℕ) : Type 0 where
+  pub capped : d ≤ INF
+  pub attained : d < INF → IsAttained arcs seeds v d
+  pub least : (c : ℕ) → IsAttained arcs seeds v c → d ≤ c
+
+-- each of n vertices has its least label
+abbrev pub AreLeast : ℕ → List ArcRec → List Seed → (ℕ → ℕ) → Type 0
+AreLeast n arcs seeds label = (v : ℕ) → v < n → IsLeast arcs seeds v (label v)
+
+-- a seed is met: its vertex has a label of at most its start
+abbrev pub IsMet : (ℕ → ℕ) → Seed → Type 0
+IsMet label seed = label seed.vertex ≤ seed.start
+
+-- an arc is relaxed: going along it gives its head no lower label
+abbrev pub IsRelaxed : (ℕ → ℕ) → ArcRec → Type 0
+IsRelaxed label arc = label arc.head ≤ min (label arc.tail + arc.weight) INF
+
+-- labels are settled: all seeds are met and all arcs are relaxed
+pub record IsSettled (arcs : List ArcRec) (seeds : List Seed) (label : ℕ → ℕ) : Type 0 where
+  pub met : All (IsMet label) seeds
+  pub relaxed : All (IsRelaxed label) arcs
+
+-- labels are sound: each of n vertices has a label that is attained, or is INF or more
+abbrev pub IsSound : ℕ → List ArcRec → List Seed → (ℕ → ℕ) → Type 0
+IsSound n arcs seeds label = (v : ℕ) → v < n → label v < INF → IsAttained arcs seeds v (label v)

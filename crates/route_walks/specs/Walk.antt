@@ -1,0 +1,35 @@
+-- Walks, their costs, and the numbers that they attain. (The terms are those of any text on shortest
+-- paths, as Ahuja, Magnanti and Orlin, Network Flows, chapters 2 and 4.)
+use Rattle.std.specs.Prelude.{◌≡◌, ℕ, ◌+◌, ◌<◌, List, [], ◌∷◌, sum_by, All, Contains}
+use Rattle.route_walks.specs.declared.graph.ArcRec.{ArcRec}
+use Rattle.route_walks.specs.declared.graph.Seed.{Seed}
+
+-- the ends of an arc are among n vertices
+abbrev pub IsArcBelow : ℕ → ArcRec → Type 0
+IsArcBelow n arc = (arc.tail < n) × (arc.head < n)
+
+-- the ends of all arcs are among n vertices
+abbrev pub IsGraph : ℕ → List ArcRec → Type 0
+IsGraph n arcs = All (IsArcBelow n) arcs
+
+-- the vertices of all seeds are among n vertices
+abbrev pub AreSeeds : ℕ → List Seed → Type 0
+AreSeeds n seeds = All (λ seed. seed.vertex < n) seeds
+
+-- a walk from u to v: arcs of the graph, the first leaving u, each head the next tail, the last
+-- entering v; the empty walk stays where it is
+abbrev pub IsWalk : List ArcRec → ℕ → List ArcRec → ℕ → Type 0
+IsWalk arcs u [] v = u ≡ v
+IsWalk arcs u (arc ∷ walk) v = Contains arcs arc × (arc.tail ≡ u) × IsWalk arcs arc.head walk v
+
+-- the sum of a walk's weights
+abbrev pub cost : List ArcRec → ℕ
+cost walk = sum_by (λ arc. arc.weight) walk
+
+-- c is attained at v: some walk from some seed ends at v, and the seed's start and the walk's cost make c
+pub record IsAttained (arcs : List ArcRec) (seeds : List Seed) (v c : ℕ) : Type 0 where
+  pub seed : Seed
+  pub walk : List ArcRec
+  pub seeded : Contains seeds seed
+  pub walks : IsWalk arcs seed.vertex walk v
+  pub costs : seed.start + cost walk ≡ c

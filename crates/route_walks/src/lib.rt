@@ -1,0 +1,17 @@
+//! What is a least label?
+//!
+//! A directed graph has `n` vertices, counted from 0, and a list of arcs with whole-number weights.
+//! Seeds are vertices with a number to start from. A number is attained at a vertex if it is the
+//! start of a seed plus the weights of some walk from there, and the least label of a vertex is the
+//! smallest such number, or `INF` where there is none. The laws say why labels that no arc can
+//! lower, and that are each attained, are least; and `plain_labels` computes them slowly, with no
+//! worklist and no thread.
+//!
+//! The lowest crate: it stands on the standard library alone.
+#![tactic(auto)]
+
+mod graph;
+mod refusal;
+
+pub use graph::{ArcRec, INF, Seed};
+pub use refusal::Memory;
