@@ -1,5 +1,5 @@
 -- Labels of vertices, read as functions from the vertex: when they are least, settled, sound.
-use Rattle.std.specs.Prelude.{ℕ, ◌+◌, ◌<◌, ◌≤◌, min, List, All}
+use Rattle.std.specs.Prelude.{◌≡◌, ℕ, ◌+◌, ◌<◌, ◌≤◌, min, List, All}
 use Rattle.route_walks.specs.declared.graph.ArcRec.{ArcRec}
 use Rattle.route_walks.specs.declared.graph.Seed.{Seed}
 use Rattle.route_walks.specs.declared.graph.TheConstants.{INF}
@@ -28,6 +28,22 @@ pub record IsSettled (arcs : List ArcRec) (seeds : List Seed) (label : ℕ → �
   pub met : All (IsMet label) seeds
   pub relaxed : All (IsRelaxed label) arcs
 
--- labels are sound: each of n vertices has a label that is attained, or is INF or more
+-- labels are sound: among n vertices, every label below INF is attained
 abbrev pub IsSound : ℕ → List ArcRec → List Seed → (ℕ → ℕ) → Type 0
 IsSound n arcs seeds label = (v : ℕ) → v < n → label v < INF → IsAttained arcs seeds v (label v)
+
+-- no label among n vertices is above INF
+abbrev pub AreCapped : ℕ → (ℕ → ℕ) → Type 0
+AreCapped n label = (v : ℕ) → v < n → label v ≤ INF
+
+-- labels that are settled and sound are least
+abbrev pub SettledAndSoundAreLeast : Type 0
+SettledAndSoundAreLeast =
+    (n : ℕ) (arcs : List ArcRec) (seeds : List Seed) (label : ℕ → ℕ)
+    → AreCapped n label → IsSettled arcs seeds label → IsSound n arcs seeds label → AreLeast n arcs seeds label
+
+-- a vertex has only one least label
+abbrev pub LeastLabelsAreUnique : Type 0
+LeastLabelsAreUnique =
+    (arcs : List ArcRec) (seeds : List Seed) (v c d : ℕ)
+    → IsLeast arcs seeds v c → IsLeast arcs seeds v d → c ≡ d

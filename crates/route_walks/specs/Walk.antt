@@ -1,6 +1,6 @@
 -- Walks, their costs, and the numbers that they attain. (The terms are those of any text on shortest
 -- paths, as Ahuja, Magnanti and Orlin, Network Flows, chapters 2 and 4.)
-use Rattle.std.specs.Prelude.{◌≡◌, ℕ, ◌+◌, ◌<◌, List, [], ◌∷◌, sum_by, All, Contains}
+use Rattle.std.specs.Prelude.{◌≡◌, ℕ, ◌+◌, ◌<◌, ◌≤◌, List, [], ◌∷◌, length, All, Contains}
 use Rattle.route_walks.specs.declared.graph.ArcRec.{ArcRec}
 use Rattle.route_walks.specs.declared.graph.Seed.{Seed}
 
@@ -24,12 +24,27 @@ IsWalk arcs u (arc ∷ walk) v = Contains arcs arc × (arc.tail ≡ u) × IsWalk
 
 -- the sum of a walk's weights
 abbrev pub cost : List ArcRec → ℕ
-cost walk = sum_by (λ arc. arc.weight) walk
+cost [] = 0
+cost (arc ∷ walk) = arc.weight + cost walk
 
--- c is attained at v: some walk from some seed ends at v, and the seed's start and the walk's cost make c
+-- c is attained at v: some walk from some seed ends at v, and the seed's start and the walk's cost
+-- make c
 pub record IsAttained (arcs : List ArcRec) (seeds : List Seed) (v c : ℕ) : Type 0 where
   pub seed : Seed
   pub walk : List ArcRec
   pub seeded : Contains seeds seed
   pub walks : IsWalk arcs seed.vertex walk v
   pub costs : seed.start + cost walk ≡ c
+
+-- some walk from u to v has fewer than n arcs and costs no more than the given number
+pub record HasShortWalk (n : ℕ) (arcs : List ArcRec) (u v most : ℕ) : Type 0 where
+  pub walk : List ArcRec
+  pub walks : IsWalk arcs u walk v
+  pub short : length walk < n
+  pub cheap : cost walk ≤ most
+
+-- among n vertices a walk can be cut to fewer than n arcs, at no more cost
+abbrev pub WalksCanBeCut : Type 0
+WalksCanBeCut =
+    (n : ℕ) (arcs : List ArcRec) (u v : ℕ) (walk : List ArcRec)
+    → IsGraph n arcs → u < n → IsWalk arcs u walk v → HasShortWalk n arcs u v (cost walk)

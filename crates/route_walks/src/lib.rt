@@ -11,7 +11,14 @@
 #![tactic(auto)]
 
 mod graph;
+pub mod laws;
+mod plain;
+mod problem;
 mod refusal;
+#[cfg(test)]
+mod tests;
 
 pub use graph::{ArcRec, INF, Seed};
+pub use plain::{is_settled, plain_labels};
+pub use problem::{both_ways, seeds_all, seeds_from, unit_weights};
 pub use refusal::Memory;

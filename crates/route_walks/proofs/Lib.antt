@@ -1,0 +1,4 @@
+pub mod Cuts
+pub mod Labels
+pub mod Lowering
+pub mod Components

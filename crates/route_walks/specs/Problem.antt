@@ -1,0 +1,37 @@
+-- The three problems: which arcs and which seeds give distances, hop levels and components.
+use Rattle.std.specs.Prelude.{ℕ, List, [], ◌∷◌, map}
+use Rattle.std.specs.List.{range_with_len, flat_map}
+use Rattle.route_walks.specs.declared.graph.ArcRec.{ArcRec}
+use Rattle.route_walks.specs.declared.graph.Seed.{Seed}
+
+-- for distances and hop levels from s: the one seed (s, 0)
+abbrev pub seeds_from : ℕ → List Seed
+seeds_from s = record { vertex = s; start = 0 } ∷ []
+
+-- for components: a vertex is a seed that starts at its own number
+abbrev pub seed_at : ℕ → Seed
+seed_at v = record { vertex = v; start = v }
+
+-- for components: each of n vertices is such a seed
+abbrev pub seeds_all : ℕ → List Seed
+seeds_all n = map seed_at (range_with_len 0 n)
+
+-- the same arc with weight 1
+abbrev pub unit_weight : ArcRec → ArcRec
+unit_weight arc = record arc { weight = 1 }
+
+-- for hop levels: each arc counts 1
+abbrev pub unit_weights : List ArcRec → List ArcRec
+unit_weights arcs = map unit_weight arcs
+
+-- an arc as it points, at no cost
+abbrev pub along : ArcRec → ArcRec
+along arc = record { tail = arc.tail; head = arc.head; weight = 0 }
+
+-- an arc turned round, at no cost
+abbrev pub against : ArcRec → ArcRec
+against arc = record { tail = arc.head; head = arc.tail; weight = 0 }
+
+-- for components: each arc along and against, at no cost
+abbrev pub both_ways : List ArcRec → List ArcRec
+both_ways arcs = flat_map (λ arc. along arc ∷ against arc ∷ []) arcs

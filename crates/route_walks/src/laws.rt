@@ -1,0 +1,28 @@
+//! Laws of walks, labels and components: each is the contract of a function that does nothing.
+
+ghost use Rattle.route_walks.specs.Walk.{WalksCanBeCut};
+ghost use Rattle.route_walks.specs.Label.{SettledAndSoundAreLeast, LeastLabelsAreUnique};
+ghost use Rattle.route_walks.specs.Component.{LeastLabelsAreComponents};
+
+/// Among `n` vertices each walk can be cut to at most `n - 1` arcs, at no more cost: what lies between
+/// two visits of one vertex can be left out.
+pub fn walks_can_be_cut()
+    ensures { WalksCanBeCut }
+{}
+
+/// Labels that no seed and no arc can lower, and of which each is attained or `INF`, are least. So an
+/// engine may lower labels in any order: it is done when they are settled.
+pub fn settled_and_sound_are_least()
+    ensures { SettledAndSoundAreLeast }
+{}
+
+/// A vertex has only one least label, so two programs that give least labels give the same ones.
+pub fn least_labels_are_unique()
+    ensures { LeastLabelsAreUnique }
+{}
+
+/// Where each vertex is a seed that starts at its own number, and each arc is taken both ways at no
+/// cost, the least label of a vertex is the least number of a vertex connected with it.
+pub fn least_labels_are_components()
+    ensures { LeastLabelsAreComponents }
+{}

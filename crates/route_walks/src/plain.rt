@@ -1,0 +1,130 @@
+//! Least labels the plain way: rounds over all arcs until nothing falls, as Bellman and Ford have them.
+
+ghost use Rattle.std.specs.Prelude.{◌≡◌, ℕ, ◌+◌, ◌<◌, ◌≤◌, ◌↔◌, false, min, sum, List, length, vec_len, slice_index, slice_set, All, IsTrue, IfOk};
+ghost use Rattle.route_walks.specs.declared.graph.ArcRec.{ArcRec};
+ghost use Rattle.route_walks.specs.declared.graph.Seed.{Seed};
+ghost use Rattle.route_walks.specs.Walk.{IsGraph, AreSeeds};
+ghost use Rattle.route_walks.specs.Label.{AreLeast, IsMet, IsRelaxed, IsSettled, IsSound};
+
+use crate::graph::{ArcRec, INF, Seed};
+use crate::refusal::Memory;
+use std::alloc::Global;
+
+/// The least label of each of `n` vertices, which are `INF` where no walk from a seed ends. Each round
+/// goes over all arcs, and there are at most `n` rounds: for small graphs, and to compare with.
+pub fn plain_labels(
+    alloc: Global,
+    n: u32,
+    arcs: &[ArcRec],
+    seeds: &[Seed],
+) -> Result<Vec<u64>, Memory>
+    requires graph { IsGraph n arcs.now }
+    requires seeds { AreSeeds n seeds.now }
+    ensures length { IfOk result (λ labels. vec_len labels ≡ n) }
+    ensures least { IfOk result (λ labels. AreLeast n arcs.now seeds.now (slice_index labels.items)) }
+{
+    let mut labels = vec![in alloc; INF; n as usize]?;
+    make_least(&mut labels, arcs, seeds);
+    Ok(labels)
+}
+
+/// Whether no seed and no arc could lower a label. There is a label for each vertex, `INF` among them.
+pub fn is_settled(labels: &[u64], arcs: &[ArcRec], seeds: &[Seed]) -> bool
+    requires graph { IsGraph (length labels.now) arcs.now }
+    requires seeds { AreSeeds (length labels.now) seeds.now }
+    ensures { IsTrue result ↔ IsSettled arcs.now seeds.now (slice_index labels.now) }
+{
+    are_met(labels, seeds) && are_relaxed(labels, arcs)
+}
+
+fn are_met(labels: &[u64], seeds: &[Seed]) -> bool
+    requires { AreSeeds (length labels.now) seeds.now }
+    ensures { IsTrue result ↔ All (IsMet (slice_index labels.now)) seeds.now }
+{
+    for seed in seeds {
+        if labels[seed.vertex as usize] > seed.start {
+            return false;
+        }
+    }
+    true
+}
+
+fn are_relaxed(labels: &[u64], arcs: &[ArcRec]) -> bool
+    requires { IsGraph (length labels.now) arcs.now }
+    ensures { IsTrue result ↔ All (IsRelaxed (slice_index labels.now)) arcs.now }
+{
+    for arc in arcs {
+        if labels[arc.head as usize] > reached_by(labels, arc) {
+            return false;
+        }
+    }
+    true
+}
+
+/// The number that going along the arc gives its head.
+fn reached_by(labels: &[u64], arc: &ArcRec) -> u64
+    requires { arc.now.tail < length labels.now }
+    ensures { result ≡ min (slice_index labels.now arc.now.tail + arc.now.weight) INF }
+{
+    labels[arc.tail as usize].saturating_add(u64::from(arc.weight))
+}
+
+/// Lowers the label of `v` to `number`, if that is less, and says whether it was.
+fn lower(labels: &mut [u64], v: u32, number: u64) -> bool
+    requires { v < length labels.old }
+    ensures lowered { labels.new ≡ slice_set labels.old v (min (slice_index labels.old v) number) }
+    ensures fell { IsTrue result ↔ (number < slice_index labels.old v) }
+{
+    let label = labels[v as usize];
+    labels[v as usize] = label.min(number);
+    number < label
+}
+
+/// Turns labels that are all `INF` into least ones.
+fn make_least(labels: &mut [u64], arcs: &[ArcRec], seeds: &[Seed])
+    requires graph { IsGraph (length labels.old) arcs.now }
+    requires seeds { AreSeeds (length labels.old) seeds.now }
+    requires none_yet { All (λ label. label ≡ INF) labels.old }
+    ensures { AreLeast (length labels.old) arcs.now seeds.now (slice_index labels.new) }
+{
+    meet_seeds(labels, seeds);
+    settle(labels, arcs);
+}
+
+/// Gives the vertex of each seed a label of at most its start.
+fn meet_seeds(labels: &mut [u64], seeds: &[Seed])
+    requires seeds { AreSeeds (length labels.old) seeds.now }
+    requires none_yet { All (λ label. label ≡ INF) labels.old }
+    ensures met { All (IsMet (slice_index labels.new)) seeds.now }
+    ensures sound { (arcs : List ArcRec) → IsSound (length labels.old) arcs seeds.now (slice_index labels.new) }
+{
+    for seed in seeds {
+        lower(labels, seed.vertex, seed.start);
+    }
+}
+
+/// One round: goes along each arc in turn, and says whether some label fell.
+fn relax_all(labels: &mut [u64], arcs: &[ArcRec]) -> bool
+    requires { IsGraph (length labels.old) arcs.now }
+    ensures falling { (v : ℕ) → slice_index labels.new v ≤ slice_index labels.old v }
+    ensures sound { (seeds : List Seed) → IsSound (length labels.old) arcs.now seeds (slice_index labels.old) → IsSound (length labels.old) arcs.now seeds (slice_index labels.new) }
+    ensures fell { IsTrue result → sum labels.new < sum labels.old }
+    ensures settled { result ≡ false → (labels.new ≡ labels.old) × All (IsRelaxed (slice_index labels.new)) arcs.now }
+{
+    let mut fell = false;
+    for arc in arcs {
+        let number = reached_by(labels, arc);
+        fell = lower(labels, arc.head, number) || fell;
+    }
+    fell
+}
+
+/// Rounds until no label falls.
+fn settle(labels: &mut [u64], arcs: &[ArcRec])
+    requires { IsGraph (length labels.old) arcs.now }
+    ensures falling { (v : ℕ) → slice_index labels.new v ≤ slice_index labels.old v }
+    ensures sound { (seeds : List Seed) → IsSound (length labels.old) arcs.now seeds (slice_index labels.old) → IsSound (length labels.old) arcs.now seeds (slice_index labels.new) }
+    ensures relaxed { All (IsRelaxed (slice_index labels.new)) arcs.now }
+{
+    while relax_all(labels, arcs) {}
+}

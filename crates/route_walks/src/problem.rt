@@ -1,0 +1,58 @@
+ghost use Rattle.std.specs.Prelude.{◌≡◌, ◌<◌, ◌^◌, length, IfOk};
+ghost use Rattle.route_walks.specs.Problem.{seeds_from, seeds_all, unit_weights, both_ways};
+
+use crate::graph::{ArcRec, Seed};
+use crate::refusal::Memory;
+use std::alloc::Global;
+
+/// The seeds for distances and hop levels from `s`: the one seed that starts there at 0.
+pub fn seeds_from(alloc: Global, s: u32) -> Result<Vec<Seed>, Memory>
+    ensures { IfOk result (λ seeds. seeds.items ≡ seeds_from s) }
+{
+    Ok(vec![in alloc;
+        Seed {
+            vertex: s,
+            start: 0
+        },
+    ]?)
+}
+
+/// The seeds for components of `n` vertices: each vertex starts at its own number, in rising order.
+pub fn seeds_all(alloc: Global, n: u32) -> Result<Vec<Seed>, Memory>
+    ensures { IfOk result (λ seeds. seeds.items ≡ seeds_all n) }
+{
+    let mut seeds = Vec::with_capacity(alloc, n as usize)?;
+    for vertex in 0..n {
+        let start = u64::from(vertex);
+        seeds.push(Seed { vertex, start })?;
+    }
+    Ok(seeds)
+}
+
+/// The arcs for hop levels: the same ones, in order, each of weight 1.
+pub fn unit_weights(alloc: Global, arcs: &[ArcRec]) -> Result<Vec<ArcRec>, Memory>
+    ensures { IfOk result (λ units. units.items ≡ unit_weights arcs.now) }
+{
+    let mut units = Vec::with_capacity(alloc, arcs.len())?;
+    for arc in arcs {
+        units.push(ArcRec { weight: 1, ..*arc })?;
+    }
+    Ok(units)
+}
+
+/// The arcs for components: each one, in order, and then its reverse, both of weight 0.
+pub fn both_ways(alloc: Global, arcs: &[ArcRec]) -> Result<Vec<ArcRec>, Memory>
+    requires { length arcs.now < 2 ^ 63 }
+    ensures { IfOk result (λ both. both.items ≡ both_ways arcs.now) }
+{
+    let mut both = Vec::with_capacity(alloc, 2 * arcs.len())?;
+    for arc in arcs {
+        both.push(ArcRec { weight: 0, ..*arc })?;
+        both.push(ArcRec {
+            tail: arc.head,
+            head: arc.tail,
+            weight: 0,
+        })?;
+    }
+    Ok(both)
+}

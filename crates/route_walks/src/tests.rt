@@ -1,0 +1,186 @@
+//! Worked examples of labels, and of the arcs and seeds of the three problems.
+
+ghost use Rattle.std.specs.Prelude.{◌↔◌, length, IsTrue};
+ghost use Rattle.route_walks.specs.Walk.{IsGraph, AreSeeds};
+
+use crate::{
+    ArcRec, INF, Seed, both_ways, is_settled, plain_labels, seeds_all, seeds_from, unit_weights,
+};
+use std::alloc::Global;
+use std::process::Abort;
+use std::test::Fail;
+
+const fn arc(tail: u32, head: u32, weight: u32) -> ArcRec {
+    ArcRec { tail, head, weight }
+}
+
+fn is_graph(n: u32, arcs: &[ArcRec]) -> bool
+    ensures { IsTrue result ↔ IsGraph n arcs.now }
+{
+    arcs.iter().all(|arc| arc.tail < n && arc.head < n)
+}
+
+fn are_seeds(n: u32, seeds: &[Seed]) -> bool
+    ensures { IsTrue result ↔ AreSeeds n seeds.now }
+{
+    seeds.iter().all(|seed| seed.vertex < n)
+}
+
+/// Six vertices, with free arcs and a circle of them.
+fn six(alloc: Global) -> Result<Vec<ArcRec>, Fail> {
+    let arcs = vec![in alloc;
+        arc(0, 1, 17),
+        arc(0, 2, 10),
+        arc(1, 3, 2),
+        arc(2, 4, 0),
+        arc(3, 2, 0),
+        arc(3, 5, 3),
+        arc(4, 1, 0),
+        arc(4, 5, 20),
+    ]?;
+    Ok(arcs)
+}
+
+fn expect_labels(
+    rt: &impl Abort,
+    alloc: Global,
+    n: u32,
+    arcs: &[ArcRec],
+    seeds: &[Seed],
+    want: &[u64],
+) -> Result<(), Fail> {
+    let graph = is_graph(n, arcs);
+    let sown = are_seeds(n, seeds);
+    assert!(rt; graph && sown);
+    let labels = plain_labels(alloc, n, arcs, seeds)?;
+    assert_eq!(rt; labels.as_slice(), want);
+    assert!(rt; is_settled(labels.as_slice(), arcs, seeds));
+    Ok(())
+}
+
+#[test]
+fn labels_of_small_graphs(rt: HostRuntime) -> Result<(), Fail> {
+    let alloc = rt.alloc();
+    let six = six(alloc)?;
+    expect_labels(
+        &rt,
+        alloc,
+        6,
+        &six,
+        &seeds_from(alloc, 0)?,
+        &[0, 10, 10, 12, 10, 15],
+    )?;
+    expect_labels(
+        &rt,
+        alloc,
+        6,
+        &six,
+        &seeds_from(alloc, 2)?,
+        &[INF, 0, 0, 2, 0, 5],
+    )?;
+    expect_labels(
+        &rt,
+        alloc,
+        6,
+        &unit_weights(alloc, &six)?,
+        &seeds_from(alloc, 0)?,
+        &[0, 1, 1, 2, 2, 3],
+    )?;
+    expect_labels(
+        &rt,
+        alloc,
+        6,
+        &both_ways(alloc, &six)?,
+        &seeds_all(alloc, 6)?,
+        &[0; 6],
+    )?;
+    let heavy = [arc(0, 1, u32::MAX), arc(1, 2, u32::MAX)];
+    expect_labels(
+        &rt,
+        alloc,
+        3,
+        &heavy,
+        &seeds_from(alloc, 0)?,
+        &[0, 4294967295, 8589934590],
+    )?;
+    let parallel = [arc(0, 1, 7), arc(0, 1, 3), arc(0, 0, 0)];
+    expect_labels(&rt, alloc, 2, &parallel, &seeds_from(alloc, 0)?, &[0, 3])?;
+    let split = [arc(1, 0, 5)];
+    expect_labels(
+        &rt,
+        alloc,
+        3,
+        &both_ways(alloc, &split)?,
+        &seeds_all(alloc, 3)?,
+        &[0, 0, 2],
+    )?;
+    let late = [
+        Seed {
+            vertex: 0,
+            start: INF - 1,
+        },
+        Seed {
+            vertex: 0,
+            start: INF,
+        },
+    ];
+    expect_labels(&rt, alloc, 2, &parallel, &late, &[INF - 1, INF])?;
+    expect_labels(&rt, alloc, 0, &[], &[], &[])
+}
+
+#[test]
+fn settled_only_where_nothing_falls(rt: HostRuntime) -> Result<(), Fail> {
+    let arcs = [arc(0, 1, 3)];
+    let seeds = [Seed {
+        vertex: 0,
+        start: 1,
+    }];
+    let (graph, sown) = (is_graph(2, &arcs), are_seeds(2, &seeds));
+    assert!(rt; graph && sown);
+    for (first, second, want) in [(1, 4, true), (1, 5, false), (2, 4, false), (0, 0, true)] {
+        assert_eq!(rt;
+            is_settled(&[first, second], &arcs, &seeds),
+            want,
+            "{first} {second}"
+        );
+    }
+    Ok(())
+}
+
+#[test]
+fn arcs_and_seeds_of_the_problems(rt: HostRuntime) -> Result<(), Fail> {
+    let alloc = rt.alloc();
+    let only = [arc(0, 1, 7)];
+    assert_eq!(rt;
+        seeds_from(alloc, 2)?.as_slice(),
+        [Seed {
+            vertex: 2,
+            start: 0
+        }]
+        .as_slice()
+    );
+    let all = [
+        Seed {
+            vertex: 0,
+            start: 0,
+        },
+        Seed {
+            vertex: 1,
+            start: 1,
+        },
+        Seed {
+            vertex: 2,
+            start: 2,
+        },
+    ];
+    assert_eq!(rt; seeds_all(alloc, 3)?.as_slice(), all.as_slice());
+    assert_eq!(rt;
+        unit_weights(alloc, &only)?.as_slice(),
+        [arc(0, 1, 1)].as_slice()
+    );
+    assert_eq!(rt;
+        both_ways(alloc, &only)?.as_slice(),
+        [arc(0, 1, 0), arc(1, 0, 0)].as_slice()
+    );
+    Ok(())
+}
