@@ -2,3 +2,4 @@ pub mod Cuts
 pub mod Labels
 pub mod Lowering
 pub mod Components
+pub mod Problems

@@ -1,4 +1,5 @@
-ghost use Rattle.std.specs.Prelude.{◌≡◌, ◌<◌, ◌^◌, length, IfOk};
+ghost use Rattle.std.specs.Prelude.{◌≡◌, ℕ, ◌<◌, ◌^◌, length, IfOk};
+ghost use Rattle.route_walks.specs.Walk.{IsGraph, AreSeeds};
 ghost use Rattle.route_walks.specs.Problem.{seeds_from, seeds_all, unit_weights, both_ways};
 
 use crate::graph::{ArcRec, Seed};
@@ -19,7 +20,8 @@ pub fn seeds_from(alloc: Global, s: u32) -> Result<Vec<Seed>, Memory>
 
 /// The seeds for components of `n` vertices: each vertex starts at its own number, in rising order.
 pub fn seeds_all(alloc: Global, n: u32) -> Result<Vec<Seed>, Memory>
-    ensures { IfOk result (λ seeds. seeds.items ≡ seeds_all n) }
+    ensures exact { IfOk result (λ seeds. seeds.items ≡ seeds_all n) }
+    ensures within { IfOk result (λ seeds. AreSeeds n seeds.items) }
 {
     let mut seeds = Vec::with_capacity(alloc, n as usize)?;
     for vertex in 0..n {
@@ -31,7 +33,8 @@ pub fn seeds_all(alloc: Global, n: u32) -> Result<Vec<Seed>, Memory>
 
 /// The arcs for hop levels: the same ones, in order, each of weight 1.
 pub fn unit_weights(alloc: Global, arcs: &[ArcRec]) -> Result<Vec<ArcRec>, Memory>
-    ensures { IfOk result (λ units. units.items ≡ unit_weights arcs.now) }
+    ensures exact { IfOk result (λ units. units.items ≡ unit_weights arcs.now) }
+    ensures graph { (n : ℕ) → IsGraph n arcs.now → IfOk result (λ units. IsGraph n units.items) }
 {
     let mut units = Vec::with_capacity(alloc, arcs.len())?;
     for arc in arcs {
@@ -43,7 +46,8 @@ pub fn unit_weights(alloc: Global, arcs: &[ArcRec]) -> Result<Vec<ArcRec>, Memor
 /// The arcs for components: each one, in order, and then its reverse, both of weight 0.
 pub fn both_ways(alloc: Global, arcs: &[ArcRec]) -> Result<Vec<ArcRec>, Memory>
     requires { length arcs.now < 2 ^ 63 }
-    ensures { IfOk result (λ both. both.items ≡ both_ways arcs.now) }
+    ensures exact { IfOk result (λ both. both.items ≡ both_ways arcs.now) }
+    ensures graph { (n : ℕ) → IsGraph n arcs.now → IfOk result (λ both. IsGraph n both.items) }
 {
     let mut both = Vec::with_capacity(alloc, 2 * arcs.len())?;
     for arc in arcs {

@@ -1,0 +1,11 @@
+use Rattle.std.proofs.Common.{subst, sym, ap, ◌∙◌}
+use Rattle.std.proofs.lemmas.List.{take_all}
+use Rattle.route_walks.specs.Walk.{IsGraph}
+use Rattle.route_walks.specs.Problem.{both_ways}
+use Rattle.route_walks.proofs.Problems.{both_ways-graph}
+use Rattle.route_walks.proofs.problem.both_ways.Goals as goal
+
+pub returns-clause-graph : goal.returns-clause-graph
+returns-clause-graph c =
+    let all = take_all c.loop-arc.arc-index c.args.arcs.now c.loop-arc-test.false in
+    λ n graph. subst (IsGraph n) (sym (c.loop-arc.invariant ∙ ap both_ways all)) (both_ways-graph n c.args.arcs.now graph)
