@@ -1,0 +1,6 @@
+pub mod Lines
+pub mod Forms
+pub mod Shapes
+pub mod Jobs
+pub mod Faults
+pub mod Entries

@@ -1,0 +1,1 @@
+//! Lines, fields and numbers.
