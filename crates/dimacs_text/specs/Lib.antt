@@ -4,3 +4,4 @@ pub mod Shapes
 pub mod Jobs
 pub mod Faults
 pub mod Entries
+pub mod Answers
