@@ -1,1 +1,9 @@
 pub mod Machine
+pub mod LineLemmas
+pub mod FormLemmas
+pub mod WordLemmas
+pub mod ReaderLemmas
+pub mod AnswerLemmas
+pub mod PlainLemmas
+pub mod TextLaws
+pub mod Existence

@@ -1,9 +1,10 @@
 -- What the reader keeps of a line, as the record that the line is.
-use Rattle.std.specs.Prelude.{ℕ, ◌<◌, ◌≤◌, ◌^◌, Option, Some, None, Result, Ok, Err}
+use Rattle.std.specs.Prelude.{ℕ, ◌<◌, ◌≤◌, ◌^◌, List, [], ◌∷◌, Option, Some, None, Result, Ok, Err}
 use Rattle.dimacs_text.specs.declared.form.Entry.{Entry}
 use Rattle.dimacs_text.specs.declared.form.Entry.TheVariants as entry
+use Rattle.dimacs_text.specs.declared.form.Limit.{Limit}
 use Rattle.dimacs_text.specs.declared.fault.LineKind.{LineKind}
-use Rattle.dimacs_text.specs.Forms.{Record, Reading}
+use Rattle.dimacs_text.specs.Forms.{Record, Reading, form_of, record_reading}
 use Rattle.dimacs_text.specs.Jobs.{arc_record, source_record, problem_record, sources_record, IsArcWithin}
 
 abbrev pub record_of : Entry → Record
@@ -24,3 +25,27 @@ IsEntryWithin n (entry.Problem vertices arcs) = (vertices ≤ 2 ^ 28) × (arcs �
 IsEntryWithin n (entry.Arc arc) = IsArcWithin n arc
 IsEntryWithin n (entry.Sources count) = count ≤ 2 ^ 20
 IsEntryWithin n (entry.Source vertex) = vertex < n
+
+abbrev pub entry_said : Result Entry LineKind → Reading
+entry_said (Ok e) = Ok (Some (record_of e))
+entry_said (Err kind) = Err kind
+
+-- the numbers that were read, as a list
+abbrev pub one_said : Result ℕ LineKind → Result (List ℕ) LineKind
+one_said (Ok n) = Ok (n ∷ [])
+one_said (Err kind) = Err kind
+
+abbrev pub two_said : Result (ℕ × ℕ) LineKind → Result (List ℕ) LineKind
+two_said (Ok n) = Ok (n.0 ∷ n.1 ∷ [])
+two_said (Err kind) = Err kind
+
+abbrev pub three_said : Result (ℕ × ℕ × ℕ) LineKind → Result (List ℕ) LineKind
+three_said (Ok n) = Ok (n.0 ∷ n.1 ∷ n.2 ∷ [])
+three_said (Err kind) = Err kind
+
+abbrev pub IsWithin : Limit → ℕ → Type 0
+IsWithin limit n = (limit.least ≤ n) × (n ≤ limit.most)
+
+-- what fields say that are neither those of a blank line nor of a comment
+unfoldable pub fields_say : ℕ → List (List ℕ) → Reading
+fields_say vertices fs = record_reading vertices (form_of fs) fs

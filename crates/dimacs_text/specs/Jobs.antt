@@ -1,5 +1,5 @@
 -- The job of a text.
-use Rattle.std.specs.Prelude.{◌≡◌, ℕ, ◌+◌, ◌^◌, ◌<◌, ◌≤◌, List, [], ◌∷◌, ◌++◌, length, map, filter_map, All, Option, Some, None, Ok}
+use Rattle.std.specs.Prelude.{◌≡◌, ℕ, ◌+◌, ◌^◌, ◌<◌, ◌≤◌, List, [], ◌∷◌, ◌++◌, length, map, filter_map, All, Option, Ok}
 use Rattle.route_walks.specs.declared.graph.ArcRec.{ArcRec}
 use Rattle.dimacs_text.specs.declared.form.Section.TheVariants.{Problem, Sources}
 use Rattle.dimacs_text.specs.declared.form.Item.TheVariants.{Arc, Source}
@@ -7,7 +7,7 @@ use Rattle.dimacs_text.specs.declared.job.Job.{Job}
 use Rattle.dimacs_text.specs.declared.job.Ask as rust
 use Rattle.dimacs_text.specs.declared.job.Ask.TheVariants as ask
 use Rattle.dimacs_text.specs.Lines.{lines}
-use Rattle.dimacs_text.specs.Forms.{Form, head, counted, Record, Reading, readings}
+use Rattle.dimacs_text.specs.Forms.{head, counted, Record, readings}
 
 -- what is asked, without where it lies in memory
 pub data Question : Type 0 where

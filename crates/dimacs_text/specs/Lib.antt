@@ -4,4 +4,9 @@ pub mod Shapes
 pub mod Jobs
 pub mod Faults
 pub mod Entries
+pub mod Stages
+pub mod Peeling
+pub mod Plain
+pub mod Laws
+pub mod Drafts
 pub mod Answers

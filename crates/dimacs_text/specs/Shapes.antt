@@ -7,7 +7,7 @@ use Rattle.dimacs_text.specs.declared.form.Item.{Item}
 use Rattle.dimacs_text.specs.declared.form.Item.TheVariants.{Arc, Source}
 use Rattle.dimacs_text.specs.declared.fault.LineKind.{LineKind}
 use Rattle.dimacs_text.specs.declared.fault.LineKind.TheVariants.{Misplaced, TooMany, TooFew, NoProblem}
-use Rattle.dimacs_text.specs.Forms.{Form, head, counted, Record}
+use Rattle.dimacs_text.specs.Forms.{Form, head, counted}
 
 -- the items that a head counts
 abbrev pub item_of : Section → Item

@@ -9,10 +9,20 @@
 //! the texts they are counted from 1.
 #![tactic(auto)]
 
+mod answer;
 mod draft;
 mod fault;
 mod form;
 mod job;
+pub mod laws;
 mod line;
+mod plain;
+mod reader;
 
+pub use answer::{put_components, put_distances, put_label, put_source};
 pub use fault::{LineKind, TextFault};
+pub use job::{Ask, Job};
+pub use reader::read_job;
+
+#[cfg(test)]
+mod tests;

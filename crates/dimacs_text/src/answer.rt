@@ -1,0 +1,136 @@
+//! The lines of an answer.
+//!
+//! A line is made from its end to its front in an array, and then goes out at once: so a refusal of
+//! memory leaves the vector as it was.
+
+ghost use Rattle.std.specs.Prelude.{◌≡◌, ℕ, ◌+◌, ◌-◌, ◌^◌, ◌<◌, ◌≤◌, ◌++◌, ◌∷◌, [], length, take, drop, decimal, codes, All, OnOk, OnErr, vec_len};
+ghost use Rattle.dimacs_text.specs.Answers.{source_text, label_text, cost_text, distances_text, components_text, component_text};
+
+use itoa::write_digits;
+use route_walks::{INF, Memory};
+
+/// No line has more bytes: a letter, two numbers of at most 20 digits, two spaces and a line feed.
+const ROOM: usize = 44;
+
+/// Puts a byte in front of what stands at the end of a line.
+fn put_byte(line: &mut [u8], end: usize, byte: u8) -> usize
+    requires { (0 < end) × (end ≤ length line.old) }
+    ensures place { result + 1 ≡ end }
+    ensures put { drop result line.new ≡ byte ∷ drop end line.old }
+{
+    line[end - 1] = byte;
+    end - 1
+}
+
+/// Puts a number in front of what stands at the end of a line.
+fn put_number(line: &mut [u8], end: usize, number: u64) -> usize
+    requires { (20 ≤ end) × (end ≤ length line.old) }
+    ensures place { (end ≤ result + 20) × (result ≤ end) }
+    ensures put { drop result line.new ≡ decimal number ++ drop end line.old }
+{
+    write_digits(number, line, end)
+}
+
+/// Puts the letter of a line, a space and a number in front of what stands at the end of the line.
+fn put_start(line: &mut [u8], end: usize, letter: u8, number: u64) -> usize
+    requires { (22 ≤ end) × (end ≤ length line.old) }
+    ensures place { result ≤ end }
+    ensures put { drop result line.new ≡ letter ∷ 32 ∷ (decimal number ++ drop end line.old) }
+{
+    let end = put_number(line, end, number);
+    let end = put_byte(line, end, b' ');
+    put_byte(line, end, letter)
+}
+
+/// Puts a cost in front of what stands at the end of a line.
+fn put_cost(line: &mut [u8], end: usize, label: u64) -> usize
+    requires { (20 ≤ end) × (end ≤ length line.old) }
+    ensures place { (end ≤ result + 20) × (result ≤ end) }
+    ensures put { drop result line.new ≡ cost_text label ++ drop end line.old }
+{
+    if label == INF {
+        let end = put_byte(line, end, b'f');
+        let end = put_byte(line, end, b'n');
+        put_byte(line, end, b'i')
+    } else {
+        put_number(line, end, label)
+    }
+}
+
+/// Appends the line `s V` of a source, where vertices are counted from 1.
+pub fn put_source(out: &mut Vec<u8>, s: u32) -> Result<(), Memory>
+    requires { s < 2 ^ 28 }
+    ensures ok { OnOk result (out.new.items ≡ out.old.items ++ source_text s) }
+    ensures err { OnErr result (out.new.items ≡ out.old.items) }
+{
+    let mut line = [0u8; ROOM];
+    let end = put_byte(&mut line, ROOM, b'\n');
+    let start = put_start(&mut line, end, b's', u64::from(s) + 1);
+    out.extend_from_slice(&line[start..])?;
+    Ok(())
+}
+
+/// Appends the line `d V COST` of a vertex, where the cost of `INF` is `inf`.
+pub fn put_label(out: &mut Vec<u8>, v: u32, label: u64) -> Result<(), Memory>
+    requires { v < 2 ^ 28 }
+    ensures ok { OnOk result (out.new.items ≡ out.old.items ++ label_text v label) }
+    ensures err { OnErr result (out.new.items ≡ out.old.items) }
+{
+    let mut line = [0u8; ROOM];
+    let end = put_byte(&mut line, ROOM, b'\n');
+    let end = put_cost(&mut line, end, label);
+    let end = put_byte(&mut line, end, b' ');
+    let start = put_start(&mut line, end, b'd', u64::from(v) + 1);
+    out.extend_from_slice(&line[start..])?;
+    Ok(())
+}
+
+/// Appends the line `k V LABEL` of a vertex, where the label is the number of a vertex too.
+fn put_component(out: &mut Vec<u8>, v: u32, label: u64) -> Result<(), Memory>
+    requires { (v < 2 ^ 28) × (label < 2 ^ 64 - 1) }
+    ensures ok { OnOk result (out.new.items ≡ out.old.items ++ component_text v label) }
+    ensures err { OnErr result (out.new.items ≡ out.old.items) }
+{
+    let mut line = [0u8; ROOM];
+    let end = put_byte(&mut line, ROOM, b'\n');
+    let end = put_number(&mut line, end, label + 1);
+    let end = put_byte(&mut line, end, b' ');
+    let start = put_start(&mut line, end, b'k', u64::from(v) + 1);
+    out.extend_from_slice(&line[start..])?;
+    Ok(())
+}
+
+/// Appends the line of a source, and then the line of each vertex in rising order.
+pub fn put_distances(out: &mut Vec<u8>, s: u32, labels: &[u64]) -> Result<(), Memory>
+    requires source { s < 2 ^ 28 }
+    requires vertices { length labels.now ≤ 2 ^ 28 }
+    ensures ok { OnOk result (out.new.items ≡ out.old.items ++ distances_text s labels.now) }
+    ensures err { OnErr result (out.new.items ≡ out.old.items) }
+{
+    let before = out.len();
+    put_source(out, s)?;
+    for (v, label) in labels.iter().enumerate() {
+        if put_label(out, v as u32, *label).is_err() {
+            out.truncate(before);
+            return Err(Memory);
+        }
+    }
+    Ok(())
+}
+
+/// Appends the line of each vertex with the label of its component, in rising order.
+pub fn put_components(out: &mut Vec<u8>, labels: &[u64]) -> Result<(), Memory>
+    requires vertices { length labels.now ≤ 2 ^ 28 }
+    requires finite { All (λ label. label < 2 ^ 64 - 1) labels.now }
+    ensures ok { OnOk result (out.new.items ≡ out.old.items ++ components_text labels.now) }
+    ensures err { OnErr result (out.new.items ≡ out.old.items) }
+{
+    let start = out.len();
+    for (v, label) in labels.iter().enumerate() {
+        if put_component(out, v as u32, *label).is_err() {
+            out.truncate(start);
+            return Err(Memory);
+        }
+    }
+    Ok(())
+}

@@ -1,0 +1,171 @@
+//! Texts with the job or the fault that they must give, and the lines of answers.
+
+use crate::{
+    Ask, Job, LineKind, TextFault, put_components, put_distances, put_label, put_source, read_job,
+};
+use route_walks::{ArcRec, INF};
+use std::alloc::Global;
+use std::process::Abort;
+use std::test::Fail;
+
+/// A graph of 6 vertices and 8 arcs, on lines 1 to 9.
+const GRAPH: &str =
+    "p sp 6 8\na 1 2 17\na 1 3 10\na 2 4 2\na 3 5 0\na 4 3 0\na 4 6 3\na 5 2 0\na 5 6 20\n";
+
+/// What a text in two pieces gives.
+fn read(alloc: Global, front: &str, tail: &[u8]) -> Result<Job, TextFault> {
+    let mut text = Vec::from_slice(alloc, front.as_bytes())?;
+    text.extend_from_slice(tail)?;
+    if text.len() > 1000 {
+        return Err(TextFault::Memory);
+    }
+    read_job(alloc, &text)
+}
+
+/// Whether a text has that first fault.
+fn fails(alloc: Global, front: &str, tail: &[u8], line: u64, kind: LineKind) -> bool {
+    match read(alloc, front, tail) {
+        Ok(_) => false,
+        Err(fault) => fault == TextFault::Line { line, kind },
+    }
+}
+
+#[test]
+fn faults_of_whole_texts(rt: HostRuntime) {
+    let rows = [
+        ("", 1, LineKind::NoProblem),
+        ("  \n\t", 3, LineKind::NoProblem),
+        ("c p sp 1 0", 2, LineKind::NoProblem),
+        ("x\n", 1, LineKind::Unknown),
+        ("\u{b}\n", 1, LineKind::Unknown),
+        ("pp sp 1 0\n", 1, LineKind::Unknown),
+        ("p sp 2\n", 1, LineKind::Fields),
+        ("p sp x\n", 1, LineKind::Fields),
+        ("a 1 1 0 0\n", 1, LineKind::Fields),
+        ("p sp -1 268435457\n", 1, LineKind::Number),
+        ("p sp 268435457 -1\n", 1, LineKind::Number),
+        ("p sp +0 0\n", 1, LineKind::Number),
+        ("p sp 1 0\r\r\n", 1, LineKind::Number),
+        ("p sp 268435457 0\n", 1, LineKind::Range),
+        ("p sp 1 1073741825\n", 1, LineKind::Range),
+        ("p sp 1 18446744073709551616\n", 1, LineKind::Range),
+        ("p aux sp ss 1048577\n", 1, LineKind::Range),
+        ("a 268435457 1 0\n", 1, LineKind::Range),
+        ("a 0 1 0\n", 1, LineKind::Range),
+        ("p sp 0 1\na 1 1 0\n", 2, LineKind::Range),
+        ("p sp 3 2\na 1 2 4294967296\n", 2, LineKind::Range),
+        ("p sp 3 2\na 1 2 -1\n", 2, LineKind::Number),
+        ("a 268435456 1 0\n", 1, LineKind::Misplaced),
+        ("p aux sp ss 1048576\n", 1, LineKind::Misplaced),
+        ("p sp 2 1\np sp 2 1\n", 2, LineKind::Misplaced),
+        ("p sp 0 1\n", 2, LineKind::TooFew),
+        ("p sp 1 1073741824", 2, LineKind::TooFew),
+        (
+            "p sp 2 3\na 1 2 1\na 2 1 1\np aux sp ss 1\ns 1\n",
+            4,
+            LineKind::TooFew,
+        ),
+        (
+            "p sp 2 3\na 1 2 1\na 2 1 1\na 1 1 1\na 1 1 1\n",
+            5,
+            LineKind::TooMany,
+        ),
+    ];
+    for (text, line, kind) in rows {
+        assert!(rt;
+            fails(rt.alloc(), "", text.as_bytes(), line, kind),
+            "{text}"
+        );
+    }
+}
+
+#[test]
+fn faults_behind_a_graph(rt: HostRuntime) {
+    let rows = [
+        ("p", 10, LineKind::Unknown),
+        ("p aux sp", 10, LineKind::Unknown),
+        ("p aux sp p2p 1\n", 10, LineKind::Unknown),
+        ("p aux sp add 1\n", 10, LineKind::Unknown),
+        ("s 1\n", 10, LineKind::Misplaced),
+        ("a 1 1 1\n", 10, LineKind::TooMany),
+        ("p aux sp ss", 10, LineKind::Fields),
+        ("p aux sp ss 1", 11, LineKind::TooFew),
+        ("p aux sp ss 1\ns", 11, LineKind::Fields),
+        ("p aux sp ss 1\ns 7\n", 11, LineKind::Range),
+        ("p aux sp ss 1\na 1 2 1\n", 11, LineKind::Misplaced),
+        ("p aux sp ss 1\np aux sp ss 1\n", 11, LineKind::Misplaced),
+        ("p aux sp ss 0\ns 1\n", 11, LineKind::TooMany),
+        ("p aux sp ss 2\ns 1\n", 12, LineKind::TooFew),
+        ("p aux sp ss 2\ns 1\n \n", 13, LineKind::TooFew),
+    ];
+    for (tail, line, kind) in rows {
+        assert!(rt;
+            fails(rt.alloc(), GRAPH, tail.as_bytes(), line, kind),
+            "{tail}"
+        );
+    }
+}
+
+#[test]
+fn faults_of_cut_texts(rt: HostRuntime) {
+    let rows = [
+        (1, 1, LineKind::Unknown),
+        (3, 1, LineKind::Unknown),
+        (4, 1, LineKind::Fields),
+        (7, 1, LineKind::Fields),
+        (8, 2, LineKind::TooFew),
+        (9, 2, LineKind::TooFew),
+        (73, 9, LineKind::Fields),
+    ];
+    for (length, line, kind) in rows {
+        let cut = GRAPH.as_bytes().get(..length).unwrap_or(b"".as_slice());
+        assert!(rt; fails(rt.alloc(), "", cut, line, kind), "{length}");
+    }
+}
+
+/// Asserts what a job's text asks for, and its last arc.
+fn assert_job(rt: &impl Abort, job: &Job, n: u32, last: ArcRec, sources: &[u32]) {
+    assert_eq!(rt; job.n, n);
+    assert_eq!(rt; job.arcs.last().copied(), Some(last));
+    match &job.ask {
+        Ask::Absent => assert_eq!(rt; sources.len(), 0),
+        Ask::Sources(given) => assert_eq!(rt; given.as_slice(), sources),
+    }
+}
+
+#[test]
+fn jobs(rt: HostRuntime) -> Result<(), Fail> {
+    let last = ArcRec {
+        tail: 4,
+        head: 5,
+        weight: 20,
+    };
+    assert_job(&rt, &read(rt.alloc(), GRAPH, b"")?, 6, last, &[]);
+    let asked = read(rt.alloc(), GRAPH, b"p aux sp ss 3\ns 3\ns 5\ns 3")?;
+    assert_eq!(rt; asked.arcs.len(), 8);
+    assert_job(&rt, &asked, 6, last, &[2, 4, 2]);
+    let spaced = b"c \xff\xfe\r\n\tp  sp 2 1 \r\n\r\na\t1 2 007\r\np aux sp ss 1\r\ns 1";
+    let arc = ArcRec {
+        tail: 0,
+        head: 1,
+        weight: 7,
+    };
+    assert_job(&rt, &read(rt.alloc(), "", spaced.as_slice())?, 2, arc, &[0]);
+    let most = read(rt.alloc(), "", b"p sp 268435456 0\n\n")?;
+    assert_eq!(rt; most.n, 268435456);
+    Ok(())
+}
+
+#[test]
+fn answers(rt: HostRuntime) -> Result<(), Fail> {
+    let mut out = Vec::new(rt.alloc());
+    put_source(&mut out, 268435455)?;
+    put_label(&mut out, 9, INF)?;
+    put_label(&mut out, 0, INF - 1)?;
+    put_distances(&mut out, 2, &[INF, 0, 10])?;
+    put_components(&mut out, &[0, 0, 2])?;
+    let lines =
+        "s 268435456\nd 10 inf\nd 1 18446744073709551614\ns 3\nd 1 inf\nd 2 0\nd 3 10\nk 1 1\nk 2 1\nk 3 3\n";
+    assert_eq!(rt; out.as_slice(), lines.as_bytes());
+    Ok(())
+}
