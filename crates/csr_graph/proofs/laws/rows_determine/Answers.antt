@@ -1,0 +1,5 @@
+use Rattle.csr_graph.proofs.Rows.{rows_determine}
+use Rattle.csr_graph.proofs.laws.rows_determine.Goals as goal
+
+pub returns : goal.returns
+returns c = rows_determine

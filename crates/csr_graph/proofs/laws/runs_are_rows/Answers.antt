@@ -1,0 +1,5 @@
+use Rattle.csr_graph.proofs.Rows.{runs_are_rows}
+use Rattle.csr_graph.proofs.laws.runs_are_rows.Goals as goal
+
+pub returns : goal.returns
+returns c = runs_are_rows
