@@ -1,0 +1,6 @@
+pub mod Views
+pub mod Lawful
+pub mod State
+pub mod Events
+pub mod Laws
+pub mod Runs

@@ -1,0 +1,22 @@
+/// One step of one seat. A seat is a place in the list of views, counted from 0.
+#[derive(Clone, Copy, Debug, PartialEq, Eq)]
+pub enum Event {
+    /// An idle seat takes the mark of a vertex, and holds the vertex if it was marked.
+    Take(usize, u32),
+    /// A seat reads the label of the vertex that it holds.
+    Read(usize),
+    /// A seat relaxes the next arc of its row. Where the head's label falls, the seat owes a mark.
+    Relax(usize),
+    /// A seat that owes a mark adds one to the pending total, for that mark.
+    Raise(usize),
+    /// A seat sets the mark that it owes. Where it was set already, the seat keeps the credit.
+    SetMark(usize),
+    /// A seat at its row's end gives its credits back to the total and is idle.
+    Finish(usize),
+    /// An idle seat looks at the pending total, and saw if it is 0.
+    See(usize),
+    /// An idle seat gives half its share to a new seat, the last.
+    Split(usize),
+    /// An idle seat takes in the share of another idle seat, which is spent.
+    Join(usize, usize),
+}

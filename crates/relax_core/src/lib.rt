@@ -1,0 +1,31 @@
+//! Which events may happen, and why does every arc stay covered?
+//!
+//! A core is the whole state of a run on one page: a label and a mark for each vertex, the pending
+//! total, and the view of each seat, which says what its worker holds. An event is one step of one
+//! seat; `apply` does it exactly where it is enabled, and `replay` checks a whole schedule.
+//!
+//! Two ideas carry the proof. Cover: at every moment each arc is relaxed, or its tail is marked, or a
+//! worker holds it. So when nothing is marked and no worker holds anything, every arc is relaxed.
+//! Account: the pending total is the number of marks plus all credits in hands. So whoever sees 0
+//! knows that nothing is marked and nobody holds anything. `laws` has one law for each event and each
+//! idea, over label functions, mark functions and lists of views, so that a layer whose words change
+//! one at a time can use them as they stand.
+//!
+//! Stands on `csr_graph` for the rows, and on `route_walks` for walks, seeds and least labels.
+#![tactic(auto)]
+
+mod events;
+pub mod laws;
+mod runs;
+mod state;
+mod steps;
+mod views;
+
+pub use events::Event;
+pub use runs::{ReplayFault, replay};
+pub use state::{Core, open_core};
+pub use steps::{CoreFault, apply};
+pub use views::{Hand, SHARES, View};
+
+#[cfg(test)]
+mod tests;

@@ -1,0 +1,309 @@
+//! What each event does to a core.
+
+ghost use Rattle.std.specs.Prelude.{◌≡◌, ◌↔◌, ◌+◌, min, None, Some, List, IfOk, IsSome, OnErr, OnOk};
+ghost use Rattle.route_walks.specs.declared.graph.Seed.{Seed};
+ghost use Rattle.relax_core.specs.Events.{IsDone, IsSplit, after, live_view};
+ghost use Rattle.relax_core.specs.State.{IsLawful, IsOf};
+
+use crate::events::Event;
+use crate::state::Core;
+use crate::views::{Hand, View};
+use csr_graph::{Csr, Target};
+use route_walks::{INF, Memory};
+use std::alloc::Global;
+use std::error::Error;
+use std::fmt;
+
+/// Why an event wasn't done. The core is unchanged.
+#[derive(Clone, Copy, Debug, PartialEq, Eq)]
+pub enum CoreFault {
+    /// The event can't happen in this core.
+    NotEnabled,
+    /// There was no memory for the new seat of a `Split`.
+    Memory,
+}
+
+impl fmt::Display for CoreFault {
+    fn fmt<W: fmt::Write>(&self, f: &mut fmt::Formatter<W>) -> fmt::Result {
+        match self {
+            CoreFault::NotEnabled => f.write_str("the event is not enabled"),
+            CoreFault::Memory => f.write_str("out of memory"),
+        }
+    }
+}
+
+impl Error for CoreFault {}
+
+impl Core {
+    // The view of a seat that isn't spent.
+    fn live(&self, seat: usize) -> Option<View>
+        ensures { result ≡ live_view self.now.views seat }
+    {
+        match self.views.get(seat) {
+            Some(view) if view.share != 0 => Some(*view),
+            _ => None,
+        }
+    }
+
+    fn take(&mut self, csr: &Csr, seat: usize, u: u32) -> bool
+        requires { IsOf csr.now self.old }
+        ensures { IsDone csr.now self.old (Event.Take seat u) result self.new }
+    {
+        let Some(view) = self.live(seat) else {
+            return false;
+        };
+        let Hand::Idle = view.hand else {
+            return false;
+        };
+        if u >= csr.n() {
+            return false;
+        }
+        let marked = self.marks[u as usize];
+        self.marks[u as usize] = false;
+        self.views[seat] = if marked {
+            View {
+                hand: Hand::Fresh { u },
+                credits: 1,
+                ..view
+            }
+        } else {
+            view
+        };
+        true
+    }
+
+    fn read(&mut self, csr: &Csr, seat: usize) -> bool
+        requires { IsOf csr.now self.old }
+        ensures { IsDone csr.now self.old (Event.Read seat) result self.new }
+    {
+        let Some(view) = self.live(seat) else {
+            return false;
+        };
+        let Hand::Fresh { u } = view.hand else {
+            return false;
+        };
+        let d = self.labels[u as usize];
+        self.views[seat] = View {
+            hand: Hand::Open {
+                u,
+                d,
+                k: csr.first(u),
+            },
+            ..view
+        };
+        true
+    }
+
+    fn relax(&mut self, csr: &Csr, seat: usize) -> bool
+        requires { IsOf csr.now self.old }
+        ensures { IsDone csr.now self.old (Event.Relax seat) result self.new }
+    {
+        let Some(view) = self.live(seat) else {
+            return false;
+        };
+        let Hand::Open { u, d, k } = view.hand else {
+            return false;
+        };
+        if k >= csr.end(u) {
+            return false;
+        }
+        let Target { head, weight } = csr.target(k);
+        let x = offered(d, weight);
+        let hand = if x < self.labels[head as usize] {
+            self.labels[head as usize] = x;
+            Hand::Owe {
+                u,
+                d,
+                k: k + 1,
+                head,
+            }
+        } else {
+            Hand::Open { u, d, k: k + 1 }
+        };
+        self.views[seat] = View { hand, ..view };
+        true
+    }
+
+    fn raise(&mut self, csr: &Csr, seat: usize) -> bool
+        requires { IsOf csr.now self.old }
+        ensures { IsDone csr.now self.old (Event.Raise seat) result self.new }
+    {
+        let Some(view) = self.live(seat) else {
+            return false;
+        };
+        let Hand::Owe { .. } = view.hand else {
+            return false;
+        };
+        if view.credits != 1 {
+            return false;
+        }
+        self.total += 1;
+        self.views[seat] = View { credits: 2, ..view };
+        true
+    }
+
+    fn set_mark(&mut self, csr: &Csr, seat: usize) -> bool
+        requires { IsOf csr.now self.old }
+        ensures { IsDone csr.now self.old (Event.SetMark seat) result self.new }
+    {
+        let Some(view) = self.live(seat) else {
+            return false;
+        };
+        let Hand::Owe { u, d, k, head } = view.hand else {
+            return false;
+        };
+        if view.credits != 2 {
+            return false;
+        }
+        let marked = self.marks[head as usize];
+        self.marks[head as usize] = true;
+        let credits = if marked { 2 } else { 1 };
+        self.views[seat] = View {
+            hand: Hand::Open { u, d, k },
+            credits,
+            ..view
+        };
+        true
+    }
+
+    fn finish(&mut self, csr: &Csr, seat: usize) -> bool
+        requires { IsOf csr.now self.old }
+        ensures { IsDone csr.now self.old (Event.Finish seat) result self.new }
+    {
+        let Some(view) = self.live(seat) else {
+            return false;
+        };
+        let Hand::Open { u, k, .. } = view.hand else {
+            return false;
+        };
+        if k != csr.end(u) {
+            return false;
+        }
+        self.total -= u64::from(view.credits);
+        self.views[seat] = View {
+            hand: Hand::Idle,
+            credits: 0,
+            ..view
+        };
+        true
+    }
+
+    fn see(&mut self, csr: &Csr, seat: usize) -> bool
+        requires { IsOf csr.now self.old }
+        ensures { IsDone csr.now self.old (Event.See seat) result self.new }
+    {
+        let Some(view) = self.live(seat) else {
+            return false;
+        };
+        let Hand::Idle = view.hand else {
+            return false;
+        };
+        self.views[seat] = View {
+            saw: view.saw || self.total == 0,
+            ..view
+        };
+        true
+    }
+
+    fn split(&mut self, csr: &Csr, seat: usize) -> Result<bool, Memory>
+        requires { IsOf csr.now self.old }
+        ensures step { IfOk result (λ done. IsDone csr.now self.old (Event.Split seat) done self.new) }
+        ensures refused { OnErr result (IsSome (after csr.now self.old (Event.Split seat)) × (self.new ≡ self.old)) }
+    {
+        let Some(view) = self.live(seat) else {
+            return Ok(false);
+        };
+        let Hand::Idle = view.hand else {
+            return Ok(false);
+        };
+        if view.share < 2 {
+            return Ok(false);
+        }
+        let half = view.share / 2;
+        self.views.push(View {
+            hand: Hand::Idle,
+            credits: 0,
+            saw: false,
+            share: half,
+        })?;
+        self.views[seat] = View {
+            share: view.share - half,
+            ..view
+        };
+        Ok(true)
+    }
+
+    fn join(&mut self, csr: &Csr, seat: usize, other: usize) -> bool
+        requires { IsOf csr.now self.old }
+        ensures { IsDone csr.now self.old (Event.Join seat other) result self.new }
+    {
+        if seat == other {
+            return false;
+        }
+        let Some(view) = self.live(seat) else {
+            return false;
+        };
+        let Some(gone) = self.live(other) else {
+            return false;
+        };
+        let (Hand::Idle, Hand::Idle) = (view.hand, gone.hand) else {
+            return false;
+        };
+        self.views[seat] = View {
+            saw: view.saw || gone.saw,
+            share: view.share + gone.share,
+            ..view
+        };
+        self.views[other] = View {
+            hand: Hand::Idle,
+            credits: 0,
+            saw: false,
+            share: 0,
+        };
+        true
+    }
+
+    // Does an event, and answers whether it was enabled; an enabled `Split` may find no memory.
+    fn step(&mut self, csr: &Csr, event: Event) -> Result<bool, Memory>
+        requires { IsOf csr.now self.old }
+        ensures step { IfOk result (λ done. IsDone csr.now self.old event done self.new) }
+        ensures refused { OnErr result (IsSplit event × IsSome (after csr.now self.old event) × (self.new ≡ self.old)) }
+    {
+        match event {
+            Event::Take(seat, u) => Ok(self.take(csr, seat, u)),
+            Event::Read(seat) => Ok(self.read(csr, seat)),
+            Event::Relax(seat) => Ok(self.relax(csr, seat)),
+            Event::Raise(seat) => Ok(self.raise(csr, seat)),
+            Event::SetMark(seat) => Ok(self.set_mark(csr, seat)),
+            Event::Finish(seat) => Ok(self.finish(csr, seat)),
+            Event::See(seat) => Ok(self.see(csr, seat)),
+            Event::Split(seat) => self.split(csr, seat),
+            Event::Join(seat, other) => Ok(self.join(csr, seat, other)),
+        }
+    }
+}
+
+/// The label that an arc offers its head, from a tail of label `d`: their sum, or `INF` past it.
+fn offered(d: u64, weight: u32) -> u64
+    ensures { result ≡ min (d + weight) INF }
+{
+    d.saturating_add(u64::from(weight))
+}
+
+/// Does an event exactly where it is enabled; elsewhere, and where a `Split` finds no memory, the core
+/// stays as it was. The core is one of this graph.
+pub fn apply(_alloc: Global, core: &mut Core, csr: &Csr, event: Event) -> Result<(), CoreFault>
+    requires { IsOf csr.now core.old }
+    ensures done { OnOk result (after csr.now core.old event ≡ Some core.new) }
+    ensures not_enabled { (result ≡ Err CoreFault.NotEnabled) ↔ (after csr.now core.old event ≡ None) }
+    ensures memory_only_at_split { result ≡ Err CoreFault.Memory → IsSplit event }
+    ensures unchanged { OnErr result (core.new ≡ core.old) }
+    ensures lawful { (seeds : List Seed) → IsLawful csr.now seeds core.old → IsLawful csr.now seeds core.new }
+    ensures belongs { IsOf csr.now core.new }
+{
+    match core.step(csr, event) {
+        Ok(true) => Ok(()),
+        Ok(false) => Err(CoreFault::NotEnabled),
+        Err(Memory) => Err(CoreFault::Memory),
+    }
+}
