@@ -1,0 +1,189 @@
+//! The same job in plain Rust, to compare with: reads all, parses by bytes, builds rows by counting
+//! sort, finds distances by Dijkstra with a binary heap, and formats into one buffer. It stops at the
+//! first line that is wrong, with less care for which fault it is.
+
+use std::cmp::Reverse;
+use std::collections::BinaryHeap;
+use std::io::{self, Read, Write};
+
+struct Arc {
+    tail: u32,
+    head: u32,
+    weight: u32,
+}
+
+struct Job {
+    n: usize,
+    arcs: Vec<Arc>,
+    sources: Vec<u32>,
+}
+
+fn number(bytes: &[u8], at: &mut usize) -> Option<u64> {
+    while matches!(bytes.get(*at), Some(b' ' | b'\t')) {
+        *at += 1;
+    }
+    let start = *at;
+    let mut value = 0u64;
+    while let Some(digit @ b'0'..=b'9') = bytes.get(*at) {
+        value = value.saturating_mul(10).saturating_add(u64::from(digit - b'0'));
+        *at += 1;
+    }
+    (*at > start).then_some(value)
+}
+
+fn vertex(bytes: &[u8], at: &mut usize, n: usize) -> Option<u32> {
+    let value = number(bytes, at)?;
+    (1..=n as u64).contains(&value).then(|| (value - 1) as u32)
+}
+
+fn end_of_line(bytes: &[u8], at: &mut usize) -> Option<()> {
+    while matches!(bytes.get(*at), Some(b' ' | b'\t' | b'\r')) {
+        *at += 1;
+    }
+    match bytes.get(*at) {
+        None => Some(()),
+        Some(b'\n') => {
+            *at += 1;
+            Some(())
+        }
+        Some(_) => None,
+    }
+}
+
+fn parse(bytes: &[u8]) -> Option<Job> {
+    let mut job = Job { n: 0, arcs: Vec::new(), sources: Vec::new() };
+    let (mut m, mut k) = (0, 0);
+    let mut at = 0;
+    while at < bytes.len() {
+        match bytes[at] {
+            b'a' => {
+                at += 1;
+                let tail = vertex(bytes, &mut at, job.n)?;
+                let head = vertex(bytes, &mut at, job.n)?;
+                let weight = u32::try_from(number(bytes, &mut at)?).ok()?;
+                end_of_line(bytes, &mut at)?;
+                job.arcs.push(Arc { tail, head, weight });
+            }
+            b's' => {
+                at += 1;
+                let source = vertex(bytes, &mut at, job.n)?;
+                end_of_line(bytes, &mut at)?;
+                job.sources.push(source);
+            }
+            b'p' if bytes[at..].starts_with(b"p sp ") => {
+                at += 5;
+                job.n = number(bytes, &mut at)? as usize;
+                m = number(bytes, &mut at)? as usize;
+                job.arcs.reserve(m.min((bytes.len() - at) / 8));
+                end_of_line(bytes, &mut at)?;
+            }
+            b'p' if bytes[at..].starts_with(b"p aux sp ss ") => {
+                at += 12;
+                k = number(bytes, &mut at)? as usize;
+                end_of_line(bytes, &mut at)?;
+            }
+            b'c' | b'\n' => {
+                while bytes.get(at).is_some_and(|byte| *byte != b'\n') {
+                    at += 1;
+                }
+                at += 1;
+            }
+            _ => return None,
+        }
+    }
+    (job.arcs.len() == m && job.sources.len() == k).then_some(job)
+}
+
+/// Rows of arcs: those of `u` are at `firsts[u]..firsts[u + 1]`.
+pub struct Rows {
+    firsts: Vec<usize>,
+    targets: Vec<(u32, u32)>,
+}
+
+fn rows(n: usize, arcs: &[Arc]) -> Rows {
+    let mut firsts = vec![0usize; n + 1];
+    for arc in arcs {
+        firsts[arc.tail as usize + 1] += 1;
+    }
+    for u in 0..n {
+        firsts[u + 1] += firsts[u];
+    }
+    let mut next = firsts.clone();
+    let mut targets = vec![(0, 0); arcs.len()];
+    for arc in arcs {
+        let place = &mut next[arc.tail as usize];
+        targets[*place] = (arc.head, arc.weight);
+        *place += 1;
+    }
+    Rows { firsts, targets }
+}
+
+fn distances(rows: &Rows, source: u32) -> Vec<u64> {
+    let mut labels = vec![u64::MAX; rows.firsts.len() - 1];
+    let mut heap = BinaryHeap::new();
+    labels[source as usize] = 0;
+    heap.push(Reverse((0u64, source)));
+    while let Some(Reverse((label, u))) = heap.pop() {
+        if label > labels[u as usize] {
+            continue;
+        }
+        let row = rows.firsts[u as usize]..rows.firsts[u as usize + 1];
+        for &(head, weight) in &rows.targets[row] {
+            let reached = label + u64::from(weight);
+            if reached < labels[head as usize] {
+                labels[head as usize] = reached;
+                heap.push(Reverse((reached, head)));
+            }
+        }
+    }
+    labels
+}
+
+fn put_number(out: &mut Vec<u8>, mut value: u64) {
+    let mut digits = [0u8; 20];
+    let mut at = digits.len();
+    loop {
+        at -= 1;
+        digits[at] = b'0' + (value % 10) as u8;
+        value /= 10;
+        if value == 0 {
+            break;
+        }
+    }
+    out.extend_from_slice(&digits[at..]);
+}
+
+fn put_block(out: &mut Vec<u8>, source: u32, labels: &[u64]) {
+    out.extend_from_slice(b"s ");
+    put_number(out, u64::from(source) + 1);
+    out.push(b'\n');
+    for (v, label) in labels.iter().enumerate() {
+        out.extend_from_slice(b"d ");
+        put_number(out, v as u64 + 1);
+        out.push(b' ');
+        if *label == u64::MAX {
+            out.extend_from_slice(b"inf");
+        } else {
+            put_number(out, *label);
+        }
+        out.push(b'\n');
+    }
+}
+
+fn main() -> io::Result<()> {
+    let mut bytes = Vec::new();
+    io::stdin().lock().read_to_end(&mut bytes)?;
+    let Some(job) = parse(&bytes) else {
+        eprintln!("baseline: not a job");
+        std::process::exit(2);
+    };
+    drop(bytes);
+    let mut out = Vec::new();
+    if !job.sources.is_empty() {
+        let rows = rows(job.n, &job.arcs);
+        for source in &job.sources {
+            put_block(&mut out, *source, &distances(&rows, *source));
+        }
+    }
+    io::stdout().lock().write_all(&out)
+}

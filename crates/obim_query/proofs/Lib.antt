@@ -1,0 +1,3 @@
+pub mod Known
+pub mod Sending
+pub mod Uniqueness

@@ -1,0 +1,45 @@
+-- The bytes that were taken from a reader and given to a writer, where the type of each tells them.
+use Rattle.std.specs.Prelude.{◌≡◌, ℕ, ◌+◌, ◌≤◌, List, ◌++◌, length, Option}
+use Rattle.std.specs.Io.KnownBytes.{Consumes, Appends, IsAtEnd}
+
+-- at most so many bytes were taken
+pub record TakesAtMost (limit : ℕ) (before after : Option (List ℕ)) : Type 0 where
+  pub bytes : List ℕ
+  pub taken : Consumes before after bytes
+  pub few : length bytes ≤ limit
+
+-- one byte more than the limit was taken
+pub record TakesOneMore (limit : ℕ) (before after : Option (List ℕ)) : Type 0 where
+  pub bytes : List ℕ
+  pub taken : Consumes before after bytes
+  pub count : length bytes ≡ limit + 1
+
+-- the text was taken, and nothing was left behind it
+pub record TakesWhole (before after : Option (List ℕ)) (text : List ℕ) : Type 0 where
+  pub taken : Consumes before after text
+  pub ended : IsAtEnd after
+
+-- a front of the bytes was given
+pub record GivesFront (before after : Option (List ℕ)) (bytes : List ℕ) : Type 0 where
+  pub given : List ℕ
+  pub left : List ℕ
+  pub is_front : bytes ≡ given ++ left
+  pub appended : Appends before after given
+
+-- of the bytes all were given but those that wait
+pub record Waits (before after : Option (List ℕ)) (waiting bytes : List ℕ) : Type 0 where
+  pub given : List ℕ
+  pub whole : bytes ≡ given ++ waiting
+  pub appended : Appends before after given
+
+-- a text of this kind was given, and nothing else
+pub record Writes (IsText : List ℕ → Type 0) (before after : Option (List ℕ)) : Type 0 where
+  pub text : List ℕ
+  pub is_text : IsText text
+  pub appended : Appends before after text
+
+-- the new bytes are the old ones and a text of this kind
+pub record Extends (IsText : List ℕ → Type 0) (old new : List ℕ) : Type 0 where
+  pub text : List ℕ
+  pub is_text : IsText text
+  pub appended : new ≡ old ++ text

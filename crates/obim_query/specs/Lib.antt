@@ -1,0 +1,4 @@
+pub mod Choices
+pub mod Bytes
+pub mod AnswerText
+pub mod Outcome

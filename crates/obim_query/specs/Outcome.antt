@@ -1,0 +1,119 @@
+-- What a run of the program has read and written, for each outcome.
+use Rattle.std.specs.Prelude.{◌≡◌, ◌≢◌, ◌≤◌, ℕ, List, length, Option, ⊤}
+use Rattle.std.specs.Io.KnownBytes.{Keeps}
+use Rattle.dimacs_text.specs.declared.fault.LineKind.{LineKind}
+use Rattle.dimacs_text.specs.Jobs.{Content, absent, IsJobText, IsWithinLimits}
+use Rattle.dimacs_text.specs.Faults.{IsFirstFault}
+use Rattle.obim_query.specs.declared.asked.Answer.{Answer}
+use Rattle.obim_query.specs.declared.asked.Answer.TheVariants as answer
+use Rattle.obim_query.specs.declared.fault.Fault.{Fault}
+use Rattle.obim_query.specs.declared.fault.Fault.TheVariants as fault
+use Rattle.obim_query.specs.Bytes.{TakesAtMost, TakesOneMore, TakesWhole, Writes}
+use Rattle.obim_query.specs.AnswerText.{IsAnswerText}
+
+-- the whole text was taken, within the limit, and it is the job's
+pub record IsRequest (limit : ℕ) (before after : Option (List ℕ)) (job : Content) : Type 0 where
+  pub text : List ℕ
+  pub whole : TakesWhole before after text
+  pub few : length text ≤ limit
+  pub is_job : IsJobText text job
+  pub limits : IsWithinLimits job
+
+-- the whole text was taken, it is a job's, and the job's answer was written and nothing else
+pub record IsAnswered (limit : ℕ) (kind : Answer) (taken_from taken_to given_from given_to : Option (List ℕ)) : Type 0 where
+  pub job : Content
+  pub request : IsRequest limit taken_from taken_to job
+  pub reply : Writes (IsAnswerText kind job) given_from given_to
+
+-- the text is a job's, and the bytes are the job's answer
+pub record IsAnswerOf (kind : Answer) (text bytes : List ℕ) : Type 0 where
+  pub job : Content
+  pub is_job : IsJobText text job
+  pub is_answer : IsAnswerText kind job bytes
+
+-- the whole text was taken, and its first fault is this one
+pub record IsFaulty (before after : Option (List ℕ)) (line : ℕ) (kind : LineKind) : Type 0 where
+  pub text : List ℕ
+  pub whole : TakesWhole before after text
+  pub first : IsFirstFault text line kind
+
+-- the job has no section of queries, and only components need none
+pub record IsUnasked (kind : Answer) (job : Content) : Type 0 where
+  pub unasked : job.question ≡ absent
+  pub needed : kind ≢ answer.Components
+
+-- the whole text was taken, and it is a job's without a section of queries
+pub record IsRequestUnasked (limit : ℕ) (kind : Answer) (before after : Option (List ℕ)) : Type 0 where
+  pub job : Content
+  pub request : IsRequest limit before after job
+  pub unasked : IsUnasked kind job
+
+-- how much was taken before a fault
+abbrev pub HasTaken : ℕ → Option (List ℕ) → Option (List ℕ) → Fault → Type 0
+HasTaken limit before after fault.Read = TakesAtMost limit before after
+HasTaken limit before after fault.TooLong = TakesOneMore limit before after
+HasTaken limit before after (fault.Text line kind) = TakesAtMost limit before after
+HasTaken limit before after fault.NoAsk = TakesAtMost limit before after
+HasTaken limit before after fault.Memory = TakesAtMost limit before after
+HasTaken limit before after fault.Spawn = TakesAtMost limit before after
+HasTaken limit before after fault.Write = TakesAtMost limit before after
+
+-- what a fault says of the text
+abbrev pub IsTrueOfText : ℕ → Answer → Option (List ℕ) → Option (List ℕ) → Fault → Type 0
+IsTrueOfText limit kind before after fault.Read = ⊤
+IsTrueOfText limit kind before after fault.TooLong = ⊤
+IsTrueOfText limit kind before after (fault.Text line what) = IsFaulty before after line what
+IsTrueOfText limit kind before after fault.NoAsk = IsRequestUnasked limit kind before after
+IsTrueOfText limit kind before after fault.Memory = ⊤
+IsTrueOfText limit kind before after fault.Spawn = ⊤
+IsTrueOfText limit kind before after fault.Write = ⊤
+
+-- nothing is written where the text is refused
+abbrev pub WritesNothing : Option (List ℕ) → Option (List ℕ) → Fault → Type 0
+WritesNothing before after fault.Read = Keeps before after
+WritesNothing before after fault.TooLong = Keeps before after
+WritesNothing before after (fault.Text line kind) = Keeps before after
+WritesNothing before after fault.NoAsk = Keeps before after
+WritesNothing before after fault.Memory = ⊤
+WritesNothing before after fault.Spawn = ⊤
+WritesNothing before after fault.Write = ⊤
+
+-- the faults of reading bytes
+abbrev pub IsReadingFault : Fault → Type 0
+IsReadingFault fault.Read = ⊤
+IsReadingFault fault.TooLong = ⊤
+IsReadingFault (fault.Text line kind) = ⊥
+IsReadingFault fault.NoAsk = ⊥
+IsReadingFault fault.Memory = ⊤
+IsReadingFault fault.Spawn = ⊥
+IsReadingFault fault.Write = ⊥
+
+-- the faults of reading a job: a fault of its text is the first one
+abbrev pub IsRequestFault : Option (List ℕ) → Option (List ℕ) → Fault → Type 0
+IsRequestFault before after fault.Read = ⊤
+IsRequestFault before after fault.TooLong = ⊤
+IsRequestFault before after (fault.Text line kind) = IsFaulty before after line kind
+IsRequestFault before after fault.NoAsk = ⊥
+IsRequestFault before after fault.Memory = ⊤
+IsRequestFault before after fault.Spawn = ⊥
+IsRequestFault before after fault.Write = ⊥
+
+-- the faults of answering a job: nothing is written where nothing was asked
+abbrev pub IsReplyFault : Answer → Content → Option (List ℕ) → Option (List ℕ) → Fault → Type 0
+IsReplyFault kind job before after fault.Read = ⊥
+IsReplyFault kind job before after fault.TooLong = ⊥
+IsReplyFault kind job before after (fault.Text line what) = ⊥
+IsReplyFault kind job before after fault.NoAsk = IsUnasked kind job × Keeps before after
+IsReplyFault kind job before after fault.Memory = ⊤
+IsReplyFault kind job before after fault.Spawn = ⊤
+IsReplyFault kind job before after fault.Write = ⊤
+
+-- the faults of writing blocks
+abbrev pub IsWritingFault : Fault → Type 0
+IsWritingFault fault.Read = ⊥
+IsWritingFault fault.TooLong = ⊥
+IsWritingFault (fault.Text line kind) = ⊥
+IsWritingFault fault.NoAsk = ⊥
+IsWritingFault fault.Memory = ⊤
+IsWritingFault fault.Spawn = ⊥
+IsWritingFault fault.Write = ⊤

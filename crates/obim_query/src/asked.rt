@@ -1,0 +1,49 @@
+ghost use Rattle.std.specs.Prelude.{◌≡◌, ◌^◌, ◌≤◌, ◌↔◌, false, IsSome, IfSome};
+
+use crate::settings::Settings;
+
+/// Which labels are asked for.
+#[derive(Clone, Copy, Debug, PartialEq, Eq)]
+pub enum Answer {
+    /// The least cost of a walk from each source.
+    Distances,
+    /// The fewest arcs of a walk from each source.
+    Levels,
+    /// The least number of a vertex that arcs join to each vertex, whichever way they point.
+    Components,
+}
+
+/// The most bytes of a job text that are ever read: 2^36.
+pub const MOST_BYTES: u64 = 68719476736;
+
+/// What is asked of a job text.
+#[derive(Clone, Copy, Debug, PartialEq, Eq)]
+pub struct Asked {
+    /// Which labels.
+    pub answer: Answer,
+    /// How to work them out.
+    pub settings: Settings,
+    /// How many bytes of text are read at most. A longer text is refused.
+    pub limit: u64,
+    ghost within: { limit ≤ 2 ^ 36 },
+}
+
+impl Asked {
+    /// What is asked, or `None` where walks are asked for, which no answer has yet, or where the limit
+    /// is above 2^36 bytes.
+    pub fn new(answer: Answer, settings: Settings, walks: bool, limit: u64) -> Option<Asked>
+        ensures within { IsSome result ↔ ((walks ≡ false) × (limit ≤ 2 ^ 36)) }
+        ensures answer { IfSome result (λ asked. asked.answer ≡ answer) }
+        ensures settings { IfSome result (λ asked. asked.settings ≡ settings) }
+        ensures limit { IfSome result (λ asked. asked.limit ≡ limit) }
+    {
+        if walks || limit > MOST_BYTES {
+            return None;
+        }
+        Some(Asked {
+            answer,
+            settings,
+            limit,
+        })
+    }
+}

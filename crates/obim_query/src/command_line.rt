@@ -1,0 +1,91 @@
+//! What the command line asks for.
+
+use crate::asked::{Answer, Asked, MOST_BYTES};
+use crate::settings::Settings;
+use clap::{Arg, ArgMatches, Command, Error, value_parser};
+use std::alloc::Global;
+
+const KINDS: [&str; 3] = ["distances", "levels", "components"];
+
+const ABOUT: &str = "Answers a job: a directed graph with whole-number weights, and queries.";
+
+const JOBS: &str = "\
+A job is one text on standard input: a graph in the .gr format of the 9th DIMACS
+Implementation Challenge, and behind it its sources in the .ss format. Vertices
+count from 1.
+
+  c a comment
+  p sp N M           N vertices and M arcs; M lines follow:
+  a U V W            an arc from U to V of weight W, from 0 to 4294967295
+  p aux sp ss K      K sources; K lines follow:
+  s V                the source V
+
+For each source the answer has the line `s V`, and for each vertex a line
+`d V COST`, with `inf` where no walk leads. For components it has for each vertex
+`k V LABEL`: the least vertex that arcs join to V, whichever way they point.
+
+Example:
+  $ printf 'p sp 2 1\\na 1 2 7\\np aux sp ss 1\\ns 1\\n' | obim_query
+  s 1
+  d 1 0
+  d 2 7";
+
+/// Judges the words of the command line: what they ask for, or clap's text of what is wrong with them,
+/// which may be the help that they ask for. `None` where the settings are outside their limits.
+pub fn asked_by<'a>(alloc: Global, words: &'a [String]) -> Result<Option<Asked>, Error> {
+    let matches = command(alloc)?.try_get_matches_from(words)?;
+    let Some(settings) = settings_in(&matches) else {
+        return Ok(None);
+    };
+    Ok(Asked::new(answer_in(&matches), settings, false, MOST_BYTES))
+}
+
+fn command<'a>(alloc: Global) -> Result<Command<'a>, Error> {
+    let answer = Arg::new(alloc, "answer")
+        .long("answer")
+        .value_name("KIND")
+        .value_parser(KINDS.as_slice())
+        .default_value("distances")
+        .help("Which labels: costs, hops, or least connected vertices");
+    let workers = Arg::new(alloc, "workers")
+        .long("workers")
+        .value_name("COUNT")
+        .value_parser(value_parser!(u32).range(1..=64))
+        .default_value("2")
+        .help("How many workers, 1 to 64");
+    let shift = Arg::new(alloc, "shift")
+        .long("shift")
+        .value_name("BITS")
+        .value_parser(value_parser!(u32).range(0..=63))
+        .default_value("4")
+        .help("A label shifted right so far is its priority, 0 to 63");
+    let chunk = Arg::new(alloc, "chunk")
+        .long("chunk")
+        .value_name("SIZE")
+        .value_parser(value_parser!(usize).range(1..=256))
+        .default_value("16")
+        .help("How many vertices are handed on at a time, 1 to 256");
+    let command = Command::new(alloc, "obim_query")
+        .about(ABOUT)
+        .after_help(JOBS)
+        .arg(answer)?
+        .arg(workers)?
+        .arg(shift)?
+        .arg(chunk)?;
+    Ok(command)
+}
+
+fn settings_in(matches: &ArgMatches) -> Option<Settings> {
+    let workers = matches.get_one::<u32>("workers")?;
+    let shift = matches.get_one::<u32>("shift")?;
+    let chunk = matches.get_one::<usize>("chunk")?;
+    Settings::new(workers, shift, chunk)
+}
+
+fn answer_in(matches: &ArgMatches) -> Answer {
+    match matches.get_str("answer") {
+        Some("levels") => Answer::Levels,
+        Some("components") => Answer::Components,
+        _ => Answer::Distances,
+    }
+}

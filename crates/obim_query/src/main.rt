@@ -1,0 +1,98 @@
+//! Bytes in, bytes out, named faults: the program.
+//!
+//! `obim_query` reads a job from standard input and writes its answer to standard output. The contract
+//! of `reply::answer` says of any reader and writer that the bytes written are exactly those that the
+//! least labels of the job make, and what was read and written at each fault.
+//!
+//! It stands on `dimacs_text`, which reads job texts and writes labels, and on `route_walks`, which says
+//! what least labels are and computes them plainly.
+#![tactic(auto)]
+
+mod asked;
+mod blocks;
+mod command_line;
+mod fault;
+mod gate;
+mod intake;
+pub mod laws;
+mod outlet;
+mod reply;
+mod settings;
+#[cfg(test)]
+mod tests;
+
+use asked::Asked;
+use command_line::asked_by;
+use gate::OpenGate;
+use reply::answer;
+use std::env::Env;
+use std::io::{ErrorKind, Read, Write};
+use std::process::ExitCode;
+use std::sync::Wait;
+use std::thread::Threads;
+use std::{env, fmt};
+
+/// The status of a command line that is refused.
+const USAGE: u8 = 1;
+
+/// The status where memory is refused before a job is read.
+const NO_MEMORY: u8 = 3;
+
+/// The status where help can't be written.
+const UNWRITTEN: u8 = 4;
+
+fn main(rt: HostRuntime) -> ExitCode {
+    let status = match judged(&rt) {
+        Ok(asked) => reply_to(&rt, &mut rt.stdin(), &mut rt.stdout(), &asked),
+        Err(status) => status,
+    };
+    ExitCode::from(status)
+}
+
+/// What the command line asks for, or the status to end with, after the text that says why.
+fn judged<H: AllocGlobal + Env + Print + Eprint>(rt: &H) -> Result<Asked, u8> {
+    let words: Vec<String> = match env::args(rt) {
+        Ok(words) => words
+            .collect(rt.alloc())
+            .map_err(|_| complain(rt, "out of memory", NO_MEMORY))?,
+        Err(error) if error.kind() == ErrorKind::InvalidData => {
+            return Err(complain(rt, "the command line is not UTF-8 text", USAGE));
+        }
+        Err(_) => return Err(complain(rt, "out of memory", NO_MEMORY)),
+    };
+    match asked_by(rt.alloc(), &words) {
+        Ok(Some(asked)) => Ok(asked),
+        Ok(None) => Err(complain(rt, "a setting is outside its limits", USAGE)),
+        Err(error) => Err(shown(rt, &error)),
+    }
+}
+
+/// Prints clap's text, and gives the status to end with.
+fn shown<H: Print + Eprint>(rt: &H, error: &clap::Error) -> u8 {
+    if error.kind() == clap::error::ErrorKind::OutOfMemory {
+        return complain(rt, "out of memory", NO_MEMORY);
+    }
+    match error.print(rt) {
+        Err(_) if !error.use_stderr() => complain(rt, "write failed", UNWRITTEN),
+        _ => if error.use_stderr() { USAGE } else { 0 },
+    }
+}
+
+fn reply_to<H: AllocGlobal + Eprint + Threads + Wait + Sync, R: Read, W: Write>(
+    rt: &H,
+    reader: &mut R,
+    writer: &mut W,
+    asked: &Asked,
+) -> u8 {
+    match answer(rt, rt.alloc(), reader, writer, asked, &OpenGate) {
+        Ok(()) => 0,
+        Err(fault) => complain(rt, fault, fault::status(&fault)),
+    }
+}
+
+/// Prints the text on standard error, behind the program's name, and gives the status back.
+fn complain<H: Eprint, T: fmt::Display + Drop>(rt: &H, text: T, status: u8) -> u8 {
+    // Where standard error is closed too, the status has to say it.
+    let _ = eprintln!(rt; "obim_query: {text}");
+    status
+}

@@ -1,0 +1,90 @@
+//! From the bytes of a job text to the bytes of its answer.
+
+ghost use Rattle.std.specs.Prelude.{◌≤◌, ◌^◌, IfOk, IfErr, OnOk};
+ghost use Rattle.dimacs_text.specs.Jobs.{content_of, IsWithinLimits};
+ghost use Rattle.obim_query.specs.AnswerText.{IsAnswerText};
+ghost use Rattle.obim_query.specs.Bytes.{Writes};
+ghost use Rattle.obim_query.specs.Outcome.{HasTaken, IsAnswerOf, IsAnswered, IsReplyFault, IsRequest, IsRequestFault, IsTrueOfText, WritesNothing};
+
+use crate::asked::{Answer, Asked};
+use crate::blocks::{write_components, write_sources};
+use crate::fault::Fault;
+use crate::gate::Gate;
+use crate::intake::read_text;
+use dimacs_text::{Ask, Job, read_job};
+use route_walks::unit_weights;
+use std::alloc::Global;
+use std::io::{Read, Write};
+use std::sync::Wait;
+use std::thread::Threads;
+
+/// Reads a job text to its end and writes its answer: exactly the bytes that the least labels of the
+/// job make, whatever the settings and the gate are. A fault of the text is found before anything is
+/// written.
+pub fn answer<H: Threads + Wait + Sync, R: Read, W: Write, G: Gate>(
+    _rt: &H,
+    alloc: Global,
+    reader: &mut R,
+    writer: &mut W,
+    asked: &Asked,
+    _gate: &G,
+) -> Result<(), Fault>
+    // The whole text was read, it is a job's, and exactly its answer was written.
+    ensures answered { OnOk result (IsAnswered asked.now.limit asked.now.answer (R.remaining reader.old) (R.remaining reader.new) (W.contents writer.old) (W.contents writer.new)) }
+    // At most the limit was read, and one byte more only where the text is too long.
+    ensures taken { IfErr result (HasTaken asked.now.limit (R.remaining reader.old) (R.remaining reader.new)) }
+    // A fault of the text is its first one; where nothing was asked, the job is legal all the same.
+    ensures says { IfErr result (IsTrueOfText asked.now.limit asked.now.answer (R.remaining reader.old) (R.remaining reader.new)) }
+    // Where the text is refused nothing was written.
+    ensures unwritten { IfErr result (WritesNothing (W.contents writer.old) (W.contents writer.new)) }
+{
+    let job = read_request(alloc, reader, asked.limit)?;
+    respond(alloc, writer, asked.answer, &job)
+}
+
+/// The same over memory: the bytes of the answer to the text.
+pub fn answer_bytes<H: Threads + Wait + Sync, G: Gate>(
+    rt: &H,
+    alloc: Global,
+    text: &[u8],
+    asked: &Asked,
+    gate: &G,
+) -> Result<Vec<u8>, Fault>
+    ensures { IfOk result (λ bytes. IsAnswerOf asked.now.answer text.now bytes.items) }
+{
+    let mut reader = text;
+    let mut bytes = Vec::new(alloc);
+    answer(rt, alloc, &mut reader, &mut bytes, asked, gate)?;
+    Ok(bytes)
+}
+
+/// Reads the text and the job in it, and lets the text go.
+fn read_request<R: Read>(alloc: Global, reader: &mut R, limit: u64) -> Result<Job, Fault>
+    requires { limit ≤ 2 ^ 36 }
+    ensures job { IfOk result (λ job. IsRequest limit (R.remaining reader.old) (R.remaining reader.new) (content_of job)) }
+    ensures taken { IfErr result (HasTaken limit (R.remaining reader.old) (R.remaining reader.new)) }
+    ensures says { IfErr result (IsRequestFault (R.remaining reader.old) (R.remaining reader.new)) }
+{
+    let text = read_text(alloc, reader, limit)?;
+    let job = read_job(alloc, &text)?;
+    Ok(job)
+}
+
+/// Writes the answer of the job.
+fn respond<W: Write>(alloc: Global, writer: &mut W, answer: Answer, job: &Job) -> Result<(), Fault>
+    requires { IsWithinLimits (content_of job.now) }
+    ensures reply { OnOk result (Writes (IsAnswerText answer (content_of job.now)) (W.contents writer.old) (W.contents writer.new)) }
+    ensures says { IfErr result (IsReplyFault answer (content_of job.now) (W.contents writer.old) (W.contents writer.new)) }
+{
+    match (answer, &job.ask) {
+        (Answer::Components, _) => write_components(alloc, writer, job.n, &job.arcs),
+        (_, Ask::Absent) => Err(Fault::NoAsk),
+        (Answer::Distances, Ask::Sources(sources)) => {
+            write_sources(alloc, writer, job.n, &job.arcs, sources)
+        }
+        (Answer::Levels, Ask::Sources(sources)) => {
+            let units = unit_weights(alloc, &job.arcs)?;
+            write_sources(alloc, writer, job.n, &units, sources)
+        }
+    }
+}

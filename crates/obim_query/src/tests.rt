@@ -1,0 +1,253 @@
+//! Worked jobs with their answers and faults, and readers and writers that fail.
+
+use crate::asked::{Answer, Asked};
+use crate::fault::{Fault, status};
+use crate::gate::OpenGate;
+use crate::reply::{answer, answer_bytes};
+use crate::settings::Settings;
+use dimacs_text::LineKind;
+use std::io::{self, ErrorKind, Read, Write};
+use std::process::Abort;
+use std::test::Fail;
+
+const SIX: &[u8] =
+    b"p sp 6 8\na 1 2 17\na 1 3 10\na 2 4 2\na 3 5 0\na 4 3 0\na 4 6 3\na 5 2 0\na 5 6 20\np aux sp ss 1\ns 1\n";
+
+const SIX_ANSWER: &[u8] = b"s 1\nd 1 0\nd 2 10\nd 3 10\nd 4 12\nd 5 10\nd 6 15\n";
+
+/// Gives its bytes in reads of at most `step`, and then fails or is at its end.
+#[derive(Drop)]
+struct Source<'a> {
+    rest: &'a [u8],
+    step: usize,
+    fails: bool,
+}
+
+impl Read for Source<'_> {
+    fn read(&mut self, buffer: &mut [u8]) -> io::Result<usize> {
+        if self.rest.is_empty() && self.fails {
+            return Err(io::Error::from(ErrorKind::Other));
+        }
+        let count = self.step.min(self.rest.len()).min(buffer.len());
+        let (given, rest) = self.rest.split_at(count);
+        buffer[..count].copy_from_slice(given);
+        self.rest = rest;
+        Ok(count)
+    }
+}
+
+/// Takes bytes in writes of at most `step`, and once it has `room` of them fails, or takes none.
+#[derive(Drop)]
+struct Sink {
+    taken: Vec<u8>,
+    step: usize,
+    room: usize,
+    fails: bool,
+    flushes: bool,
+}
+
+impl Write for Sink {
+    fn write(&mut self, bytes: &[u8]) -> io::Result<usize> {
+        let left = self.room.saturating_sub(self.taken.len());
+        let count = self.step.min(left).min(bytes.len());
+        if count == 0 && self.fails {
+            return Err(io::Error::from(ErrorKind::Other));
+        }
+        self.taken.extend_from_slice(&bytes[..count])?;
+        Ok(count)
+    }
+
+    fn flush(&mut self) -> io::Result<()> {
+        if self.flushes {
+            Ok(())
+        } else {
+            Err(io::Error::from(ErrorKind::Other))
+        }
+    }
+}
+
+fn asked(rt: &impl Abort, answer: Answer, limit: u64) -> Asked {
+    let settings = Settings::new(2, 4, 16).expect(rt, "settings within their limits");
+    Asked::new(answer, settings, false, limit).expect(rt, "a limit of at most 2^36")
+}
+
+#[test]
+fn answers_of_worked_jobs(rt: HostRuntime) -> Result<(), Fail> {
+    let levels: &[u8] = b"s 1\nd 1 0\nd 2 1\nd 3 1\nd 4 2\nd 5 2\nd 6 3\n";
+    let components: &[u8] = b"k 1 1\nk 2 1\nk 3 1\nk 4 1\nk 5 1\nk 6 1\n";
+    let alone: &[u8] = b"p sp 1 0\np aux sp ss 1\ns 1\n";
+    let heavy: &[u8] = b"p sp 3 2\na 1 2 4294967295\na 2 3 4294967295\np aux sp ss 1\ns 1\n";
+    let parallel: &[u8] = b"p sp 2 3\na 1 2 7\na 1 2 3\na 1 1 0\np aux sp ss 1\ns 1\n";
+    let against: &[u8] = b"p sp 2 1\na 2 1 5\n";
+    let table = [
+        (Answer::Distances, SIX, SIX_ANSWER),
+        (Answer::Levels, SIX, levels),
+        (Answer::Components, SIX, components),
+        (Answer::Components, against, b"k 1 1\nk 2 1\n".as_slice()),
+        (Answer::Components, b"p sp 0 0\n".as_slice(), b"".as_slice()),
+        (Answer::Distances, alone, b"s 1\nd 1 0\n".as_slice()),
+        (
+            Answer::Distances,
+            heavy,
+            b"s 1\nd 1 0\nd 2 4294967295\nd 3 8589934590\n".as_slice(),
+        ),
+        (
+            Answer::Distances,
+            parallel,
+            b"s 1\nd 1 0\nd 2 3\n".as_slice(),
+        ),
+    ];
+    for (kind, text, want) in table {
+        let bytes = answer_bytes(&rt, rt.alloc(), text, &asked(&rt, kind, 1000), &OpenGate)?;
+        assert_eq!(rt; bytes.as_slice(), want);
+    }
+    Ok(())
+}
+
+#[test]
+fn refusals_of_texts(rt: HostRuntime) -> Result<(), Fail> {
+    let alloc = rt.alloc();
+    let graph = &SIX[..SIX.len() - 18];
+    let table = [
+        (graph, 94, Fault::NoAsk),
+        (SIX, 93, Fault::TooLong),
+        (SIX, 10, Fault::TooLong),
+        (
+            b"".as_slice(),
+            0,
+            Fault::Text {
+                line: 1,
+                kind: LineKind::NoProblem,
+            },
+        ),
+        (
+            &SIX[..73],
+            94,
+            Fault::Text {
+                line: 9,
+                kind: LineKind::Fields,
+            },
+        ),
+        (
+            &SIX[..91],
+            94,
+            Fault::Text {
+                line: 11,
+                kind: LineKind::Fields,
+            },
+        ),
+    ];
+    for (text, limit, want) in table {
+        let refused = answer_bytes(
+            &rt,
+            alloc,
+            text,
+            &asked(&rt, Answer::Distances, limit),
+            &OpenGate,
+        );
+        assert_eq!(rt; refused.err(), Some(want));
+    }
+    let whole = answer_bytes(
+        &rt,
+        alloc,
+        SIX,
+        &asked(&rt, Answer::Distances, 94),
+        &OpenGate,
+    )?;
+    assert_eq!(rt; whole.as_slice(), SIX_ANSWER);
+    Ok(())
+}
+
+#[test]
+fn readers_that_fail_or_give_little(rt: HostRuntime) -> Result<(), Fail> {
+    let alloc = rt.alloc();
+    let asked = asked(&rt, Answer::Distances, 1000);
+    for count in 0..=SIX.len() {
+        let mut reader = Source {
+            rest: &SIX[..count],
+            step: 7,
+            fails: true,
+        };
+        let mut written = Vec::new(alloc);
+        let outcome = answer(&rt, alloc, &mut reader, &mut written, &asked, &OpenGate);
+        assert_eq!(rt; outcome, Err(Fault::Read), "after {count}");
+        assert!(rt; written.is_empty());
+    }
+    let mut reader = Source {
+        rest: SIX,
+        step: 1,
+        fails: false,
+    };
+    let mut written = Vec::new(alloc);
+    answer(&rt, alloc, &mut reader, &mut written, &asked, &OpenGate)?;
+    assert_eq!(rt; written.as_slice(), SIX_ANSWER);
+    Ok(())
+}
+
+#[test]
+fn writers_that_fail_or_take_little(rt: HostRuntime) -> Result<(), Fail> {
+    let alloc = rt.alloc();
+    let asked = asked(&rt, Answer::Distances, 1000);
+    for room in 0..SIX_ANSWER.len() {
+        for fails in [false, true] {
+            let mut sink = Sink {
+                taken: Vec::new(alloc),
+                step: 4,
+                room,
+                fails,
+                flushes: true,
+            };
+            let mut reader = SIX;
+            let outcome = answer(&rt, alloc, &mut reader, &mut sink, &asked, &OpenGate);
+            assert_eq!(rt; outcome, Err(Fault::Write), "after {room}");
+            assert_eq!(rt; sink.taken.as_slice(), &SIX_ANSWER[..room]);
+        }
+    }
+    for (flushes, want) in [(true, Ok(())), (false, Err(Fault::Write))] {
+        let mut sink = Sink {
+            taken: Vec::new(alloc),
+            step: 1,
+            room: 1000,
+            fails: true,
+            flushes,
+        };
+        let mut reader = SIX;
+        let outcome = answer(&rt, alloc, &mut reader, &mut sink, &asked, &OpenGate);
+        assert_eq!(rt; outcome, want);
+        assert_eq!(rt; sink.taken.as_slice(), SIX_ANSWER);
+    }
+    Ok(())
+}
+
+#[test]
+fn limits_and_statuses(rt: HostRuntime) {
+    for (workers, shift, chunk) in [(0, 4, 16), (65, 4, 16), (2, 64, 16), (2, 4, 0), (2, 4, 257)] {
+        assert!(rt; Settings::new(workers, shift, chunk).is_none());
+    }
+    for (workers, shift, chunk) in [(1, 0, 1), (64, 63, 256)] {
+        let settings = Settings::new(workers, shift, chunk).expect(&rt, "the limits themselves");
+        assert!(rt; Asked::new(Answer::Levels, settings, true, 0).is_none());
+        assert!(rt; Asked::new(Answer::Levels, settings, false, 1 << 36).is_some());
+        assert!(rt; Asked::new(Answer::Levels, settings, false, (1 << 36) + 1).is_none());
+    }
+    let text = Fault::Text {
+        line: 4,
+        kind: LineKind::TooFew,
+    };
+    let table = [
+        (text, 2, "line 4: too few lines"),
+        (Fault::TooLong, 2, "input too long"),
+        (Fault::NoAsk, 2, "no sources or pairs"),
+        (Fault::Memory, 3, "out of memory"),
+        (Fault::Read, 4, "read failed"),
+        (Fault::Write, 4, "write failed"),
+        (Fault::Spawn, 5, "cannot start a thread"),
+    ];
+    for (fault, want, words) in table {
+        assert_eq!(rt; status(&fault), want);
+        assert_eq!(rt;
+            fault.to_string(rt.alloc()).expect(&rt, "memory").as_str(),
+            words
+        );
+    }
+}
