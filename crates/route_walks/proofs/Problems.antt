@@ -1,6 +1,6 @@
 -- The arcs and seeds of the three problems have their ends among the same vertices.
-use Rattle.std.proofs.Common.{ℕ, ◌<◌, ◌≤◌, List, [], ◌∷◌, arith}
-use Rattle.std.specs.List.{All, range_with_len}
+use Rattle.std.proofs.Common.{ℕ, ◌<◌, List, [], ◌∷◌, arith}
+use Rattle.std.specs.List.{range_with_len}
 use Rattle.std.proofs.lemmas.List.Elements.{All-nil, All-cons, All-map, All-head, All-tail}
 use Rattle.std.proofs.lemmas.List.FromFn.{length-range_with_len, get_or-range_with_len}
 use Rattle.route_walks.specs.declared.graph.ArcRec.{ArcRec}
@@ -20,4 +20,4 @@ both_ways-graph n [] graph = All-nil (IsArcBelow n)
 both_ways-graph n (arc ∷ arcs) graph =
     let ends = All-head (IsArcBelow n) arc arcs graph in
     All-cons (IsArcBelow n) (along arc) (against arc ∷ both_ways arcs) ends
-      (All-cons (IsArcBelow n) (against arc) (both_ways arcs) (ends.1, ends.0) (both_ways-graph n arcs (All-tail (IsArcBelow n) arc arcs graph)))
+    (All-cons (IsArcBelow n) (against arc) (both_ways arcs) (ends.1, ends.0) (both_ways-graph n arcs (All-tail (IsArcBelow n) arc arcs graph)))
