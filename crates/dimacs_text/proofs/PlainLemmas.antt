@@ -1,9 +1,11 @@
 -- What an arc's line says, from the pieces that the fast way takes off.
-use Rattle.std.proofs.Common.{◌≡◌, ℕ, zero, suc, ◌+◌, ◌-◌, ◌*◌, ◌<◌, ◌≤◌, Bool, true, false, ◌&&◌, eqb, List, [], ◌∷◌, ◌++◌, length, take, drop, get_or, ◌⊎◌, inl, inr, Option, Some, None, Ok, refl, sym, ap, subst, ◌∙◌, append_assoc, append-nil, arith, take-suc, add-one, take-append-drop, length-append, ap₂, take_all, leb, cond, IfSome, Bor}
+use Rattle.std.proofs.Common.{◌≡◌, ℕ, zero, suc, ◌+◌, ◌-◌, ◌*◌, ◌^◌, ◌<◌, ◌≤◌, Bool, true, false, ◌&&◌, eqb, List, [], ◌∷◌, ◌++◌, length, take, drop, get_or, ◌⊎◌, inl, inr, Option, Some, None, Ok, refl, sym, ap, subst, ◌∙◌, append_assoc, append-nil, arith, take-suc, add-one, take-append-drop, length-append, ap₂, take_all, leb, cond, IfSome, Bor}
 use Rattle.std.specs.List.{onto_first}
 use Rattle.std.specs.Str.{all_ascii_digits}
 use Rattle.std.specs.Str.Parse.{digits_value, digits_value_after}
 use Rattle.std.specs.Char.{digit_value, is_ascii_digit}
+use Rattle.std.proofs.Math.Nat.{pow-le-pow_right}
+use Rattle.std.proofs.lemmas.Grind.{pow_more}
 use Rattle.std.proofs.lemmas.Bool.{ne_eqb}
 use Rattle.std.proofs.lemmas.Bool.Decides.{nat_tests}
 use Rattle.std.proofs.lemmas.List.{take_at, get_or_at}
@@ -28,12 +30,37 @@ value-push : (ds : List ℕ) (c n : ℕ) → digits_value_after 10 n (ds ++ c �
 value-push [] c n = refl
 value-push (x ∷ xs) c n = value-push xs c (n * 10 + digit_value x)
 
+-- the first bytes are digits, and this is what they are worth
+pub record IsLed (bytes : List ℕ) (count value : ℕ) : Type 0 where
+  pub all : all_ascii_digits (take count bytes) ≡ true
+  pub worth : digits_value 10 (take count bytes) ≡ value
+  pub small : value < 10 ^ count
+
 pub led_further : (bytes : List ℕ) (i value : ℕ) → i < length bytes → all_ascii_digits (take i bytes) ≡ true → digits_value 10 (take i bytes) ≡ value → is_ascii_digit (get_or bytes i 0) ≡ true → (all_ascii_digits (take (i + 1) bytes) ≡ true) × (digits_value 10 (take (i + 1) bytes) ≡ value * 10 + (get_or bytes i 0 - 48))
 led_further bytes i value small all worth d =
     let more : take (i + 1) bytes ≡ take i bytes ++ get_or bytes i 0 ∷ [] = rw (add-one, take-suc bytes i 0) refl in (
       ap (λ l. all_ascii_digits l) more ∙ digits-push (take i bytes) (get_or bytes i 0) all d,
       ap (λ l. digits_value 10 l) more ∙ value-push (take i bytes) (get_or bytes i 0) 0 ∙ ap₂ (λ v w. v * 10 + w) worth (digit-value (get_or bytes i 0) d),
     )
+
+-- one byte more, which is a digit
+pub led_more : (bytes : List ℕ) (i value digit : ℕ) → i < length bytes → IsLed bytes i value → is_ascii_digit (get_or bytes i 0) ≡ true → digit ≡ get_or bytes i 0 - 48 → digit ≤ 9 → IsLed bytes (i + 1) (value * 10 + digit)
+led_more bytes i value digit inside led is_digit is few =
+    let more = led_further bytes i value inside led.all led.worth is_digit in
+    record {
+      all = more.0;
+      worth = more.1 ∙ ap (λ d. value * 10 + d) (sym is);
+      small = ten-more (10 ^ i) (10 ^ (i + 1)) value digit (pow_more 10 i) led.small few;
+    }
+  where
+    ten-more : (low high v d : ℕ) → high ≡ low * 10 → v < low → d ≤ 9 → v * 10 + d < high
+    ten-more low high v d e h f = omega arith
+
+-- so few digits are worth less than 10^12
+pub led_small : (bytes : List ℕ) (i value : ℕ) → i ≤ 12 → IsLed bytes i value → value < 10 ^ 12
+led_small bytes i value few led =
+    let most = pow-le-pow_right {n = 10} (omega arith) {i = i} {j = 12} few in
+    omega (arith, most, led.small)
 
 pub leads : (bytes : List ℕ) (i value : ℕ) → i ≤ length bytes → 0 < i → all_ascii_digits (take i bytes) ≡ true → digits_value 10 (take i bytes) ≡ value → LeadsNumber bytes value (drop i bytes)
 leads bytes i value small some all worth = record {

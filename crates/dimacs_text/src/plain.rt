@@ -11,8 +11,8 @@ use crate::form::{Limit, admit_three};
 use crate::line::{is_blank_byte, skip_blanks};
 use route_walks::ArcRec;
 
-/// A number above this is left to the reader of all lines.
-const LARGE: u64 = 999_999_999_999;
+/// A number of as many digits or more is left to the reader of all lines.
+const MANY_DIGITS: usize = 13;
 
 /// The number at the front, where a byte that is no digit ends it, and the rest.
 fn leading_number(bytes: &[u8]) -> Option<(u64, &[u8])>
@@ -20,7 +20,8 @@ fn leading_number(bytes: &[u8]) -> Option<(u64, &[u8])>
     ensures shorter { IfSome result (λ found. length found.1.now < length bytes.now) }
 {
     let mut value: u64 = 0;
-    for (i, byte) in bytes.iter().enumerate() {
+    for i in 0..bytes.len().min(MANY_DIGITS) {
+        let byte = bytes[i];
         if !byte.is_ascii_digit() {
             return if i == 0 {
                 None
@@ -28,10 +29,7 @@ fn leading_number(bytes: &[u8]) -> Option<(u64, &[u8])>
                 Some((value, &bytes[i..]))
             };
         }
-        if value > LARGE {
-            return None;
-        }
-        value = value * 10 + u64::from(*byte - b'0');
+        value = value * 10 + u64::from(byte - b'0');
     }
     None
 }
