@@ -23,6 +23,7 @@ mod tests;
 
 use asked::Asked;
 use command_line::asked_by;
+use fault::{Fault, status};
 use gate::OpenGate;
 use reply::answer;
 use std::env::Env;
@@ -35,30 +36,24 @@ use std::{env, fmt};
 /// The status of a command line that is refused.
 const USAGE: u8 = 1;
 
-/// The status where memory is refused before a job is read.
-const NO_MEMORY: u8 = 3;
-
-/// The status where help can't be written.
-const UNWRITTEN: u8 = 4;
-
 fn main(rt: HostRuntime) -> ExitCode {
-    let status = match judged(&rt) {
+    let code = match judged(&rt) {
         Ok(asked) => reply_to(&rt, &mut rt.stdin(), &mut rt.stdout(), &asked),
         Err(status) => status,
     };
-    ExitCode::from(status)
+    ExitCode::from(code)
 }
 
-/// What the command line asks for, or the status to end with, after the text that says why.
+/// What the command line asks for; or the status to end with, after the text that says why is printed.
 fn judged<H: AllocGlobal + Env + Print + Eprint>(rt: &H) -> Result<Asked, u8> {
     let words: Vec<String> = match env::args(rt) {
         Ok(words) => words
             .collect(rt.alloc())
-            .map_err(|_| complain(rt, "out of memory", NO_MEMORY))?,
+            .map_err(|_| fail(rt, Fault::Memory))?,
         Err(error) if error.kind() == ErrorKind::InvalidData => {
             return Err(complain(rt, "the command line is not UTF-8 text", USAGE));
         }
-        Err(_) => return Err(complain(rt, "out of memory", NO_MEMORY)),
+        Err(_) => return Err(fail(rt, Fault::Memory)),
     };
     match asked_by(rt.alloc(), &words) {
         Ok(Some(asked)) => Ok(asked),
@@ -70,10 +65,10 @@ fn judged<H: AllocGlobal + Env + Print + Eprint>(rt: &H) -> Result<Asked, u8> {
 /// Prints clap's text, and gives the status to end with.
 fn shown<H: Print + Eprint>(rt: &H, error: &clap::Error) -> u8 {
     if error.kind() == clap::error::ErrorKind::OutOfMemory {
-        return complain(rt, "out of memory", NO_MEMORY);
+        return fail(rt, Fault::Memory);
     }
     match error.print(rt) {
-        Err(_) if !error.use_stderr() => complain(rt, "write failed", UNWRITTEN),
+        Err(_) if !error.use_stderr() => fail(rt, Fault::Write),
         _ => if error.use_stderr() { USAGE } else { 0 },
     }
 }
@@ -86,8 +81,13 @@ fn reply_to<H: AllocGlobal + Eprint + Threads + Wait + Sync, R: Read, W: Write>(
 ) -> u8 {
     match answer(rt, rt.alloc(), reader, writer, asked, &OpenGate) {
         Ok(()) => 0,
-        Err(fault) => complain(rt, fault, fault::status(&fault)),
+        Err(fault) => fail(rt, fault),
     }
+}
+
+/// Prints the fault's text, and gives its status.
+fn fail<H: Eprint>(rt: &H, fault: Fault) -> u8 {
+    complain(rt, fault, status(&fault))
 }
 
 /// Prints the text on standard error, behind the program's name, and gives the status back.

@@ -11,7 +11,7 @@ pub fn walks_can_be_cut()
 {}
 
 /// Labels that no seed and no arc can lower, and of which each is attained or `INF`, are least. So an
-/// engine may lower labels in any order: it is done when they are settled.
+/// engine may lower labels in any order, until they are settled.
 pub fn settled_and_sound_are_least()
     ensures { SettledAndSoundAreLeast }
 {}
