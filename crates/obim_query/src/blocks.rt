@@ -29,7 +29,8 @@ pub fn write_sources<W: Write>(
     requires few { n ≤ 2 ^ 28 }
     requires graph { IsGraph n arcs.now }
     requires sources { All (λ source. source < n) sources.now }
-    ensures blocks { OnOk result (Writes (AreSourceBlocks n arcs.now sources.now) (W.contents writer.old) (W.contents writer.new)) }
+    ensures blocks { OnOk result (Writes (AreSourceBlocks n arcs.now sources.now)
+        (W.contents writer.old) (W.contents writer.new)) }
     ensures kinds { IfErr result IsWritingFault }
 {
     let mut waiting = Vec::new(alloc);
@@ -50,7 +51,8 @@ pub fn write_components<W: Write>(
     requires few { n ≤ 2 ^ 28 }
     requires graph { IsGraph n arcs.now }
     requires arcs { length arcs.now ≤ 2 ^ 30 }
-    ensures block { OnOk result (Writes (IsComponentsBlock n arcs.now) (W.contents writer.old) (W.contents writer.new)) }
+    ensures block { OnOk result (Writes (IsComponentsBlock n arcs.now)
+        (W.contents writer.old) (W.contents writer.new)) }
     ensures kinds { IfErr result IsWritingFault }
 {
     let mut waiting = Vec::new(alloc);
@@ -74,7 +76,8 @@ fn put_block(
     requires few { n ≤ 2 ^ 28 }
     requires graph { IsGraph n arcs.now }
     requires source { source < n }
-    ensures block { OnOk result (Extends (IsSourceBlock n arcs.now source) waiting.old.items waiting.new.items) }
+    ensures block { OnOk result (Extends (IsSourceBlock n arcs.now source)
+        waiting.old.items waiting.new.items) }
     ensures kinds { IfErr result IsWritingFault }
 {
     let seeds = seeds_from(alloc, source)?;
@@ -85,7 +88,8 @@ fn put_block(
 
 /// Writes what waits where it is much.
 fn send_if_full<W: Write>(writer: &mut W, waiting: &mut Vec<u8>) -> Result<(), Fault>
-    ensures sent { OnOk result (Waits (W.contents writer.old) (W.contents writer.new) waiting.new.items waiting.old.items) }
+    ensures sent { OnOk result (Waits
+        (W.contents writer.old) (W.contents writer.new) waiting.new.items waiting.old.items) }
     ensures kinds { IfErr result IsWritingFault }
 {
     if waiting.len() >= FULL {
@@ -97,7 +101,8 @@ fn send_if_full<W: Write>(writer: &mut W, waiting: &mut Vec<u8>) -> Result<(), F
 
 /// Writes what still waits, and flushes.
 fn finish<W: Write>(writer: &mut W, waiting: &[u8]) -> Result<(), Fault>
-    ensures sent { OnOk result (Appends (W.contents writer.old) (W.contents writer.new) waiting.now) }
+    ensures sent { OnOk result (Appends
+        (W.contents writer.old) (W.contents writer.new) waiting.now) }
     ensures kinds { IfErr result IsWritingFault }
 {
     write_bytes(writer, waiting)?;

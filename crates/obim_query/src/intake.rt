@@ -14,9 +14,11 @@ const BLOCK: usize = 1 << 16;
 /// Reads all that the reader gives, up to its end, and one byte past the limit at most.
 pub fn read_text<R: Read>(alloc: Global, reader: &mut R, limit: u64) -> Result<Vec<u8>, Fault>
     requires { limit ≤ 2 ^ 36 }
-    ensures whole { IfOk result (λ text. TakesWhole (R.remaining reader.old) (R.remaining reader.new) text.items) }
+    ensures whole { IfOk result (λ text. TakesWhole
+        (R.remaining reader.old) (R.remaining reader.new) text.items) }
     ensures within { IfOk result (λ text. length text.items ≤ limit) }
-    ensures taken { IfErr result (HasTaken limit (R.remaining reader.old) (R.remaining reader.new)) }
+    ensures taken { IfErr result (HasTaken limit
+        (R.remaining reader.old) (R.remaining reader.new)) }
     ensures kinds { IfErr result IsReadingFault }
 {
     let mut text = Vec::new(alloc);
@@ -38,7 +40,8 @@ pub fn read_text<R: Read>(alloc: Global, reader: &mut R, limit: u64) -> Result<V
 /// One read, of which each error is `Read`.
 fn read_some<R: Read>(reader: &mut R, buffer: &mut [u8]) -> Result<usize, Fault>
     ensures count { IfOk result (λ count. count ≤ length buffer.new) }
-    ensures bytes { ReadConsumes (R.remaining reader.old) (R.remaining reader.new) result buffer.new }
+    ensures bytes { ReadConsumes
+        (R.remaining reader.old) (R.remaining reader.new) result buffer.new }
     ensures only { IfErr result (λ fault. fault ≡ Fault.Read) }
 {
     match reader.read(buffer) {

@@ -30,13 +30,18 @@ pub fn answer<H: Threads + Wait + Sync, R: Read, W: Write, G: Gate>(
     _gate: &G,
 ) -> Result<(), Fault>
     // The whole text was read, it is a job's, and exactly its answer was written.
-    ensures answered { OnOk result (IsAnswered asked.now.limit asked.now.answer (R.remaining reader.old) (R.remaining reader.new) (W.contents writer.old) (W.contents writer.new)) }
+    ensures answered { OnOk result (IsAnswered asked.now.limit asked.now.answer
+        (R.remaining reader.old) (R.remaining reader.new)
+        (W.contents writer.old) (W.contents writer.new)) }
     // At most the limit was read, and one byte more only where the text is too long.
-    ensures taken { IfErr result (HasTaken asked.now.limit (R.remaining reader.old) (R.remaining reader.new)) }
+    ensures taken { IfErr result (HasTaken asked.now.limit
+        (R.remaining reader.old) (R.remaining reader.new)) }
     // A fault of the text is its first one; where nothing was asked, the job is legal all the same.
-    ensures says { IfErr result (IsTrueOfText asked.now.limit asked.now.answer (R.remaining reader.old) (R.remaining reader.new)) }
+    ensures says { IfErr result (IsTrueOfText asked.now.limit asked.now.answer
+        (R.remaining reader.old) (R.remaining reader.new)) }
     // Where the text is refused nothing was written.
-    ensures unwritten { IfErr result (WritesNothing (W.contents writer.old) (W.contents writer.new)) }
+    ensures unwritten { IfErr result (WritesNothing
+        (W.contents writer.old) (W.contents writer.new)) }
 {
     let job = read_request(alloc, reader, asked.limit)?;
     respond(alloc, writer, asked.answer, &job)
@@ -61,8 +66,10 @@ pub fn answer_bytes<H: Threads + Wait + Sync, G: Gate>(
 /// Reads the text and the job in it, and lets the text go.
 fn read_request<R: Read>(alloc: Global, reader: &mut R, limit: u64) -> Result<Job, Fault>
     requires { limit ≤ 2 ^ 36 }
-    ensures job { IfOk result (λ job. IsRequest limit (R.remaining reader.old) (R.remaining reader.new) (content_of job)) }
-    ensures taken { IfErr result (HasTaken limit (R.remaining reader.old) (R.remaining reader.new)) }
+    ensures job { IfOk result (λ job. IsRequest limit
+        (R.remaining reader.old) (R.remaining reader.new) (content_of job)) }
+    ensures taken { IfErr result (HasTaken limit
+        (R.remaining reader.old) (R.remaining reader.new)) }
     ensures says { IfErr result (IsRequestFault (R.remaining reader.old) (R.remaining reader.new)) }
 {
     let text = read_text(alloc, reader, limit)?;
@@ -73,8 +80,10 @@ fn read_request<R: Read>(alloc: Global, reader: &mut R, limit: u64) -> Result<Jo
 /// Writes the answer of the job.
 fn respond<W: Write>(alloc: Global, writer: &mut W, answer: Answer, job: &Job) -> Result<(), Fault>
     requires { IsWithinLimits (content_of job.now) }
-    ensures reply { OnOk result (Writes (IsAnswerText answer (content_of job.now)) (W.contents writer.old) (W.contents writer.new)) }
-    ensures says { IfErr result (IsReplyFault answer (content_of job.now) (W.contents writer.old) (W.contents writer.new)) }
+    ensures reply { OnOk result (Writes (IsAnswerText answer (content_of job.now))
+        (W.contents writer.old) (W.contents writer.new)) }
+    ensures says { IfErr result (IsReplyFault answer (content_of job.now)
+        (W.contents writer.old) (W.contents writer.new)) }
 {
     match (answer, &job.ask) {
         (Answer::Components, _) => write_components(alloc, writer, job.n, &job.arcs),

@@ -96,7 +96,8 @@ fn meet_seeds(labels: &mut [u64], seeds: &[Seed])
     requires seeds { AreSeeds (length labels.old) seeds.now }
     requires none_yet { All (λ label. label ≡ INF) labels.old }
     ensures met { All (IsMet (slice_index labels.new)) seeds.now }
-    ensures sound { (arcs : List ArcRec) → IsSound (length labels.old) arcs seeds.now (slice_index labels.new) }
+    ensures sound { (arcs : List ArcRec) → IsSound (length labels.old) arcs seeds.now
+        (slice_index labels.new) }
 {
     for seed in seeds {
         lower(labels, seed.vertex, seed.start);
@@ -107,9 +108,12 @@ fn meet_seeds(labels: &mut [u64], seeds: &[Seed])
 fn relax_all(labels: &mut [u64], arcs: &[ArcRec]) -> bool
     requires { IsGraph (length labels.old) arcs.now }
     ensures falling { (v : ℕ) → slice_index labels.new v ≤ slice_index labels.old v }
-    ensures sound { (seeds : List Seed) → IsSound (length labels.old) arcs.now seeds (slice_index labels.old) → IsSound (length labels.old) arcs.now seeds (slice_index labels.new) }
+    ensures sound { (seeds : List Seed)
+        → IsSound (length labels.old) arcs.now seeds (slice_index labels.old)
+        → IsSound (length labels.old) arcs.now seeds (slice_index labels.new) }
     ensures fell { IsTrue result → sum labels.new < sum labels.old }
-    ensures settled { result ≡ false → (labels.new ≡ labels.old) × All (IsRelaxed (slice_index labels.new)) arcs.now }
+    ensures settled { result ≡ false → (labels.new ≡ labels.old)
+        × All (IsRelaxed (slice_index labels.new)) arcs.now }
 {
     let mut fell = false;
     for arc in arcs {
@@ -123,7 +127,9 @@ fn relax_all(labels: &mut [u64], arcs: &[ArcRec]) -> bool
 fn settle(labels: &mut [u64], arcs: &[ArcRec])
     requires { IsGraph (length labels.old) arcs.now }
     ensures falling { (v : ℕ) → slice_index labels.new v ≤ slice_index labels.old v }
-    ensures sound { (seeds : List Seed) → IsSound (length labels.old) arcs.now seeds (slice_index labels.old) → IsSound (length labels.old) arcs.now seeds (slice_index labels.new) }
+    ensures sound { (seeds : List Seed)
+        → IsSound (length labels.old) arcs.now seeds (slice_index labels.old)
+        → IsSound (length labels.old) arcs.now seeds (slice_index labels.new) }
     ensures relaxed { All (IsRelaxed (slice_index labels.new)) arcs.now }
 {
     while relax_all(labels, arcs) {}
