@@ -1,0 +1,5 @@
+pub mod Views
+pub mod Rule
+pub mod Closing
+pub mod Pauses
+pub mod Callers

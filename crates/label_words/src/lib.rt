@@ -1,0 +1,50 @@
+//! How do many seats share the words of a run, one atomic step at a time?
+//!
+//! The words of a run are the pending total, a label and a mark for each vertex. They lie in one table
+//! of `atomic_table`, and each call here is one atomic step on one of them: nothing waits, nothing locks,
+//! nothing takes memory. A worker steps with its `WorkSeat`, and seats are split and joined.
+//!
+//! Between any two steps the words and what all seats hold are a lawful core: labels are sound, every
+//! arc is relaxed or its tail marked or some seat holds it, and the total is the account of marks and
+//! credits. So a seat that saw the total at 0 closes the words to least labels.
+//!
+//! A worker's turn at vertex `u`, with a seat of its own:
+//!
+//! ```text
+//! if words.take(&mut seat, u) {
+//!     words.read(&mut seat, &csr);
+//!     loop {
+//!         match words.relax(&mut seat, &csr) {
+//!             Step::Lowered { head, label } => {
+//!                 if seat.credits() == 1 {
+//!                     words.raise(&mut seat);
+//!                 }
+//!                 words.set_mark(&mut seat); // and the worklist is told of `head` at `label`
+//!             }
+//!             Step::Kept => {}
+//!             Step::RowEnd => break,
+//!         }
+//!     }
+//!     words.finish(&mut seat, &csr);
+//! }
+//! ```
+//!
+//! A worker that finds nothing to take calls `see`, and is done where it answers true.
+//!
+//! Stands on `relax_core` for the law of each event, on `csr_graph` for the rows and on `atomic_table`.
+#![tactic(auto)]
+
+mod closing;
+mod known;
+mod pause;
+mod seat;
+mod words;
+
+pub use closing::Closed;
+pub use known::Known;
+pub use pause::Paused;
+pub use seat::WorkSeat;
+pub use words::{Step, Words};
+
+#[cfg(test)]
+mod tests;

@@ -1,0 +1,60 @@
+ghost use Rattle.std.specs.Prelude.{◌≡◌};
+
+use crate::known::Place;
+use relax_core::Hand;
+use std::marker::Model;
+
+/// A worker's place at the words: what it holds, its credits, whether it saw the total at 0, and its
+/// share. Contracts also see the least label that it knows of each vertex that it read or lowered, and
+/// the graph and the seeds of its words; these take no room. A seat that is dropped while it holds
+/// something keeps its credits, so no seat sees 0 from then on.
+#[derive(Drop)]
+pub struct WorkSeat {
+    pub(crate) place: Place,
+    pub(crate) hand: Hand,
+    pub(crate) credits: u8,
+    pub(crate) saw: bool,
+    pub(crate) share: u32,
+}
+
+impl Model for WorkSeat {
+    ghost use Rattle.std.specs.Prelude.{◌≡◌, []};
+    ghost use Rattle.label_words.specs.Views.{Held, IsTied};
+
+    ghost Value = { Held };
+
+    ghost view = { λ s. record { words = s.place.table_id; view = s.place.me.0 } };
+
+    ghost invariant = { λ s.
+        IsTied s.place.table_id s.place.me.0 s.hand s.credits s.saw s.share × (s.place.me.1 ≡ []) };
+}
+
+impl WorkSeat {
+    /// What the seat holds.
+    pub fn hand(&self) -> Hand
+        ensures { result ≡ self.now.view.core.hand }
+    {
+        self.hand
+    }
+
+    /// The part of the pending total that stands for what the seat holds: 0 to 2.
+    pub fn credits(&self) -> u8
+        ensures { result ≡ self.now.view.core.credits }
+    {
+        self.credits
+    }
+
+    /// Whether the seat saw the pending total at 0.
+    pub fn saw(&self) -> bool
+        ensures { result ≡ self.now.view.core.saw }
+    {
+        self.saw
+    }
+
+    /// Of the 65536 shares that all seats have together.
+    pub fn share(&self) -> u32
+        ensures { result ≡ self.now.view.core.share }
+    {
+        self.share
+    }
+}
