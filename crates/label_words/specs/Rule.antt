@@ -1,6 +1,7 @@
 -- The rule of the words: between any two steps the words and all views are a lawful core, and no label
 -- is above what any seat knows of it.
-use Rattle.std.specs.Prelude.{◌≡◌, ◌≢◌, ℕ, ◌+◌, ◌*◌, ◌<◌, ◌≤◌, nat_lt, Bool, List, false, length, map, slice_index, slice_index_or, All}
+use Rattle.std.specs.Prelude.{◌≡◌, ◌≢◌, ℕ, ◌+◌, ◌*◌, ◌<◌, ◌≤◌, nat_lt, Bool}
+use Rattle.std.specs.Prelude.{List, false, length, map, slice_index, slice_index_or, All}
 use mathlib.Core.Option.{some}
 use lib.ListN.{get_elem?}
 use Rattle.route_walks.specs.declared.graph.Seed.{Seed}

@@ -1,6 +1,7 @@
 -- What a seat knows, and what each call makes of it. A step finds a number in a word; what the seat
 -- holds says which vertex and which arc it is about.
-use Rattle.std.specs.Prelude.{◌≡◌, ℕ, ◌+◌, ◌*◌, ◌-◌, ◌/◌, ◌<◌, ◌≤◌, min, Bool, true, false, ◌||◌, if◌then◌else◌, List, [], ◌∷◌, ◌++◌, slice_index_or, All}
+use Rattle.std.specs.Prelude.{◌≡◌, ℕ, ◌+◌, ◌*◌, ◌-◌, ◌/◌, ◌<◌, ◌≤◌, min, Bool, true}
+use Rattle.std.specs.Prelude.{false, ◌||◌, if◌then◌else◌, List, [], ◌∷◌, ◌++◌, slice_index_or, All}
 use Rattle.route_walks.specs.declared.graph.ArcRec.{ArcRec}
 use Rattle.route_walks.specs.declared.graph.Seed.{Seed}
 use Rattle.csr_graph.specs.Graph.{Graph, IsInRows, first_place, end_place}
@@ -190,7 +191,8 @@ IsAtRowEnd view = place_of view.core.hand ≡ end_place view.graph.arcs (vertex_
 -- a seat goes along the next arc of its row, or stays at the row's end
 abbrev pub GoesAlong : Known → Step → Known → Type 0
 GoesAlong old (Lowered head label) new =
-    HasNextArc old × (head ≡ (next_arc old).head) × (label ≡ next_offer old) × (new ≡ after_relax true old)
+    HasNextArc old × (head ≡ (next_arc old).head) × (label ≡ next_offer old)
+    × (new ≡ after_relax true old)
 GoesAlong old Kept new = HasNextArc old × (new ≡ after_relax false old)
 GoesAlong old RowEnd new = IsAtRowEnd old × (new ≡ old)
 

@@ -1,8 +1,8 @@
 //! How do many seats share the words of a run, one atomic step at a time?
 //!
 //! The words of a run are the pending total, a label and a mark for each vertex. They lie in one table
-//! of `atomic_table`, and each call here is one atomic step on one of them: nothing waits, nothing locks,
-//! nothing takes memory. A worker steps with its `WorkSeat`, and seats are split and joined.
+//! of `atomic_table`. Each call of a worker is one atomic step on one of them: it takes no lock and no
+//! memory and does not wait. A worker steps with its `WorkSeat`, and seats are split and joined.
 //!
 //! Between any two steps the words and what all seats hold are a lawful core: labels are sound, every
 //! arc is relaxed or its tail marked or some seat holds it, and the total is the account of marks and

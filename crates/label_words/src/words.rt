@@ -2,9 +2,11 @@ ghost use Rattle.std.specs.Prelude.{◌≡◌, ◌<◌, ◌≤◌, ◌^◌, leng
 ghost use Rattle.route_walks.specs.Walk.{AreSeeds};
 ghost use Rattle.label_words.specs.Rule.{IsLaid};
 ghost use Rattle.relax_core.specs.declared.views.Hand.TheVariants.{Idle};
-ghost use Rattle.label_words.specs.Views.{first_known, after_take, after_read, after_raise, after_set_mark};
-ghost use Rattle.label_words.specs.Views.{after_finish, after_see, left_half, right_half, both_views};
-ghost use Rattle.label_words.specs.Views.{IsFresh, IsOpen, Owes, IsAtRowEnd, IsFound, GoesAlong, Attains};
+ghost use Rattle.label_words.specs.Views.{IsFresh, IsOpen, Owes, IsAtRowEnd};
+ghost use Rattle.label_words.specs.Views.{IsFound, GoesAlong, Attains};
+ghost use Rattle.label_words.specs.Views.{first_known, after_take, after_read, after_raise};
+ghost use Rattle.label_words.specs.Views.{after_set_mark, after_finish, after_see};
+ghost use Rattle.label_words.specs.Views.{left_half, right_half, both_views};
 
 use crate::known::{Board, Finishes, Halves, Key, Marks, Raises, Reads, Relaxes, Sees, Takes};
 use crate::seat::WorkSeat;
@@ -48,7 +50,8 @@ impl Words {
     /// seat is idle, has all shares, and knows no label.
     pub fn open(alloc: Global, csr: &Csr, seeds: &[Seed]) -> Result<(Words, WorkSeat), Memory>
         requires { AreSeeds csr.now.n seeds.now }
-        ensures seat { IfOk result (λ r. r.1 ≡ record { words = r.0; view = first_known csr.now seeds.now }) }
+        ensures seat { IfOk result
+            (λ opened. opened.1 ≡ record { words = opened.0; view = first_known csr.now seeds.now }) }
     {
         let core = open_core(alloc, csr, seeds)?;
         let words = lay(alloc, &core, csr.n())?;

@@ -23,7 +23,8 @@ fn relax_next(words: &Words, seat: &mut WorkSeat, csr: &Csr, u: u32) -> bool
     requires row { IsInRow u seat.old.view.core }
     ensures stays { Stays seat.old seat.new }
     ensures row { IsInRow u seat.new.view.core }
-    ensures more { result ≡ true → place_of seat.new.view.core.hand ≡ place_of seat.old.view.core.hand + 1 }
+    ensures more { result ≡ true
+        → place_of seat.new.view.core.hand ≡ place_of seat.old.view.core.hand + 1 }
     ensures arc { result ≡ true → place_of seat.old.view.core.hand < end_place csr.now.arcs u }
     ensures end { result ≡ false → place_of seat.new.view.core.hand ≡ end_place csr.now.arcs u }
 {
@@ -100,7 +101,8 @@ fn sweep_until_seen(words: &Words, seat: &mut WorkSeat, csr: &Csr)
 fn settle(alloc: Global, csr: &Csr, seeds: &[Seed]) -> Result<Option<Vec<u64>>, Memory>
     requires { AreSeeds csr.now.n seeds.now }
     ensures { IfOk result
-        (λ labels. IfSome labels (λ it. AreLeast csr.now.n csr.now.arcs seeds.now (slice_index it.items))) }
+        (λ settled. IfSome settled
+        (λ labels. AreLeast csr.now.n csr.now.arcs seeds.now (slice_index labels.items))) }
 {
     let (words, mut seat) = Words::open(alloc, csr, seeds)?;
     sweep_until_seen(&words, &mut seat, csr);
