@@ -12,7 +12,7 @@ use Rattle.relax_core.specs.declared.views.View.{View}
 use Rattle.relax_core.specs.Lawful.{Covers, Account}
 use Rattle.relax_core.specs.State.{State, IsLawful, first_view}
 use Rattle.label_words.specs.declared.known.Known.{Known}
-use Rattle.label_words.specs.Rule.{label_of, mark_of, Knows, IsKept, IsLaid}
+use Rattle.label_words.specs.Rule.{cores, label_of, mark_of, Knows, IsKept, IsLaid}
 use Rattle.label_words.specs.Views.{first_known}
 
 push_old : (xs : List ℕ) (y i : ℕ) → i < length xs → slice_index (xs ++ y ∷ []) i ≡ slice_index xs i
@@ -108,3 +108,21 @@ laid_kept graph seeds state words lawful views laid =
         subst (Knows graph seeds (label_of words)) (some-injective (first_known graph seeds) view at)
         record { graph_is = refl; seeds_are = refl; above = All-nil (λ (entry : ℕ × ℕ). label_of words entry.0 ≤ entry.1) }
     first_knows (suc s) view at = absurd (some-ne-none view (sym at))
+
+-- and a state that words hold is lawful where they keep the rule
+pub kept_lawful : (graph : Graph) (seeds : List Seed) (state : State) (words : List ℕ) (views : List Known)
+    → IsKept graph seeds words views
+    → length state.labels ≡ graph.n → length state.marks ≡ graph.n → IsLaid state graph.n words → state.views ≡ cores views
+    → IsLawful graph seeds state
+kept_lawful graph seeds state words views was label_count mark_count laid are =
+    let labels : label_of words ≡ slice_index state.labels = λ i v. labels_same graph state words label_count laid v i in
+    let marks : mark_of words ≡ (λ v. slice_index_or state.marks v false) = λ i v. marks_same graph state words mark_count laid v i in
+    record {
+      rows = was.rows;
+      labels = label_count;
+      marks = mark_count;
+      covers =
+          subst (λ (p : (ℕ → ℕ) × (ℕ → Bool) × List View). Covers graph seeds p.0 p.1 p.2) (λ i. (labels i, marks i, sym are i)) was.covers;
+      account =
+          subst (λ (p : (ℕ → Bool) × ℕ × List View). Account graph.n p.0 p.1 p.2) (λ i. (marks i, laid.total i, sym are i)) was.account;
+    }

@@ -5,3 +5,4 @@ pub mod Joins
 pub mod Ties
 pub mod Laying
 pub mod Ends
+pub mod Steps

@@ -212,6 +212,20 @@ finish_allowed graph seeds slots id u d k c me ready open' end is =
     let less : x + c ≡ total_of words = lessened (total_of words) c (omega arith) below in
     (finish_keeps words views id u d k x me.0 was at ready open' end (ap (λ (y : ℕ). x + y) (sym is) ∙ less), refl))
 
+-- the credits of a seat that set a mark
+pub one_or_two : (n : ℕ) → cond {A = ℕ} (n == 0) 1 2 ≡ cond {A = ℕ} (nat_lt 0 n) 2 1
+one_or_two n =
+    elim (cases_eq n 0) [
+      | inl empty ↦
+          let yes : (n == 0) ≡ true = grind (arith, nat_tests) in
+          let no : nat_lt 0 n ≡ false = grind (arith, nat_tests) in
+          ap (λ b. cond {A = ℕ} b 1 2) yes ∙ sym (ap (λ b. cond {A = ℕ} b 2 1) no)
+      | inr full ↦
+          let no : (n == 0) ≡ false = grind (arith, nat_tests) in
+          let yes : nat_lt 0 n ≡ true = grind (arith, nat_tests) in
+          ap (λ b. cond {A = ℕ} b 1 2) no ∙ sym (ap (λ b. cond {A = ℕ} b 2 1) yes)
+    ]
+
 pub mark_keeps : (words : List ℕ) (views : List Known) (s u d k head : ℕ) (v : Known)
     → IsKept v.graph v.seeds words views → get_elem? views s ≡ some v → IsReady v
     → v.core.hand ≡ Owe u d k head → v.core.credits ≡ 2
@@ -232,19 +246,6 @@ mark_keeps words views s u d k head v was at ready owe two =
     (account.marking v.graph.n (mark_of words) (mark_of words') (total_of words) (cores views) s u d k head v.core w.core was.account has owe two vertex
     (mark_here words head 1 within) (λ x other. mark_other words head 1 x other) hand (one_or_two (slice_index words (2 * head + 2))) refl refl)
     (knows_more v w (label_of words) refl refl mine.above)
-  where
-    one_or_two : (n : ℕ) → cond {A = ℕ} (n == 0) 1 2 ≡ cond {A = ℕ} (nat_lt 0 n) 2 1
-    one_or_two n =
-        elim (cases_eq n 0) [
-          | inl empty ↦
-              let yes : (n == 0) ≡ true = grind (arith, nat_tests) in
-              let no : nat_lt 0 n ≡ false = grind (arith, nat_tests) in
-              ap (λ b. cond {A = ℕ} b 1 2) yes ∙ sym (ap (λ b. cond {A = ℕ} b 2 1) no)
-          | inr full ↦
-              let no : (n == 0) ≡ false = grind (arith, nat_tests) in
-              let yes : nat_lt 0 n ≡ true = grind (arith, nat_tests) in
-              ap (λ b. cond {A = ℕ} b 1 2) no ∙ sym (ap (λ b. cond {A = ℕ} b 2 1) yes)
-        ]
 
 pub mark_allowed : (graph : Graph) (seeds : List Seed) (slots id u d k head : ℕ) (me : Me (Unit {0}) Known)
     → IsReady me.0 → me.0.core.hand ≡ Owe u d k head → me.0.core.credits ≡ 2

@@ -3,3 +3,4 @@ pub mod Rule
 pub mod Closing
 pub mod Pauses
 pub mod Callers
+pub mod Laws

@@ -36,6 +36,7 @@
 
 mod closing;
 mod known;
+pub mod laws;
 mod pause;
 mod seat;
 mod words;

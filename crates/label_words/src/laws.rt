@@ -1,0 +1,30 @@
+//! The words are a lawful core, and each call on them is the event of its name. These functions do
+//! nothing: each contract is a law over words that hold a state of the core, and over what seats know.
+
+ghost use Rattle.label_words.specs.Laws.{TakeIsItsEvent, ReadIsItsEvent, RelaxIsItsEvent};
+ghost use Rattle.label_words.specs.Laws.{RaiseIsItsEvent, SetMarkIsItsEvent, FinishIsItsEvent};
+ghost use Rattle.label_words.specs.Laws.{SeeIsItsEvent, SplitIsItsEvent, JoinIsItsEvent};
+ghost use Rattle.label_words.specs.Laws.{KeptIsLawful};
+
+/// What the rule of the words keeps between any two steps is a lawful core.
+pub fn kept_words_are_lawful()
+    ensures { KeptIsLawful }
+{}
+
+/// Each call of one seat does to its word and to its seat what its event does to the core.
+pub fn calls_are_events()
+    ensures take { TakeIsItsEvent }
+    ensures read { ReadIsItsEvent }
+    ensures relax { RelaxIsItsEvent }
+    ensures raise { RaiseIsItsEvent }
+    ensures set_mark { SetMarkIsItsEvent }
+    ensures finish { FinishIsItsEvent }
+    ensures see { SeeIsItsEvent }
+{}
+
+/// A split and a join do to the seats what their events do to the views of the core, and to no word
+/// anything.
+pub fn splits_and_joins_are_events()
+    ensures split { SplitIsItsEvent }
+    ensures join { JoinIsItsEvent }
+{}
