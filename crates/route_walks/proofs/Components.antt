@@ -1,6 +1,7 @@
 -- A path is a walk along the arcs both ways, which is free; so what is attained at a vertex are the
 -- numbers of the vertices connected with it.
-use Rattle.std.proofs.Common.{◌≡◌, ℕ, ◌<◌, ◌^◌, List, [], ◌∷◌, zero, suc, refl, sym, subst, ap, ◌∙◌, arith, ◌⊎◌, inl, inr}
+use Rattle.std.proofs.Common.{◌≡◌, ℕ, ◌<◌, ◌^◌, List, [], ◌∷◌, zero, suc, refl}
+use Rattle.std.proofs.Common.{sym, subst, ap, ◌∙◌, arith, ◌⊎◌, inl, inr}
 use Rattle.std.specs.List.{Contains, range_with_len}
 use Rattle.std.proofs.lemmas.List.Elements.{All-contains, All-map, Contains-append_cases, Contains-append_right}
 use Rattle.std.proofs.lemmas.List.FromFn.{get_or-map-range_with_len, length-map-range_with_len}
@@ -24,7 +25,9 @@ contains-along [] arc within = absurd (omega (arith, within.1))
 contains-along (first ∷ arcs) arc within =
     elim (contains-cons first arcs arc within) [
       | inl here ↦ (0, omega arith, ap along here)
-      | inr later ↦ Contains-append_right (along first ∷ against first ∷ []) (both_ways arcs) (along arc) (contains-along arcs arc later)
+      | inr later ↦
+          Contains-append_right (along first ∷ against first ∷ []) (both_ways arcs) (along arc)
+          (contains-along arcs arc later)
     ]
 
 contains-against : (arcs : List ArcRec) (arc : ArcRec) → Contains arcs arc → Contains (both_ways arcs) (against arc)
@@ -32,7 +35,9 @@ contains-against [] arc within = absurd (omega (arith, within.1))
 contains-against (first ∷ arcs) arc within =
     elim (contains-cons first arcs arc within) [
       | inl here ↦ (1, omega arith, ap against here)
-      | inr later ↦ Contains-append_right (along first ∷ against first ∷ []) (both_ways arcs) (against arc) (contains-against arcs arc later)
+      | inr later ↦
+          Contains-append_right (along first ∷ against first ∷ []) (both_ways arcs) (against arc)
+          (contains-against arcs arc later)
     ]
 
 -- an arc of both ways comes from an arc of the graph
@@ -51,7 +56,11 @@ source-of (first ∷ arcs) taken within =
             | inl here ↦ record { arc = first; within = (0, omega arith, refl); way = inr here }
             | inr later ↦
                 let found = source-of arcs taken later in
-                record { arc = found.arc; within = Contains-append_right (first ∷ []) arcs found.arc found.within; way = found.way }
+                record {
+                  arc = found.arc;
+                  within = Contains-append_right (first ∷ []) arcs found.arc found.within;
+                  way = found.way;
+                }
           ]
     ]
 
@@ -67,10 +76,18 @@ walk-from_path arcs u v (arc ∷ path) joins =
     elim (joins.1) [
       | inl forward ↦
           let rest = walk-from_path arcs arc.head v path forward.1 in
-          record { walk = along arc ∷ rest.walk; walks = (contains-along arcs arc joins.0, forward.0, rest.walks); free = omega (arith, rest.free) }
+          record {
+            walk = along arc ∷ rest.walk;
+            walks = (contains-along arcs arc joins.0, forward.0, rest.walks);
+            free = omega (arith, rest.free);
+          }
       | inr backward ↦
           let rest = walk-from_path arcs arc.tail v path backward.1 in
-          record { walk = against arc ∷ rest.walk; walks = (contains-against arcs arc joins.0, backward.0, rest.walks); free = omega (arith, rest.free) }
+          record {
+            walk = against arc ∷ rest.walk;
+            walks = (contains-against arcs arc joins.0, backward.0, rest.walks);
+            free = omega (arith, rest.free);
+          }
     ]
 
 -- a walk along the arcs both ways is a path, and free
@@ -79,7 +96,9 @@ record PathOf (arcs : List ArcRec) (u v : ℕ) (walk : List ArcRec) : Type 0 whe
   joins : IsPath arcs u path v
   free : cost walk ≡ 0
 
-path-from_walk : (arcs : List ArcRec) (u v : ℕ) (walk : List ArcRec) → IsWalk (both_ways arcs) u walk v → PathOf arcs u v walk
+path-from_walk : (arcs : List ArcRec) (u v : ℕ) (walk : List ArcRec)
+    → IsWalk (both_ways arcs) u walk v
+    → PathOf arcs u v walk
 path-from_walk arcs u v [] walks = record { path = []; joins = walks; free = refl }
 path-from_walk arcs u v (taken ∷ walk) walks =
     let rest = path-from_walk arcs taken.head v walk walks.2 in
@@ -88,18 +107,34 @@ path-from_walk arcs u v (taken ∷ walk) walks =
       | inl forward ↦
           record {
             path = source.arc ∷ rest.path;
-            joins = (source.within, inl (ap (λ (a : ArcRec). a.tail) forward ∙ walks.1, subst (λ (x : ℕ). IsPath arcs x rest.path v) (sym (ap (λ (a : ArcRec). a.head) forward)) rest.joins));
+            joins = (
+              source.within,
+              inl (
+                ap (λ (a : ArcRec). a.tail) forward ∙ walks.1,
+                subst (λ (x : ℕ). IsPath arcs x rest.path v)
+                    (sym (ap (λ (a : ArcRec). a.head) forward)) rest.joins,
+              ),
+            );
             free = omega (arith, rest.free, ap (λ (a : ArcRec). a.weight) forward);
           }
       | inr backward ↦
           record {
             path = source.arc ∷ rest.path;
-            joins = (source.within, inr (ap (λ (a : ArcRec). a.tail) backward ∙ walks.1, subst (λ (x : ℕ). IsPath arcs x rest.path v) (sym (ap (λ (a : ArcRec). a.head) backward)) rest.joins));
+            joins = (
+              source.within,
+              inr (
+                ap (λ (a : ArcRec). a.tail) backward ∙ walks.1,
+                subst (λ (x : ℕ). IsPath arcs x rest.path v)
+                    (sym (ap (λ (a : ArcRec). a.head) backward)) rest.joins,
+              ),
+            );
             free = omega (arith, rest.free, ap (λ (a : ArcRec). a.weight) backward);
           }
     ]
 
-start-below : (n : ℕ) (arcs : List ArcRec) → IsGraph n arcs → (u v : ℕ) (path : List ArcRec) → IsPath arcs u path v → v < n → u < n
+start-below : (n : ℕ) (arcs : List ArcRec)
+    → IsGraph n arcs → (u v : ℕ) (path : List ArcRec) → IsPath arcs u path v → v < n
+    → u < n
 start-below n arcs graph u v [] joins below = subst (λ (x : ℕ). x < n) (sym joins) below
 start-below n arcs graph u v (arc ∷ path) joins below =
     let ends = All-contains (IsArcBelow n) arcs arc graph joins.0 in
@@ -109,14 +144,20 @@ start-below n arcs graph u v (arc ∷ path) joins below =
     ]
 
 seed-within : (n v : ℕ) → v < n → Contains (seeds_all n) (seed_at v)
-seed-within n v below =
-    (v, subst (λ (x : ℕ). v < x) (sym (length-map-range_with_len seed_at 0 n)) below, get_or-map-range_with_len seed_at 0 n v v (seed_at v) below (omega arith))
+seed-within n v below = (
+  v,
+  subst (λ (x : ℕ). v < x) (sym (length-map-range_with_len seed_at 0 n)) below,
+  get_or-map-range_with_len seed_at 0 n v v (seed_at v) below (omega arith),
+)
 
 seed-starts : (n : ℕ) (seed : Seed) → Contains (seeds_all n) seed → seed.start ≡ seed.vertex
 seed-starts n seed within =
-    All-contains (λ (s : Seed). s.start ≡ s.vertex) (seeds_all n) seed (All-map (λ (s : Seed). s.start ≡ s.vertex) seed_at (range_with_len 0 n) (λ k d below. refl)) within
+    All-contains (λ (s : Seed). s.start ≡ s.vertex) (seeds_all n) seed
+    (All-map (λ (s : Seed). s.start ≡ s.vertex) seed_at (range_with_len 0 n) (λ k d below. refl)) within
 
-attained-from_path : (n : ℕ) (arcs : List ArcRec) → IsGraph n arcs → (u v : ℕ) → v < n → AreConnected arcs u v → IsAttained (both_ways arcs) (seeds_all n) v u
+attained-from_path : (n : ℕ) (arcs : List ArcRec)
+    → IsGraph n arcs → (u v : ℕ) → v < n → AreConnected arcs u v
+    → IsAttained (both_ways arcs) (seeds_all n) v u
 attained-from_path n arcs graph u v below connected =
     let free = walk-from_path arcs u v connected.0 connected.1 in
     record {
@@ -127,7 +168,9 @@ attained-from_path n arcs graph u v below connected =
       costs = omega (arith, free.free);
     }
 
-connected-from_attained : (n : ℕ) (arcs : List ArcRec) (v c : ℕ) → IsAttained (both_ways arcs) (seeds_all n) v c → AreConnected arcs c v
+connected-from_attained : (n : ℕ) (arcs : List ArcRec) (v c : ℕ)
+    → IsAttained (both_ways arcs) (seeds_all n) v c
+    → AreConnected arcs c v
 connected-from_attained n arcs v c attained =
     let path = path-from_walk arcs attained.seed.vertex v attained.walk attained.walks in
     let start = seed-starts n attained.seed attained.seeded in

@@ -1,6 +1,7 @@
 -- A walk that meets a vertex twice can leave out what lies between, so some walk of no more cost meets
 -- none twice; and at most n vertices are met.
-use Rattle.std.proofs.Common.{◌≡◌, ℕ, ◌+◌, ◌<◌, ◌≤◌, List, [], ◌∷◌, length, true, false, eqb, refl, sym, subst, arith, inl, inr}
+use Rattle.std.proofs.Common.{◌≡◌, ℕ, ◌+◌, ◌<◌, ◌≤◌, List, [], ◌∷◌, length, true}
+use Rattle.std.proofs.Common.{false, eqb, refl, sym, subst, arith, inl, inr}
 use Rattle.std.specs.List.{IsDistinct, AllByRecursion, list_any}
 use Rattle.std.proofs.lemmas.List.Elements.{All-contains}
 use Rattle.std.proofs.lemmas.Bool.{cases_Bool, or_cases, or_parts, eqb-true}
@@ -20,7 +21,9 @@ length-vertices : (u : ℕ) (walk : List ArcRec) → length (vertices u walk) �
 length-vertices u [] = refl
 length-vertices u (arc ∷ walk) = let rest = length-vertices arc.head walk in omega (arith, rest)
 
-met-is-below : (n : ℕ) (arcs : List ArcRec) (graph : IsGraph n arcs) (u v : ℕ) (walk : List ArcRec) → u < n → IsWalk arcs u walk v → (q : ℕ) → Meets q u walk → q < n
+met-is-below : (n : ℕ) (arcs : List ArcRec) (graph : IsGraph n arcs) (u v : ℕ) (walk : List ArcRec)
+    → u < n → IsWalk arcs u walk v → (q : ℕ) → Meets q u walk
+    → q < n
 met-is-below n arcs graph u v [] below walks q meets =
     elim (or_cases (eqb q u) false meets) [
       | inl here ↦ subst (λ (x : ℕ). x < n) (sym (eqb-true q u here)) below
@@ -29,7 +32,9 @@ met-is-below n arcs graph u v [] below walks q meets =
 met-is-below n arcs graph u v (arc ∷ walk) below walks q meets =
     elim (or_cases (eqb q u) (list_any (eqb q) (vertices arc.head walk)) meets) [
       | inl here ↦ subst (λ (x : ℕ). x < n) (sym (eqb-true q u here)) below
-      | inr later ↦ met-is-below n arcs graph arc.head v walk (All-contains (IsArcBelow n) arcs arc graph walks.0).1 walks.2 q later
+      | inr later ↦
+          met-is-below n arcs graph arc.head v walk
+          (All-contains (IsArcBelow n) arcs arc graph walks.0).1 walks.2 q later
     ]
 
 -- a walk from u to v that meets no vertex twice, and costs no more than the given number
@@ -40,7 +45,9 @@ record Simple (arcs : List ArcRec) (u v most : ℕ) : Type 0 where
   cheap : cost walk ≤ most
 
 -- what follows the vertex q on a walk that meets it
-from_there : (arcs : List ArcRec) (q u v : ℕ) (walk : List ArcRec) → IsWalk arcs u walk v → IsDistinct eqb (vertices u walk) → Meets q u walk → Simple arcs q v (cost walk)
+from_there : (arcs : List ArcRec) (q u v : ℕ) (walk : List ArcRec)
+    → IsWalk arcs u walk v → IsDistinct eqb (vertices u walk) → Meets q u walk
+    → Simple arcs q v (cost walk)
 unfolding IsDistinct
 from_there arcs q u v [] walks distinct meets =
     elim (or_cases (eqb q u) false meets) [
@@ -49,7 +56,9 @@ from_there arcs q u v [] walks distinct meets =
     ]
 from_there arcs q u v (arc ∷ walk) walks distinct meets =
     elim (or_cases (eqb q u) (list_any (eqb q) (vertices arc.head walk)) meets) [
-      | inl here ↦ subst (λ (x : ℕ). Simple arcs x v (cost (arc ∷ walk))) (sym (eqb-true q u here)) (record { walk = arc ∷ walk; walks = walks; distinct = distinct; cheap = omega arith })
+      | inl here ↦
+          subst (λ (x : ℕ). Simple arcs x v (cost (arc ∷ walk))) (sym (eqb-true q u here))
+          (record { walk = arc ∷ walk; walks = walks; distinct = distinct; cheap = omega arith })
       | inr later ↦
           let rest = from_there arcs q arc.head v walk walks.2 distinct.1 later in
           record { walk = rest.walk; walks = rest.walks; distinct = rest.distinct; cheap = omega (arith, rest.cheap) }
@@ -69,7 +78,12 @@ simple arcs u v (arc ∷ walk) walks =
     elim (cases_Bool (list_any (eqb u) (vertices arc.head rest.walk))) [
       | inl again ↦
           let cut = from_there arcs u arc.head v rest.walk rest.walks rest.distinct again in
-          record { walk = cut.walk; walks = cut.walks; distinct = cut.distinct; cheap = omega (arith, cut.cheap, rest.cheap) }
+          record {
+            walk = cut.walk;
+            walks = cut.walks;
+            distinct = cut.distinct;
+            cheap = omega (arith, cut.cheap, rest.cheap);
+          }
       | inr fresh ↦
           record {
             walk = arc ∷ rest.walk;
@@ -79,9 +93,13 @@ simple arcs u v (arc ∷ walk) walks =
           }
     ]
 
-pub walks_can_be_cut : (n : ℕ) (arcs : List ArcRec) (u v : ℕ) (walk : List ArcRec) → IsGraph n arcs → u < n → IsWalk arcs u walk v → HasShortWalk n arcs u v (cost walk)
+pub walks_can_be_cut : (n : ℕ) (arcs : List ArcRec) (u v : ℕ) (walk : List ArcRec)
+    → IsGraph n arcs → u < n → IsWalk arcs u walk v
+    → HasShortWalk n arcs u v (cost walk)
 walks_can_be_cut n arcs u v walk graph below walks =
     let cut = simple arcs u v walk walks in
-    let few = length-le_from_distinct_below (vertices u cut.walk) n cut.distinct (met-is-below n arcs graph u v cut.walk below cut.walks) in
+    let few =
+    length-le_from_distinct_below (vertices u cut.walk) n cut.distinct
+    (met-is-below n arcs graph u v cut.walk below cut.walks) in
     let count = length-vertices u cut.walk in
     record { walk = cut.walk; walks = cut.walks; short = omega (arith, few, count); cheap = cut.cheap }

@@ -16,7 +16,9 @@ label-along arcs seeds label settled u v b [] below walks = subst (λ (x : ℕ).
 label-along arcs seeds label settled u v b (arc ∷ walk) below walks =
     let relaxed = All-contains (IsRelaxed label) arcs arc settled.relaxed walks.0 in
     let from : label arc.tail ≤ b = subst (λ (x : ℕ). label x ≤ b) (sym walks.1) below in
-    let rest = label-along arcs seeds label settled arc.head v (b + arc.weight) walk (omega (arith, relaxed, from)) walks.2 in
+    let rest =
+    label-along arcs seeds label settled arc.head v (b + arc.weight) walk
+    (omega (arith, relaxed, from)) walks.2 in
     omega (arith, rest)
 
 -- settled labels lie at or below each attained number
@@ -24,7 +26,9 @@ pub settled-below : (arcs : List ArcRec) (seeds : List Seed) (label : ℕ → �
     → (v c : ℕ) → IsAttained arcs seeds v c → label v ≤ c
 settled-below arcs seeds label settled v c attained =
     let met = All-contains (IsMet label) seeds attained.seed settled.met attained.seeded in
-    let along = label-along arcs seeds label settled attained.seed.vertex v attained.seed.start attained.walk met attained.walks in
+    let along =
+    label-along arcs seeds label settled attained.seed.vertex v attained.seed.start attained.walk met
+    attained.walks in
     omega (arith, along, attained.costs)
 
 pub settled_and_sound_are_least : (n : ℕ) (arcs : List ArcRec) (seeds : List Seed) (label : ℕ → ℕ)
@@ -37,13 +41,17 @@ settled_and_sound_are_least n arcs seeds label capped settled sound v below =
     }
 
 -- one of two least labels is no greater than the other
-least-le : (arcs : List ArcRec) (seeds : List Seed) (v c d : ℕ) → IsLeast arcs seeds v c → IsLeast arcs seeds v d → c ≤ d
+least-le : (arcs : List ArcRec) (seeds : List Seed) (v c d : ℕ)
+    → IsLeast arcs seeds v c → IsLeast arcs seeds v d
+    → c ≤ d
 least-le arcs seeds v c d first second =
     elim (cases_lt d INF) [
       | inl found ↦ first.least d (second.attained found)
       | inr none ↦ omega (arith, first.capped)
     ]
 
-pub least_labels_are_unique : (arcs : List ArcRec) (seeds : List Seed) (v c d : ℕ) → IsLeast arcs seeds v c → IsLeast arcs seeds v d → c ≡ d
+pub least_labels_are_unique : (arcs : List ArcRec) (seeds : List Seed) (v c d : ℕ)
+    → IsLeast arcs seeds v c → IsLeast arcs seeds v d
+    → c ≡ d
 least_labels_are_unique arcs seeds v c d first second =
     omega (arith, least-le arcs seeds v c d first second, least-le arcs seeds v d c second first)

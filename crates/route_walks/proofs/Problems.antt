@@ -10,7 +10,8 @@ use Rattle.route_walks.specs.Problem.{seed_at, seeds_all, unit_weight, unit_weig
 
 pub seeds_all-within : (n : ℕ) → AreSeeds n (seeds_all n)
 seeds_all-within n =
-    All-map (λ (seed : Seed). seed.vertex < n) seed_at (range_with_len 0 n) (λ k d below. omega (arith, length-range_with_len 0 n, get_or-range_with_len 0 n k d))
+    All-map (λ (seed : Seed). seed.vertex < n) seed_at (range_with_len 0 n)
+    (λ k d below. omega (arith, length-range_with_len 0 n, get_or-range_with_len 0 n k d))
 
 pub unit_weights-graph : (n : ℕ) (arcs : List ArcRec) → IsGraph n arcs → IsGraph n (unit_weights arcs)
 unit_weights-graph n arcs graph = All-map (IsArcBelow n) unit_weight arcs graph
@@ -20,4 +21,5 @@ both_ways-graph n [] graph = All-nil (IsArcBelow n)
 both_ways-graph n (arc ∷ arcs) graph =
     let ends = All-head (IsArcBelow n) arc arcs graph in
     All-cons (IsArcBelow n) (along arc) (against arc ∷ both_ways arcs) ends
-    (All-cons (IsArcBelow n) (against arc) (both_ways arcs) (ends.1, ends.0) (both_ways-graph n arcs (All-tail (IsArcBelow n) arc arcs graph)))
+    (All-cons (IsArcBelow n) (against arc) (both_ways arcs) (ends.1, ends.0)
+    (both_ways-graph n arcs (All-tail (IsArcBelow n) arc arcs graph)))

@@ -40,7 +40,10 @@ AreCapped n label = (v : ℕ) → v < n → label v ≤ INF
 abbrev pub SettledAndSoundAreLeast : Type 0
 SettledAndSoundAreLeast =
     (n : ℕ) (arcs : List ArcRec) (seeds : List Seed) (label : ℕ → ℕ)
-    → AreCapped n label → IsSettled arcs seeds label → IsSound n arcs seeds label → AreLeast n arcs seeds label
+    → AreCapped n label
+    → IsSettled arcs seeds label
+    → IsSound n arcs seeds label
+    → AreLeast n arcs seeds label
 
 -- a vertex has only one least label
 abbrev pub LeastLabelsAreUnique : Type 0

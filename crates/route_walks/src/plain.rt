@@ -1,6 +1,7 @@
 //! Least labels the plain way: rounds over all arcs until nothing falls, as Bellman and Ford have them.
 
-ghost use Rattle.std.specs.Prelude.{◌≡◌, ℕ, ◌+◌, ◌<◌, ◌≤◌, ◌↔◌, false, min, sum, List, length, vec_len, slice_index, slice_set, All, IsTrue, IfOk};
+ghost use Rattle.std.specs.Prelude.{◌≡◌, ℕ, ◌+◌, ◌<◌, ◌≤◌, ◌↔◌, false, min, sum, List, length};
+ghost use Rattle.std.specs.Prelude.{vec_len, slice_index, slice_set, All, IsTrue, IfOk};
 ghost use Rattle.route_walks.specs.declared.graph.ArcRec.{ArcRec};
 ghost use Rattle.route_walks.specs.declared.graph.Seed.{Seed};
 ghost use Rattle.route_walks.specs.Walk.{IsGraph, AreSeeds};

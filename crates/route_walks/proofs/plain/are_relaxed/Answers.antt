@@ -6,8 +6,14 @@ use Rattle.route_walks.proofs.plain.are_relaxed.Goals as goal
 
 pub loop-arc-preserved : goal.loop-arc-preserved
 loop-arc-preserved c =
-    All-more (IsRelaxed (slice_index c.args.labels.now)) c.args.arcs.now c.loop-arc.arc-index (record { tail = 0; head = 0; weight = 0 }) c.loop-arc-test.true c.loop-arc.invariant (omega (arith, c.if-labels-arc.false, c.reached_by.ensures))
+    All-more (IsRelaxed (slice_index c.args.labels.now)) c.args.arcs.now c.loop-arc.arc-index
+    (record { tail = 0; head = 0; weight = 0 }) c.loop-arc-test.true c.loop-arc.invariant
+    (omega (arith, c.if-labels-arc.false, c.reached_by.ensures))
 
 pub returns : goal.returns
-returns c =
-    (λ _. All-whole (IsRelaxed (slice_index c.args.labels.now)) c.args.arcs.now c.loop-arc.arc-index c.loop-arc-test.false c.loop-arc.invariant, λ _. refl)
+returns c = (
+  λ _.
+      All-whole (IsRelaxed (slice_index c.args.labels.now)) c.args.arcs.now c.loop-arc.arc-index
+      c.loop-arc-test.false c.loop-arc.invariant,
+  λ _. refl,
+)

@@ -8,4 +8,6 @@ use Rattle.route_walks.proofs.problem.both_ways.Goals as goal
 pub returns-clause-graph : goal.returns-clause-graph
 returns-clause-graph c =
     let all = take_all c.loop-arc.arc-index c.args.arcs.now c.loop-arc-test.false in
-    λ n graph. subst (IsGraph n) (sym (c.loop-arc.invariant ∙ ap both_ways all)) (both_ways-graph n c.args.arcs.now graph)
+    λ n graph.
+    subst (IsGraph n) (sym (c.loop-arc.invariant ∙ ap both_ways all))
+    (both_ways-graph n c.args.arcs.now graph)

@@ -12,5 +12,6 @@ loop-vertex-preserved c =
 
 pub returns-clause-within : goal.returns-clause-within
 returns-clause-within c =
-    let all : c.loop-vertex.vertex ≡ c.args.n = omega (arith, c.loop-vertex-test.false, c.loop-vertex.auto.vertex-end) in
+    let all : c.loop-vertex.vertex ≡ c.args.n =
+    omega (arith, c.loop-vertex-test.false, c.loop-vertex.auto.vertex-end) in
     subst (AreSeeds c.args.n) (sym (c.loop-vertex.invariant ∙ ap seeds_all all)) (seeds_all-within c.args.n)
