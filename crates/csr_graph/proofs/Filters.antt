@@ -1,5 +1,6 @@
 -- What a filter keeps where its test passes everywhere, nowhere, or exactly within two places.
-use Rattle.std.proofs.Common.{◌≡◌, ◌∙◌, sym, ap, refl, ℕ, ◌+◌, ◌-◌, ◌<◌, ◌≤◌, Bool, true, false, List, [], ◌∷◌, length, get_or, take, drop, arith, length-drop}
+use Rattle.std.proofs.Common.{◌≡◌, ◌∙◌, sym, ap, refl, ℕ, ◌+◌, ◌-◌, ◌<◌, ◌≤◌, Bool, true, false}
+use Rattle.std.proofs.Common.{List, [], ◌∷◌, length, get_or, take, drop, arith, length-drop}
 use Rattle.std.specs.Prelude.{filter, count_by, All}
 use Rattle.std.proofs.lemmas.List.{take-append-drop, get_or-take, get_or-drop, length-take-le, length-take, append-nil}
 use Rattle.std.proofs.lemmas.List.Elements.{filter-append, All-head, All-tail}
@@ -30,23 +31,30 @@ front_fails p xs a b run k d lt =
     let below : k < a = omega (arith, length-take a xs) in
     rw get_or-take (run.before k d below)
 
-middle_passes : {X : Type 0} (p : X → Bool) (xs : List X) (a b : ℕ) → IsRun p xs a b → All (λ x. p x ≡ true) (take (b - a) (drop a xs))
+middle_passes : {X : Type 0} (p : X → Bool) (xs : List X) (a b : ℕ)
+    → IsRun p xs a b
+    → All (λ x. p x ≡ true) (take (b - a) (drop a xs))
 middle_passes p xs a b run k d lt =
     let below : k < b - a = omega (arith, length-take (b - a) (drop a xs)) in
     rw (get_or-take, get_or-drop) (run.inside (a + k) d (omega arith) (omega (arith, run.low)))
 
-back_fails : {X : Type 0} (p : X → Bool) (xs : List X) (a b : ℕ) → IsRun p xs a b → All (λ x. p x ≡ false) (drop (b - a) (drop a xs))
+back_fails : {X : Type 0} (p : X → Bool) (xs : List X) (a b : ℕ)
+    → IsRun p xs a b
+    → All (λ x. p x ≡ false) (drop (b - a) (drop a xs))
 back_fails p xs a b run k d lt =
     rw (get_or-drop, get_or-drop)
     (run.after (a + (b - a + k)) d (omega (arith, run.low))
     (omega (arith, run.low, length-drop (b - a) (drop a xs), length-drop a xs)))
 
-pub filter_run : {X : Type 0} (p : X → Bool) (xs : List X) (a b : ℕ) → IsRun p xs a b → filter p xs ≡ take (b - a) (drop a xs)
+pub filter_run : {X : Type 0} (p : X → Bool) (xs : List X) (a b : ℕ)
+    → IsRun p xs a b
+    → filter p xs ≡ take (b - a) (drop a xs)
 filter_run p xs a b run =
     let front : filter p (take a xs) ≡ [] = filter_none p (take a xs) (front_fails p xs a b run) in
     let middle : filter p (take (b - a) (drop a xs)) ≡ take (b - a) (drop a xs) =
     filter_all p (take (b - a) (drop a xs)) (middle_passes p xs a b run) in
-    let back : filter p (drop (b - a) (drop a xs)) ≡ [] = filter_none p (drop (b - a) (drop a xs)) (back_fails p xs a b run) in
+    let back : filter p (drop (b - a) (drop a xs)) ≡ [] =
+    filter_none p (drop (b - a) (drop a xs)) (back_fails p xs a b run) in
     let rest : filter p (drop a xs) ≡ take (b - a) (drop a xs) =
     ap (filter p) (sym (take-append-drop (b - a) (drop a xs)))
     ∙ filter-append p (take (b - a) (drop a xs)) (drop (b - a) (drop a xs))

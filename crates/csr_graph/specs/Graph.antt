@@ -1,6 +1,7 @@
 -- A directed graph as a number of vertices and a list of arcs, and its rows. (Compressed sparse rows
 -- are those of Saad, Iterative Methods for Sparse Linear Systems, 3.4, with arcs for entries.)
-use Rattle.std.specs.Prelude.{◌≡◌, ℕ, ◌+◌, ◌^◌, ◌<◌, ◌≤◌, ◌==◌, nat_lt, List, length, filter, count_by, slice_get, Some, AllPairs}
+use Rattle.std.specs.Prelude.{◌≡◌, ℕ, ◌+◌, ◌^◌, ◌<◌, ◌≤◌, ◌==◌, nat_lt, List, length}
+use Rattle.std.specs.Prelude.{filter, count_by, slice_get, Some, AllPairs}
 use Rattle.route_walks.specs.declared.graph.ArcRec.{ArcRec}
 use Rattle.route_walks.specs.Walk.{IsGraph}
 
