@@ -1,5 +1,6 @@
 -- The laws of the account: the total stays the number of marks and all credits.
-use Rattle.std.proofs.Common.{◌≡◌, ◌≢◌, ◌∙◌, sym, ap, subst, refl, ℕ, zero, suc, ◌+◌, ◌<◌, ◌≤◌, Bool, true, false, cond, List, [], ◌∷◌, ◌++◌, ◌⊎◌, inl, inr, Some, set, arith}
+use Rattle.std.proofs.Common.{◌≡◌, ◌≢◌, ◌∙◌, sym, ap, subst, refl, ℕ, zero, suc, ◌+◌, ◌<◌, ◌≤◌, Bool}
+use Rattle.std.proofs.Common.{true, false, cond, List, [], ◌∷◌, ◌++◌, ◌⊎◌, inl, inr, Some, set, arith}
 use Rattle.std.specs.Prelude.{slice_get, sum_by}
 use Rattle.std.proofs.lemmas.List.Elements.{All-set, All-weaker, All-push}
 use Rattle.std.proofs.lemmas.List.Sums.{sum_by_push}
@@ -13,10 +14,13 @@ use Rattle.relax_core.specs.Laws.{HasView, AgreeBut}
 use Rattle.relax_core.proofs.Seats.{all_at, sum_replaced, other_seat}
 
 -- marks of lower vertices alone count
-pub marks_same : (mark mark' : ℕ → Bool) (n : ℕ) → ((x : ℕ) → x < n → mark' x ≡ mark x) → marks_below mark' n ≡ marks_below mark n
+pub marks_same : (mark mark' : ℕ → Bool) (n : ℕ)
+    → ((x : ℕ) → x < n → mark' x ≡ mark x)
+    → marks_below mark' n ≡ marks_below mark n
 marks_same mark mark' zero same = refl
 marks_same mark mark' (suc n) same =
-    let here : cond {A = ℕ} (mark' n) 1 0 ≡ cond {A = ℕ} (mark n) 1 0 = ap (λ b. cond {A = ℕ} b 1 0) (same n (omega arith)) in
+    let here : cond {A = ℕ} (mark' n) 1 0 ≡ cond {A = ℕ} (mark n) 1 0 =
+    ap (λ b. cond {A = ℕ} b 1 0) (same n (omega arith)) in
     let ih : marks_below mark' n ≡ marks_below mark n = marks_same mark mark' n (λ x lt. same x (omega arith)) in
     omega arith
 
@@ -30,10 +34,12 @@ marks_but mark mark' (suc n) u lt agree =
           let below : marks_below mark' n ≡ marks_below mark n =
           marks_same mark mark' n (λ x less. let other : x ≢ u = omega arith in agree x other) in
           let old : cond {A = ℕ} (mark n) 1 0 ≡ cond {A = ℕ} (mark u) 1 0 = ap (λ x. cond {A = ℕ} (mark x) 1 0) same in
-          let new : cond {A = ℕ} (mark' n) 1 0 ≡ cond {A = ℕ} (mark' u) 1 0 = ap (λ x. cond {A = ℕ} (mark' x) 1 0) same in
+          let new : cond {A = ℕ} (mark' n) 1 0 ≡ cond {A = ℕ} (mark' u) 1 0 =
+          ap (λ x. cond {A = ℕ} (mark' x) 1 0) same in
           omega arith
       | inr other ↦
-          let here : cond {A = ℕ} (mark' n) 1 0 ≡ cond {A = ℕ} (mark n) 1 0 = ap (λ b. cond {A = ℕ} b 1 0) (agree n other) in
+          let here : cond {A = ℕ} (mark' n) 1 0 ≡ cond {A = ℕ} (mark n) 1 0 =
+          ap (λ b. cond {A = ℕ} b 1 0) (agree n other) in
           let ih : marks_below mark' n + cond {A = ℕ} (mark u) 1 0 ≡ marks_below mark n + cond {A = ℕ} (mark' u) 1 0 =
           marks_but mark mark' n u (omega arith) agree in
           omega arith
@@ -43,8 +49,12 @@ pub marks-le : (mark : ℕ → Bool) (n : ℕ) → marks_below mark n ≤ n
 marks-le mark zero = omega arith
 marks-le mark (suc n) =
     elim (cases_Bool (mark n)) [
-      | inl set' ↦ let here : cond {A = ℕ} (mark n) 1 0 ≡ 1 = ap (λ b. cond {A = ℕ} b 1 0) set' in omega (arith, marks-le mark n)
-      | inr unset ↦ let here : cond {A = ℕ} (mark n) 1 0 ≡ 0 = ap (λ b. cond {A = ℕ} b 1 0) unset in omega (arith, marks-le mark n)
+      | inl set' ↦
+          let here : cond {A = ℕ} (mark n) 1 0 ≡ 1 = ap (λ b. cond {A = ℕ} b 1 0) set' in
+          omega (arith, marks-le mark n)
+      | inr unset ↦
+          let here : cond {A = ℕ} (mark n) 1 0 ≡ 0 = ap (λ b. cond {A = ℕ} b 1 0) unset in
+          omega (arith, marks-le mark n)
     ]
 
 -- the account after one view's step: old total and new marks and credits balance the new total and the old ones
@@ -56,7 +66,8 @@ pub account_step : (n : ℕ) (mark mark' : ℕ → Bool) (total total' : ℕ) (v
     → Account n mark' total' (set views s w)
 account_step n mark mark' total total' views s v w was at balance stays credits saw spent = record {
   balance =
-      let sums : sum_by (λ (view : View). view.credits) (set views s w) + v.credits ≡ sum_by (λ (view : View). view.credits) views + w.credits =
+      let sums : sum_by (λ (view : View). view.credits) (set views s w) + v.credits
+      ≡ sum_by (λ (view : View). view.credits) views + w.credits =
       sum_replaced (λ (view : View). view.credits) views s v w at in
       omega (arith, sums, balance, was.balance);
   credits = All-set (λ (view : View). HasCredits view.hand view.credits) views s w credits was.credits;
@@ -72,13 +83,17 @@ saw_at : (n : ℕ) (mark : ℕ → Bool) (total : ℕ) (views : List View) (s : 
     → slice_get views s ≡ Some v → v.saw ≡ true → total ≡ 0
 saw_at n mark total views s v was at = all_at (λ (view : View). view.saw ≡ true → total ≡ 0) views s v was.saw at
 
-credits_at : (n : ℕ) (mark : ℕ → Bool) (total : ℕ) (views : List View) (s : ℕ) (v : View) (hand : Hand) → Account n mark total views
+credits_at : (n : ℕ) (mark : ℕ → Bool) (total : ℕ) (views : List View) (s : ℕ) (v : View) (hand : Hand)
+    → Account n mark total views
     → slice_get views s ≡ Some v → v.hand ≡ hand → HasCredits hand v.credits
 credits_at n mark total views s v hand was at e =
-    subst (λ (h : Hand). HasCredits h v.credits) e (all_at (λ (view : View). HasCredits view.hand view.credits) views s v was.credits at)
+    subst (λ (h : Hand). HasCredits h v.credits) e
+    (all_at (λ (view : View). HasCredits view.hand view.credits) views s v was.credits at)
 
 -- a live seat isn't spent after a step that leaves its share
-not_spent : (views : List View) (s : ℕ) (v w : View) → HasView views s v → w.share ≡ v.share → w.share ≡ 0 → w.saw ≡ false
+not_spent : (views : List View) (s : ℕ) (v w : View)
+    → HasView views s v → w.share ≡ v.share → w.share ≡ 0
+    → w.saw ≡ false
 not_spent views s v w has share none = absurd (has.live (sym share ∙ none))
 
 pub staying : (n : ℕ) (mark : ℕ → Bool) (total : ℕ) (views : List View) (s : ℕ) (v w : View)
@@ -117,11 +132,13 @@ taking n mark mark' total views s u v w was has idle vertex unset agree hand cre
     (not_spent views s v w has share)
 
 -- where a seat has credits the total isn't 0
-pub total_above : (n : ℕ) (mark : ℕ → Bool) (total : ℕ) (views : List View) (s : ℕ) (v : View) → Account n mark total views
+pub total_above : (n : ℕ) (mark : ℕ → Bool) (total : ℕ) (views : List View) (s : ℕ) (v : View)
+    → Account n mark total views
     → slice_get views s ≡ Some v → v.credits ≤ total
 total_above n mark total views s v was at =
     let gone : View = record { hand = Idle; credits = 0; saw = false; share = 0 } in
-    let sums : sum_by (λ (view : View). view.credits) (set views s gone) + v.credits ≡ sum_by (λ (view : View). view.credits) views + 0 =
+    let sums : sum_by (λ (view : View). view.credits) (set views s gone) + v.credits
+    ≡ sum_by (λ (view : View). view.credits) views + 0 =
     sum_replaced (λ (view : View). view.credits) views s v gone at in
     omega (arith, sums, was.balance)
 
@@ -134,7 +151,9 @@ raising n mark total views s u d k head v w was has owe one hand two saw share =
     let above : v.credits ≤ total = total_above n mark total views s v was has.here in
     account_step n mark mark total (total + 1) views s v w was has.here (omega arith) (λ e. absurd (omega arith))
     (subst (λ (h : Hand). HasCredits h w.credits) (sym (hand ∙ owe)) (omega arith, omega arith))
-    (λ sees. let nothing : total ≡ 0 = saw_at n mark total views s v was has.here (sym saw ∙ sees) in absurd (omega arith))
+    (λ sees.
+    let nothing : total ≡ 0 = saw_at n mark total views s v was has.here (sym saw ∙ sees) in
+    absurd (omega arith))
     (not_spent views s v w has share)
 
 pub marking : (n : ℕ) (mark mark' : ℕ → Bool) (total : ℕ) (views : List View) (s u d k head : ℕ) (v w : View)
@@ -144,7 +163,8 @@ pub marking : (n : ℕ) (mark mark' : ℕ → Bool) (total : ℕ) (views : List 
     → Account n mark' total (set views s w)
 marking n mark mark' total views s u d k head v w was has owe two vertex marked' agree hand credits saw share =
     let here : cond {A = ℕ} (mark' head) 1 0 ≡ 1 = ap (λ b. cond {A = ℕ} b 1 0) marked' in
-    let count : marks_below mark' n + cond {A = ℕ} (mark head) 1 0 ≡ marks_below mark n + cond {A = ℕ} (mark' head) 1 0 =
+    let count : marks_below mark' n + cond {A = ℕ} (mark head) 1 0
+    ≡ marks_below mark n + cond {A = ℕ} (mark' head) 1 0 =
     marks_but mark mark' n head vertex agree in
     elim (cases_Bool (mark head)) [
       | inl was_marked ↦
@@ -199,7 +219,8 @@ splitting n mark total views s v w new was has idle hand credits saw live hand_n
     (λ spent. absurd (live spent)) in
     record {
       balance =
-          let all : sum_by (λ (view : View). view.credits) (set views s w ++ new ∷ []) ≡ sum_by (λ (view : View). view.credits) (set views s w) + new.credits =
+          let all : sum_by (λ (view : View). view.credits) (set views s w ++ new ∷ [])
+          ≡ sum_by (λ (view : View). view.credits) (set views s w) + new.credits =
           sum_by_push (λ (view : View). view.credits) (set views s w) new in
           omega (arith, all, one.balance);
       credits =
@@ -208,7 +229,9 @@ splitting n mark total views s v w new was has idle hand credits saw live hand_n
       saw =
           All-push (λ (view : View). view.saw ≡ true → total ≡ 0) (set views s w) new one.saw
           (λ sees. let both : true ≡ false = sym sees ∙ saw_new in cc);
-      spent = All-push (λ (view : View). view.share ≡ 0 → view.saw ≡ false) (set views s w) new one.spent (λ e. saw_new);
+      spent =
+          All-push (λ (view : View). view.share ≡ 0 → view.saw ≡ false) (set views s w) new one.spent
+          (λ e. saw_new);
     }
 
 pub joining : (n : ℕ) (mark : ℕ → Bool) (total : ℕ) (views : List View) (s t : ℕ) (v v' w gone : View)
@@ -217,7 +240,8 @@ pub joining : (n : ℕ) (mark : ℕ → Bool) (total : ℕ) (views : List View) 
     → w.hand ≡ Idle → w.credits ≡ 0 → (w.saw ≡ true → (v.saw ≡ true) ⊎ (v'.saw ≡ true)) → w.share ≢ 0
     → gone.hand ≡ Idle → gone.credits ≡ 0 → gone.saw ≡ false
     → Account n mark total (set (set views s w) t gone)
-joining n mark total views s t v v' w gone was has has' apart idle idle' hand credits saw live hand_gone credits_gone saw_gone =
+joining n mark total views s t v v' w gone was has has' apart idle idle'
+    hand credits saw live hand_gone credits_gone saw_gone =
     let none : v.credits ≡ 0 = credits_at n mark total views s v Idle was has.here idle in
     let none' : v'.credits ≡ 0 = credits_at n mark total views t v' Idle was has'.here idle' in
     let there : slice_get (set views s w) t ≡ Some v' = other_seat views s t v' w apart has'.here in

@@ -1,5 +1,6 @@
 -- What a lawful core says of its total, and of a total of 0.
-use Rattle.std.proofs.Common.{◌≡◌, ◌∙◌, sym, ap, subst, refl, ℕ, zero, suc, ◌+◌, ◌*◌, ◌<◌, ◌≤◌, Bool, true, false, cond, List, [], ◌∷◌, inl, inr, get_or, arith}
+use Rattle.std.proofs.Common.{◌≡◌, ◌∙◌, sym, ap, subst, refl, ℕ, zero, suc, ◌+◌, ◌*◌, ◌<◌, ◌≤◌, Bool}
+use Rattle.std.proofs.Common.{true, false, cond, List, [], ◌∷◌, inl, inr, get_or, arith}
 use Rattle.std.specs.Prelude.{All, sum_by}
 use Rattle.std.proofs.lemmas.List.Elements.{All-head, All-tail}
 use Rattle.std.proofs.lemmas.List.Sums.{sum_by-cons, get_or-le-sum_by}
@@ -30,7 +31,9 @@ idle_without (Open u d k) credits h none = absurd (omega arith)
 idle_without (Owe u d k head) credits h none = absurd (omega arith)
 
 -- a view has at most two credits for each share
-few_credits : (view : View) → HasCredits view.hand view.credits → (view.share ≡ 0 → view.hand ≡ Idle) → view.credits ≤ 2 * view.share
+few_credits : (view : View)
+    → HasCredits view.hand view.credits → (view.share ≡ 0 → view.hand ≡ Idle)
+    → view.credits ≤ 2 * view.share
 few_credits view credits spent =
     elim (cases_eq view.share 0) [
       | inl none ↦
@@ -39,14 +42,18 @@ few_credits view credits spent =
       | inr some ↦ omega (arith, two_at_most view.hand view.credits credits)
     ]
 
-sum_at_most_twice : (f g : View → ℕ) (views : List View) → All (λ view. f view ≤ 2 * g view) views → sum_by f views ≤ 2 * sum_by g views
+sum_at_most_twice : (f g : View → ℕ) (views : List View)
+    → All (λ view. f view ≤ 2 * g view) views
+    → sum_by f views ≤ 2 * sum_by g views
 sum_at_most_twice f g [] each = omega arith
 sum_at_most_twice f g (view ∷ views) each =
     let here : f view ≤ 2 * g view = All-head (λ (v : View). f v ≤ 2 * g v) view views each in
-    let rest : sum_by f views ≤ 2 * sum_by g views = sum_at_most_twice f g views (All-tail (λ (v : View). f v ≤ 2 * g v) view views each) in
+    let rest : sum_by f views ≤ 2 * sum_by g views =
+    sum_at_most_twice f g views (All-tail (λ (v : View). f v ≤ 2 * g v) view views each) in
     omega (arith, here, rest, sum_by-cons f view views, sum_by-cons g view views)
 
-pub total_is_bounded : (graph : Graph) (seeds : List Seed) (label : ℕ → ℕ) (mark : ℕ → Bool) (total : ℕ) (views : List View)
+pub total_is_bounded : (graph : Graph) (seeds : List Seed) (label : ℕ → ℕ) (mark : ℕ → Bool) (total : ℕ)
+    (views : List View)
     → Covers graph seeds label mark views → Account graph.n mark total views → total ≤ graph.n + 2 * SHARES
 total_is_bounded graph seeds label mark total views covers account =
     let credits : sum_by (λ (view : View). view.credits) views ≤ 2 * sum_by (λ (view : View). view.share) views =
@@ -66,10 +73,12 @@ quiet_is_settled graph seeds label mark views rows covers unmarked idle = record
         | inr rest ↦
             elim rest [
               | inl is_marked ↦
-                  let both : true ≡ false = sym is_marked ∙ unmarked (get_or graph.arcs k d).tail (rows.ends k d lt).0 in
+                  let both : true ≡ false =
+                  sym is_marked ∙ unmarked (get_or graph.arcs k d).tail (rows.ends k d lt).0 in
                   cc
               | inr held ↦
-                  let nothing : held.1.hand ≡ Idle = ap (λ (view : View). view.hand) (sym held.3) ∙ idle held.0 held.1 held.2 in
+                  let nothing : held.1.hand ≡ Idle =
+                  ap (λ (view : View). view.hand) (sym held.3) ∙ idle held.0 held.1 held.2 in
                   absurd (subst (HoldsArc label k (get_or graph.arcs k d)) nothing held.4)
             ]
       ];
@@ -82,7 +91,9 @@ none_marked mark (suc n) none u lt =
     elim (cases_eq u n) [
       | inl same ↦
           elim (cases_Bool (mark n)) [
-            | inl set' ↦ let one : cond {A = ℕ} (mark n) 1 0 ≡ 1 = ap (λ b. cond {A = ℕ} b 1 0) set' in absurd (omega arith)
+            | inl set' ↦
+                let one : cond {A = ℕ} (mark n) 1 0 ≡ 1 = ap (λ b. cond {A = ℕ} b 1 0) set' in
+                absurd (omega arith)
             | inr unset ↦ ap mark same ∙ unset
           ]
       | inr other ↦ none_marked mark n below u (omega arith)

@@ -1,5 +1,6 @@
 -- The laws of cover: each event leaves every arc covered.
-use Rattle.std.proofs.Common.{◌≡◌, ◌≢◌, ◌∙◌, sym, ap, subst, refl, ℕ, ◌+◌, ◌<◌, ◌≤◌, min, Bool, true, cond, List, [], ◌∷◌, ◌++◌, ◌⊎◌, inl, inr, Some, set, arith}
+use Rattle.std.proofs.Common.{◌≡◌, ◌≢◌, ◌∙◌, sym, ap, subst, refl, ℕ, ◌+◌, ◌<◌, ◌≤◌, min, Bool, true}
+use Rattle.std.proofs.Common.{cond, List, [], ◌∷◌, ◌++◌, ◌⊎◌, inl, inr, Some, set, arith}
 use Rattle.std.specs.Prelude.{Any, Contains, slice_get, sum_by, nat_lt}
 use Rattle.std.proofs.lemmas.List.Elements.{All-set, All-weaker, All-push, All-contains}
 use Rattle.std.proofs.lemmas.List.Sums.{sum_by_push}
@@ -29,9 +30,23 @@ pub hand_falls : (graph : Graph) (seeds : List Seed) (label label' : ℕ → ℕ
 hand_falls graph seeds label label' falls Idle h = tt
 hand_falls graph seeds label label' falls (Fresh u) h = h
 hand_falls graph seeds label label' falls (Open u d k) h =
-    record { vertex = h.vertex; read = omega (arith, falls u, h.read); attained = h.attained; from = h.from; upto = h.upto }
-hand_falls graph seeds label label' falls (Owe u d k head) h =
-    (record { vertex = h.0.vertex; read = omega (arith, falls u, h.0.read); attained = h.0.attained; from = h.0.from; upto = h.0.upto }, h.1)
+    record {
+      vertex = h.vertex;
+      read = omega (arith, falls u, h.read);
+      attained = h.attained;
+      from = h.from;
+      upto = h.upto;
+    }
+hand_falls graph seeds label label' falls (Owe u d k head) h = (
+  record {
+    vertex = h.0.vertex;
+    read = omega (arith, falls u, h.0.read);
+    attained = h.0.attained;
+    from = h.0.from;
+    upto = h.0.upto;
+  },
+  h.1,
+)
 
 -- a hand holds an arc as long as the label of the arc's tail stays
 pub holds_kept : (label label' : ℕ → ℕ) (k : ℕ) (arc : ArcRec) (hand : Hand) → label' arc.tail ≡ label arc.tail
@@ -47,12 +62,16 @@ holds_kept label label' k arc (Owe u d place head) same h =
     ]
 
 -- a step of one view: what it has to show of labels, of its hand, and of the arcs that were covered
-pub record IsStep (graph : Graph) (seeds : List Seed) (label label' : ℕ → ℕ) (mark mark' : ℕ → Bool) (views : List View) (s : ℕ) (v w : View) : Type 0 where
+pub record IsStep (graph : Graph) (seeds : List Seed) (label label' : ℕ → ℕ) (mark mark' : ℕ → Bool)
+    (views : List View) (s : ℕ) (v w : View) : Type 0 where
   pub falls : (x : ℕ) → label' x ≤ label x
   pub sound : IsSound graph.n graph.arcs seeds label'
   pub hand : IsHand graph seeds label' w.hand
-  pub own : (k : ℕ) (arc : ArcRec) → slice_get graph.arcs k ≡ Some arc → HoldsArc label k arc v.hand → IsCovered label' mark' (set views s w) k arc
-  pub others : (k : ℕ) (arc : ArcRec) → (label' arc.tail ≡ label arc.tail) ⊎ IsCovered label' mark' (set views s w) k arc
+  pub own : (k : ℕ) (arc : ArcRec)
+      → slice_get graph.arcs k ≡ Some arc → HoldsArc label k arc v.hand
+      → IsCovered label' mark' (set views s w) k arc
+  pub others : (k : ℕ) (arc : ArcRec)
+      → (label' arc.tail ≡ label arc.tail) ⊎ IsCovered label' mark' (set views s w) k arc
   pub marked : (k : ℕ) (arc : ArcRec) → mark arc.tail ≡ true → IsCovered label' mark' (set views s w) k arc
 
 -- an arc that was relaxed still is, where its tail's label stays
@@ -65,8 +84,10 @@ any_kept : (label label' : ℕ → ℕ) (k : ℕ) (arc : ArcRec) (views : List V
 any_kept label label' k arc views same any =
     (any.0, any.1, any.2, any.3, holds_kept label label' k arc any.1.hand same any.4)
 
-pub covered_step : (graph : Graph) (seeds : List Seed) (label label' : ℕ → ℕ) (mark mark' : ℕ → Bool) (views : List View) (s : ℕ) (v w : View)
-    → AreCovered graph label mark views → slice_get views s ≡ Some v → IsStep graph seeds label label' mark mark' views s v w
+pub covered_step : (graph : Graph) (seeds : List Seed) (label label' : ℕ → ℕ) (mark mark' : ℕ → Bool)
+    (views : List View) (s : ℕ) (v w : View)
+    → AreCovered graph label mark views → slice_get views s ≡ Some v
+    → IsStep graph seeds label label' mark mark' views s v w
     → AreCovered graph label' mark' (set views s w)
 covered_step graph seeds label label' mark mark' views s v w was at step k arc is =
     elim (was k arc is) [
@@ -90,7 +111,8 @@ covered_step graph seeds label label' mark mark' views s v w was at step k arc i
           ]
     ]
 
-pub covers_step : (graph : Graph) (seeds : List Seed) (label label' : ℕ → ℕ) (mark mark' : ℕ → Bool) (views : List View) (s : ℕ) (v w : View)
+pub covers_step : (graph : Graph) (seeds : List Seed) (label label' : ℕ → ℕ) (mark mark' : ℕ → Bool)
+    (views : List View) (s : ℕ) (v w : View)
     → Covers graph seeds label mark views → HasView views s v → w.share ≡ v.share
     → IsStep graph seeds label label' mark mark' views s v w
     → Covers graph seeds label' mark' (set views s w)
@@ -100,10 +122,12 @@ covers_step graph seeds label label' mark mark' views s v w was has share step =
   covered = covered_step graph seeds label label' mark mark' views s v w was.covered has.here step;
   hands =
       All-set (λ (view : View). IsHand graph seeds label' view.hand) views s w step.hand
-      (All-weaker (λ (view : View). IsHand graph seeds label view.hand) (λ (view : View). IsHand graph seeds label' view.hand)
+      (All-weaker (λ (view : View). IsHand graph seeds label view.hand)
+      (λ (view : View). IsHand graph seeds label' view.hand)
       (λ view hand. hand_falls graph seeds label label' step.falls view.hand hand) views was.hands);
   shares =
-      let sums : sum_by (λ (view : View). view.share) (set views s w) + v.share ≡ sum_by (λ (view : View). view.share) views + w.share =
+      let sums : sum_by (λ (view : View). view.share) (set views s w) + v.share
+      ≡ sum_by (λ (view : View). view.share) views + w.share =
       sum_replaced (λ (view : View). view.share) views s v w has.here in
       omega (arith, sums, share, was.shares);
   spent =
@@ -112,18 +136,24 @@ covers_step graph seeds label label' mark mark' views s v w was has share step =
 }
 
 -- the hand of a seat
-pub hand_at : (graph : Graph) (seeds : List Seed) (label : ℕ → ℕ) (mark : ℕ → Bool) (views : List View) (s : ℕ) (v : View) (hand : Hand)
+pub hand_at : (graph : Graph) (seeds : List Seed) (label : ℕ → ℕ) (mark : ℕ → Bool) (views : List View)
+    (s : ℕ) (v : View) (hand : Hand)
     → Covers graph seeds label mark views → slice_get views s ≡ Some v → v.hand ≡ hand → IsHand graph seeds label hand
 hand_at graph seeds label mark views s v hand was at e =
-    subst (IsHand graph seeds label) e (all_at (λ (view : View). IsHand graph seeds label view.hand) views s v was.hands at)
+    subst (IsHand graph seeds label) e
+    (all_at (λ (view : View). IsHand graph seeds label view.hand) views s v was.hands at)
 
 -- the new view holds an arc
-held_here : (label : ℕ → ℕ) (mark : ℕ → Bool) (views : List View) (s : ℕ) (v w : View) (k : ℕ) (arc : ArcRec) (hand : Hand)
-    → slice_get views s ≡ Some v → w.hand ≡ hand → HoldsArc label k arc hand → IsCovered label mark (set views s w) k arc
+held_here : (label : ℕ → ℕ) (mark : ℕ → Bool) (views : List View) (s : ℕ) (v w : View) (k : ℕ)
+    (arc : ArcRec) (hand : Hand)
+    → slice_get views s ≡ Some v → w.hand ≡ hand → HoldsArc label k arc hand
+    → IsCovered label mark (set views s w) k arc
 held_here label mark views s v w k arc hand at e holds =
-    inr (inr (any_here (λ (view : View). HoldsArc label k arc view.hand) views s v w at (subst (HoldsArc label k arc) (sym e) holds)))
+    inr (inr (any_here (λ (view : View). HoldsArc label k arc view.hand) views s v w at
+    (subst (HoldsArc label k arc) (sym e) holds)))
 
-pub taking : (graph : Graph) (seeds : List Seed) (label : ℕ → ℕ) (mark mark' : ℕ → Bool) (views : List View) (s u : ℕ) (v w : View)
+pub taking : (graph : Graph) (seeds : List Seed) (label : ℕ → ℕ) (mark mark' : ℕ → Bool)
+    (views : List View) (s u : ℕ) (v w : View)
     → Covers graph seeds label mark views → HasView views s v
     → v.hand ≡ Idle → u < graph.n → AgreeBut u mark mark'
     → w.hand ≡ cond (mark u) (Fresh u) Idle → w.share ≡ v.share
@@ -146,13 +176,15 @@ taking graph seeds label mark mark' views s u v w was has idle vertex agree hand
       marked = λ k arc is_marked.
           elim (cases_eq arc.tail u) [
             | inl same ↦
-                let fresh : w.hand ≡ Fresh u = hand ∙ ap (λ b. cond b (Fresh u) Idle) (ap mark (sym same) ∙ is_marked) in
+                let fresh : w.hand ≡ Fresh u =
+                hand ∙ ap (λ b. cond b (Fresh u) Idle) (ap mark (sym same) ∙ is_marked) in
                 held_here label mark' views s v w k arc (Fresh u) has.here fresh (sym same)
             | inr other ↦ inr (inl (agree arc.tail other ∙ is_marked))
           ];
     })
 
-pub reading : (graph : Graph) (seeds : List Seed) (label : ℕ → ℕ) (mark : ℕ → Bool) (views : List View) (s u : ℕ) (v w : View)
+pub reading : (graph : Graph) (seeds : List Seed) (label : ℕ → ℕ) (mark : ℕ → Bool) (views : List View)
+    (s u : ℕ) (v w : View)
     → IsInRows graph → Covers graph seeds label mark views → HasView views s v
     → v.hand ≡ Fresh u → w.hand ≡ Open u (label u) (first_place graph.arcs u) → w.share ≡ v.share
     → Covers graph seeds label mark (set views s w)
@@ -177,20 +209,24 @@ reading graph seeds label mark views s u v w rows was has fresh hand share =
       marked = λ k arc is_marked. inr (inl is_marked);
     })
 
-pub staying : (graph : Graph) (seeds : List Seed) (label : ℕ → ℕ) (mark : ℕ → Bool) (views : List View) (s : ℕ) (v w : View)
+pub staying : (graph : Graph) (seeds : List Seed) (label : ℕ → ℕ) (mark : ℕ → Bool) (views : List View)
+    (s : ℕ) (v w : View)
     → Covers graph seeds label mark views → HasView views s v → w.hand ≡ v.hand → w.share ≡ v.share
     → Covers graph seeds label mark (set views s w)
 staying graph seeds label mark views s v w was has hand share =
     covers_step graph seeds label label mark mark views s v w was has share (record {
       falls = λ x. omega arith;
       sound = was.sound;
-      hand = subst (IsHand graph seeds label) (sym hand) (hand_at graph seeds label mark views s v v.hand was has.here refl);
+      hand =
+          subst (IsHand graph seeds label) (sym hand)
+          (hand_at graph seeds label mark views s v v.hand was has.here refl);
       own = λ k arc is holds. held_here label mark views s v w k arc v.hand has.here hand holds;
       others = λ k arc. inl refl;
       marked = λ k arc is_marked. inr (inl is_marked);
     })
 
-pub marking : (graph : Graph) (seeds : List Seed) (label : ℕ → ℕ) (mark mark' : ℕ → Bool) (views : List View) (s u d k head : ℕ) (v w : View)
+pub marking : (graph : Graph) (seeds : List Seed) (label : ℕ → ℕ) (mark mark' : ℕ → Bool)
+    (views : List View) (s u d k head : ℕ) (v w : View)
     → Covers graph seeds label mark views → HasView views s v
     → v.hand ≡ Owe u d k head → mark' head ≡ true → AgreeBut head mark mark'
     → w.hand ≡ Open u d k → w.share ≡ v.share
@@ -199,7 +235,9 @@ marking graph seeds label mark mark' views s u d place head v w was has owe set'
     covers_step graph seeds label label mark mark' views s v w was has share (record {
       falls = λ x. omega arith;
       sound = was.sound;
-      hand = subst (IsHand graph seeds label) (sym hand) (hand_at graph seeds label mark views s v (Owe u d place head) was has.here owe).0;
+      hand =
+          subst (IsHand graph seeds label) (sym hand)
+          (hand_at graph seeds label mark views s v (Owe u d place head) was has.here owe).0;
       own = λ k arc is holds.
           let owed : HoldsArc label k arc (Owe u d place head) = subst (HoldsArc label k arc) owe holds in
           elim owed [
@@ -214,7 +252,8 @@ marking graph seeds label mark mark' views s u d place head v w was has owe set'
           ];
     })
 
-pub finishing : (graph : Graph) (seeds : List Seed) (label : ℕ → ℕ) (mark : ℕ → Bool) (views : List View) (s u d k : ℕ) (v w : View)
+pub finishing : (graph : Graph) (seeds : List Seed) (label : ℕ → ℕ) (mark : ℕ → Bool) (views : List View)
+    (s u d k : ℕ) (v w : View)
     → IsInRows graph → Covers graph seeds label mark views → HasView views s v
     → v.hand ≡ Open u d k → k ≡ end_place graph.arcs u → w.hand ≡ Idle → w.share ≡ v.share
     → Covers graph seeds label mark (set views s w)
@@ -233,15 +272,20 @@ finishing graph seeds label mark views s u d place v w rows was has open' end ha
 
 -- the arc that an open hand comes to next leaves the hand's vertex
 next_tail : (graph : Graph) (seeds : List Seed) (label : ℕ → ℕ) (u d k : ℕ) (arc : ArcRec)
-    → IsInRows graph → IsInRow graph seeds label u d k → k < end_place graph.arcs u → slice_get graph.arcs k ≡ Some arc → arc.tail ≡ u
+    → IsInRows graph → IsInRow graph seeds label u d k → k < end_place graph.arcs u
+    → slice_get graph.arcs k ≡ Some arc
+    → arc.tail ≡ u
 next_tail graph seeds label u d k arc rows row before is = runs_are_rows graph rows u k arc is row.from before
 
 arc_in : (graph : Graph) (k : ℕ) (arc : ArcRec) → slice_get graph.arcs k ≡ Some arc → Contains graph.arcs arc
 arc_in graph k arc is = (k, slice_get_within graph.arcs k arc is, get_or_from_slice_get graph.arcs k arc arc is)
 
-pub head_in : (graph : Graph) (k : ℕ) (arc : ArcRec) → IsInRows graph → slice_get graph.arcs k ≡ Some arc → arc.head < graph.n
+pub head_in : (graph : Graph) (k : ℕ) (arc : ArcRec)
+    → IsInRows graph → slice_get graph.arcs k ≡ Some arc
+    → arc.head < graph.n
 head_in graph k arc rows is =
-    (All-contains (λ (a : ArcRec). (a.tail < graph.n) × (a.head < graph.n)) graph.arcs arc rows.ends (arc_in graph k arc is)).1
+    (All-contains (λ (a : ArcRec). (a.tail < graph.n) × (a.head < graph.n)) graph.arcs arc rows.ends
+    (arc_in graph k arc is)).1
 
 -- what an open hand offers is attained, if it is below INF
 offer_attained : (graph : Graph) (seeds : List Seed) (label : ℕ → ℕ) (u d k : ℕ) (arc : ArcRec)
@@ -252,17 +296,21 @@ offer_attained graph seeds label u d k arc rows row before is below =
     let sum : d + arc.weight ≡ offer d arc = omega arith in
     let read : IsAttained graph.arcs seeds arc.tail d =
     subst (λ (t : ℕ). IsAttained graph.arcs seeds t d) (sym tail) (row.attained (omega arith)) in
-    subst (IsAttained graph.arcs seeds arc.head) sum (attained-along graph.arcs seeds arc d (arc_in graph k arc is) read)
+    subst (IsAttained graph.arcs seeds arc.head) sum
+    (attained-along graph.arcs seeds arc d (arc_in graph k arc is) read)
 
-pub lowering_attains : (graph : Graph) (seeds : List Seed) (label : ℕ → ℕ) (mark : ℕ → Bool) (views : List View) (s u d k : ℕ) (arc : ArcRec) (v : View)
+pub lowering_attains : (graph : Graph) (seeds : List Seed) (label : ℕ → ℕ) (mark : ℕ → Bool)
+    (views : List View) (s u d k : ℕ) (arc : ArcRec) (v : View)
     → IsInRows graph → Covers graph seeds label mark views → HasView views s v
     → v.hand ≡ Open u d k → k < end_place graph.arcs u → slice_get graph.arcs k ≡ Some arc
     → offer d arc < INF → IsAttained graph.arcs seeds arc.head (offer d arc)
 lowering_attains graph seeds label mark views s u d k arc v rows was has open' before is =
-    offer_attained graph seeds label u d k arc rows (hand_at graph seeds label mark views s v (Open u d k) was has.here open') before is
+    offer_attained graph seeds label u d k arc rows
+    (hand_at graph seeds label mark views s v (Open u d k) was has.here open') before is
 
 -- what one arc does to labels, and to the hand that goes along it
-pub record GoesAlong (graph : Graph) (seeds : List Seed) (label label' : ℕ → ℕ) (u d k : ℕ) (arc : ArcRec) (w : View) : Type 0 where
+pub record GoesAlong (graph : Graph) (seeds : List Seed) (label label' : ℕ → ℕ) (u d k : ℕ)
+    (arc : ArcRec) (w : View) : Type 0 where
   pub row : IsInRow graph seeds label u d k
   pub before : k < end_place graph.arcs u
   pub is : slice_get graph.arcs k ≡ Some arc
@@ -294,7 +342,8 @@ along_sound graph seeds label label' u d k arc w rows sound goes x vertex below 
                 let is : offer d arc ≡ label' x = omega (arith, goes.lesser) in
                 let attained : IsAttained graph.arcs seeds arc.head (offer d arc) =
                 offer_attained graph seeds label u d k arc rows goes.row goes.before goes.is (omega arith) in
-                subst (IsAttained graph.arcs seeds x) is (subst (λ (y : ℕ). IsAttained graph.arcs seeds y (offer d arc)) (sym same) attained)
+                subst (IsAttained graph.arcs seeds x) is
+                (subst (λ (y : ℕ). IsAttained graph.arcs seeds y (offer d arc)) (sym same) attained)
             | inr kept ↦
                 let is : label x ≡ label' x = omega (arith, goes.lesser) in
                 subst (IsAttained graph.arcs seeds x) is (sound x vertex (omega arith))
@@ -328,7 +377,12 @@ along_kept graph seeds label label' u d k arc w goes x =
           let old : label x ≡ label arc.head = ap label same in
           elim (cases_lt (offer d arc) (label arc.head)) [
             | inl lowered ↦
-                inr (sym same, goes.hand ∙ ap (λ b. cond b (Owe u d (k + 1) arc.head) (Open u d (k + 1))) (lt-ltb (offer d arc) (label arc.head) lowered))
+                inr (
+                  sym same,
+                  goes.hand
+                      ∙ ap (λ b. cond b (Owe u d (k + 1) arc.head) (Open u d (k + 1)))
+                      (lt-ltb (offer d arc) (label arc.head) lowered),
+                )
             | inr kept ↦ inl (omega (arith, goes.lesser))
           ]
       | inr other ↦ inl (goes.agree x other)
@@ -342,11 +396,15 @@ along_held graph seeds label label' u d k arc w goes j arc' tail fresh later =
     elim (cases_lt (offer d arc) (label arc.head)) [
       | inl lowered ↦
           let owes : w.hand ≡ Owe u d (k + 1) arc.head =
-          goes.hand ∙ ap (λ b. cond b (Owe u d (k + 1) arc.head) (Open u d (k + 1))) (lt-ltb (offer d arc) (label arc.head) lowered) in
+          goes.hand
+          ∙ ap (λ b. cond b (Owe u d (k + 1) arc.head) (Open u d (k + 1)))
+          (lt-ltb (offer d arc) (label arc.head) lowered) in
           subst (HoldsArc label' j arc') (sym owes) (inr (tail, fresh, later))
       | inr kept ↦
           let opens : w.hand ≡ Open u d (k + 1) =
-          goes.hand ∙ ap (λ b. cond b (Owe u d (k + 1) arc.head) (Open u d (k + 1))) (le-ltb (offer d arc) (label arc.head) kept) in
+          goes.hand
+          ∙ ap (λ b. cond b (Owe u d (k + 1) arc.head) (Open u d (k + 1)))
+          (le-ltb (offer d arc) (label arc.head) kept) in
           subst (HoldsArc label' j arc') (sym opens) (tail, fresh, later)
     ]
 
@@ -363,25 +421,33 @@ along_hand graph seeds label label' u d k arc w rows goes =
     elim (cases_lt (offer d arc) (label arc.head)) [
       | inl lowered ↦
           let owes : w.hand ≡ Owe u d (k + 1) arc.head =
-          goes.hand ∙ ap (λ b. cond b (Owe u d (k + 1) arc.head) (Open u d (k + 1))) (lt-ltb (offer d arc) (label arc.head) lowered) in
+          goes.hand
+          ∙ ap (λ b. cond b (Owe u d (k + 1) arc.head) (Open u d (k + 1)))
+          (lt-ltb (offer d arc) (label arc.head) lowered) in
           subst (IsHand graph seeds label') (sym owes) (row, head_in graph k arc rows goes.is)
       | inr kept ↦
           let opens : w.hand ≡ Open u d (k + 1) =
-          goes.hand ∙ ap (λ b. cond b (Owe u d (k + 1) arc.head) (Open u d (k + 1))) (le-ltb (offer d arc) (label arc.head) kept) in
+          goes.hand
+          ∙ ap (λ b. cond b (Owe u d (k + 1) arc.head) (Open u d (k + 1)))
+          (le-ltb (offer d arc) (label arc.head) kept) in
           subst (IsHand graph seeds label') (sym opens) row
     ]
 
-pub relaxing : (graph : Graph) (seeds : List Seed) (label label' : ℕ → ℕ) (mark : ℕ → Bool) (views : List View) (s u d k : ℕ) (arc : ArcRec) (v w : View)
+pub relaxing : (graph : Graph) (seeds : List Seed) (label label' : ℕ → ℕ) (mark : ℕ → Bool)
+    (views : List View) (s u d k : ℕ) (arc : ArcRec) (v w : View)
     → IsInRows graph → Covers graph seeds label mark views → HasView views s v
     → v.hand ≡ Open u d k → k < end_place graph.arcs u → slice_get graph.arcs k ≡ Some arc
     → label' arc.head ≡ min (label arc.head) (offer d arc) → AgreeBut arc.head label label'
-    → w.hand ≡ cond (nat_lt (offer d arc) (label arc.head)) (Owe u d (k + 1) arc.head) (Open u d (k + 1)) → w.share ≡ v.share
+    → w.hand ≡ cond (nat_lt (offer d arc) (label arc.head)) (Owe u d (k + 1) arc.head) (Open u d (k + 1))
+    → w.share ≡ v.share
     → Covers graph seeds label' mark (set views s w)
 relaxing graph seeds label label' mark views s u d k arc v w rows was has open' before is lesser agree hand share =
-    let row : IsInRow graph seeds label u d k = hand_at graph seeds label mark views s v (Open u d k) was has.here open' in
+    let row : IsInRow graph seeds label u d k =
+    hand_at graph seeds label mark views s v (Open u d k) was has.here open' in
     let goes : GoesAlong graph seeds label label' u d k arc w =
     record { row = row; before = before; is = is; lesser = lesser; agree = agree; hand = hand } in
-    let owed : (j : ℕ) (arc' : ArcRec) → arc.head ≡ arc'.tail → w.hand ≡ Owe u d (k + 1) arc.head → IsCovered label' mark (set views s w) j arc' =
+    let owed : (j : ℕ) (arc' : ArcRec) → arc.head ≡ arc'.tail → w.hand ≡ Owe u d (k + 1) arc.head
+    → IsCovered label' mark (set views s w) j arc' =
     λ j arc' tail owes. held_here label' mark views s v w j arc' (Owe u d (k + 1) arc.head) has.here owes (inl tail) in
     covers_step graph seeds label label' mark mark views s v w was has share (record {
       falls = along_falls graph seeds label label' u d k arc w goes;
@@ -392,12 +458,14 @@ relaxing graph seeds label label' mark views s u d k arc v w rows was has open' 
           elim (cases_eq j k) [
             | inl same ↦
                 let one : arc' ≡ arc = same_Some arc' arc (sym at ∙ ap (slice_get graph.arcs) same ∙ is) in
-                inl (subst (IsRelaxed label') (sym one) (along_relaxed graph seeds label label' u d k arc w rows goes held.1))
+                inl (subst (IsRelaxed label') (sym one)
+                (along_relaxed graph seeds label label' u d k arc w rows goes held.1))
             | inr other ↦
                 elim (along_kept graph seeds label label' u d k arc w goes u) [
                   | inl kept ↦
                       held_here label' mark views s v w j arc' w.hand has.here refl
-                      (along_held graph seeds label label' u d k arc w goes j arc' held.0 (held.1 ∙ sym kept) (omega (arith, held.2)))
+                      (along_held graph seeds label label' u d k arc w goes j arc' held.0
+                      (held.1 ∙ sym kept) (omega (arith, held.2)))
                   | inr lowered ↦ owed j arc' (lowered.0 ∙ held.0) lowered.1
                 ]
           ];
@@ -409,7 +477,8 @@ relaxing graph seeds label label' mark views s u d k arc v w rows was has open' 
       marked = λ j arc' is_marked. inr (inl is_marked);
     })
 
-pub splitting : (graph : Graph) (seeds : List Seed) (label : ℕ → ℕ) (mark : ℕ → Bool) (views : List View) (s : ℕ) (v w new : View)
+pub splitting : (graph : Graph) (seeds : List Seed) (label : ℕ → ℕ) (mark : ℕ → Bool) (views : List View)
+    (s : ℕ) (v w new : View)
     → Covers graph seeds label mark views → HasView views s v
     → v.hand ≡ Idle → w.hand ≡ Idle → new.hand ≡ Idle → w.share + new.share ≡ v.share
     → Covers graph seeds label mark (set views s w ++ new ∷ [])
@@ -425,18 +494,23 @@ splitting graph seeds label mark views s v w new was has idle idle' idle_new sha
               | inr held ↦
                   elim (any_replaced (λ (view : View). HoldsArc label k arc view.hand) views s v w has.here held) [
                     | inl own ↦ absurd (subst (HoldsArc label k arc) idle own)
-                    | inr other ↦ inr (inr (any_added (λ (view : View). HoldsArc label k arc view.hand) (set views s w) new other))
+                    | inr other ↦
+                        inr (inr (any_added (λ (view : View). HoldsArc label k arc view.hand)
+                        (set views s w) new other))
                   ]
             ]
       ];
   hands =
       All-push (λ (view : View). IsHand graph seeds label view.hand) (set views s w) new
-      (All-set (λ (view : View). IsHand graph seeds label view.hand) views s w (subst (IsHand graph seeds label) (sym idle') tt) was.hands)
+      (All-set (λ (view : View). IsHand graph seeds label view.hand) views s w
+      (subst (IsHand graph seeds label) (sym idle') tt) was.hands)
       (subst (IsHand graph seeds label) (sym idle_new) tt);
   shares =
-      let sums : sum_by (λ (view : View). view.share) (set views s w) + v.share ≡ sum_by (λ (view : View). view.share) views + w.share =
+      let sums : sum_by (λ (view : View). view.share) (set views s w) + v.share
+      ≡ sum_by (λ (view : View). view.share) views + w.share =
       sum_replaced (λ (view : View). view.share) views s v w has.here in
-      let all : sum_by (λ (view : View). view.share) (set views s w ++ new ∷ []) ≡ sum_by (λ (view : View). view.share) (set views s w) + new.share =
+      let all : sum_by (λ (view : View). view.share) (set views s w ++ new ∷ [])
+      ≡ sum_by (λ (view : View). view.share) (set views s w) + new.share =
       sum_by_push (λ (view : View). view.share) (set views s w) new in
       omega (arith, sums, all, share, was.shares);
   spent =
@@ -445,7 +519,8 @@ splitting graph seeds label mark views s v w new was has idle idle' idle_new sha
       (λ none. idle_new);
 }
 
-pub joining : (graph : Graph) (seeds : List Seed) (label : ℕ → ℕ) (mark : ℕ → Bool) (views : List View) (s t : ℕ) (v v' w gone : View)
+pub joining : (graph : Graph) (seeds : List Seed) (label : ℕ → ℕ) (mark : ℕ → Bool) (views : List View)
+    (s t : ℕ) (v v' w gone : View)
     → Covers graph seeds label mark views → HasView views s v → HasView views t v' → s ≢ t
     → v.hand ≡ Idle → v'.hand ≡ Idle → w.hand ≡ Idle → gone.hand ≡ Idle
     → w.share ≡ v.share + v'.share → gone.share ≡ 0
@@ -465,7 +540,8 @@ joining graph seeds label mark views s t v v' w gone was has has' apart idle idl
                       elim (any_replaced (λ (view : View). HoldsArc label k arc view.hand) views s v w has.here held) [
                         | inl own ↦ absurd (subst (HoldsArc label k arc) idle own)
                         | inr other ↦
-                            elim (any_replaced (λ (view : View). HoldsArc label k arc view.hand) (set views s w) t v' gone there other) [
+                            elim (any_replaced (λ (view : View). HoldsArc label k arc view.hand)
+                            (set views s w) t v' gone there other) [
                               | inl own ↦ absurd (subst (HoldsArc label k arc) idle' own)
                               | inr last ↦ inr (inr last)
                             ]
@@ -473,12 +549,16 @@ joining graph seeds label mark views s t v v' w gone was has has' apart idle idl
                 ]
           ];
       hands =
-          All-set (λ (view : View). IsHand graph seeds label view.hand) (set views s w) t gone (subst (IsHand graph seeds label) (sym idle_gone) tt)
-          (All-set (λ (view : View). IsHand graph seeds label view.hand) views s w (subst (IsHand graph seeds label) (sym idle_w) tt) was.hands);
+          All-set (λ (view : View). IsHand graph seeds label view.hand) (set views s w) t gone
+          (subst (IsHand graph seeds label) (sym idle_gone) tt)
+          (All-set (λ (view : View). IsHand graph seeds label view.hand) views s w
+          (subst (IsHand graph seeds label) (sym idle_w) tt) was.hands);
       shares =
-          let one : sum_by (λ (view : View). view.share) (set views s w) + v.share ≡ sum_by (λ (view : View). view.share) views + w.share =
+          let one : sum_by (λ (view : View). view.share) (set views s w) + v.share
+          ≡ sum_by (λ (view : View). view.share) views + w.share =
           sum_replaced (λ (view : View). view.share) views s v w has.here in
-          let two : sum_by (λ (view : View). view.share) (set (set views s w) t gone) + v'.share ≡ sum_by (λ (view : View). view.share) (set views s w) + gone.share =
+          let two : sum_by (λ (view : View). view.share) (set (set views s w) t gone) + v'.share
+          ≡ sum_by (λ (view : View). view.share) (set views s w) + gone.share =
           sum_replaced (λ (view : View). view.share) (set views s w) t v' gone there in
           omega (arith, one, two, share, none, was.shares);
       spent =

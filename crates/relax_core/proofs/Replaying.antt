@@ -1,5 +1,6 @@
 -- A run that goes on by one event.
-use Rattle.std.proofs.Common.{◌≡◌, ◌∙◌, sym, ap, subst, refl, ℕ, ◌+◌, ◌<◌, ◌≤◌, List, [], ◌∷◌, ◌++◌, Some, length, get_or, take}
+use Rattle.std.proofs.Common.{◌≡◌, ◌∙◌, sym, ap, subst, refl, ℕ, ◌+◌, ◌<◌, ◌≤◌, List}
+use Rattle.std.proofs.Common.{[], ◌∷◌, ◌++◌, Some, length, get_or, take}
 use Rattle.std.proofs.lemmas.List.{take_more, take_all}
 use Rattle.route_walks.specs.declared.graph.Seed.{Seed}
 use Rattle.csr_graph.specs.Graph.{Graph}
@@ -20,13 +21,17 @@ run_on graph state middle last [] event run step =
 run_on graph state middle last (first ∷ events) event run step =
     (run.0, run.1, run_on graph run.0 middle last events event run.2 step)
 
-pub replaying_none : (graph : Graph) (seeds : List Seed) (events : List Event) (core : State) → IsOpening graph seeds core → IsLawful graph seeds core
+pub replaying_none : (graph : Graph) (seeds : List Seed) (events : List Event) (core : State)
+    → IsOpening graph seeds core → IsLawful graph seeds core
     → IsReplaying graph seeds events 0 core
 replaying_none graph seeds events core opens lawful =
     record { reached = record { opening = core; opens = opens; run = refl }; lawful = lawful }
 
-pub replaying_more : (graph : Graph) (seeds : List Seed) (events : List Event) (i : ℕ) (event : Event) (old new : State) → i < length events → event ≡ get_or events i event
-    → IsReplaying graph seeds events i old → after graph old event ≡ Some new → IsLawful graph seeds new → IsReplaying graph seeds events (i + 1) new
+pub replaying_more : (graph : Graph) (seeds : List Seed) (events : List Event) (i : ℕ) (event : Event)
+    (old new : State)
+    → i < length events → event ≡ get_or events i event
+    → IsReplaying graph seeds events i old → after graph old event ≡ Some new → IsLawful graph seeds new
+    → IsReplaying graph seeds events (i + 1) new
 replaying_more graph seeds events i event old new lt is was step lawful = record {
   reached = record {
     opening = was.reached.opening;

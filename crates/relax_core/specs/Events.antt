@@ -1,10 +1,13 @@
 -- What each event does, and where it is enabled; runs of events.
-use Rattle.std.specs.Prelude.{◌≡◌, ℕ, ◌+◌, ◌-◌, ◌/◌, ◌==◌, nat_lt, nat_le, min, Bool, true, false, ◌||◌, if◌then◌else◌, Option, Some, None, List, [], ◌∷◌, ◌++◌, slice_get, slice_set, slice_index, option_and_then, MatchBool}
+use Rattle.std.specs.Prelude.{◌≡◌, ℕ, ◌+◌, ◌-◌, ◌/◌, ◌==◌, nat_lt, nat_le, min, Bool, true, false}
+use Rattle.std.specs.Prelude.{◌||◌, if◌then◌else◌, Option, Some, None, List, [], ◌∷◌, ◌++◌}
+use Rattle.std.specs.Prelude.{slice_get, slice_set, slice_index, option_and_then, MatchBool}
 use Rattle.route_walks.specs.declared.graph.ArcRec.{ArcRec}
 use Rattle.route_walks.specs.declared.graph.TheConstants.{INF}
 use Rattle.csr_graph.specs.Graph.{Graph, first_place, end_place}
 use Rattle.relax_core.specs.declared.events.Event.{Event}
-use Rattle.relax_core.specs.declared.events.Event.TheVariants.{Take, Read, Relax, Raise, SetMark, Finish, See, Split, Join}
+use Rattle.relax_core.specs.declared.events.Event.TheVariants.{Take, Read, Relax, Raise, SetMark}
+use Rattle.relax_core.specs.declared.events.Event.TheVariants.{Finish, See, Split, Join}
 use Rattle.relax_core.specs.declared.views.Hand.{Hand}
 use Rattle.relax_core.specs.declared.views.Hand.TheVariants.{Idle, Fresh, Open, Owe}
 use Rattle.relax_core.specs.declared.views.View.{View}
@@ -13,11 +16,17 @@ use Rattle.relax_core.specs.State.{State, mark_of}
 -- the state with one view changed
 abbrev pub with_view : State → ℕ → View → State
 with_view state seat view =
-    record { labels = state.labels; marks = state.marks; total = state.total; views = slice_set state.views seat view }
+    record {
+      labels = state.labels;
+      marks = state.marks;
+      total = state.total;
+      views = slice_set state.views seat view;
+    }
 
 -- the view of a seat that isn't spent
 abbrev pub live_view : List View → ℕ → Option View
-live_view views seat = option_and_then (λ view. if view.share == 0 then None else Some view) (slice_get views seat)
+live_view views seat =
+    option_and_then (λ view. if view.share == 0 then None else Some view) (slice_get views seat)
 
 -- Take: the vertex is marked no more; if it was, the seat holds it, with one credit
 abbrev pub take : Graph → State → ℕ → ℕ → View → Hand → Option State
@@ -39,7 +48,9 @@ take graph state seat u view (Owe v d k head) = None
 abbrev pub read : Graph → State → ℕ → View → Hand → Option State
 read graph state seat view Idle = None
 read graph state seat view (Fresh u) =
-    Some (with_view state seat (record view { hand = Open u (slice_index state.labels u) (first_place graph.arcs u) }))
+    Some (with_view state seat (record view {
+      hand = Open u (slice_index state.labels u) (first_place graph.arcs u);
+    }))
 read graph state seat view (Open u d k) = None
 read graph state seat view (Owe u d k head) = None
 
@@ -117,7 +128,8 @@ finish graph state seat view (Owe u d k head) = None
 
 -- See: an idle seat saw, if the total is 0
 abbrev pub see : State → ℕ → View → Hand → Option State
-see state seat view Idle = Some (with_view state seat (record view { saw = view.saw || (state.total == 0) }))
+see state seat view Idle =
+    Some (with_view state seat (record view { saw = view.saw || (state.total == 0) }))
 see state seat view (Fresh u) = None
 see state seat view (Open u d k) = None
 see state seat view (Owe u d k head) = None
@@ -150,25 +162,38 @@ join state seat other view view' Idle Idle =
       labels = state.labels;
       marks = state.marks;
       total = state.total;
-      views = slice_set (slice_set state.views seat (record view { saw = view.saw || view'.saw; share = view.share + view'.share })) other spent_view;
+      views = slice_set (slice_set state.views seat (record view {
+        saw = view.saw || view'.saw;
+        share = view.share + view'.share;
+      })) other spent_view;
     })
 join state seat other view view' hand hand' = None
 
 -- the state after an event, where it is enabled
 abbrev pub after : Graph → State → Event → Option State
-after graph state (Take seat u) = option_and_then (λ view. take graph state seat u view view.hand) (live_view state.views seat)
-after graph state (Read seat) = option_and_then (λ view. read graph state seat view view.hand) (live_view state.views seat)
-after graph state (Relax seat) = option_and_then (λ view. relax graph state seat view view.hand) (live_view state.views seat)
-after graph state (Raise seat) = option_and_then (λ view. raise state seat view view.hand) (live_view state.views seat)
-after graph state (SetMark seat) = option_and_then (λ view. set_mark state seat view view.hand) (live_view state.views seat)
-after graph state (Finish seat) = option_and_then (λ view. finish graph state seat view view.hand) (live_view state.views seat)
-after graph state (See seat) = option_and_then (λ view. see state seat view view.hand) (live_view state.views seat)
-after graph state (Split seat) = option_and_then (λ view. split state seat view view.hand) (live_view state.views seat)
+after graph state (Take seat u) =
+    option_and_then (λ view. take graph state seat u view view.hand) (live_view state.views seat)
+after graph state (Read seat) =
+    option_and_then (λ view. read graph state seat view view.hand) (live_view state.views seat)
+after graph state (Relax seat) =
+    option_and_then (λ view. relax graph state seat view view.hand) (live_view state.views seat)
+after graph state (Raise seat) =
+    option_and_then (λ view. raise state seat view view.hand) (live_view state.views seat)
+after graph state (SetMark seat) =
+    option_and_then (λ view. set_mark state seat view view.hand) (live_view state.views seat)
+after graph state (Finish seat) =
+    option_and_then (λ view. finish graph state seat view view.hand) (live_view state.views seat)
+after graph state (See seat) =
+    option_and_then (λ view. see state seat view view.hand) (live_view state.views seat)
+after graph state (Split seat) =
+    option_and_then (λ view. split state seat view view.hand) (live_view state.views seat)
 after graph state (Join seat other) =
     if seat == other
     then None
     else option_and_then
-    (λ view. option_and_then (λ view'. join state seat other view view' view.hand view'.hand) (live_view state.views other))
+    (λ view.
+    option_and_then (λ view'. join state seat other view view' view.hand view'.hand)
+    (live_view state.views other))
     (live_view state.views seat)
 
 -- the answer true with the state after the event, where it is enabled; false and no change elsewhere
@@ -191,4 +216,7 @@ IsSplit (Join seat other) = ⊥
 -- a run: each event is enabled after those before it
 abbrev pub Run : Graph → State → List Event → State → Type 0
 Run graph state [] last = state ≡ last
-Run graph state (event ∷ events) last = (next : State) × (after graph state event ≡ Some next) × Run graph next events last
+Run graph state (event ∷ events) last =
+    (next : State)
+    × (after graph state event ≡ Some next)
+    × Run graph next events last

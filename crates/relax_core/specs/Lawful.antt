@@ -1,5 +1,6 @@
 -- When a core is lawful. Labels and marks are read as functions from the vertex.
-use Rattle.std.specs.Prelude.{◌≡◌, ℕ, zero, suc, ◌+◌, ◌⊎◌, Bool, true, false, if◌then◌else◌, List, Some, slice_get, sum_by, All, Any}
+use Rattle.std.specs.Prelude.{◌≡◌, ℕ, zero, suc, ◌+◌, ◌⊎◌, Bool, true, false}
+use Rattle.std.specs.Prelude.{if◌then◌else◌, List, Some, slice_get, sum_by, All, Any}
 use Rattle.route_walks.specs.declared.graph.ArcRec.{ArcRec}
 use Rattle.route_walks.specs.declared.graph.Seed.{Seed}
 use Rattle.route_walks.specs.Label.{IsMet, IsRelaxed, IsSound}
@@ -12,14 +13,19 @@ use Rattle.relax_core.specs.Views.{HoldsArc, IsHand, HasCredits}
 -- the arc at place k is covered: it is relaxed, or its tail is marked, or some view holds it
 abbrev pub IsCovered : (ℕ → ℕ) → (ℕ → Bool) → List View → ℕ → ArcRec → Type 0
 IsCovered label mark views k arc =
-    IsRelaxed label arc ⊎ ((mark arc.tail ≡ true) ⊎ Any (λ view. HoldsArc label k arc view.hand) views)
+    IsRelaxed label arc
+    ⊎ ((mark arc.tail ≡ true) ⊎ Any (λ view. HoldsArc label k arc view.hand) views)
 
 -- every arc is covered
 abbrev pub AreCovered : Graph → (ℕ → ℕ) → (ℕ → Bool) → List View → Type 0
-AreCovered graph label mark views = (k : ℕ) (arc : ArcRec) → slice_get graph.arcs k ≡ Some arc → IsCovered label mark views k arc
+AreCovered graph label mark views =
+    (k : ℕ) (arc : ArcRec)
+    → slice_get graph.arcs k ≡ Some arc
+    → IsCovered label mark views k arc
 
 -- the cover part of a lawful core; it asks nothing of total, credits or saw
-pub record Covers (graph : Graph) (seeds : List Seed) (label : ℕ → ℕ) (mark : ℕ → Bool) (views : List View) : Type 0 where
+pub record Covers (graph : Graph) (seeds : List Seed)
+    (label : ℕ → ℕ) (mark : ℕ → Bool) (views : List View) : Type 0 where
   pub sound : IsSound graph.n graph.arcs seeds label
   pub met : All (IsMet label) seeds
   pub covered : AreCovered graph label mark views

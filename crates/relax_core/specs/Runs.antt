@@ -7,7 +7,8 @@ use Rattle.relax_core.specs.State.{State, IsOpening}
 use Rattle.relax_core.specs.Events.{after, Run}
 
 -- the events are a run from the opening of a graph and seeds, and the state is where it ends
-pub record IsReached (graph : Graph) (seeds : List Seed) (events : List Event) (last : State) : Type 0 where
+pub record IsReached (graph : Graph) (seeds : List Seed)
+    (events : List Event) (last : State) : Type 0 where
   pub opening : State
   pub opens : IsOpening graph seeds opening
   pub run : Run graph opening events last

@@ -1,5 +1,6 @@
 -- A core as plain data, when it is lawful, and how it opens.
-use Rattle.std.specs.Prelude.{◌≡◌, ℕ, ◌<◌, ◌≤◌, Bool, true, false, List, [], ◌∷◌, length, slice_index, slice_index_or, All, Any}
+use Rattle.std.specs.Prelude.{◌≡◌, ℕ, ◌<◌, ◌≤◌, Bool, true, false, List, [], ◌∷◌}
+use Rattle.std.specs.Prelude.{length, slice_index, slice_index_or, All, Any}
 use Rattle.route_walks.specs.declared.graph.Seed.{Seed}
 use Rattle.route_walks.specs.declared.graph.TheConstants.{INF}
 use Rattle.csr_graph.specs.Graph.{Graph, IsInRows}
@@ -40,7 +41,8 @@ first_view = record { hand = Idle; credits = 0; saw = false; share = SHARES }
 -- other has INF and no mark
 pub record IsStarted (labels : List ℕ) (marks : List Bool) (seeds : List Seed) : Type 0 where
   pub least : All (λ seed. slice_index labels seed.vertex ≤ seed.start) seeds
-  pub starts : (u : ℕ) → u < length labels → mark_of marks u ≡ true → Any (λ seed. (seed.vertex ≡ u) × (seed.start ≡ slice_index labels u)) seeds
+  pub starts : (u : ℕ) → u < length labels → mark_of marks u ≡ true
+      → Any (λ seed. (seed.vertex ≡ u) × (seed.start ≡ slice_index labels u)) seeds
   pub seeded : All (λ seed. mark_of marks seed.vertex ≡ true) seeds
   pub others : (u : ℕ) → u < length labels → mark_of marks u ≡ false → slice_index labels u ≡ INF
   pub capped : (u : ℕ) → u < length labels → slice_index labels u ≤ INF

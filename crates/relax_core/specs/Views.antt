@@ -14,7 +14,9 @@ abbrev pub HoldsArc : (ℕ → ℕ) → ℕ → ArcRec → Hand → Type 0
 HoldsArc label k arc Idle = ⊥
 HoldsArc label k arc (Fresh u) = u ≡ arc.tail
 HoldsArc label k arc (Open u d place) = (u ≡ arc.tail) × (d ≡ label u) × (place ≤ k)
-HoldsArc label k arc (Owe u d place head) = (head ≡ arc.tail) ⊎ ((u ≡ arc.tail) × (d ≡ label u) × (place ≤ k))
+HoldsArc label k arc (Owe u d place head) =
+    (head ≡ arc.tail)
+    ⊎ ((u ≡ arc.tail) × (d ≡ label u) × (place ≤ k))
 
 -- a hand in the row of u: what it read of u was attained or INF, the label has not risen since, and
 -- its place is in the row or right after it

@@ -2,7 +2,30 @@
 //! mark functions, the total and the list of views. The laws of cover ask nothing of total, credits
 //! or saw, and those of the account nothing of labels.
 
-ghost use Rattle.relax_core.specs.Laws.{EventsKeepLawful, FinishingKeepsAccount, FinishingKeepsCover, JoiningKeepsAccount, JoiningKeepsCover, LoweringAttains, MarkingKeepsAccount, MarkingKeepsCover, QuietIsSettled, RaisingKeepsAccount, ReadingKeepsCover, RelaxingKeepsCover, RunsKeepLawful, SeeingKeepsAccount, SplittingKeepsAccount, SplittingKeepsCover, StayingKeepsAccount, StayingKeepsCover, TakingKeepsAccount, TakingKeepsCover, TotalIsBounded, ZeroIsLeast};
+ghost use Rattle.relax_core.specs.Laws.{
+  EventsKeepLawful,
+  FinishingKeepsAccount,
+  FinishingKeepsCover,
+  JoiningKeepsAccount,
+  JoiningKeepsCover,
+  LoweringAttains,
+  MarkingKeepsAccount,
+  MarkingKeepsCover,
+  QuietIsSettled,
+  RaisingKeepsAccount,
+  ReadingKeepsCover,
+  RelaxingKeepsCover,
+  RunsKeepLawful,
+  SeeingKeepsAccount,
+  SplittingKeepsAccount,
+  SplittingKeepsCover,
+  StayingKeepsAccount,
+  StayingKeepsCover,
+  TakingKeepsAccount,
+  TakingKeepsCover,
+  TotalIsBounded,
+  ZeroIsLeast,
+};
 
 /// What an idle seat takes was marked, so it stays covered, and the mark's credit is the seat's.
 pub fn taking()

@@ -1,4 +1,5 @@
-ghost use Rattle.std.specs.Prelude.{◌≡◌, ◌<◌, ◌≤◌, ◌^◌, ℕ, false, length, count_by, slice_index, slice_set, min, IfOk, All};
+ghost use Rattle.std.specs.Prelude.{◌≡◌, ◌<◌, ◌≤◌, ◌^◌, ℕ, false, length, count_by};
+ghost use Rattle.std.specs.Prelude.{slice_index, slice_set, min, IfOk, All};
 ghost use Rattle.route_walks.specs.Walk.{AreSeeds};
 ghost use Rattle.relax_core.specs.State.{IsLawful, IsOpening, IsOf, IsStarted, mark_of};
 
@@ -23,7 +24,12 @@ impl Model for Core {
 
     ghost Value = { State };
 
-    ghost view = { λ a. record { labels = a.labels.items; marks = a.marks.items; total = a.total; views = a.views.items } };
+    ghost view = { λ a. record {
+      labels = a.labels.items;
+      marks = a.marks.items;
+      total = a.total;
+      views = a.views.items;
+    } };
 }
 
 impl Core {

@@ -208,7 +208,8 @@ impl Core {
     fn split(&mut self, csr: &Csr, seat: usize) -> Result<bool, Memory>
         requires { IsOf csr.now self.old }
         ensures step { IfOk result (λ done. IsDone csr.now self.old (Event.Split seat) done self.new) }
-        ensures refused { OnErr result (IsSome (after csr.now self.old (Event.Split seat)) × (self.new ≡ self.old)) }
+        ensures refused { OnErr result (IsSome (after csr.now self.old (Event.Split seat))
+            × (self.new ≡ self.old)) }
     {
         let Some(view) = self.live(seat) else {
             return Ok(false);
@@ -267,7 +268,9 @@ impl Core {
     fn step(&mut self, csr: &Csr, event: Event) -> Result<bool, Memory>
         requires { IsOf csr.now self.old }
         ensures step { IfOk result (λ done. IsDone csr.now self.old event done self.new) }
-        ensures refused { OnErr result (IsSplit event × IsSome (after csr.now self.old event) × (self.new ≡ self.old)) }
+        ensures refused { OnErr result (IsSplit event
+            × IsSome (after csr.now self.old event)
+            × (self.new ≡ self.old)) }
     {
         match event {
             Event::Take(seat, u) => Ok(self.take(csr, seat, u)),
@@ -298,7 +301,9 @@ pub fn apply(_alloc: Global, core: &mut Core, csr: &Csr, event: Event) -> Result
     ensures not_enabled { (result ≡ Err CoreFault.NotEnabled) ↔ (after csr.now core.old event ≡ None) }
     ensures memory_only_at_split { result ≡ Err CoreFault.Memory → IsSplit event }
     ensures unchanged { OnErr result (core.new ≡ core.old) }
-    ensures lawful { (seeds : List Seed) → IsLawful csr.now seeds core.old → IsLawful csr.now seeds core.new }
+    ensures lawful { (seeds : List Seed)
+        → IsLawful csr.now seeds core.old
+        → IsLawful csr.now seeds core.new }
     ensures belongs { IsOf csr.now core.new }
 {
     match core.step(csr, event) {

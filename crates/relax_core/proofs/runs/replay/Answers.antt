@@ -14,7 +14,8 @@ loop-i-preserved c =
     let event : Event = get_or c.args.events.now c.loop-i.i (Take 0 0) in
     replaying_more c.args.csr.now c.args.seeds.now c.args.events.now c.loop-i.i event c.loop-i.core c.apply.new.core lt
     (get_or_default c.args.events.now c.loop-i.i (Take 0 0) event lt)
-    c.loop-i.invariant c.in-Ok-apply.ensures.done (c.in-Ok-apply.ensures.lawful c.args.seeds.now c.loop-i.invariant.lawful)
+    c.loop-i.invariant c.in-Ok-apply.ensures.done
+    (c.in-Ok-apply.ensures.lawful c.args.seeds.now c.loop-i.invariant.lawful)
 
 pub returns-in-Err-NotEnabled-clause-at : goal.returns-in-Err-NotEnabled-clause-at
 returns-in-Err-NotEnabled-clause-at c i e =

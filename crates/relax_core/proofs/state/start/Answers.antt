@@ -10,4 +10,5 @@ loop-seed-preserved c =
     let d : Seed = record { vertex = 0; start = 0 } in
     let i = c.loop-seed.seed-index in
     let fits : (get_or c.args.seeds.now i d).start ≤ INF = omega arith in
-    rw c.min.ensures (starting_more _ _ _ _ i d (omega arith) (c.requires.seeds i d (omega arith)) fits c.loop-seed.invariant)
+    rw c.min.ensures (starting_more _ _ _ _ i d (omega arith) (c.requires.seeds i d (omega arith)) fits
+    c.loop-seed.invariant)

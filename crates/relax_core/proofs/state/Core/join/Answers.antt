@@ -14,10 +14,12 @@ overflow_add-view c =
 
 pub index_mut-requires : goal.index_mut-requires
 index_mut-requires c =
-    let same : length c.self.inside.views.items ≡ length c.args.self.now.views = ap (λ (s : State). length s.views) c.self.view_is in
+    let same : length c.self.inside.views.items ≡ length c.args.self.now.views =
+    ap (λ (s : State). length s.views) c.self.view_is in
     omega (arith, seat_in c.args.self.now.views c.args.seat c.in-Some.view (sym c.in-Some.ensures))
 
 pub index_mut-requires-2 : goal.index_mut-requires-2
 index_mut-requires-2 c =
-    let same : length c.self.inside.views.items ≡ length c.args.self.now.views = ap (λ (s : State). length s.views) c.self.view_is in
+    let same : length c.self.inside.views.items ≡ length c.args.self.now.views =
+    ap (λ (s : State). length s.views) c.self.view_is in
     omega (arith, seat_in c.args.self.now.views c.args.other c.in-Some-live.gone (sym c.in-Some-live.ensures))

@@ -11,5 +11,6 @@ overflow_add-self c =
 
 pub index_mut-requires : goal.index_mut-requires
 index_mut-requires c =
-    let same : length c.self.inside.views.items ≡ length c.args.self.now.views = ap (λ (s : State). length s.views) c.self.view_is in
+    let same : length c.self.inside.views.items ≡ length c.args.self.now.views =
+    ap (λ (s : State). length s.views) c.self.view_is in
     omega (arith, seat_in c.args.self.now.views c.args.seat c.in-Some.view (sym c.in-Some.ensures))

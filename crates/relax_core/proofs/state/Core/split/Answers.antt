@@ -12,4 +12,7 @@ returns c =
     ap (λ (s : State). live_view s.views c.args.seat) c.self.view_is ∙ sym c.in-Some.ensures in
     let within = seat_in c.self.inside.views.items c.args.seat c.in-Some.view live in
     rw (← c.self.view_is, c.in_ok-push.ensures.items, set-append_left)
-    (record { step = split_some c.args.csr.now _ c.args.seat c.in-Some.view live c.in-Idle.is (omega arith); refused = tt })
+    (record {
+      step = split_some c.args.csr.now _ c.args.seat c.in-Some.view live c.in-Idle.is (omega arith);
+      refused = tt;
+    })
