@@ -1,5 +1,6 @@
 -- What is left of a vector that is cut back.
-use Rattle.std.proofs.Common.{◌≡◌, ℕ, ◌≤◌, true, List, ◌++◌, length, take, Result, Ok, Err, is_err, OnErr, refl, sym, ap, ◌∙◌, take_at}
+use Rattle.std.proofs.Common.{◌≡◌, ℕ, ◌≤◌, true, List, ◌++◌, length, take, Result, Ok}
+use Rattle.std.proofs.Common.{Err, is_err, OnErr, refl, sym, ap, ◌∙◌, take_at}
 use Rattle.std.proofs.lemmas.List.{take-append-le}
 
 pub refused : {T E : Type 0} {P : Type 0} (r : Result T E) → is_err r ≡ true → OnErr r P → P
@@ -8,4 +9,7 @@ refused (Err x) e p = p
 
 -- a list that goes on as one that begins with old, and is no shorter, begins with old
 pub front_kept : (xs ys old all : List ℕ) → xs ++ ys ≡ old ++ all → length old ≤ length xs → take (length old) xs ≡ old
-front_kept xs ys old all e longer = sym (take-append-le (length old) xs ys longer) ∙ ap (λ l. take (length old) l) e ∙ take_at old all (length old) refl
+front_kept xs ys old all e longer =
+    sym (take-append-le (length old) xs ys longer)
+    ∙ ap (λ l. take (length old) l) e
+    ∙ take_at old all (length old) refl

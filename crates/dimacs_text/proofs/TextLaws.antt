@@ -1,16 +1,22 @@
 -- Why a text has one job or one first fault, and not both.
-use Rattle.std.proofs.Common.{◌≡◌, ℕ, zero, suc, ◌+◌, ◌^◌, List, [], ◌∷◌, ◌++◌, length, map, replicate, ◌⊎◌, inl, inr, Option, Some, None, Ok, Err, refl, sym, ap, ap₂, subst, ◌∙◌, append-nil, arith}
+use Rattle.std.proofs.Common.{◌≡◌, ℕ, zero, suc, ◌+◌, ◌^◌, List, [], ◌∷◌, ◌++◌, length, map}
+use Rattle.std.proofs.Common.{replicate, ◌⊎◌, inl, inr, Option, Some, None, Ok, Err, refl}
+use Rattle.std.proofs.Common.{sym, ap, ap₂, subst, ◌∙◌, append-nil, arith}
 use Rattle.route_walks.specs.declared.graph.ArcRec.{ArcRec}
 use Rattle.dimacs_text.specs.declared.form.Section.{Section}
 use Rattle.dimacs_text.specs.declared.form.Section.TheVariants.{Problem, Sources}
 use Rattle.dimacs_text.specs.declared.form.Item.TheVariants.{Arc, Source}
 use Rattle.dimacs_text.specs.declared.fault.LineKind.{LineKind}
-use Rattle.dimacs_text.specs.declared.fault.LineKind.TheVariants.{Unknown, Fields, Number, Range, Misplaced, TooMany, TooFew, NoProblem}
+use Rattle.dimacs_text.specs.declared.fault.LineKind.TheVariants.{Unknown, Fields, Number, Range}
+use Rattle.dimacs_text.specs.declared.fault.LineKind.TheVariants.{Misplaced, TooMany, TooFew, NoProblem}
 use Rattle.dimacs_text.specs.Lines.{lines}
 use Rattle.dimacs_text.specs.Forms.{Record, Reading, readings}
-use Rattle.dimacs_text.specs.Shapes.{Mark, heads, one, form_of_mark, IsLegal, BeginsLegal, FitsSomeCounts, IsMisfit, MisfitKind, lack_of}
+use Rattle.dimacs_text.specs.Shapes.{Mark, heads, one, form_of_mark, IsLegal, BeginsLegal}
+use Rattle.dimacs_text.specs.Shapes.{FitsSomeCounts, IsMisfit, MisfitKind, lack_of}
 use Rattle.dimacs_text.specs.Stages.{At, start, within, run, unless_wrong, misfit_at, next_at}
-use Rattle.dimacs_text.specs.Jobs.{problem_record, Content, Question, absent, from_sources, arc_record, source_record, records_of, records_of_question, records_among, IsJobText}
+use Rattle.dimacs_text.specs.Jobs.{problem_record, Content, Question, absent}
+use Rattle.dimacs_text.specs.Jobs.{from_sources, arc_record, source_record, records_of}
+use Rattle.dimacs_text.specs.Jobs.{records_of_question, records_among, IsJobText}
 use Rattle.dimacs_text.specs.Faults.{marks_among, IsFirstAmong, unread, misfit, unfinished, IsFirstFault}
 use Rattle.dimacs_text.specs.Drafts.{mark_in}
 use Rattle.dimacs_text.proofs.ReaderLemmas.{form-mark}
@@ -38,9 +44,12 @@ arc_same a b e =
     let weight : a.weight ≡ b.weight = cc in
     let tail : a.tail ≡ b.tail = omega arith in
     let hd : a.head ≡ b.head = omega arith in
-    ap₂ (λ t h. record { tail = t; head = h; weight = a.weight }) tail hd ∙ ap (λ w. record { tail = b.tail; head = b.head; weight = w }) weight
+    ap₂ (λ t h. record { tail = t; head = h; weight = a.weight }) tail hd
+    ∙ ap (λ w. record { tail = b.tail; head = b.head; weight = w }) weight
 
-arcs_same : (arcs_a arcs_b : List ArcRec) (x y : List Record) → length arcs_a ≡ length arcs_b → map arc_record arcs_a ++ x ≡ map arc_record arcs_b ++ y → (arcs_a ≡ arcs_b) × (x ≡ y)
+arcs_same : (arcs_a arcs_b : List ArcRec) (x y : List Record)
+    → length arcs_a ≡ length arcs_b → map arc_record arcs_a ++ x ≡ map arc_record arcs_b ++ y
+    → (arcs_a ≡ arcs_b) × (x ≡ y)
 arcs_same [] [] x y l e = (refl, e)
 arcs_same [] (b ∷ arcs_b) x y l e = absurd (omega arith)
 arcs_same (a ∷ arcs_a) [] x y l e = absurd (omega arith)
@@ -66,7 +75,9 @@ question_same : (p q : Question) → records_of_question p ≡ records_of_questi
 question_same absent absent e = refl
 question_same absent (from_sources vs) e = absurd (cc)
 question_same (from_sources us) absent e = absurd (cc)
-question_same (from_sources us) (from_sources vs) e = let rest : map source_record us ≡ map source_record vs = cc in ap (λ l. from_sources l) (sources_same us vs rest)
+question_same (from_sources us) (from_sources vs) e =
+    let rest : map source_record us ≡ map source_record vs = cc in
+    ap (λ l. from_sources l) (sources_same us vs rest)
 
 records_same : (a b : Content) → records_of a ≡ records_of b → a ≡ b
 records_same a b e =
@@ -74,9 +85,13 @@ records_same a b e =
     let numbers = ap (λ (r : Record). r.numbers) top in
     let n : a.n ≡ b.n = cc in
     let count : length a.arcs ≡ length b.arcs = cc in
-    let rest : map arc_record a.arcs ++ records_of_question a.question ≡ map arc_record b.arcs ++ records_of_question b.question = cc in
+    let rest : map arc_record a.arcs ++ records_of_question a.question
+    ≡ map arc_record b.arcs ++ records_of_question b.question =
+    cc in
     let both = arcs_same a.arcs b.arcs (records_of_question a.question) (records_of_question b.question) count rest in
-    ap₂ (λ k arcs_a. record { n = k; arcs = arcs_a; question = a.question }) n both.0 ∙ ap (λ q. record { n = b.n; arcs = b.arcs; question = q }) (question_same a.question b.question both.1)
+    ap₂ (λ k arcs_a. record { n = k; arcs = arcs_a; question = a.question }) n both.0
+    ∙ ap (λ q. record { n = b.n; arcs = b.arcs; question = q })
+    (question_same a.question b.question both.1)
 
 pub one_job : (text : List ℕ) (a b : Content) → IsJobText text a → IsJobText text b → a ≡ b
 unfolding IsJobText
@@ -97,35 +112,50 @@ pub map_mark-append : (rs ss : List Record) → map mark_in (rs ++ ss) ≡ map m
 map_mark-append [] ss = refl
 map_mark-append (r ∷ rs) ss = ap (λ l. mark_in r ∷ l) (map_mark-append rs ss)
 
-legal_by : (n : ℕ) (arcs_a : List ArcRec) (q : Question) → IsLegal (map mark_in (records_of (record { n = n; arcs = arcs_a; question = q })))
+legal_by : (n : ℕ) (arcs_a : List ArcRec) (q : Question)
+    → IsLegal (map mark_in (records_of (record { n = n; arcs = arcs_a; question = q })))
 unfolding IsLegal
 legal_by n arcs_a absent = (
   record { section = Problem; count = length arcs_a } ∷ [],
   (refl, tt),
-  ap (λ l. heads Problem (length arcs_a) ∷ l) (map_mark-append (map arc_record arcs_a) [] ∙ ap (λ l. l ++ []) (marks_of_arcs arcs_a)),
+  ap (λ l. heads Problem (length arcs_a) ∷ l)
+      (map_mark-append (map arc_record arcs_a) [] ∙ ap (λ l. l ++ []) (marks_of_arcs arcs_a)),
 )
 legal_by n arcs_a (from_sources vs) = (
   record { section = Problem; count = length arcs_a } ∷ record { section = Sources; count = length vs } ∷ [],
   (refl, (refl, tt)),
-  ap (λ l. heads Problem (length arcs_a) ∷ l) (map_mark-append (map arc_record arcs_a) (records_of_question (from_sources vs)) ∙ ap₂ (λ l m. l ++ (heads Sources (length vs) ∷ m)) (marks_of_arcs arcs_a) (marks_of_sources vs ∙ sym (append-nil (replicate (length vs) (one Source))))),
+  ap (λ l. heads Problem (length arcs_a) ∷ l)
+      (map_mark-append (map arc_record arcs_a) (records_of_question (from_sources vs))
+      ∙ ap₂ (λ l m. l ++ (heads Sources (length vs) ∷ m)) (marks_of_arcs arcs_a)
+      (marks_of_sources vs ∙ sym (append-nil (replicate (length vs) (one Source))))),
 )
 
-job_legal : (said : List (Option Record)) (job : Content) → records_among said ≡ records_of job → IsLegal (marks_among said)
+job_legal : (said : List (Option Record)) (job : Content)
+    → records_among said ≡ records_of job
+    → IsLegal (marks_among said)
 job_legal said job e = subst (λ l. IsLegal (map mark_in l)) (sym e) (legal_by job.n job.arcs job.question)
 
 -- where a line is wrong, not all lines say something
-never_all : (s t : List (Option Record)) (kind : LineKind) (after : List Reading) → map (λ x. Ok x) s ≡ map (λ x. Ok x) t ++ Err kind ∷ after → ⊥
+never_all : (s t : List (Option Record)) (kind : LineKind) (after : List Reading)
+    → map (λ x. Ok x) s ≡ map (λ x. Ok x) t ++ Err kind ∷ after
+    → ⊥
 never_all [] [] kind after e = cc
 never_all [] (y ∷ t) kind after e = cc
 never_all (x ∷ s) [] kind after e = cc
-never_all (x ∷ s) (y ∷ t) kind after e = let rest : map (λ x. Ok x) s ≡ map (λ x. Ok x) t ++ Err kind ∷ after = cc in never_all s t kind after rest
+never_all (x ∷ s) (y ∷ t) kind after e =
+    let rest : map (λ x. Ok x) s ≡ map (λ x. Ok x) t ++ Err kind ∷ after = cc in
+    never_all s t kind after rest
 
 -- what is said after a record that is said
-on_top : (y : Option Record) (s t : List (Option Record)) (ms more : List Mark) → marks_among s ≡ (marks_among t ++ ms) ++ more → marks_among (y ∷ s) ≡ (marks_among (y ∷ t) ++ ms) ++ more
+on_top : (y : Option Record) (s t : List (Option Record)) (ms more : List Mark)
+    → marks_among s ≡ (marks_among t ++ ms) ++ more
+    → marks_among (y ∷ s) ≡ (marks_among (y ∷ t) ++ ms) ++ more
 on_top None s t ms more e = e
 on_top (Some r) s t ms more e = ap (λ l. mark_in r ∷ l) e
 
-said_after : (s t : List (Option Record)) (r : Record) (after : List Reading) → map (λ x. Ok x) s ≡ map (λ x. Ok x) t ++ Ok (Some r) ∷ after → (more : List Mark) × (marks_among s ≡ (marks_among t ++ mark_in r ∷ []) ++ more)
+said_after : (s t : List (Option Record)) (r : Record) (after : List Reading)
+    → map (λ x. Ok x) s ≡ map (λ x. Ok x) t ++ Ok (Some r) ∷ after
+    → (more : List Mark) × (marks_among s ≡ (marks_among t ++ mark_in r ∷ []) ++ more)
 said_after [] [] r after e = absurd (cc)
 said_after [] (y ∷ t) r after e = absurd (cc)
 said_after (x ∷ s) [] r after e = let first : x ≡ Some r = cc in (marks_among s, ap (λ y. marks_among (y ∷ s)) first)
@@ -135,7 +165,9 @@ said_after (x ∷ s) (y ∷ t) r after e =
     let later = said_after s t r after rest in
     (later.0, ap (λ z. marks_among (z ∷ s)) first ∙ on_top y s t (mark_in r ∷ []) later.0 later.1)
 
-no_fault_among : (rs : List Reading) (said : List (Option Record)) (line : ℕ) (kind : LineKind) → rs ≡ map (λ x. Ok x) said → IsLegal (marks_among said) → IsFirstAmong rs line kind → ⊥
+no_fault_among : (rs : List Reading) (said : List (Option Record)) (line : ℕ) (kind : LineKind)
+    → rs ≡ map (λ x. Ok x) said → IsLegal (marks_among said) → IsFirstAmong rs line kind
+    → ⊥
 unfolding BeginsLegal IsMisfit
 no_fault_among rs said line kind all legal (unread s after e begins number) = never_all said s kind after (sym all ∙ e)
 no_fault_among rs said line kind all legal (misfit s r after e begins wrong number) =
@@ -144,9 +176,12 @@ no_fault_among rs said line kind all legal (misfit s r after e begins wrong numb
 no_fault_among rs said line kind all legal (unfinished s e begins not_legal is number) =
     not_legal (subst (λ l. IsLegal (marks_among l)) (said_same said s (sym all ∙ e)) legal)
 
-pub no_fault : (text : List ℕ) (job : Content) (line : ℕ) (kind : LineKind) → IsJobText text job → IsFirstFault text line kind → ⊥
+pub no_fault : (text : List ℕ) (job : Content) (line : ℕ) (kind : LineKind)
+    → IsJobText text job → IsFirstFault text line kind
+    → ⊥
 unfolding IsJobText IsFirstFault
-no_fault text job line kind (said, reads, is) fault = no_fault_among (readings (2 ^ 28) (lines text)) said line kind reads (job_legal said job is) fault
+no_fault text job line kind (said, reads, is) fault =
+    no_fault_among (readings (2 ^ 28) (lines text)) said line kind reads (job_legal said job is) fault
 
 -- the fault at which the machine stops
 abbrev lack_at : At → ℕ → Option (ℕ × LineKind)
@@ -164,34 +199,50 @@ fault_by a line (Err kind ∷ rs) = Some (line, kind)
 fault_by a line (Ok None ∷ rs) = fault_by a (line + 1) rs
 fault_by a line (Ok (Some r) ∷ rs) = fault_or (misfit_at a r.form) line (fault_by (next_at a (mark_in r)) (line + 1) rs)
 
-or_cases : (o : Option LineKind) (x : Option At) (b : At) (line : ℕ) (later goal : Option (ℕ × LineKind)) → unless_wrong o x ≡ Some b → (x ≡ Some b → later ≡ goal) → fault_or o line later ≡ goal
+or_cases : (o : Option LineKind) (x : Option At) (b : At) (line : ℕ) (later goal : Option (ℕ × LineKind))
+    → unless_wrong o x ≡ Some b → (x ≡ Some b → later ≡ goal)
+    → fault_or o line later ≡ goal
 or_cases None x b line later goal e f = f e
 or_cases (Some k) x b line later goal e f = absurd (cc)
 
-passes : (s : List (Option Record)) (rest : List Reading) (a b : At) (line : ℕ) → run a (marks_among s) ≡ Some b → fault_by a line (map (λ x. Ok x) s ++ rest) ≡ fault_by b (line + length s) rest
+passes : (s : List (Option Record)) (rest : List Reading) (a b : At) (line : ℕ)
+    → run a (marks_among s) ≡ Some b
+    → fault_by a line (map (λ x. Ok x) s ++ rest) ≡ fault_by b (line + length s) rest
 unfolding fault_by
-passes [] rest a b line e = let same : a ≡ b = cc in let zero_more : line ≡ line + 0 = omega arith in ap₂ (λ x n. fault_by x n rest) same zero_more
+passes [] rest a b line e =
+    let same : a ≡ b = cc in
+    let zero_more : line ≡ line + 0 = omega arith in ap₂ (λ x n. fault_by x n rest) same zero_more
 passes (None ∷ s) rest a b line e =
     let count : line + 1 + length s ≡ line + length (None ∷ s) = omega arith in
     passes s rest a b (line + 1) e ∙ ap (λ n. fault_by b n rest) count
 passes (Some r ∷ s) rest a b line e =
     let count : line + 1 + length s ≡ line + length (Some r ∷ s) = omega arith in
-    let goes : unless_wrong (misfit_at a r.form) (run (next_at a (mark_in r)) (marks_among s)) ≡ Some b = ap (λ f. unless_wrong (misfit_at a f) (run (next_at a (mark_in r)) (marks_among s))) (sym (form-mark r.form r.numbers)) ∙ e in
-    or_cases (misfit_at a r.form) (run (next_at a (mark_in r)) (marks_among s)) b line (fault_by (next_at a (mark_in r)) (line + 1) (map (λ x. Ok x) s ++ rest)) (fault_by b (line + length (Some r ∷ s)) rest) goes
+    let goes : unless_wrong (misfit_at a r.form) (run (next_at a (mark_in r)) (marks_among s)) ≡ Some b =
+    ap (λ f. unless_wrong (misfit_at a f) (run (next_at a (mark_in r)) (marks_among s)))
+    (sym (form-mark r.form r.numbers))
+    ∙ e in
+    or_cases (misfit_at a r.form) (run (next_at a (mark_in r)) (marks_among s)) b line
+    (fault_by (next_at a (mark_in r)) (line + 1) (map (λ x. Ok x) s ++ rest))
+    (fault_by b (line + length (Some r ∷ s)) rest) goes
     (λ f. passes s rest (next_at a (mark_in r)) b (line + 1) f ∙ ap (λ n. fault_by b n rest) count)
 
 -- what begins a legal list is read
-prefix_cases : (o : Option LineKind) (x y : Option At) (c : At) → unless_wrong o x ≡ Some c → (x ≡ Some c → (b : At) × (y ≡ Some b)) → (b : At) × (unless_wrong o y ≡ Some b)
+prefix_cases : (o : Option LineKind) (x y : Option At) (c : At)
+    → unless_wrong o x ≡ Some c → (x ≡ Some c → (b : At) × (y ≡ Some b))
+    → (b : At) × (unless_wrong o y ≡ Some b)
 prefix_cases None x y c e f = f e
 prefix_cases (Some k) x y c e f = absurd (cc)
 
 run_prefix : (ms more : List Mark) (a c : At) → run a (ms ++ more) ≡ Some c → (b : At) × (run a ms ≡ Some b)
 run_prefix [] more a c e = (a, refl)
-run_prefix (m ∷ ms) more a c e = prefix_cases (misfit_at a (form_of_mark m)) (run (next_at a m) (ms ++ more)) (run (next_at a m) ms) c e (λ f. run_prefix ms more (next_at a m) c f)
+run_prefix (m ∷ ms) more a c e =
+    prefix_cases (misfit_at a (form_of_mark m)) (run (next_at a m) (ms ++ more)) (run (next_at a m) ms) c
+    e (λ f. run_prefix ms more (next_at a m) c f)
 
 begins_runs : (ms : List Mark) → BeginsLegal ms → (b : At) × (run start ms ≡ Some b)
 unfolding BeginsLegal
-begins_runs ms (more, legal) = let runs = legal_runs (ms ++ more) legal in run_prefix ms more start (within runs.0 0) runs.1
+begins_runs ms (more, legal) =
+    let runs = legal_runs (ms ++ more) legal in run_prefix ms more start (within runs.0 0) runs.1
 
 -- a misfit has one kind
 abbrev excess : Mark → LineKind
@@ -199,7 +250,9 @@ excess (heads s k) = TooFew
 excess (one i) = TooMany
 
 abbrev OneOfTwo : List Mark → Mark → LineKind → Type 0
-OneOfTwo ms m kind = ((kind ≡ Misplaced) × (FitsSomeCounts (ms ++ m ∷ []) → ⊥)) ⊎ ((kind ≡ excess m) × FitsSomeCounts (ms ++ m ∷ []))
+OneOfTwo ms m kind =
+    ((kind ≡ Misplaced) × (FitsSomeCounts (ms ++ m ∷ []) → ⊥))
+    ⊎ ((kind ≡ excess m) × FitsSomeCounts (ms ++ m ∷ []))
 
 one_of_two : (ms : List Mark) (m : Mark) (kind : LineKind) → MisfitKind ms m kind → OneOfTwo ms m kind
 one_of_two ms m Misplaced h = inl (refl, h)
@@ -224,14 +277,22 @@ two_same ms m k l (inl (a, p)) (inr (b, q)) = absurd (p q)
 two_same ms m k l (inr (a, p)) (inl (b, q)) = absurd (q p)
 two_same ms m k l (inr (a, p)) (inr (b, q)) = a ∙ sym b
 
-stops : (ms : List Mark) (b : At) (r : Record) (kind : LineKind) (o : Option LineKind) → run start ms ≡ Some b → IsMisfit ms (mark_in r) kind → misfit_at b r.form ≡ o → (line : ℕ) (later : Option (ℕ × LineKind)) → fault_or o line later ≡ Some (line, kind)
+stops : (ms : List Mark) (b : At) (r : Record) (kind : LineKind) (o : Option LineKind)
+    → run start ms ≡ Some b → IsMisfit ms (mark_in r) kind → misfit_at b r.form ≡ o
+    → (line : ℕ) (later : Option (ℕ × LineKind))
+    → fault_or o line later ≡ Some (line, kind)
 unfolding IsMisfit
 stops ms b r kind None e wrong is line later =
-    let goes : run start (ms ++ mark_in r ∷ []) ≡ Some (next_at b (mark_in r)) = run-append ms start b (mark_in r ∷ []) e ∙ ap (λ o. unless_wrong o (Some (next_at b (mark_in r)))) (ap (λ f. misfit_at b f) (form-mark r.form r.numbers) ∙ is) in
+    let goes : run start (ms ++ mark_in r ∷ []) ≡ Some (next_at b (mark_in r)) =
+    run-append ms start b (mark_in r ∷ []) e
+    ∙ ap (λ o. unless_wrong o (Some (next_at b (mark_in r))))
+    (ap (λ f. misfit_at b f) (form-mark r.form r.numbers) ∙ is) in
     absurd (wrong.0 (run_begins (ms ++ mark_in r ∷ []) (next_at b (mark_in r)) goes))
 stops ms b r kind (Some k) e wrong is line later =
     let other = machine_misfit ms b (mark_in r) k e (ap (λ f. misfit_at b f) (form-mark r.form r.numbers) ∙ is) in
-    ap (λ x. Some (line, x)) (two_same ms (mark_in r) k kind (one_of_two ms (mark_in r) k other.1) (one_of_two ms (mark_in r) kind wrong.1))
+    ap (λ x. Some (line, x))
+    (two_same ms (mark_in r) k kind (one_of_two ms (mark_in r) k other.1)
+    (one_of_two ms (mark_in r) kind wrong.1))
 
 -- behind a head the reader is within a section
 stays : (ms : List Mark) (s : Section) (j : ℕ) → run (within s j) ms ≡ Some start → ⊥
@@ -239,7 +300,10 @@ stays [] s j e = cc
 stays (m ∷ ms) s j e = stays_if (misfit_at (within s j) (form_of_mark m)) m j e
     (λ t k. stays ms t k)
   where
-    stays_if : (o : Option LineKind) (n : Mark) (i : ℕ) → unless_wrong o (run (next_at (within s i) n) ms) ≡ Some start → ((t : Section) (k : ℕ) → run (within t k) ms ≡ Some start → ⊥) → ⊥
+    stays_if : (o : Option LineKind) (n : Mark) (i : ℕ)
+        → unless_wrong o (run (next_at (within s i) n) ms) ≡ Some start
+        → ((t : Section) (k : ℕ) → run (within t k) ms ≡ Some start → ⊥)
+        → ⊥
     stays_if (Some x) n i f later = cc
     stays_if None (heads t k) i f later = later t k f
     stays_if None (one item) zero f later = later s zero f
@@ -255,12 +319,16 @@ lack_within : (ms : List Mark) (s : Section) (j : ℕ) → run start ms ≡ Some
 lack_within [] s j e = absurd (cc)
 lack_within (m ∷ ms) s j e = refl
 
-lacks : (ms : List Mark) (b : At) (line : ℕ) → run start ms ≡ Some b → (IsLegal ms → ⊥) → lack_at b line ≡ Some (line, lack_of ms)
+lacks : (ms : List Mark) (b : At) (line : ℕ)
+    → run start ms ≡ Some b → (IsLegal ms → ⊥)
+    → lack_at b line ≡ Some (line, lack_of ms)
 lacks ms start line e never = ap (λ k. Some (line, k)) (sym (lack_start ms e))
 lacks ms (within s zero) line e never = absurd (never (complete ms s e))
 lacks ms (within s (suc j)) line e never = ap (λ k. Some (line, k)) (sym (lack_within ms s (suc j) e))
 
-found : (rs : List Reading) (line : ℕ) (kind : LineKind) → IsFirstAmong rs line kind → fault_by start 1 rs ≡ Some (line, kind)
+found : (rs : List Reading) (line : ℕ) (kind : LineKind)
+    → IsFirstAmong rs line kind
+    → fault_by start 1 rs ≡ Some (line, kind)
 unfolding fault_by
 found rs line kind (unread s after e begins number) =
     let runs = begins_runs (marks_among s) begins in
@@ -270,7 +338,8 @@ found rs line kind (misfit s r after e begins wrong number) =
     let runs = begins_runs (marks_among s) begins in
     let count : 1 + length s ≡ line = omega arith in
     ap (λ l. fault_by start 1 l) e ∙ passes s (Ok (Some r) ∷ after) start runs.0 1 runs.1
-    ∙ stops (marks_among s) runs.0 r kind (misfit_at runs.0 r.form) runs.1 wrong refl (1 + length s) (fault_by (next_at runs.0 (mark_in r)) (1 + length s + 1) after)
+    ∙ stops (marks_among s) runs.0 r kind (misfit_at runs.0 r.form) runs.1 wrong refl (1 + length s)
+    (fault_by (next_at runs.0 (mark_in r)) (1 + length s + 1) after)
     ∙ ap (λ n. Some (n, kind)) count
 found rs line kind (unfinished s e begins never is number) =
     let runs = begins_runs (marks_among s) begins in
@@ -286,7 +355,9 @@ abbrev kind_or_unknown : Option (ℕ × LineKind) → LineKind
 kind_or_unknown None = Unknown
 kind_or_unknown (Some fault) = fault.1
 
-pub one_first_fault : (text : List ℕ) (i j : ℕ) (k l : LineKind) → IsFirstFault text i k → IsFirstFault text j l → (i ≡ j) × (k ≡ l)
+pub one_first_fault : (text : List ℕ) (i j : ℕ) (k l : LineKind)
+    → IsFirstFault text i k → IsFirstFault text j l
+    → (i ≡ j) × (k ≡ l)
 unfolding IsFirstFault
 one_first_fault text i j k l a b =
     let first = found (readings (2 ^ 28) (lines text)) i k a in

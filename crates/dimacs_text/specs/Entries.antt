@@ -5,7 +5,8 @@ use Rattle.dimacs_text.specs.declared.form.Entry.TheVariants as entry
 use Rattle.dimacs_text.specs.declared.form.Limit.{Limit}
 use Rattle.dimacs_text.specs.declared.fault.LineKind.{LineKind}
 use Rattle.dimacs_text.specs.Forms.{Record, Reading, form_of, record_reading}
-use Rattle.dimacs_text.specs.Jobs.{arc_record, source_record, problem_record, sources_record, IsArcWithin}
+use Rattle.dimacs_text.specs.Jobs.{arc_record, source_record, problem_record}
+use Rattle.dimacs_text.specs.Jobs.{sources_record, IsArcWithin}
 
 abbrev pub record_of : Entry → Record
 record_of (entry.Problem vertices arcs) = problem_record vertices arcs

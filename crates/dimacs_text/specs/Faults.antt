@@ -16,11 +16,26 @@ marks_among said = map (λ (r : Record). mark_of r.form r.numbers) (records_amon
 -- first that is wrong:
 pub data IsFirstAmong (rs : List Reading) (line : ℕ) (kind : LineKind) : Type 0 where
   -- it is no record within its limits,
-  unread : (said : List (Option Record)) (after : List Reading) → rs ≡ map (λ s. Ok s) said ++ Err kind ∷ after → BeginsLegal (marks_among said) → line ≡ length said + 1 → IsFirstAmong rs line kind
+  unread : (said : List (Option Record)) (after : List Reading)
+      → rs ≡ map (λ s. Ok s) said ++ Err kind ∷ after
+      → BeginsLegal (marks_among said)
+      → line ≡ length said + 1
+      → IsFirstAmong rs line kind
   -- or a record with which no legal list begins,
-  misfit : (said : List (Option Record)) (r : Record) (after : List Reading) → rs ≡ map (λ s. Ok s) said ++ Ok (Some r) ∷ after → BeginsLegal (marks_among said) → IsMisfit (marks_among said) (mark_of r.form r.numbers) kind → line ≡ length said + 1 → IsFirstAmong rs line kind
+  misfit : (said : List (Option Record)) (r : Record) (after : List Reading)
+      → rs ≡ map (λ s. Ok s) said ++ Ok (Some r) ∷ after
+      → BeginsLegal (marks_among said)
+      → IsMisfit (marks_among said) (mark_of r.form r.numbers) kind
+      → line ≡ length said + 1
+      → IsFirstAmong rs line kind
   -- or the text ends there, and more had to come.
-  unfinished : (said : List (Option Record)) → rs ≡ map (λ s. Ok s) said → BeginsLegal (marks_among said) → (IsLegal (marks_among said) → ⊥) → kind ≡ lack_of (marks_among said) → line ≡ length said + 1 → IsFirstAmong rs line kind
+  unfinished : (said : List (Option Record))
+      → rs ≡ map (λ s. Ok s) said
+      → BeginsLegal (marks_among said)
+      → (IsLegal (marks_among said) → ⊥)
+      → kind ≡ lack_of (marks_among said)
+      → line ≡ length said + 1
+      → IsFirstAmong rs line kind
 
 -- the first line of a text that is wrong, counted from 1, and the first kind that fits there
 unfoldable pub IsFirstFault : List ℕ → ℕ → LineKind → Type 0

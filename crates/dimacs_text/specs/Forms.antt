@@ -1,5 +1,7 @@
 -- The table of the forms of a line, and what one line says.
-use Rattle.std.specs.Prelude.{ℕ, ◌-◌, ◌^◌, ◌==◌, ◌&&◌, nat_le, Bool, true, false, List, [], ◌∷◌, length, drop, Option, Some, None, Result, Ok, Err, option_map, option_and_then, find, codes, bytes_eq, if◌then◌else◌, slice_index}
+use Rattle.std.specs.Prelude.{ℕ, ◌-◌, ◌^◌, ◌==◌, ◌&&◌, nat_le, Bool, true, false, List, [], ◌∷◌}
+use Rattle.std.specs.Prelude.{length, drop, Option, Some, None, Result, Ok, Err, option_map}
+use Rattle.std.specs.Prelude.{option_and_then, find, codes, bytes_eq, if◌then◌else◌, slice_index}
 use Rattle.dimacs_text.specs.declared.form.Section.{Section}
 use Rattle.dimacs_text.specs.declared.form.Section.TheVariants.{Problem, Sources}
 use Rattle.dimacs_text.specs.declared.form.Item.{Item}
@@ -85,12 +87,16 @@ in_form form (Err kind) = Err kind
 
 abbrev pub record_reading : ℕ → Option Form → List (List ℕ) → Reading
 record_reading vertices None fs = Err Unknown
-record_reading vertices (Some form) fs = in_form form (numbers_within (limits vertices form) (drop (length (words form)) fs))
+record_reading vertices (Some form) fs =
+    in_form form (numbers_within (limits vertices form) (drop (length (words form)) fs))
 
 -- no field is a blank line, and a first field that begins with 'c' a comment
 unfoldable pub fields_reading : ℕ → List (List ℕ) → Reading
 fields_reading vertices [] = Ok None
-fields_reading vertices (f ∷ fs) = if slice_index f 0 == 99 then Ok None else record_reading vertices (form_of (f ∷ fs)) (f ∷ fs)
+fields_reading vertices (f ∷ fs) =
+    if slice_index f 0 == 99
+    then Ok None
+    else record_reading vertices (form_of (f ∷ fs)) (f ∷ fs)
 
 -- what a line says, where vertices are counted to the number given
 unfoldable pub reading : ℕ → List ℕ → Reading
@@ -111,4 +117,5 @@ vertices_after vertices (Err kind) = vertices
 -- what each line says, one after the other
 unfoldable pub readings : ℕ → List (List ℕ) → List Reading
 readings vertices [] = []
-readings vertices (l ∷ ls) = reading vertices l ∷ readings (vertices_after vertices (reading vertices l)) ls
+readings vertices (l ∷ ls) =
+    reading vertices l ∷ readings (vertices_after vertices (reading vertices l)) ls

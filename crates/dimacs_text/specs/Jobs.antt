@@ -1,5 +1,6 @@
 -- The job of a text.
-use Rattle.std.specs.Prelude.{◌≡◌, ℕ, ◌+◌, ◌^◌, ◌<◌, ◌≤◌, List, [], ◌∷◌, ◌++◌, length, map, filter_map, All, Option, Ok}
+use Rattle.std.specs.Prelude.{◌≡◌, ℕ, ◌+◌, ◌^◌, ◌<◌, ◌≤◌, List, [], ◌∷◌, ◌++◌}
+use Rattle.std.specs.Prelude.{length, map, filter_map, All, Option, Ok}
 use Rattle.route_walks.specs.declared.graph.ArcRec.{ArcRec}
 use Rattle.dimacs_text.specs.declared.form.Section.TheVariants.{Problem, Sources}
 use Rattle.dimacs_text.specs.declared.form.Item.TheVariants.{Arc, Source}
@@ -29,7 +30,11 @@ content_of job = record { n = job.n; arcs = job.arcs.items; question = question_
 
 -- an arc's line; vertices are counted from 1 in a text
 abbrev pub arc_record : ArcRec → Record
-arc_record arc = record { form = counted Arc; numbers = (arc.tail + 1) ∷ (arc.head + 1) ∷ arc.weight ∷ [] }
+arc_record arc =
+    record {
+      form = counted Arc;
+      numbers = (arc.tail + 1) ∷ (arc.head + 1) ∷ arc.weight ∷ [];
+    }
 
 abbrev pub source_record : ℕ → Record
 source_record vertex = record { form = counted Source; numbers = (vertex + 1) ∷ [] }
@@ -42,20 +47,26 @@ sources_record k = record { form = head Sources; numbers = k ∷ [] }
 
 abbrev pub records_of_question : Question → List Record
 records_of_question absent = []
-records_of_question (from_sources vertices) = sources_record (length vertices) ∷ map source_record vertices
+records_of_question (from_sources vertices) =
+    sources_record (length vertices) ∷ map source_record vertices
 
 -- the lines of a job: the problem line, its arcs, and the section of what is asked
 abbrev pub records_of : Content → List Record
-records_of job = (problem_record job.n (length job.arcs) ∷ map arc_record job.arcs) ++ records_of_question job.question
+records_of job =
+    (problem_record job.n (length job.arcs) ∷ map arc_record job.arcs)
+    ++ records_of_question job.question
 
 -- the records among what lines say
 abbrev pub records_among : List (Option Record) → List Record
 records_among said = filter_map (λ record_or_none. record_or_none) said
 
--- A text is a job's where each line says nothing or a record, and the records are those of the job. Vertices
--- count to 2^28 before the problem line.
+-- A text is a job's where each line says nothing or a record, and the records are those of the job.
+-- Vertices count to 2^28 before the problem line.
 unfoldable pub IsJobText : List ℕ → Content → Type 0
-IsJobText text job = (said : List (Option Record)) × (readings (2 ^ 28) (lines text) ≡ map (λ s. Ok s) said) × (records_among said ≡ records_of job)
+IsJobText text job =
+    (said : List (Option Record))
+    × (readings (2 ^ 28) (lines text) ≡ map (λ s. Ok s) said)
+    × (records_among said ≡ records_of job)
 
 -- both ends of an arc are vertices, and its weight is below 2^32
 pub record IsArcWithin (n : ℕ) (arc : ArcRec) : Type 0 where
@@ -65,7 +76,9 @@ pub record IsArcWithin (n : ℕ) (arc : ArcRec) : Type 0 where
 
 abbrev pub IsQuestionWithin : ℕ → Question → Type 0
 IsQuestionWithin n absent = Unit {0}
-IsQuestionWithin n (from_sources vertices) = (length vertices ≤ 2 ^ 20) × All (λ v. v < n) vertices
+IsQuestionWithin n (from_sources vertices) =
+    (length vertices ≤ 2 ^ 20)
+    × All (λ v. v < n) vertices
 
 -- the limits of a job
 pub record IsWithinLimits (job : Content) : Type 0 where

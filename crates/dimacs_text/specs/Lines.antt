@@ -1,6 +1,7 @@
 -- Lines, fields and numbers of a text, as the format page of the 9th DIMACS Implementation Challenge
 -- (Shortest Paths, files .gr and .ss) has them; line ends and blanks are this project's profile.
-use Rattle.std.specs.Prelude.{ℕ, ◌-◌, ◌==◌, ◌||◌, Bool, not, true, false, List, [], ◌∷◌, length, take, Option, Some, None, filter, if◌then◌else◌, slice_index}
+use Rattle.std.specs.Prelude.{ℕ, ◌-◌, ◌==◌, ◌||◌, Bool, not, true, false, List, [], ◌∷◌, length}
+use Rattle.std.specs.Prelude.{take, Option, Some, None, filter, if◌then◌else◌, slice_index}
 use Rattle.std.specs.List.{onto_first, slice_split}
 use Rattle.std.specs.Str.{all_ascii_digits}
 use Rattle.std.specs.Str.Parse.{digits_value}

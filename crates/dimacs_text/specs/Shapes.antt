@@ -1,6 +1,7 @@
--- The shape of a text: heads with their counts, and items. Which lists of them are legal, and what is wrong
--- with a line that no legal list has there.
-use Rattle.std.specs.Prelude.{◌≡◌, ℕ, ◌-◌, Bool, true, false, List, [], ◌∷◌, ◌++◌, length, map, flat_map, replicate, slice_index, IsTrue}
+-- The shape of a text: heads with their counts, and items. Which lists of them are legal, and what is
+-- wrong with a line that no legal list has there.
+use Rattle.std.specs.Prelude.{◌≡◌, ℕ, ◌-◌, Bool, true, false, List, [], ◌∷◌, ◌++◌, length}
+use Rattle.std.specs.Prelude.{map, flat_map, replicate, slice_index, IsTrue}
 use Rattle.dimacs_text.specs.declared.form.Section.{Section}
 use Rattle.dimacs_text.specs.declared.form.Section.TheVariants.{Problem, Sources}
 use Rattle.dimacs_text.specs.declared.form.Item.{Item}
@@ -46,24 +47,36 @@ marks_of part = heads part.section part.count ∷ replicate part.count (one (ite
 -- each part may follow the one before
 abbrev pub AreInTurn : Section → List Part → Type 0
 AreInTurn section [] = Unit {0}
-AreInTurn section (part ∷ parts) = IsTrue (may_follow section part.section) × AreInTurn part.section parts
+AreInTurn section (part ∷ parts) =
+    IsTrue (may_follow section part.section)
+    × AreInTurn part.section parts
 
 -- the problem comes first
 abbrev pub AreOfAJob : List Part → Type 0
 AreOfAJob [] = ⊥
-AreOfAJob (part ∷ parts) = (part.section ≡ Problem) × AreInTurn part.section parts
+AreOfAJob (part ∷ parts) =
+    (part.section ≡ Problem)
+    × AreInTurn part.section parts
 
 -- a legal list is that of the parts of a job
 unfoldable pub IsLegal : List Mark → Type 0
-IsLegal marks = (parts : List Part) × AreOfAJob parts × (marks ≡ flat_map marks_of parts)
+IsLegal marks =
+    (parts : List Part)
+    × AreOfAJob parts
+    × (marks ≡ flat_map marks_of parts)
 
 -- some legal list begins so
 unfoldable pub BeginsLegal : List Mark → Type 0
-BeginsLegal marks = (more : List Mark) × IsLegal (marks ++ more)
+BeginsLegal marks =
+    (more : List Mark)
+    × IsLegal (marks ++ more)
 
 -- with other counts some legal list begins so
 unfoldable pub FitsSomeCounts : List Mark → Type 0
-FitsSomeCounts marks = (others : List Mark) × (map form_of_mark others ≡ map form_of_mark marks) × BeginsLegal others
+FitsSomeCounts marks =
+    (others : List Mark)
+    × (map form_of_mark others ≡ map form_of_mark marks)
+    × BeginsLegal others
 
 -- a mark that fits with no counts is misplaced; else a head comes early, and an item is one too many
 abbrev pub MisfitKind : List Mark → Mark → LineKind → Type 0
@@ -74,7 +87,9 @@ MisfitKind before mark kind = ⊥
 
 -- no legal list begins with what was before and this mark
 unfoldable pub IsMisfit : List Mark → Mark → LineKind → Type 0
-IsMisfit before mark kind = (BeginsLegal (before ++ mark ∷ []) → ⊥) × MisfitKind before mark kind
+IsMisfit before mark kind =
+    (BeginsLegal (before ++ mark ∷ []) → ⊥)
+    × MisfitKind before mark kind
 
 -- what a text that ends too early lacks
 abbrev pub lack_of : List Mark → LineKind

@@ -3,8 +3,10 @@
 //! A line is made from its end to its front in an array, and then goes out at once: so a refusal of
 //! memory leaves the vector as it was.
 
-ghost use Rattle.std.specs.Prelude.{◌≡◌, ℕ, ◌+◌, ◌-◌, ◌^◌, ◌<◌, ◌≤◌, ◌++◌, ◌∷◌, [], length, take, drop, decimal, codes, All, OnOk, OnErr, vec_len};
-ghost use Rattle.dimacs_text.specs.Answers.{source_text, label_text, cost_text, distances_text, components_text, component_text};
+ghost use Rattle.std.specs.Prelude.{◌≡◌, ℕ, ◌+◌, ◌-◌, ◌^◌, ◌<◌, ◌≤◌, ◌++◌, ◌∷◌, [], length, take};
+ghost use Rattle.std.specs.Prelude.{drop, decimal, codes, All, OnOk, OnErr, vec_len};
+ghost use Rattle.dimacs_text.specs.Answers.{source_text, label_text, cost_text};
+ghost use Rattle.dimacs_text.specs.Answers.{distances_text, components_text, component_text};
 
 use itoa::write_digits;
 use route_walks::{INF, Memory};

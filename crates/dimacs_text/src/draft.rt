@@ -1,6 +1,7 @@
 //! The job as far as it is read.
 
-ghost use Rattle.std.specs.Prelude.{◌≡◌, ◌∷◌, [], ◌++◌, OnOk, IfErr, IfOk, IfSome, None, ◌≤◌, ◌<◌, ◌^◌, length};
+ghost use Rattle.std.specs.Prelude.{◌≡◌, ◌∷◌, [], ◌++◌, OnOk, IfErr, IfOk};
+ghost use Rattle.std.specs.Prelude.{IfSome, None, ◌≤◌, ◌<◌, ◌^◌, length};
 ghost use Rattle.dimacs_text.specs.Stages.{can_come, misfit_at, next_at};
 ghost use Rattle.dimacs_text.specs.Shapes.{mark_of};
 ghost use Rattle.dimacs_text.specs.Forms.{head, counted, vertices_behind};
@@ -101,7 +102,8 @@ fn misfit_item(stage: Option<Section>, missing: u32, item: Item) -> Option<LineK
 }
 
 impl Draft {
-    ghost use Rattle.dimacs_text.specs.Drafts.{at_of, records_in, IsDraftWithin, TakesEntry, ReadsLine, ReadsFirst, IsFaultAt, IsFaultIn, IsLackOf};
+    ghost use Rattle.dimacs_text.specs.Drafts.{at_of, records_in, IsDraftWithin, TakesEntry, ReadsLine};
+    ghost use Rattle.dimacs_text.specs.Drafts.{ReadsFirst, IsFaultAt, IsFaultIn, IsLackOf};
     ghost use Rattle.dimacs_text.specs.Jobs.{content_of, records_of, IsWithinLimits, IsArcWithin};
     ghost use Rattle.dimacs_text.specs.Plain.{IsArcLine};
 
@@ -227,7 +229,8 @@ impl Draft {
 
     /// The arc of the first line, where one is missing and the line is plain.
     fn expected_arc<'a>(&self, rest: &'a [u8]) -> Option<(ArcRec, &'a [u8])>
-        ensures line { IfSome result (λ found. IsArcLine self.now.vertices rest.now found.0 found.1.now) }
+        ensures line { IfSome result (λ found.
+            IsArcLine self.now.vertices rest.now found.0 found.1.now) }
         ensures fits { IfSome result (λ _. misfit_at (at_of self.now) (counted Item.Arc) ≡ None) }
         ensures within { IfSome result (λ found. IsArcWithin self.now.vertices found.0) }
         ensures shorter { IfSome result (λ found. length found.1.now < length rest.now) }

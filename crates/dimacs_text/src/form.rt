@@ -1,10 +1,13 @@
 //! The forms of a line, and what one line says.
 
-ghost use Rattle.std.specs.Prelude.{◌≡◌, ◌≢◌, ◌^◌, ◌≤◌, ◌<◌, ◌&&◌, nat_le, [], ◌∷◌, length, MatchOption, IfOk, IfSome, option_map, map, codes, bytes_eq};
+ghost use Rattle.std.specs.Prelude.{◌≡◌, ◌≢◌, ◌^◌, ◌≤◌, ◌<◌, ◌&&◌, nat_le, [], ◌∷◌, length};
+ghost use Rattle.std.specs.Prelude.{MatchOption, IfOk, IfSome, option_map, map, codes, bytes_eq};
 ghost use Rattle.dimacs_text.specs.Lines.{fields};
 ghost use Rattle.dimacs_text.specs.Peeling.{capped};
-ghost use Rattle.dimacs_text.specs.Forms.{head, counted, limits, in_form, in_limits, numbers, numbers_within, reading, form_of, record_reading};
-ghost use Rattle.dimacs_text.specs.Entries.{said_by, entry_said, fields_say, one_said, two_said, three_said, IsEntryWithin, IsWithin};
+ghost use Rattle.dimacs_text.specs.Forms.{head, counted, limits, in_form, in_limits, numbers};
+ghost use Rattle.dimacs_text.specs.Forms.{numbers_within, reading, form_of, record_reading};
+ghost use Rattle.dimacs_text.specs.Entries.{said_by, entry_said, fields_say, one_said};
+ghost use Rattle.dimacs_text.specs.Entries.{two_said, three_said, IsEntryWithin, IsWithin};
 
 use crate::fault::LineKind;
 use crate::line::{next_field, number_of, trim_cr};
@@ -88,7 +91,8 @@ fn one_field(args: &[u8]) -> Option<&[u8]>
 }
 
 fn two_fields(args: &[u8]) -> Option<(&[u8], &[u8])>
-    ensures { MatchOption result (length (fields args.now) ≢ 2) (λ f. fields args.now ≡ f.0.now ∷ f.1.now ∷ []) }
+    ensures { MatchOption result (length (fields args.now) ≢ 2)
+        (λ f. fields args.now ≡ f.0.now ∷ f.1.now ∷ []) }
 {
     let (first, rest) = next_field(args)?;
     let second = one_field(rest)?;
@@ -96,7 +100,8 @@ fn two_fields(args: &[u8]) -> Option<(&[u8], &[u8])>
 }
 
 fn three_fields(args: &[u8]) -> Option<(&[u8], &[u8], &[u8])>
-    ensures { MatchOption result (length (fields args.now) ≢ 3) (λ f. fields args.now ≡ f.0.now ∷ f.1.now ∷ f.2.now ∷ []) }
+    ensures { MatchOption result (length (fields args.now) ≢ 3)
+        (λ f. fields args.now ≡ f.0.now ∷ f.1.now ∷ f.2.now ∷ []) }
 {
     let (first, rest) = next_field(args)?;
     let (second, third) = two_fields(rest)?;
@@ -104,7 +109,8 @@ fn three_fields(args: &[u8]) -> Option<(&[u8], &[u8], &[u8])>
 }
 
 fn two_numbers(first: &[u8], second: &[u8]) -> Option<(u64, u64)>
-    ensures { option_map (λ n. n.0 ∷ n.1 ∷ []) result ≡ option_map (λ vs. map capped vs) (numbers (first.now ∷ second.now ∷ [])) }
+    ensures { option_map (λ n. n.0 ∷ n.1 ∷ []) result
+        ≡ option_map (λ vs. map capped vs) (numbers (first.now ∷ second.now ∷ [])) }
 {
     let first = number_of(first)?;
     let second = number_of(second)?;
@@ -112,7 +118,8 @@ fn two_numbers(first: &[u8], second: &[u8]) -> Option<(u64, u64)>
 }
 
 fn three_numbers(first: &[u8], second: &[u8], third: &[u8]) -> Option<(u64, u64, u64)>
-    ensures { option_map (λ n. n.0 ∷ n.1 ∷ n.2 ∷ []) result ≡ option_map (λ vs. map capped vs) (numbers (first.now ∷ second.now ∷ third.now ∷ [])) }
+    ensures { option_map (λ n. n.0 ∷ n.1 ∷ n.2 ∷ []) result
+        ≡ option_map (λ vs. map capped vs) (numbers (first.now ∷ second.now ∷ third.now ∷ [])) }
 {
     let first = number_of(first)?;
     let (second, third) = two_numbers(second, third)?;
@@ -191,7 +198,9 @@ fn read_three(
 }
 
 fn read_problem(args: &[u8]) -> Result<Entry, LineKind>
-    ensures says { entry_said result ≡ in_form (head Section.Problem) (numbers_within (limits 0 (head Section.Problem)) (fields args.now)) }
+    ensures says { entry_said result
+        ≡ in_form (head Section.Problem)
+        (numbers_within (limits 0 (head Section.Problem)) (fields args.now)) }
     ensures within { IfOk result (IsEntryWithin 0) }
 {
     let (vertices, arcs) = read_two(args, Limit::up_to(MOST_VERTICES), Limit::up_to(MOST_ARCS))?;
@@ -199,7 +208,9 @@ fn read_problem(args: &[u8]) -> Result<Entry, LineKind>
 }
 
 fn read_arc(args: &[u8], vertices: u32) -> Result<Entry, LineKind>
-    ensures says { entry_said result ≡ in_form (counted Item.Arc) (numbers_within (limits vertices (counted Item.Arc)) (fields args.now)) }
+    ensures says { entry_said result
+        ≡ in_form (counted Item.Arc)
+        (numbers_within (limits vertices (counted Item.Arc)) (fields args.now)) }
     ensures within { IfOk result (IsEntryWithin vertices) }
 {
     let vertex = Limit::vertex(vertices);
@@ -212,7 +223,9 @@ fn read_arc(args: &[u8], vertices: u32) -> Result<Entry, LineKind>
 }
 
 fn read_sources(args: &[u8]) -> Result<Entry, LineKind>
-    ensures says { entry_said result ≡ in_form (head Section.Sources) (numbers_within (limits 0 (head Section.Sources)) (fields args.now)) }
+    ensures says { entry_said result
+        ≡ in_form (head Section.Sources)
+        (numbers_within (limits 0 (head Section.Sources)) (fields args.now)) }
     ensures within { IfOk result (IsEntryWithin 0) }
 {
     let count = read_one(args, Limit::up_to(MOST_QUERIES))?;
@@ -220,7 +233,9 @@ fn read_sources(args: &[u8]) -> Result<Entry, LineKind>
 }
 
 fn read_source(args: &[u8], vertices: u32) -> Result<Entry, LineKind>
-    ensures says { entry_said result ≡ in_form (counted Item.Source) (numbers_within (limits vertices (counted Item.Source)) (fields args.now)) }
+    ensures says { entry_said result
+        ≡ in_form (counted Item.Source)
+        (numbers_within (limits vertices (counted Item.Source)) (fields args.now)) }
     ensures within { IfOk result (IsEntryWithin vertices) }
 {
     let vertex = read_one(args, Limit::vertex(vertices))?;

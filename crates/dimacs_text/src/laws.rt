@@ -1,6 +1,7 @@
 //! Laws of texts: each is the contract of a function that does nothing.
 
-ghost use Rattle.dimacs_text.specs.Laws.{EachTextIsAJobOrFails, JobTextsHaveNoFault, ATextHasOneJob, ATextHasOneFirstFault};
+ghost use Rattle.dimacs_text.specs.Laws.{EachTextIsAJobOrFails, JobTextsHaveNoFault};
+ghost use Rattle.dimacs_text.specs.Laws.{ATextHasOneJob, ATextHasOneFirstFault};
 
 /// Each text is a job's or has a first fault.
 pub fn each_text_is_a_job_or_fails()

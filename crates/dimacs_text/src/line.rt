@@ -1,6 +1,7 @@
 //! Lines, fields and numbers.
 
-ghost use Rattle.std.specs.Prelude.{◌≡◌, ℕ, ◌+◌, ◌<◌, ◌++◌, ◌∷◌, [], length, MatchOption, option_map, slice_index, true, false};
+ghost use Rattle.std.specs.Prelude.{◌≡◌, ℕ, ◌+◌, ◌<◌, ◌++◌, ◌∷◌, [], length};
+ghost use Rattle.std.specs.Prelude.{MatchOption, option_map, slice_index, true, false};
 ghost use Rattle.dimacs_text.specs.Lines.{lines, without_cr, is_blank, fields, number};
 ghost use Rattle.dimacs_text.specs.Peeling.{SkipsBlanks, SplitsRun, capped};
 
@@ -61,7 +62,8 @@ fn split_run(bytes: &[u8]) -> (&[u8], &[u8])
 
 /// The first field of a line, and what stands behind it.
 pub fn next_field(line: &[u8]) -> Option<(&[u8], &[u8])>
-    ensures fields { MatchOption result (fields line.now ≡ []) (λ found. fields line.now ≡ found.0.now ∷ fields found.1.now) }
+    ensures fields { MatchOption result (fields line.now ≡ [])
+        (λ found. fields line.now ≡ found.0.now ∷ fields found.1.now) }
     ensures filled { MatchOption result (Unit {0}) (λ found. 0 < length found.0.now) }
 {
     let rest = skip_blanks(line);

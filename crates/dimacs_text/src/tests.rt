@@ -164,8 +164,8 @@ fn answers(rt: HostRuntime) -> Result<(), Fail> {
     put_label(&mut out, 0, INF - 1)?;
     put_distances(&mut out, 2, &[INF, 0, 10])?;
     put_components(&mut out, &[0, 0, 2])?;
-    let lines =
-        "s 268435456\nd 10 inf\nd 1 18446744073709551614\ns 3\nd 1 inf\nd 2 0\nd 3 10\nk 1 1\nk 2 1\nk 3 3\n";
+    let lines = "s 268435456\nd 10 inf\nd 1 18446744073709551614\ns 3\nd 1 inf\nd 2 0\nd 3 10\n\
+         k 1 1\nk 2 1\nk 3 3\n";
     assert_eq!(rt; out.as_slice(), lines.as_bytes());
     Ok(())
 }

@@ -8,5 +8,8 @@ returns-then-is_err-clause-err c =
     let same = refused c.put_label.result (sym c.is_err.ensures.value ∙ c.if-is_err.true) c.put_label.ensures.err in
     let inv = c.loop-v.invariant in
     let old = c.args.out.now.items in
-    c.truncate.ensures.items ∙ ap (λ l. take c.len-before.result l) same ∙ ap (λ n. take n c.loop-v.out.items) inv.before
-    ∙ front_kept c.loop-v.out.items (label_lines c.loop-v.v (drop c.loop-v.v c.args.labels.now)) old (distances_text c.args.s c.args.labels.now) inv.whole inv.longer
+    c.truncate.ensures.items
+    ∙ ap (λ l. take c.len-before.result l) same
+    ∙ ap (λ n. take n c.loop-v.out.items) inv.before
+    ∙ front_kept c.loop-v.out.items (label_lines c.loop-v.v (drop c.loop-v.v c.args.labels.now)) old
+    (distances_text c.args.s c.args.labels.now) inv.whole inv.longer

@@ -5,7 +5,8 @@ use Rattle.dimacs_text.proofs.line.skip_blanks.Goals as goal
 
 pub returns-then-not-is_blank_byte : goal.returns-then-not-is_blank_byte
 returns-then-not-is_blank_byte c =
-    rw tail_from (skips c.args.bytes.now c.loop-i.i (omega arith) c.loop-i.invariant (λ _. sym c.is_blank_byte.ensures ∙ c.if-not-is_blank_byte.true))
+    rw tail_from (skips c.args.bytes.now c.loop-i.i (omega arith) c.loop-i.invariant
+    (λ _. sym c.is_blank_byte.ensures ∙ c.if-not-is_blank_byte.true))
 
 pub returns : goal.returns
 returns c =

@@ -6,7 +6,8 @@ use Rattle.dimacs_text.proofs.line.split_run.Goals as goal
 
 pub returns-then-is_blank_byte : goal.returns-then-is_blank_byte
 returns-then-is_blank_byte c =
-    rw tail_from (splits c.args.bytes.now c.loop-i.i (omega arith) c.loop-i.invariant (λ _. sym c.is_blank_byte.ensures ∙ c.if-is_blank_byte.true))
+    rw tail_from (splits c.args.bytes.now c.loop-i.i (omega arith) c.loop-i.invariant
+    (λ _. sym c.is_blank_byte.ensures ∙ c.if-is_blank_byte.true))
 
 pub returns : goal.returns
 returns c =
