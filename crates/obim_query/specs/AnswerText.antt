@@ -10,7 +10,8 @@ use Rattle.obim_query.specs.declared.asked.Answer.{Answer}
 use Rattle.obim_query.specs.declared.asked.Answer.TheVariants as answer
 
 -- a list of the least labels of n vertices
-pub record AreLeastLabels (n : ℕ) (arcs : List ArcRec) (seeds : List Seed) (labels : List ℕ) : Type 0 where
+pub record AreLeastLabels (n : ℕ) (arcs : List ArcRec) (seeds : List Seed)
+    (labels : List ℕ) : Type 0 where
   pub count : length labels ≡ n
   pub least : AreLeast n arcs seeds (slice_index labels)
 
@@ -24,8 +25,11 @@ pub record IsSourceBlock (n : ℕ) (arcs : List ArcRec) (source : ℕ) (text : L
 abbrev pub AreSourceBlocks : ℕ → List ArcRec → List ℕ → List ℕ → Type 0
 AreSourceBlocks n arcs [] text = text ≡ []
 AreSourceBlocks n arcs (source ∷ sources) text =
-    (block : List ℕ) × (rest : List ℕ)
-    × IsSourceBlock n arcs source block × AreSourceBlocks n arcs sources rest × (text ≡ block ++ rest)
+    (block : List ℕ)
+    × (rest : List ℕ)
+    × IsSourceBlock n arcs source block
+    × AreSourceBlocks n arcs sources rest
+    × (text ≡ block ++ rest)
 
 -- the answer to what is asked; without a section of queries there is none
 abbrev pub AreAskedBlocks : ℕ → List ArcRec → Question → List ℕ → Type 0
@@ -49,4 +53,6 @@ IsAnswerText answer.Components job text = IsComponentsBlock job.n job.arcs text
 abbrev pub AnswerTextsAreUnique : Type 0
 AnswerTextsAreUnique =
     (kind : Answer) (job : Content) (first second : List ℕ)
-    → IsAnswerText kind job first → IsAnswerText kind job second → first ≡ second
+    → IsAnswerText kind job first
+    → IsAnswerText kind job second
+    → first ≡ second

@@ -20,7 +20,8 @@ pub record IsRequest (limit : ℕ) (before after : Option (List ℕ)) (job : Con
   pub limits : IsWithinLimits job
 
 -- the whole text was taken, it is a job's, and the job's answer was written and nothing else
-pub record IsAnswered (limit : ℕ) (kind : Answer) (taken_from taken_to given_from given_to : Option (List ℕ)) : Type 0 where
+pub record IsAnswered (limit : ℕ) (kind : Answer)
+    (taken_from taken_to given_from given_to : Option (List ℕ)) : Type 0 where
   pub job : Content
   pub request : IsRequest limit taken_from taken_to job
   pub reply : Writes (IsAnswerText kind job) given_from given_to

@@ -4,7 +4,8 @@ ghost use Rattle.std.specs.Prelude.{◌≤◌, ◌^◌, IfOk, IfErr, OnOk};
 ghost use Rattle.dimacs_text.specs.Jobs.{content_of, IsWithinLimits};
 ghost use Rattle.obim_query.specs.AnswerText.{IsAnswerText};
 ghost use Rattle.obim_query.specs.Bytes.{Writes};
-ghost use Rattle.obim_query.specs.Outcome.{HasTaken, IsAnswerOf, IsAnswered, IsReplyFault, IsRequest, IsRequestFault, IsTrueOfText, WritesNothing};
+ghost use Rattle.obim_query.specs.Outcome.{HasTaken, IsAnswerOf, IsAnswered, IsReplyFault, IsRequest};
+ghost use Rattle.obim_query.specs.Outcome.{IsRequestFault, IsTrueOfText, WritesNothing};
 
 use crate::asked::{Answer, Asked};
 use crate::blocks::{write_components, write_sources};

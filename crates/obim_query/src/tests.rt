@@ -11,7 +11,8 @@ use std::process::Abort;
 use std::test::Fail;
 
 const SIX: &[u8] =
-    b"p sp 6 8\na 1 2 17\na 1 3 10\na 2 4 2\na 3 5 0\na 4 3 0\na 4 6 3\na 5 2 0\na 5 6 20\np aux sp ss 1\ns 1\n";
+    b"p sp 6 8\na 1 2 17\na 1 3 10\na 2 4 2\na 3 5 0\na 4 3 0\na 4 6 3\na 5 2 0\na 5 6 20\n\
+      p aux sp ss 1\ns 1\n";
 
 const SIX_ANSWER: &[u8] = b"s 1\nd 1 0\nd 2 10\nd 3 10\nd 4 12\nd 5 10\nd 6 15\n";
 

@@ -15,8 +15,14 @@ plain_labels-requires-clause-graph g c =
 pub put_components-requires-clause-finite : goal.put_components-requires-clause-finite
 put_components-requires-clause-finite g c =
     let labels = c.in_ok-labels.labels.items in
-    let along_both = subst (λ (arcs : List ArcRec). AreLeast c.args.n arcs c.deref-2.result.now (slice_index labels)) (c.deref.ensures.value ∙ c.in_ok-both.ensures.exact) c.in_ok-labels.ensures.least in
-    let least = subst (λ (seeds : List Seed). AreLeast c.args.n (both_ways c.args.arcs.now) seeds (slice_index labels)) (c.deref-2.ensures.value ∙ c.in_ok-seeds.ensures.exact) along_both in
+    let along_both =
+    subst (λ (arcs : List ArcRec). AreLeast c.args.n arcs c.deref-2.result.now (slice_index labels))
+    (c.deref.ensures.value ∙ c.in_ok-both.ensures.exact) c.in_ok-labels.ensures.least in
+    let least =
+    subst
+    (λ (seeds : List Seed). AreLeast c.args.n (both_ways c.args.arcs.now) seeds (slice_index labels))
+    (c.deref-2.ensures.value ∙ c.in_ok-seeds.ensures.exact) along_both in
     let count : length labels ≡ c.args.n = omega (arith, c.in_ok-labels.ensures.length, c.in_ok-labels.labels.ok.0) in
     subst (All (λ (label : ℕ). label < INF)) (sym c.deref-3.ensures.value)
-    (component-labels-found c.args.n c.args.arcs.now labels c.least_labels_are_components.ensures (omega (arith, c.requires.few)) c.requires.graph count least)
+    (component-labels-found c.args.n c.args.arcs.now labels c.least_labels_are_components.ensures
+    (omega (arith, c.requires.few)) c.requires.graph count least)

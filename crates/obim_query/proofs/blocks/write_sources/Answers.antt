@@ -6,11 +6,15 @@ use Rattle.obim_query.proofs.blocks.write_sources.Goals as goal
 
 pub loop-source-preserved : goal.loop-source-preserved
 loop-source-preserved g c =
-    sent-more c.args.n c.args.arcs.now c.args.sources.now c.loop-source.source-index _ _ _ _ c.put_block.new.waiting.items _ c.loop-source-test.true c.loop-source.invariant c.in_ok-put_block.ensures.block c.in_ok-send_if_full.ensures.sent
+    sent-more c.args.n c.args.arcs.now c.args.sources.now c.loop-source.source-index _ _ _ _
+    c.put_block.new.waiting.items _ c.loop-source-test.true c.loop-source.invariant
+    c.in_ok-put_block.ensures.block c.in_ok-send_if_full.ensures.sent
 
 pub returns-clause-blocks : goal.returns-clause-blocks
 returns-clause-blocks g c =
     on_ok_weaker c.finish.result
-    (λ written. all-sent c.args.n c.args.arcs.now c.args.sources.now c.loop-source.source-index _ _ _ c.loop-source.waiting.items c.loop-source-test.false c.loop-source.invariant
-    (subst (Appends (g.W.Write.contents c.loop-source.writer) (g.W.Write.contents c.finish.new.writer)) c.deref.ensures.value written))
+    (λ written. all-sent c.args.n c.args.arcs.now c.args.sources.now c.loop-source.source-index _ _ _
+    c.loop-source.waiting.items c.loop-source-test.false c.loop-source.invariant
+    (subst (Appends (g.W.Write.contents c.loop-source.writer) (g.W.Write.contents c.finish.new.writer))
+    c.deref.ensures.value written))
     c.finish.ensures.sent
