@@ -43,17 +43,22 @@ abbrev pub RowsAreRuns : Type 0
 RowsAreRuns =
     (graph : Graph) → IsInRows graph
     → (k : ℕ) (arc : ArcRec) → slice_get graph.arcs k ≡ Some arc
-    → (first_place graph.arcs arc.tail ≤ k) × (k < end_place graph.arcs arc.tail)
+    → (first_place graph.arcs arc.tail ≤ k)
+    × (k < end_place graph.arcs arc.tail)
 
 -- and no other arc stands there
 abbrev pub RunsAreRows : Type 0
 RunsAreRows =
     (graph : Graph) → IsInRows graph
     → (u k : ℕ) (arc : ArcRec) → slice_get graph.arcs k ≡ Some arc
-    → first_place graph.arcs u ≤ k → k < end_place graph.arcs u → arc.tail ≡ u
+    → first_place graph.arcs u ≤ k
+    → k < end_place graph.arcs u
+    → arc.tail ≡ u
 
 -- arcs by rising tail are determined by their rows
 abbrev pub RowsDetermine : Type 0
 RowsDetermine =
-    (one other : Graph) → IsInRows one → IsInRows other → one.n ≡ other.n
-    → HaveSameRows one.n one.arcs other.arcs → one ≡ other
+    (one other : Graph) → IsInRows one → IsInRows other
+    → one.n ≡ other.n
+    → HaveSameRows one.n one.arcs other.arcs
+    → one ≡ other

@@ -199,7 +199,8 @@ after graph state (Join seat other) =
 -- the answer true with the state after the event, where it is enabled; false and no change elsewhere
 abbrev pub IsDone : Graph → State → Event → Bool → State → Type 0
 IsDone graph old event done new =
-    MatchBool done (after graph old event ≡ Some new) ((after graph old event ≡ None) × (new ≡ old))
+    MatchBool done (after graph old event ≡ Some new)
+    ((after graph old event ≡ None) × (new ≡ old))
 
 -- a Split alone takes memory
 abbrev pub IsSplit : Event → Type 0

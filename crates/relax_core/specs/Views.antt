@@ -13,7 +13,8 @@ use Rattle.relax_core.specs.declared.views.Hand.TheVariants.{Idle, Fresh, Open, 
 abbrev pub HoldsArc : (ℕ → ℕ) → ℕ → ArcRec → Hand → Type 0
 HoldsArc label k arc Idle = ⊥
 HoldsArc label k arc (Fresh u) = u ≡ arc.tail
-HoldsArc label k arc (Open u d place) = (u ≡ arc.tail) × (d ≡ label u) × (place ≤ k)
+HoldsArc label k arc (Open u d place) =
+    (u ≡ arc.tail) × (d ≡ label u) × (place ≤ k)
 HoldsArc label k arc (Owe u d place head) =
     (head ≡ arc.tail)
     ⊎ ((u ≡ arc.tail) × (d ≡ label u) × (place ≤ k))
@@ -32,7 +33,9 @@ abbrev pub IsHand : Graph → List Seed → (ℕ → ℕ) → Hand → Type 0
 IsHand graph seeds label Idle = Unit {0}
 IsHand graph seeds label (Fresh u) = u < graph.n
 IsHand graph seeds label (Open u d place) = IsInRow graph seeds label u d place
-IsHand graph seeds label (Owe u d place head) = IsInRow graph seeds label u d place × (head < graph.n)
+IsHand graph seeds label (Owe u d place head) =
+    IsInRow graph seeds label u d place
+    × (head < graph.n)
 
 -- an idle hand has no credit, every other has one or two
 abbrev pub HasCredits : Hand → ℕ → Type 0

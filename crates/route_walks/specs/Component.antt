@@ -10,7 +10,8 @@ abbrev pub IsPath : List ArcRec → ℕ → List ArcRec → ℕ → Type 0
 IsPath arcs u [] v = u ≡ v
 IsPath arcs u (arc ∷ path) v =
     Contains arcs arc
-    × (((arc.tail ≡ u) × IsPath arcs arc.head path v) ⊎ ((arc.head ≡ u) × IsPath arcs arc.tail path v))
+    × (((arc.tail ≡ u) × IsPath arcs arc.head path v)
+    ⊎ ((arc.head ≡ u) × IsPath arcs arc.tail path v))
 
 -- some path joins u and v
 abbrev pub AreConnected : List ArcRec → ℕ → ℕ → Type 0
@@ -25,5 +26,7 @@ pub record IsComponentLabel (arcs : List ArcRec) (v c : ℕ) : Type 0 where
 abbrev pub LeastLabelsAreComponents : Type 0
 LeastLabelsAreComponents =
     (n : ℕ) (arcs : List ArcRec) (label : ℕ → ℕ)
-    → IsGraph n arcs → n < 2 ^ 32 → AreLeast n (both_ways arcs) (seeds_all n) label
+    → IsGraph n arcs
+    → n < 2 ^ 32
+    → AreLeast n (both_ways arcs) (seeds_all n) label
     → (v : ℕ) → v < n → IsComponentLabel arcs v (label v)

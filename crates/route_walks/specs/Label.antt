@@ -49,4 +49,6 @@ SettledAndSoundAreLeast =
 abbrev pub LeastLabelsAreUnique : Type 0
 LeastLabelsAreUnique =
     (arcs : List ArcRec) (seeds : List Seed) (v c d : ℕ)
-    → IsLeast arcs seeds v c → IsLeast arcs seeds v d → c ≡ d
+    → IsLeast arcs seeds v c
+    → IsLeast arcs seeds v d
+    → c ≡ d

@@ -20,7 +20,10 @@ AreSeeds n seeds = All (λ seed. seed.vertex < n) seeds
 -- entering v; the empty walk stays where it is
 abbrev pub IsWalk : List ArcRec → ℕ → List ArcRec → ℕ → Type 0
 IsWalk arcs u [] v = u ≡ v
-IsWalk arcs u (arc ∷ walk) v = Contains arcs arc × (arc.tail ≡ u) × IsWalk arcs arc.head walk v
+IsWalk arcs u (arc ∷ walk) v =
+    Contains arcs arc
+    × (arc.tail ≡ u)
+    × IsWalk arcs arc.head walk v
 
 -- the sum of a walk's weights
 abbrev pub cost : List ArcRec → ℕ
@@ -47,4 +50,7 @@ pub record HasShortWalk (n : ℕ) (arcs : List ArcRec) (u v most : ℕ) : Type 0
 abbrev pub WalksCanBeCut : Type 0
 WalksCanBeCut =
     (n : ℕ) (arcs : List ArcRec) (u v : ℕ) (walk : List ArcRec)
-    → IsGraph n arcs → u < n → IsWalk arcs u walk v → HasShortWalk n arcs u v (cost walk)
+    → IsGraph n arcs
+    → u < n
+    → IsWalk arcs u walk v
+    → HasShortWalk n arcs u v (cost walk)
