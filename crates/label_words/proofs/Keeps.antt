@@ -1,5 +1,6 @@
 -- One step keeps the rule of the words, where the law of its event keeps the core.
-use Rattle.std.proofs.Common.{◌≡◌, ◌≢◌, ◌∙◌, sym, ap, subst, refl, ℕ, ◌+◌, ◌*◌, ◌<◌, ◌≤◌, List, Bool, ⊎_elim, length, set, arith, length-set}
+use Rattle.std.proofs.Common.{◌≡◌, ◌≢◌, ◌∙◌, sym, ap, subst, refl, ℕ, ◌+◌, ◌*◌, ◌<◌, ◌≤◌}
+use Rattle.std.proofs.Common.{List, Bool, ⊎_elim, length, set, arith, length-set}
 use Rattle.std.specs.Prelude.{slice_index}
 use Rattle.std.proofs.lemmas.List.Elements.{All-weaker}
 use mathlib.Core.Option.{some}
@@ -11,10 +12,12 @@ use Rattle.csr_graph.specs.Graph.{Graph}
 use Rattle.relax_core.specs.Lawful.{Covers, Account}
 use Rattle.label_words.specs.declared.known.Known.{Known}
 use Rattle.label_words.specs.Rule.{cores, label_of, mark_of, total_of, Knows, IsKept}
-use Rattle.label_words.proofs.Lists.{cores_set, mark_label, mark_total, label_mark, label_total, total_label, total_mark, total_here, same_word}
+use Rattle.label_words.proofs.Lists.{cores_set, mark_label, mark_total, label_mark, label_total}
+use Rattle.label_words.proofs.Lists.{total_label, total_mark, total_here, same_word}
 
 -- what a seat knows stays true while labels fall
-pub knows_falls : (graph : Graph) (seeds : List Seed) (label label' : ℕ → ℕ) (view : Known) → ((x : ℕ) → label' x ≤ label x)
+pub knows_falls : (graph : Graph) (seeds : List Seed) (label label' : ℕ → ℕ) (view : Known)
+    → ((x : ℕ) → label' x ≤ label x)
     → Knows graph seeds label view → Knows graph seeds label' view
 knows_falls graph seeds label label' view falls was = record {
   graph_is = was.graph_is;
@@ -40,7 +43,8 @@ kept graph seeds words words' views s w was same falls covers account own = reco
   knows = λ t u at live.
       ⊎_elim
       (λ (here : (t ≡ s) × (w ≡ u)). subst (Knows graph seeds (label_of words')) here.1 own)
-      (λ (other : (t ≢ s) × (get_elem? views t ≡ some u)). knows_falls graph seeds (label_of words) (label_of words') u falls (was.knows t u other.1 live))
+      (λ (other : (t ≢ s) × (get_elem? views t ≡ some u)).
+      knows_falls graph seeds (label_of words) (label_of words') u falls (was.knows t u other.1 live))
       (at_set views s t w u at);
 }
 
@@ -68,8 +72,10 @@ kept_total graph seeds words views s x w was covers account own =
     let total : total_of (set words 0 x) ≡ x = total_here words x (omega (arith, was.count)) in
     kept graph seeds words (set words 0 x) views s w was (length-set words 0 x)
     (λ y. let e : label_of (set words 0 x) y ≡ label_of words y = ap (λ (f : ℕ → ℕ). f y) labels in omega arith)
-    (subst (λ (p : (ℕ → ℕ) × (ℕ → Bool)). Covers graph seeds p.0 p.1 (set (cores views) s w.core)) (λ i. (sym labels i, sym marks i)) covers)
-    (subst (λ (p : (ℕ → Bool) × ℕ). Account graph.n p.0 p.1 (set (cores views) s w.core)) (λ i. (sym marks i, sym total i)) account)
+    (subst (λ (p : (ℕ → ℕ) × (ℕ → Bool)). Covers graph seeds p.0 p.1 (set (cores views) s w.core))
+    (λ i. (sym labels i, sym marks i)) covers)
+    (subst (λ (p : (ℕ → Bool) × ℕ). Account graph.n p.0 p.1 (set (cores views) s w.core))
+    (λ i. (sym marks i, sym total i)) account)
     (subst (λ (l : ℕ → ℕ). Knows graph seeds l w) (sym labels) own)
 
 -- a new mark
@@ -103,17 +109,20 @@ kept_label graph seeds words views s u x w was falls covers account own =
     let total : total_of words' ≡ total_of words = label_total words u x in
     kept graph seeds words words' views s w was (length-set words (2 * u + 1) x) falls
     (subst (λ (m : ℕ → Bool). Covers graph seeds (label_of words') m (set (cores views) s w.core)) (sym marks) covers)
-    (subst (λ (p : (ℕ → Bool) × ℕ). Account graph.n p.0 p.1 (set (cores views) s w.core)) (λ i. (sym marks i, sym total i)) account)
+    (subst (λ (p : (ℕ → Bool) × ℕ). Account graph.n p.0 p.1 (set (cores views) s w.core))
+    (λ i. (sym marks i, sym total i)) account)
     own
 
 -- the graph and the seeds of the rule are those that a seat knows
 pub own : (graph : Graph) (seeds : List Seed) (words : List ℕ) (views : List Known) (v : Known)
     → v.graph ≡ graph → v.seeds ≡ seeds → IsKept graph seeds words views → IsKept v.graph v.seeds words views
-own graph seeds words views v g sd was = subst (λ (p : Graph × List Seed). IsKept p.0 p.1 words views) (λ i. (sym g i, sym sd i)) was
+own graph seeds words views v g sd was =
+    subst (λ (p : Graph × List Seed). IsKept p.0 p.1 words views) (λ i. (sym g i, sym sd i)) was
 
 pub back : (graph : Graph) (seeds : List Seed) (words : List ℕ) (views : List Known) (v : Known)
     → v.graph ≡ graph → v.seeds ≡ seeds → IsKept v.graph v.seeds words views → IsKept graph seeds words views
-back graph seeds words views v g sd was = subst (λ (p : Graph × List Seed). IsKept p.0 p.1 words views) (λ i. (g i, sd i)) was
+back graph seeds words views v g sd was =
+    subst (λ (p : Graph × List Seed). IsKept p.0 p.1 words views) (λ i. (g i, sd i)) was
 
 -- the rule allows a step where, over the graph and seeds that its seat knows, it keeps the rule
 pub allows : (graph : Graph) (seeds : List Seed) (slots id : ℕ) (me : Me (Unit {0}) Known) (word : ℕ) (f : ℕ → ℕ)
@@ -121,7 +130,8 @@ pub allows : (graph : Graph) (seeds : List Seed) (slots id : ℕ) (me : Me (Unit
     → me.0.core.share ≢ 0
     → ((words : List ℕ) (views : List Known) → IsKept me.0.graph me.0.seeds words views → get_elem? views id ≡ some me.0
     → slice_index words word < 18446744073709551616
-    → IsKept me.0.graph me.0.seeds (set words word (f (slice_index words word))) (set views id (w (slice_index words word)))
+    → IsKept me.0.graph me.0.seeds (set words word (f (slice_index words word)))
+    (set views id (w (slice_index words word)))
     × then (slice_index words word) (w (slice_index words word), me.1))
     → Allows (λ (state : State (Unit {0}) Known). IsKept graph seeds state.words state.views) slots id me word f then
 allows graph seeds slots id me word f then w live step state holds count at below =

@@ -1,12 +1,15 @@
 -- Views and their cores, and words of which one is replaced.
-use Rattle.std.proofs.Common.{◌≡◌, ◌≢◌, sym, ap, refl, ℕ, zero, suc, ◌+◌, ◌*◌, ◌<◌, List, [], ◌∷◌, ◌++◌, Some, length, set, arith, get_or-set_same, get_or-set_other}
+use Rattle.std.proofs.Common.{◌≡◌, ◌≢◌, sym, ap, refl, ℕ, zero, suc, ◌+◌, ◌*◌, ◌<◌, List, [], ◌∷◌, ◌++◌}
+use Rattle.std.proofs.Common.{Some, length, set, arith, get_or-set_same, get_or-set_other}
 use Rattle.std.specs.Prelude.{slice_get, slice_index, nat_lt}
 use mathlib.Core.Option.{some, some-injective, some-ne-none}
 use lib.ListN.{get_elem?}
 use Rattle.label_words.specs.declared.known.Known.{Known}
 use Rattle.label_words.specs.Rule.{cores, label_of, mark_of, total_of}
 
-pub core_at : (views : List Known) (s : ℕ) (v : Known) → get_elem? views s ≡ some v → slice_get (cores views) s ≡ Some v.core
+pub core_at : (views : List Known) (s : ℕ) (v : Known)
+    → get_elem? views s ≡ some v
+    → slice_get (cores views) s ≡ Some v.core
 core_at [] s v e = absurd (some-ne-none v (sym e))
 core_at (x ∷ xs) zero v e = ap (λ (y : Known). Some y.core) (some-injective x v e)
 core_at (x ∷ xs) (suc s) v e = core_at xs s v e

@@ -43,8 +43,12 @@ laid_mark state views words n u x b laid marks lt is = record {
       elim (cases_eq v u) [
         | inl same ↦
             ap (marks_of (set words (2 * u + 2) x)) same ∙ mark_here words u x (omega (arith, laid.count)) ∙ is
-            ∙ sym (ap (λ y. slice_index_or (set state.marks u b) y false) same ∙ get_or-set_same state.marks u b false (omega (arith, marks)))
-        | inr other ↦ mark_other words u x v other ∙ laid.marks v within ∙ sym (get_or-set_other state.marks u v b false other)
+            ∙ sym (ap (λ y. slice_index_or (set state.marks u b) y false) same
+            ∙ get_or-set_same state.marks u b false (omega (arith, marks)))
+        | inr other ↦
+            mark_other words u x v other
+            ∙ laid.marks v within
+            ∙ sym (get_or-set_other state.marks u v b false other)
       ];
 }
 
@@ -60,8 +64,12 @@ laid_label state views words n u x laid labels lt = record {
       elim (cases_eq v u) [
         | inl same ↦
             ap (label_of (set words (2 * u + 1) x)) same ∙ label_here words u x (omega (arith, laid.count))
-            ∙ sym (ap (slice_index (set state.labels u x)) same ∙ get_or-set_same state.labels u x 0 (omega (arith, labels)))
-        | inr other ↦ label_other words u x v other ∙ laid.labels v within ∙ sym (get_or-set_other state.labels u v x 0 other)
+            ∙ sym (ap (slice_index (set state.labels u x)) same
+            ∙ get_or-set_same state.labels u x 0 (omega (arith, labels)))
+        | inr other ↦
+            label_other words u x v other
+            ∙ laid.labels v within
+            ∙ sym (get_or-set_other state.labels u v x 0 other)
       ];
   marks = λ v within. ap (λ (f : ℕ → Bool). f v) (label_mark words u x) ∙ laid.marks v within;
 }
@@ -83,7 +91,10 @@ laid_load : (state : State) (views : List View) (words : List ℕ) (n i : ℕ)
     → IsLaid (record { labels = state.labels; marks = state.marks; total = state.total; views = views }) n
     (set words i (slice_index words i))
 laid_load state views words n i laid =
-    subst (λ (ws : List ℕ). IsLaid (record { labels = state.labels; marks = state.marks; total = state.total; views = views }) n ws)
+    subst (λ (ws : List ℕ).
+    IsLaid
+    (record { labels = state.labels; marks = state.marks; total = state.total; views = views }) n
+    ws)
     (sym (same_word words i))
     record { count = laid.count; total = laid.total; labels = laid.labels; marks = laid.marks }
 
@@ -127,7 +138,9 @@ reading state words s u v holds fresh vertex =
     let held : v.core.hand ≡ Fresh u = fresh ∙ ap Fresh vertex in
     let within : u < v.graph.n = subst (FitsGraph v.graph) held holds.ready.hand in
     let label : label_of words u ≡ slice_index state.labels u = holds.laid.labels u within in
-    let next : State = with_view state s (record v.core { hand = Open u (slice_index state.labels u) (first_place v.graph.arcs u) }) in (
+    let next : State =
+    with_view state s
+    (record v.core { hand = Open u (slice_index state.labels u) (first_place v.graph.arcs u) }) in (
       next,
       at_view state s v.core (Fresh u) (read v.graph state s) holds.seat held,
       laid_load state next.views words v.graph.n (2 * u + 1) holds.laid,
@@ -158,7 +171,8 @@ relaxing_falls state words s v holds held before within label done less =
     } in (
       next,
       done
-          ∙ ap Some (relax_lowers state s (vertex_of v.core.hand) (read_of v.core.hand) (place_of v.core.hand) (next_arc v) v.core below),
+          ∙ ap Some (relax_lowers state s (vertex_of v.core.hand) (read_of v.core.hand)
+          (place_of v.core.hand) (next_arc v) v.core below),
       subst (λ (x : ℕ). IsLaid next v.graph.n (set words (2 * (next_arc v).head + 1) x)) (sym low)
           (laid_label state next.views words v.graph.n (next_arc v).head (next_offer v) holds.laid holds.labels within),
       ap (λ (b : Bool). set state.views s (after_relax b v).core)
@@ -180,7 +194,8 @@ relaxing_stays state words s v holds label done least =
     let next : State = with_view state s (after_relax false v).core in (
       next,
       done
-          ∙ ap Some (relax_leaves state s (vertex_of v.core.hand) (read_of v.core.hand) (place_of v.core.hand) (next_arc v) v.core above),
+          ∙ ap Some (relax_leaves state s (vertex_of v.core.hand) (read_of v.core.hand)
+          (place_of v.core.hand) (next_arc v) v.core above),
       subst (λ (x : ℕ). IsLaid next v.graph.n (set words (2 * (next_arc v).head + 1) x)) (sym low)
           (laid_load state next.views words v.graph.n (2 * (next_arc v).head + 1) holds.laid),
       ap (λ (b : Bool). set state.views s (after_relax b v).core)
@@ -195,9 +210,11 @@ relaxing_next : (state : State) (words : List ℕ) (s : ℕ) (v : Known) → Hol
 relaxing_next state words s v holds held before =
     let is : slice_get v.graph.arcs (place_of v.core.hand) ≡ Some (next_arc v) =
     next_is v (vertex_of v.core.hand) (read_of v.core.hand) (place_of v.core.hand) held before in
-    let within : (next_arc v).head < v.graph.n = cover.head_in v.graph (place_of v.core.hand) (next_arc v) holds.ready.rows is in
+    let within : (next_arc v).head < v.graph.n =
+    cover.head_in v.graph (place_of v.core.hand) (next_arc v) holds.ready.rows is in
     let label = holds.laid.labels (next_arc v).head within in
-    let done = relax_some v.graph state s (vertex_of v.core.hand) (read_of v.core.hand) (place_of v.core.hand) (next_arc v) v.core
+    let done = relax_some v.graph state s (vertex_of v.core.hand) (read_of v.core.hand)
+    (place_of v.core.hand) (next_arc v) v.core
     (live_some state.views s v.core holds.seat) held before is in
     elim (cases_lt (next_offer v) (label_of words (next_arc v).head)) [
       | inl less ↦ relaxing_falls state words s v holds held before within label done less
@@ -219,9 +236,12 @@ raising state words s v holds owe one =
       views = set state.views s (after_raise v).core;
     } in (
       next,
-      at_view state s v.core (Owe (vertex_of v.core.hand) (read_of v.core.hand) (place_of v.core.hand) (owed_of v.core.hand)) (raise state s) holds.seat owe
+      at_view state s v.core
+          (Owe (vertex_of v.core.hand) (read_of v.core.hand) (place_of v.core.hand) (owed_of v.core.hand))
+          (raise state s) holds.seat owe
           ∙ ap (λ b. cond b (Some next) None) (eq-eqb v.core.credits 1 one),
-      laid_total state next.views words v.graph.n (total_of words + 1) (state.total + 1) holds.laid (ap (λ t. t + 1) holds.laid.total),
+      laid_total state next.views words v.graph.n (total_of words + 1) (state.total + 1) holds.laid
+          (ap (λ t. t + 1) holds.laid.total),
       refl,
     )
 
@@ -245,7 +265,9 @@ marking_owed state words s v holds owe two =
           });
     } in (
       next,
-      at_view state s v.core (Owe (vertex_of v.core.hand) (read_of v.core.hand) (place_of v.core.hand) (owed_of v.core.hand)) (set_mark state s) holds.seat owe
+      at_view state s v.core
+          (Owe (vertex_of v.core.hand) (read_of v.core.hand) (place_of v.core.hand) (owed_of v.core.hand))
+          (set_mark state s) holds.seat owe
           ∙ ap (λ b. cond b (Some next) None) (eq-eqb v.core.credits 2 two),
       laid_mark state next.views words v.graph.n (owed_of v.core.hand) 1 true holds.laid holds.marks within refl,
       ap (λ (c : ℕ). set state.views s
@@ -273,7 +295,8 @@ finishing state words s v holds held end =
       next,
       finish_some v.graph state s (vertex_of v.core.hand) (read_of v.core.hand) (place_of v.core.hand) v.core
           (live_some state.views s v.core holds.seat) held end,
-      laid_total state next.views words v.graph.n (total_of words - v.core.credits) (state.total - v.core.credits) holds.laid
+      laid_total state next.views words v.graph.n (total_of words - v.core.credits)
+          (state.total - v.core.credits) holds.laid
           (ap (λ t. t - v.core.credits) holds.laid.total),
       refl,
     )

@@ -15,5 +15,7 @@ bit_of false = refl
 
 pub loop-v-preserved : goal.loop-v-preserved
 loop-v-preserved c =
-    laid_more c.args.core.now c.loop-v.v c.loop-v.words.items c.push-in-loop-v.new.self.items c.push-in-loop-v-2.new.self.items c.label.result c.from.result
-    c.loop-v.invariant c.in_ok-push-2.ensures.items c.in_ok-push-3.ensures.items c.label.ensures (ap (nat_lt 0) c.from.ensures ∙ bit_of c.mark.result ∙ c.mark.ensures)
+    laid_more c.args.core.now c.loop-v.v c.loop-v.words.items c.push-in-loop-v.new.self.items
+    c.push-in-loop-v-2.new.self.items c.label.result c.from.result
+    c.loop-v.invariant c.in_ok-push-2.ensures.items c.in_ok-push-3.ensures.items c.label.ensures
+    (ap (nat_lt 0) c.from.ensures ∙ bit_of c.mark.result ∙ c.mark.ensures)

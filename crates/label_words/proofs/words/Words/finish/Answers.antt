@@ -14,5 +14,10 @@ fetch_sub-requires c =
     let wide = ap (λ t. t.words) same in
     let open' : IsOpen me.0.core.hand = subst IsOpen (sym (ap (λ (v : Known). v.core.hand) seen)) c.requires.open in
     let end : place_of me.0.core.hand ≡ end_place me.0.graph.arcs (vertex_of me.0.core.hand) =
-    subst (λ (v : Known). place_of v.core.hand ≡ end_place v.graph.arcs (vertex_of v.core.hand)) (sym seen) c.requires.row_end in
-    (same, omega (arith, wide, tie.count), finish_allowed _ _ _ _ (vertex_of me.0.core.hand) (read_of me.0.core.hand) (place_of me.0.core.hand) _ me tie.ready open' end (c.from-credits.ensures ∙ tie.credits_are))
+    subst (λ (v : Known). place_of v.core.hand ≡ end_place v.graph.arcs (vertex_of v.core.hand))
+    (sym seen) c.requires.row_end in (
+      same,
+      omega (arith, wide, tie.count),
+      finish_allowed _ _ _ _ (vertex_of me.0.core.hand) (read_of me.0.core.hand) (place_of me.0.core.hand)
+          _ me tie.ready open' end (c.from-credits.ensures ∙ tie.credits_are),
+    )

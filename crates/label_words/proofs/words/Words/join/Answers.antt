@@ -19,5 +19,7 @@ join_seat-requires c =
       same',
       c.other.invariant.1,
       omega (arith, wide, tie.count),
-      joins _ _ _ _ me.0 me'.0 tie.ready tie'.ready (ap (λ (v : Known). v.core.hand) seen ∙ c.requires.idle) (ap (λ (v : Known). v.core.hand) seen' ∙ c.requires.other_idle),
+      joins _ _ _ _ me.0 me'.0 tie.ready tie'.ready
+          (ap (λ (v : Known). v.core.hand) seen ∙ c.requires.idle)
+          (ap (λ (v : Known). v.core.hand) seen' ∙ c.requires.other_idle),
     )

@@ -11,5 +11,10 @@ fetch_add-requires c =
     let seen : me.0 ≡ c.args.seat.now.view = ap (λ (h : Held). h.view) c.seat.view_is in
     let same = ap (λ (h : Held). h.words) c.seat.view_is ∙ c.requires.words ∙ sym c.self.view_is in
     let wide = ap (λ t. t.words) same in
-    let owe : Owes me.0.core.hand = subst Owes (sym (ap (λ (v : Known). v.core.hand) seen)) c.requires.owes in
-    (same, omega (arith, wide, tie.count), raise_allowed _ _ _ _ (vertex_of me.0.core.hand) (read_of me.0.core.hand) (place_of me.0.core.hand) (owed_of me.0.core.hand) me tie.ready owe (ap (λ (v : Known). v.core.credits) seen ∙ c.requires.credit))
+    let owe : Owes me.0.core.hand = subst Owes (sym (ap (λ (v : Known). v.core.hand) seen)) c.requires.owes in (
+      same,
+      omega (arith, wide, tie.count),
+      raise_allowed _ _ _ _ (vertex_of me.0.core.hand) (read_of me.0.core.hand) (place_of me.0.core.hand)
+          (owed_of me.0.core.hand) me tie.ready owe
+          (ap (λ (v : Known). v.core.credits) seen ∙ c.requires.credit),
+    )

@@ -25,12 +25,15 @@ invariant_of-seat c =
     let seen : me.0 ≡ c.args.seat.now.view = ap (λ (h : Held). h.view) c.seat.view_is in
     let graph = c.requires.graph ∙ sym (ap (λ (v : Known). v.graph) seen) in
     let vertex : vertex_of me.0.core.hand ≡ c.in-Fresh.u = ap vertex_of fresh in
-    let first : c.first.result ≡ first_place me.0.graph.arcs c.in-Fresh.u = c.first.ensures.place ∙ ap (λ g. first_place g.arcs c.in-Fresh.u) graph in
+    let first : c.first.result ≡ first_place me.0.graph.arcs c.in-Fresh.u =
+    c.first.ensures.place ∙ ap (λ g. first_place g.arcs c.in-Fresh.u) graph in
     let d = c.load-d.result in
     let w = after_read c.load-d.result me.0 in
     tied _ _ me c.load-d.new.seat.me w _ _ _ _ c.load-d.ensures.0 c.load-d.ensures.2.0 c.seat.invariant.1
     record {
-      hand_is = λ i. Open (sym vertex i) c.load-d.result ((first ∙ ap (λ x. first_place me.0.graph.arcs x) (sym vertex)) i);
+      hand_is = λ i.
+          Open (sym vertex i) c.load-d.result
+          ((first ∙ ap (λ x. first_place me.0.graph.arcs x) (sym vertex)) i);
       credits_are = tie.credits_are;
       saw_is = tie.saw_is;
       share_is = tie.share_is;

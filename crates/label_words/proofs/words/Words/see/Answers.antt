@@ -10,5 +10,8 @@ load-zero-requires c =
     let me = c.seat.inside.place.me in
     let seen : me.0 ≡ c.args.seat.now.view = ap (λ (h : Held). h.view) c.seat.view_is in
     let same = ap (λ (h : Held). h.words) c.seat.view_is ∙ c.requires.words ∙ sym c.self.view_is in
-    let wide = ap (λ t. t.words) same in
-    (same, omega (arith, wide, tie.count), see_allowed _ _ _ _ me tie.ready (ap (λ (v : Known). v.core.hand) seen ∙ c.requires.idle))
+    let wide = ap (λ t. t.words) same in (
+      same,
+      omega (arith, wide, tie.count),
+      see_allowed _ _ _ _ me tie.ready (ap (λ (v : Known). v.core.hand) seen ∙ c.requires.idle),
+    )

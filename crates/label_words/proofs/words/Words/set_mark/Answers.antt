@@ -19,11 +19,16 @@ swap-new-requires c =
     let wide = ap (λ t. t.words) same in
     let owe : me.0.core.hand ≡ Owe c.in-Owe.u c.in-Owe.d c.in-Owe.k c.in-Owe.head = sym tie.hand_is ∙ c.in-Owe.is in
     let fits = subst (FitsGraph me.0.graph) owe tie.ready.hand in
-    let vertex : c.in-Owe.head < me.0.graph.n = fits.2 in
-    (same, omega (arith, wide, tie.count, vertex), mark_allowed _ _ _ _ c.in-Owe.u c.in-Owe.d c.in-Owe.k c.in-Owe.head me tie.ready owe (ap (λ (v : Known). v.core.credits) seen ∙ c.requires.credits))
+    let vertex : c.in-Owe.head < me.0.graph.n = fits.2 in (
+      same,
+      omega (arith, wide, tie.count, vertex),
+      mark_allowed _ _ _ _ c.in-Owe.u c.in-Owe.d c.in-Owe.k c.in-Owe.head me tie.ready owe
+          (ap (λ (v : Known). v.core.credits) seen ∙ c.requires.credits),
+    )
 
 -- the seat is tied again, whether the mark was new or not
-tied_again : (c : goal.After-seat-2-1) (new : Bool) → (c.swap-new.result == 0) ≡ new → c.if-new.seat ≡ (if new then 1 else 2)
+tied_again : (c : goal.After-seat-2-1) (new : Bool)
+    → (c.swap-new.result == 0) ≡ new → c.if-new.seat ≡ (if new then 1 else 2)
     → IsTied c.swap-new.new.seat.table_id c.swap-new.new.seat.me.0 (Open c.in-Owe.u c.in-Owe.d c.in-Owe.k) c.if-new.seat
     c.seat.inside.saw c.seat.inside.share
     × (c.swap-new.new.seat.me.1 ≡ [])

@@ -12,5 +12,8 @@ split_seat-place-requires c =
     let same = ap (λ (h : Held). h.words) c.seat.view_is ∙ c.requires.words ∙ sym c.self.view_is in
     let wide = ap (λ t. t.words) same in
     let share : me.0.core.share ≡ c.args.seat.now.view.core.share = ap (λ (v : Known). v.core.share) seen in
-    let two : 2 ≤ me.0.core.share = omega (arith, share, c.requires.share) in
-    (same, omega (arith, wide, tie.count), splits _ _ _ me.0 tie.ready (ap (λ (v : Known). v.core.hand) seen ∙ c.requires.idle) two)
+    let two : 2 ≤ me.0.core.share = omega (arith, share, c.requires.share) in (
+      same,
+      omega (arith, wide, tie.count),
+      splits _ _ _ me.0 tie.ready (ap (λ (v : Known). v.core.hand) seen ∙ c.requires.idle) two,
+    )

@@ -14,8 +14,12 @@ swap-was-requires c =
     let same = ap (λ (h : Held). h.words) c.seat.view_is ∙ c.requires.words ∙ sym c.self.view_is in
     let n : me.0.graph.n ≡ c.args.seat.now.view.graph.n = ap (λ (v : Known). v.graph.n) seen in
     let vertex : c.args.u < me.0.graph.n = omega (arith, n, c.requires.vertex) in
-    let wide = ap (λ t. t.words) same in
-    (same, omega (arith, wide, vertex, tie.count), take_allowed _ _ _ _ c.args.u me tie.ready (ap (λ (v : Known). v.core.hand) seen ∙ c.requires.idle) vertex)
+    let wide = ap (λ t. t.words) same in (
+      same,
+      omega (arith, wide, vertex, tie.count),
+      take_allowed _ _ _ _ c.args.u me tie.ready (ap (λ (v : Known). v.core.hand) seen ∙ c.requires.idle)
+          vertex,
+    )
 
 pub invariant_of-seat : goal.invariant_of-seat
 invariant_of-seat c =
@@ -29,7 +33,15 @@ invariant_of-seat c =
     tied _ _ me c.swap-was.new.seat.me w _ _ _ _ c.swap-was.ensures.0
     (c.swap-was.ensures.2 c.args.u refl ∙ ap (λ y. (after_take y c.args.u me.0, me.1)) b)
     c.seat.invariant.1
-    record { hand_is = refl; credits_are = refl; saw_is = tie.saw_is; share_is = tie.share_is; count = tie.count; no_slots = tie.no_slots; ready = ready_taken me.0 c.args.u tie.ready vertex }
+    record {
+      hand_is = refl;
+      credits_are = refl;
+      saw_is = tie.saw_is;
+      share_is = tie.share_is;
+      count = tie.count;
+      no_slots = tie.no_slots;
+      ready = ready_taken me.0 c.args.u tie.ready vertex;
+    }
 
 pub invariant_of-seat-else-was : goal.invariant_of-seat-else-was
 invariant_of-seat-else-was c =
@@ -40,4 +52,12 @@ invariant_of-seat-else-was c =
     tied _ _ me c.swap-was.new.seat.me w _ _ _ _ c.swap-was.ensures.0
     (c.swap-was.ensures.2 c.args.u refl ∙ ap (λ y. (after_take y c.args.u me.0, me.1)) b)
     c.seat.invariant.1
-    record { hand_is = tie.hand_is; credits_are = tie.credits_are; saw_is = tie.saw_is; share_is = tie.share_is; count = tie.count; no_slots = tie.no_slots; ready = ready_not_taken me.0 c.args.u tie.ready }
+    record {
+      hand_is = tie.hand_is;
+      credits_are = tie.credits_are;
+      saw_is = tie.saw_is;
+      share_is = tie.share_is;
+      count = tie.count;
+      no_slots = tie.no_slots;
+      ready = ready_not_taken me.0 c.args.u tie.ready;
+    }
