@@ -22,6 +22,7 @@ use Rattle.relax_core.specs.declared.views.TheConstants.{SHARES}
 use Rattle.relax_core.specs.Views.{HasCredits}
 use Rattle.relax_core.specs.Laws.{HasView, AgreeBut}
 use Rattle.relax_core.specs.Events.{offer}
+use Rattle.relax_core.proofs.Along as along
 use Rattle.relax_core.proofs.Cover as cover
 use Rattle.relax_core.proofs.Accounts as account
 use Rattle.relax_core.proofs.Closing.{total_is_bounded}
@@ -342,7 +343,7 @@ relax_keeps words views s u d k v was at ready open' before below =
     let has = has_view views s v at ready in
     let mine = was.knows s v at has.live in
     let is : slice_get v.graph.arcs k ≡ Some (next_arc v) = next_is v u d k open' before in
-    let vertex : (next_arc v).head < v.graph.n = cover.head_in v.graph k (next_arc v) was.rows is in
+    let vertex : (next_arc v).head < v.graph.n = along.head_in v.graph k (next_arc v) was.rows is in
     let within : 2 * (next_arc v).head + 1 < length words = omega (arith, was.count, vertex) in
     let read : read_of v.core.hand ≡ d = ap read_of open' in
     let offers : next_offer v ≡ offer d (next_arc v) = ap (λ (y : ℕ). offer y (next_arc v)) read in
@@ -370,7 +371,7 @@ relax_keeps words views s u d k v was at ready open' before below =
     (Open (vertex_of (open' i)) (read_of (open' i)) (place_of (open' i) + 1))) in
     let few : (1 ≤ v.core.credits) × (v.core.credits ≤ 2) = open_credits v u d k ready open' in (
       kept_label v.graph v.seeds words views s (next_arc v).head low w was falls
-          (cover.relaxing v.graph v.seeds (label_of words) (label_of words') (mark_of words)
+          (along.relaxing v.graph v.seeds (label_of words) (label_of words') (mark_of words)
           (cores views) s u d k (next_arc v) v.core w.core was.rows was.covers has open' before is
           lesser agree hand refl)
           (account.staying v.graph.n (mark_of words) (total_of words) (cores views) s v.core w.core was.account has
@@ -382,7 +383,7 @@ relax_keeps words views s u d k v was at ready open' before below =
           (next_arc v).head (next_offer v) v.known (omega arith)
           (knows_falls v.graph v.seeds (label_of words) (label_of words') v falls mine).above)),
       λ less. subst (λ (y : ℕ). IsAttained v.graph.arcs v.seeds (next_arc v).head y) (sym offers)
-          (cover.lowering_attains v.graph v.seeds (label_of words) (mark_of words) (cores views) s u d
+          (along.lowering_attains v.graph v.seeds (label_of words) (mark_of words) (cores views) s u d
           k (next_arc v) v.core was.rows was.covers has open' before is (omega arith)),
     )
   where

@@ -13,7 +13,7 @@ use Rattle.relax_core.specs.Events.{after, live_view, with_view, relax_arc}
 use Rattle.relax_core.specs.Events.{take, read, raise, set_mark, see}
 use Rattle.relax_core.specs.Laws.{HasView}
 use Rattle.relax_core.specs.State.{State, mark_of}
-use Rattle.relax_core.proofs.Cover as cover
+use Rattle.relax_core.proofs.Along as along
 use Rattle.relax_core.proofs.Enabled.{finish_some, relax_some, relax_lowers, relax_leaves}
 use Rattle.label_words.specs.declared.known.Known.{Known}
 use Rattle.label_words.specs.Rule.{total_of, label_of, mark_of as marks_of, IsLaid}
@@ -211,7 +211,7 @@ relaxing_next state words s v holds held before =
     let is : slice_get v.graph.arcs (place_of v.core.hand) ≡ Some (next_arc v) =
     next_is v (vertex_of v.core.hand) (read_of v.core.hand) (place_of v.core.hand) held before in
     let within : (next_arc v).head < v.graph.n =
-    cover.head_in v.graph (place_of v.core.hand) (next_arc v) holds.ready.rows is in
+    along.head_in v.graph (place_of v.core.hand) (next_arc v) holds.ready.rows is in
     let label = holds.laid.labels (next_arc v).head within in
     let done = relax_some v.graph state s (vertex_of v.core.hand) (read_of v.core.hand)
     (place_of v.core.hand) (next_arc v) v.core

@@ -2,7 +2,7 @@
 use Rattle.std.proofs.Common.{◌≡◌, ◌≢◌, ◌∙◌, sym, ap, subst, refl, ℕ, ◌+◌, ◌<◌, ◌≤◌}
 use Rattle.std.proofs.Common.{List, [], Bool, true, false, cond, arith}
 use Rattle.std.specs.Prelude.{nat_lt, slice_get, IfSome, min, Some, Option}
-use Rattle.relax_core.proofs.Cover as cover
+use Rattle.relax_core.proofs.Along as along
 use Rattle.label_words.proofs.Moves.{next_is}
 use Rattle.std.proofs.lemmas.Bool.Decides.{nat_tests}
 use Rattle.atomic_table.specs.Seated.{TableId}
@@ -157,7 +157,7 @@ ready_relaxed v u d k head label fell was face =
     let few : (1 ≤ v.core.credits) × (v.core.credits ≤ 2) =
     subst (λ (h : Hand). HasCredits h v.core.credits) face.opens was.credits in
     let below : (next_arc v).head < v.graph.n =
-    cover.head_in v.graph k (next_arc v) was.rows (next_is v u d k face.opens face.before) in
+    along.head_in v.graph k (next_arc v) was.rows (next_is v u d k face.opens face.before) in
     let step : k + 1 ≤ end_place v.graph.arcs u = omega (arith, face.before) in
     let in_row : (vertex_of v.core.hand < v.graph.n)
     × (place_of v.core.hand + 1 ≤ end_place v.graph.arcs (vertex_of v.core.hand)) =

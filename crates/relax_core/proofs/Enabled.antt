@@ -18,7 +18,7 @@ use Rattle.relax_core.specs.Laws.{HasView}
 use Rattle.relax_core.proofs.Seats.{sum_replaced, other_seat}
 use Rattle.relax_core.proofs.Closing.{total_is_bounded}
 use Rattle.relax_core.proofs.Running.{live_at}
-use Rattle.relax_core.proofs.Cover as cover
+use Rattle.relax_core.proofs.Along as along
 use Rattle.relax_core.proofs.Accounts as account
 
 -- an act at the view of a live seat
@@ -174,6 +174,6 @@ head_in graph state k h w of lt head weight =
     omega (
       arith,
       of.1.labels,
-      cover.head_in graph k (arc_with (get_or graph.arcs k no_arc).tail h w) of.1.rows
+      along.head_in graph k (arc_with (get_or graph.arcs k no_arc).tail h w) of.1.rows
           (arc_is graph k h w lt head weight),
     )

@@ -1,5 +1,6 @@
 pub mod Seats
 pub mod Cover
+pub mod Along
 pub mod Accounts
 pub mod Closing
 pub mod Running

@@ -21,6 +21,7 @@ use Rattle.relax_core.specs.Events.{after, live_view, take, read, relax, relax_a
 use Rattle.relax_core.specs.Events.{finish, see, split, join, spent_view, offer, with_view, Run}
 use Rattle.relax_core.specs.Laws.{HasView}
 use Rattle.relax_core.proofs.Seats.{all_at}
+use Rattle.relax_core.proofs.Along as along
 use Rattle.relax_core.proofs.Cover as cover
 use Rattle.relax_core.proofs.Accounts as account
 
@@ -162,7 +163,7 @@ along_lawful graph seeds state s u d k arc v lawful has open' before is =
     } in
     let keep : State = with_view state s going in
     let within : arc.head < length state.labels =
-    omega (arith, lawful.labels, cover.head_in graph k arc lawful.rows is) in
+    omega (arith, lawful.labels, along.head_in graph k arc lawful.rows is) in
     let test = nat_lt x (slice_index state.labels arc.head) in
     let held : HasCredits (Open u d k) v.credits = credits_of graph seeds state s v (Open u d k) lawful has open' in
     elim (cases_Bool test) [
@@ -176,7 +177,7 @@ along_lawful graph seeds state s u d k arc v lawful has open' before is =
             labels = length-set state.labels arc.head x ∙ lawful.labels;
             marks = lawful.marks;
             covers =
-                cover.relaxing graph seeds (slice_index state.labels)
+                along.relaxing graph seeds (slice_index state.labels)
                 (slice_index (set state.labels arc.head x)) (mark_of state.marks) state.views
                 s u d k arc v owing lawful.rows lawful.covers has open' before is (omega arith)
                 (λ y other. get_or-set_other state.labels arc.head y x 0 other)
@@ -193,7 +194,7 @@ along_lawful graph seeds state s u d k arc v lawful has open' before is =
             labels = lawful.labels;
             marks = lawful.marks;
             covers =
-                cover.relaxing graph seeds (slice_index state.labels) (slice_index state.labels)
+                along.relaxing graph seeds (slice_index state.labels) (slice_index state.labels)
                 (mark_of state.marks) state.views
                 s u d k arc v going lawful.rows lawful.covers has open' before is (omega arith)
                 (λ y other. refl)
