@@ -21,7 +21,7 @@ use Rattle.label_words.specs.Views.{FitsGraph, IsOpen, Owes, HasNextArc}
 use Rattle.label_words.specs.Views.{vertex_of, read_of, place_of, owed_of, next_arc, next_offer}
 use Rattle.label_words.specs.Views.{after_take, after_relax, after_raise, after_set_mark}
 use Rattle.label_words.specs.Views.{after_finish}
-use Rattle.label_words.specs.Laws.{Hold, IsTheEvent, TakeIsItsEvent, ReadIsItsEvent, RelaxIsItsEvent}
+use Rattle.label_words.specs.Laws.{WordsHold, IsTheEvent, TakeIsItsEvent, ReadIsItsEvent, RelaxIsItsEvent}
 use Rattle.label_words.specs.Laws.{RaiseIsItsEvent, SetMarkIsItsEvent, FinishIsItsEvent, SeeIsItsEvent}
 use Rattle.label_words.proofs.Lists.{mark_label, mark_total, mark_other, mark_here}
 use Rattle.label_words.proofs.Lists.{label_mark, label_total, label_other, label_here}
@@ -149,7 +149,7 @@ reading state words s u v holds fresh vertex =
     )
 
 -- the label of the next arc's head falls to the offer
-relaxing_falls : (state : State) (words : List ℕ) (s : ℕ) (v : Known) → Hold state words s v
+relaxing_falls : (state : State) (words : List ℕ) (s : ℕ) (v : Known) → WordsHold state words s v
     → v.core.hand ≡ Open (vertex_of v.core.hand) (read_of v.core.hand) (place_of v.core.hand)
     → place_of v.core.hand < end_place v.graph.arcs (vertex_of v.core.hand)
     → (next_arc v).head < v.graph.n
@@ -180,7 +180,7 @@ relaxing_falls state words s v holds held before within label done less =
     )
 
 -- or stays
-relaxing_stays : (state : State) (words : List ℕ) (s : ℕ) (v : Known) → Hold state words s v
+relaxing_stays : (state : State) (words : List ℕ) (s : ℕ) (v : Known) → WordsHold state words s v
     → label_of words (next_arc v).head ≡ slice_index state.labels (next_arc v).head
     → after v.graph state (Relax s)
     ≡ Some (relax_arc state s v.core (vertex_of v.core.hand) (read_of v.core.hand) (place_of v.core.hand) (next_arc v))
@@ -202,7 +202,7 @@ relaxing_stays state words s v holds label done least =
           (sym (le-ltb (next_offer v) (label_of words (next_arc v).head) least)),
     )
 
-relaxing_next : (state : State) (words : List ℕ) (s : ℕ) (v : Known) → Hold state words s v
+relaxing_next : (state : State) (words : List ℕ) (s : ℕ) (v : Known) → WordsHold state words s v
     → IsOpen v.core.hand → HasNextArc v
     → IsTheEvent (Relax s) state words s v (2 * (next_arc v).head + 1)
     (min (label_of words (next_arc v).head) (next_offer v))
@@ -245,7 +245,7 @@ raising state words s v holds owe one =
       refl,
     )
 
-marking_owed : (state : State) (words : List ℕ) (s : ℕ) (v : Known) → Hold state words s v
+marking_owed : (state : State) (words : List ℕ) (s : ℕ) (v : Known) → WordsHold state words s v
     → Owes v.core.hand → v.core.credits ≡ 2
     → IsTheEvent (SetMark s) state words s v (2 * owed_of v.core.hand + 2) 1
     (after_set_mark (slice_index words (2 * owed_of v.core.hand + 2) == 0) v)

@@ -21,7 +21,7 @@ use Rattle.label_words.specs.Views.{after_take, after_read, after_relax, after_r
 use Rattle.label_words.specs.Views.{after_finish, after_see, left_half, right_half, both_views, gone}
 
 -- the words hold a state, in which seat s has the view that v is of
-pub record Hold (state : State) (words : List ℕ) (s : ℕ) (v : Known) : Type 0 where
+pub record WordsHold (state : State) (words : List ℕ) (s : ℕ) (v : Known) : Type 0 where
   pub labels : length state.labels ≡ v.graph.n
   pub marks : length state.marks ≡ v.graph.n
   pub laid : IsLaid state v.graph.n words
@@ -39,7 +39,9 @@ IsTheEvent event state words s v i x w =
 abbrev pub TakeIsItsEvent : Type 0
 TakeIsItsEvent =
     (state : State) (words : List ℕ) (s u : ℕ) (v : Known)
-    → Hold state words s v → v.core.hand ≡ Idle → u < v.graph.n
+    → WordsHold state words s v
+    → v.core.hand ≡ Idle
+    → u < v.graph.n
     → IsTheEvent (Take s u) state words s v (2 * u + 2) 0
     (after_take (nat_lt 0 (slice_index words (2 * u + 2))) u v)
 
@@ -47,14 +49,20 @@ TakeIsItsEvent =
 abbrev pub ReadIsItsEvent : Type 0
 ReadIsItsEvent =
     (state : State) (words : List ℕ) (s u : ℕ) (v : Known)
-    → Hold state words s v → IsFresh v.core.hand → vertex_of v.core.hand ≡ u
-    → IsTheEvent (Read s) state words s v (2 * u + 1) (label_of words u) (after_read (label_of words u) v)
+    → WordsHold state words s v
+    → IsFresh v.core.hand
+    → vertex_of v.core.hand ≡ u
+    → IsTheEvent (Read s) state words s v (2 * u + 1) (label_of words u)
+    (after_read (label_of words u) v)
 
 -- relax: a fetch_min of the head's label with what the arc offers
 abbrev pub RelaxIsItsEvent : Type 0
 RelaxIsItsEvent =
     (state : State) (words : List ℕ) (s head : ℕ) (v : Known)
-    → Hold state words s v → IsOpen v.core.hand → HasNextArc v → (next_arc v).head ≡ head
+    → WordsHold state words s v
+    → IsOpen v.core.hand
+    → HasNextArc v
+    → (next_arc v).head ≡ head
     → IsTheEvent (Relax s) state words s v (2 * head + 1) (min (label_of words head) (next_offer v))
     (after_relax (nat_lt (next_offer v) (label_of words head)) v)
 
@@ -62,14 +70,19 @@ RelaxIsItsEvent =
 abbrev pub RaiseIsItsEvent : Type 0
 RaiseIsItsEvent =
     (state : State) (words : List ℕ) (s : ℕ) (v : Known)
-    → Hold state words s v → Owes v.core.hand → v.core.credits ≡ 1
+    → WordsHold state words s v
+    → Owes v.core.hand
+    → v.core.credits ≡ 1
     → IsTheEvent (Raise s) state words s v 0 (total_of words + 1) (after_raise v)
 
 -- set_mark: a swap of the owed mark to 1
 abbrev pub SetMarkIsItsEvent : Type 0
 SetMarkIsItsEvent =
     (state : State) (words : List ℕ) (s head : ℕ) (v : Known)
-    → Hold state words s v → Owes v.core.hand → v.core.credits ≡ 2 → owed_of v.core.hand ≡ head
+    → WordsHold state words s v
+    → Owes v.core.hand
+    → v.core.credits ≡ 2
+    → owed_of v.core.hand ≡ head
     → IsTheEvent (SetMark s) state words s v (2 * head + 2) 1
     (after_set_mark (slice_index words (2 * head + 2) == 0) v)
 
@@ -77,21 +90,26 @@ SetMarkIsItsEvent =
 abbrev pub FinishIsItsEvent : Type 0
 FinishIsItsEvent =
     (state : State) (words : List ℕ) (s : ℕ) (v : Known)
-    → Hold state words s v → IsOpen v.core.hand → IsAtRowEnd v
+    → WordsHold state words s v
+    → IsOpen v.core.hand
+    → IsAtRowEnd v
     → IsTheEvent (Finish s) state words s v 0 (total_of words - v.core.credits) (after_finish v)
 
 -- see: a load of the total
 abbrev pub SeeIsItsEvent : Type 0
 SeeIsItsEvent =
     (state : State) (words : List ℕ) (s : ℕ) (v : Known)
-    → Hold state words s v → v.core.hand ≡ Idle
+    → WordsHold state words s v
+    → v.core.hand ≡ Idle
     → IsTheEvent (See s) state words s v 0 (total_of words) (after_see (total_of words == 0) v)
 
 -- split: no word changes, and the new seat is the last
 abbrev pub SplitIsItsEvent : Type 0
 SplitIsItsEvent =
     (state : State) (words : List ℕ) (s : ℕ) (v : Known)
-    → Hold state words s v → v.core.hand ≡ Idle → 2 ≤ v.core.share
+    → WordsHold state words s v
+    → v.core.hand ≡ Idle
+    → 2 ≤ v.core.share
     → after v.graph state (Split s)
     ≡ Some (record state {
       views = slice_set state.views s (left_half v).core ++ (right_half v).core ∷ [];
@@ -101,7 +119,11 @@ SplitIsItsEvent =
 abbrev pub JoinIsItsEvent : Type 0
 JoinIsItsEvent =
     (state : State) (words : List ℕ) (s t : ℕ) (v w : Known)
-    → Hold state words s v → Hold state words t w → s ≢ t → v.core.hand ≡ Idle → w.core.hand ≡ Idle
+    → WordsHold state words s v
+    → WordsHold state words t w
+    → s ≢ t
+    → v.core.hand ≡ Idle
+    → w.core.hand ≡ Idle
     → v.core.share + w.core.share ≤ SHARES
     → after v.graph state (Join s t)
     ≡ Some (record state {

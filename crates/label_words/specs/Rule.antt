@@ -33,7 +33,9 @@ pub record Knows (graph : Graph) (seeds : List Seed) (label : ℕ → ℕ) (view
   pub above : All (λ entry. label entry.0 ≤ entry.1) view.known
 
 -- the rule
-pub record IsKept (graph : Graph) (seeds : List Seed) (words : List ℕ) (views : List Known) : Type 0 where
+pub record IsKept
+    (graph : Graph) (seeds : List Seed) (words : List ℕ) (views : List Known)
+    : Type 0 where
   pub rows : IsInRows graph
   pub count : length words ≡ 2 * graph.n + 1
   pub covers : Covers graph seeds (label_of words) (mark_of words) (cores views)
