@@ -4,3 +4,4 @@ pub mod Placing
 pub mod Rows
 pub mod Layouts
 pub mod Built
+pub mod SameRows

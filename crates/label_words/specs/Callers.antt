@@ -1,4 +1,5 @@
--- What a caller that goes along rows keeps true of its seat.
+-- What a caller that goes along rows keeps true of its seat: for the clauses of such callers, in the
+-- crates above and in the tests here.
 use Rattle.std.specs.Prelude.{◌≡◌, ℕ, ◌⊎◌}
 use Rattle.relax_core.specs.declared.views.View.{View}
 use Rattle.label_words.specs.Views.{Held, IsOpen, vertex_of}

@@ -25,10 +25,14 @@ closed_labels (Paused rest) = rest.labels
 abbrev pub KeepsKnown : Known → Closed → Type 0
 KeepsKnown view closed = All (λ entry. slice_index (closed_labels closed) entry.0 ≤ entry.1) view.known
 
--- the first v labels and marks are those that stand in the words
-pub record AreRead (words : List ℕ) (n v : ℕ) (labels : List ℕ) (marks : List Bool) : Type 0 where
-  pub label_count : length labels ≡ n
-  pub mark_count : length marks ≡ n
-  pub labels_are : (x : ℕ) → x < v → slice_index labels x ≡ label_of words x
-  pub capped : (x : ℕ) → x < v → slice_index labels x ≤ INF
-  pub marks_are : (x : ℕ) → x < v → mark_of marks x ≡ marks_of words x
+-- d is the label of v as it stands in the words, where no number is above INF
+abbrev pub IsLabelOf : List ℕ → ℕ → ℕ → Type 0
+IsLabelOf words v d = (d ≡ label_of words v) × (d ≤ INF)
+
+-- labels of the first vertices, as they stand in the words
+abbrev pub AreLabelsOf : List ℕ → List ℕ → Type 0
+AreLabelsOf words labels = (v : ℕ) → v < length labels → IsLabelOf words v (slice_index labels v)
+
+-- marks of the first vertices, as they stand in the words
+abbrev pub AreMarksOf : List ℕ → List Bool → Type 0
+AreMarksOf words marks = (v : ℕ) → v < length marks → mark_of marks v ≡ marks_of words v

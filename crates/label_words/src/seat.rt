@@ -1,4 +1,5 @@
-ghost use Rattle.std.specs.Prelude.{◌≡◌};
+ghost use Rattle.std.specs.Prelude.{◌≡◌, ◌≤◌};
+ghost use Rattle.relax_core.specs.declared.views.TheConstants.{SHARES};
 
 use crate::known::Place;
 use relax_core::Hand;
@@ -53,7 +54,8 @@ impl WorkSeat {
 
     /// Of the 65536 shares that all seats have together.
     pub fn share(&self) -> u32
-        ensures { result ≡ self.now.view.core.share }
+        ensures share { result ≡ self.now.view.core.share }
+        ensures most { result ≤ SHARES }
     {
         self.share
     }

@@ -163,6 +163,18 @@ fn two_seats_go_through_the_schedule(rt: HostRuntime) -> Result<(), Fail> {
 }
 
 #[test]
+fn marked_just_after_opening(rt: HostRuntime) -> Result<(), Fail> {
+    let csr = graph(rt.alloc())?;
+    let seeds = [(2, 5), (0, 3), (2, 4)].map(|(vertex, start)| Seed { vertex, start });
+    let (words, seat) = Words::open(rt.alloc(), &csr, &seeds)?;
+    assert_eq!(rt; words.marked_label(&seat, 0), Some(3));
+    assert_eq!(rt; words.marked_label(&seat, 1), None);
+    assert_eq!(rt; words.marked_label(&seat, 2), Some(4));
+    assert_eq!(rt; words.marked_label(&seat, 3), None);
+    Ok(())
+}
+
+#[test]
 fn closed_just_after_opening(rt: HostRuntime) -> Result<(), Fail> {
     let csr = graph(rt.alloc())?;
     let (words, mut seat) = Words::open(rt.alloc(), &csr, &SEEDS)?;

@@ -53,12 +53,16 @@ impl Words {
         ensures seat { IfOk result
             (λ opened. opened.1 ≡ record { words = opened.0; view = first_known csr.now seeds.now }) }
     {
+        // What stands in the next copy is let go at once, so that at most two stand together.
         let core = open_core(alloc, csr, seeds)?;
         let words = lay(alloc, &core, csr.n())?;
+        drop(core);
         let mut held = Vec::with_capacity(alloc, seeds.len())?;
         held.extend_from_slice(seeds)?;
         let key: Key = (Snapshot::of(csr), Snapshot::of(&held));
+        drop(held);
         let (table, place) = Table::of_words(alloc, &words, &key)?;
+        drop(words);
         let seat = WorkSeat {
             place,
             hand: Hand::Idle,
@@ -67,6 +71,21 @@ impl Words {
             share: SHARES,
         };
         Ok((Words { table }, seat))
+    }
+
+    /// The label at which `v` is marked, or `None` where it isn't marked. It is a look that takes no step
+    /// and promises nothing, by a load of each word, between which others may step: a hint, for the first
+    /// vertices that are handed to a worklist.
+    pub fn marked_label(&self, seat: &WorkSeat, v: u32) -> Option<u64>
+        requires words { seat.now.words ≡ self.now }
+        requires vertex { v < seat.now.view.graph.n }
+    {
+        // Only the contract asks for the seat: what is read of it brings in how many vertices it knows.
+        let _share = seat.share;
+        if self.table.shared.peek(2 * v as usize + 2) == 0 {
+            return None;
+        }
+        Some(self.table.shared.peek(2 * v as usize + 1))
     }
 
     /// Takes the mark of `u` away by one swap. Where it was set, the seat holds `u` with one credit and

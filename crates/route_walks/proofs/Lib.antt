@@ -1,5 +1,6 @@
 pub mod Cuts
 pub mod Labels
 pub mod Lowering
+pub mod SameArcs
 pub mod Components
 pub mod Problems

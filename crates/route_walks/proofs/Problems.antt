@@ -1,5 +1,5 @@
 -- The arcs and seeds of the three problems have their ends among the same vertices.
-use Rattle.std.proofs.Common.{ℕ, ◌<◌, List, [], ◌∷◌, arith}
+use Rattle.std.proofs.Common.{◌≡◌, ℕ, ◌<◌, ◌*◌, List, [], ◌∷◌, length, arith}
 use Rattle.std.specs.List.{range_with_len}
 use Rattle.std.proofs.lemmas.List.Elements.{All-nil, All-cons, All-map, All-head, All-tail}
 use Rattle.std.proofs.lemmas.List.FromFn.{length-range_with_len, get_or-range_with_len}
@@ -23,3 +23,7 @@ both_ways-graph n (arc ∷ arcs) graph =
     All-cons (IsArcBelow n) (along arc) (against arc ∷ both_ways arcs) ends
     (All-cons (IsArcBelow n) (against arc) (both_ways arcs) (ends.1, ends.0)
     (both_ways-graph n arcs (All-tail (IsArcBelow n) arc arcs graph)))
+
+pub length-both_ways : (arcs : List ArcRec) → length (both_ways arcs) ≡ 2 * length arcs
+length-both_ways [] = omega arith
+length-both_ways (arc ∷ arcs) = omega (arith, length-both_ways arcs)

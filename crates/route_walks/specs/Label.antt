@@ -1,9 +1,9 @@
 -- Labels of vertices, read as functions from the vertex: when they are least, settled, sound.
-use Rattle.std.specs.Prelude.{◌≡◌, ℕ, ◌+◌, ◌<◌, ◌≤◌, min, List, All}
+use Rattle.std.specs.Prelude.{◌≡◌, ℕ, ◌+◌, ◌<◌, ◌≤◌, min, List, All, length, slice_index}
 use Rattle.route_walks.specs.declared.graph.ArcRec.{ArcRec}
 use Rattle.route_walks.specs.declared.graph.Seed.{Seed}
 use Rattle.route_walks.specs.declared.graph.TheConstants.{INF}
-use Rattle.route_walks.specs.Walk.{IsAttained}
+use Rattle.route_walks.specs.Walk.{IsAttained, HaveSameArcs}
 
 -- d is the least label of v: the smallest number attained there, or INF where none below INF is
 pub record IsLeast (arcs : List ArcRec) (seeds : List Seed) (v d : ℕ) : Type 0 where
@@ -14,6 +14,12 @@ pub record IsLeast (arcs : List ArcRec) (seeds : List Seed) (v d : ℕ) : Type 0
 -- each of n vertices has its least label
 abbrev pub AreLeast : ℕ → List ArcRec → List Seed → (ℕ → ℕ) → Type 0
 AreLeast n arcs seeds label = (v : ℕ) → v < n → IsLeast arcs seeds v (label v)
+
+-- a list of the least labels of n vertices
+pub record AreLeastLabels (n : ℕ) (arcs : List ArcRec) (seeds : List Seed)
+    (labels : List ℕ) : Type 0 where
+  pub count : length labels ≡ n
+  pub least : AreLeast n arcs seeds (slice_index labels)
 
 -- a seed is met: its vertex has a label of at most its start
 abbrev pub IsMet : (ℕ → ℕ) → Seed → Type 0
@@ -52,3 +58,11 @@ LeastLabelsAreUnique =
     → IsLeast arcs seeds v c
     → IsLeast arcs seeds v d
     → c ≡ d
+
+-- lists with the same arcs have the same least labels
+abbrev pub LeastLabelsFollowTheArcs : Type 0
+LeastLabelsFollowTheArcs =
+    (n : ℕ) (one other : List ArcRec) (seeds : List Seed) (labels : List ℕ)
+    → HaveSameArcs one other
+    → AreLeastLabels n one seeds labels
+    → AreLeastLabels n other seeds labels

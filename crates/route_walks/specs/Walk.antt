@@ -1,6 +1,6 @@
 -- Walks, their costs, and the numbers that they attain. (The terms are those of any text on shortest
 -- paths, as Ahuja, Magnanti and Orlin, Network Flows, chapters 2 and 4.)
-use Rattle.std.specs.Prelude.{◌≡◌, ℕ, ◌+◌, ◌<◌, ◌≤◌, List, [], ◌∷◌, length, All, Contains}
+use Rattle.std.specs.Prelude.{◌≡◌, ℕ, ◌+◌, ◌<◌, ◌≤◌, ◌↔◌, List, [], ◌∷◌, length, All, Contains}
 use Rattle.route_walks.specs.declared.graph.ArcRec.{ArcRec}
 use Rattle.route_walks.specs.declared.graph.Seed.{Seed}
 
@@ -11,6 +11,10 @@ IsArcBelow n arc = (arc.tail < n) × (arc.head < n)
 -- the ends of all arcs are among n vertices
 abbrev pub IsGraph : ℕ → List ArcRec → Type 0
 IsGraph n arcs = All (IsArcBelow n) arcs
+
+-- each arc of one list is an arc of the other, and the other way round
+abbrev pub HaveSameArcs : List ArcRec → List ArcRec → Type 0
+HaveSameArcs one other = (arc : ArcRec) → (Contains one arc) ↔ (Contains other arc)
 
 -- the vertices of all seeds are among n vertices
 abbrev pub AreSeeds : ℕ → List Seed → Type 0

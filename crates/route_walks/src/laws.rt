@@ -2,6 +2,7 @@
 
 ghost use Rattle.route_walks.specs.Walk.{WalksCanBeCut};
 ghost use Rattle.route_walks.specs.Label.{SettledAndSoundAreLeast, LeastLabelsAreUnique};
+ghost use Rattle.route_walks.specs.Label.{LeastLabelsFollowTheArcs};
 ghost use Rattle.route_walks.specs.Component.{LeastLabelsAreComponents};
 
 /// Among `n` vertices each walk can be cut to at most `n - 1` arcs, at no more cost: what lies between
@@ -19,6 +20,12 @@ pub fn settled_and_sound_are_least()
 /// A vertex has only one least label, so two programs that give least labels give the same ones.
 pub fn least_labels_are_unique()
     ensures { LeastLabelsAreUnique }
+{}
+
+/// Lists with the same arcs have the same least labels: neither the order of the arcs nor how often one
+/// stands in the list counts.
+pub fn least_labels_follow_the_arcs()
+    ensures { LeastLabelsFollowTheArcs }
 {}
 
 /// Where each vertex is a seed that starts at its own number, and each arc is taken both ways at no

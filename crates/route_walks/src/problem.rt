@@ -1,4 +1,4 @@
-ghost use Rattle.std.specs.Prelude.{◌≡◌, ℕ, ◌<◌, ◌^◌, length, IfOk};
+ghost use Rattle.std.specs.Prelude.{◌≡◌, ℕ, ◌*◌, ◌<◌, ◌^◌, length, IfOk};
 ghost use Rattle.route_walks.specs.Walk.{IsGraph, AreSeeds};
 ghost use Rattle.route_walks.specs.Problem.{seeds_from, seeds_all, unit_weights, both_ways};
 
@@ -34,6 +34,7 @@ pub fn seeds_all(alloc: Global, n: u32) -> Result<Vec<Seed>, Memory>
 /// The arcs for hop levels: the same ones, in order, each of weight 1.
 pub fn unit_weights(alloc: Global, arcs: &[ArcRec]) -> Result<Vec<ArcRec>, Memory>
     ensures exact { IfOk result (λ units. units.items ≡ unit_weights arcs.now) }
+    ensures count { IfOk result (λ units. length units.items ≡ length arcs.now) }
     ensures graph { (n : ℕ) → IsGraph n arcs.now → IfOk result (λ units. IsGraph n units.items) }
 {
     let mut units = Vec::with_capacity(alloc, arcs.len())?;
@@ -47,6 +48,7 @@ pub fn unit_weights(alloc: Global, arcs: &[ArcRec]) -> Result<Vec<ArcRec>, Memor
 pub fn both_ways(alloc: Global, arcs: &[ArcRec]) -> Result<Vec<ArcRec>, Memory>
     requires { length arcs.now < 2 ^ 63 }
     ensures exact { IfOk result (λ both. both.items ≡ both_ways arcs.now) }
+    ensures count { IfOk result (λ both. length both.items ≡ 2 * length arcs.now) }
     ensures graph { (n : ℕ) → IsGraph n arcs.now → IfOk result (λ both. IsGraph n both.items) }
 {
     let mut both = Vec::with_capacity(alloc, 2 * arcs.len())?;
