@@ -1,0 +1,24 @@
+use std::sync::Wait;
+
+/// A pool of vertices to work on, each with a metric: lower ones are preferred, softly. Each worker
+/// has a side of the pool, which it alone uses.
+///
+/// Nothing is promised of any vertex: a pool may drop, repeat or invent them. What is kept is that a
+/// side stays a side of its pool.
+pub trait WorkPool {
+    /// What a worker holds of the pool.
+    type Side;
+
+    /// That the side belongs to the pool.
+    ghost is_side: { Self → Self.Side → Type 0 };
+
+    /// Hands in the vertex `v`, counted from 0. False means that it was refused, as where memory is.
+    fn push<H: Wait>(&self, rt: &H, side: &mut Self::Side, v: u32, metric: u64) -> bool
+        requires { is_side self.now side.old }
+        ensures { is_side self.now side.new };
+
+    /// Draws a vertex, or `None` where the pool has none for this side now.
+    fn pop<H: Wait>(&self, rt: &H, side: &mut Self::Side) -> Option<u32>
+        requires { is_side self.now side.old }
+        ensures { is_side self.now side.new };
+}
