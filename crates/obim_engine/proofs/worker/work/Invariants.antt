@@ -1,0 +1,11 @@
+use Rattle.std.proofs.Common.{◌≡◌, ◌<◌}
+use Rattle.relax_core.specs.declared.views.Hand.TheVariants.{Idle}
+use Rattle.label_words.specs.Callers.{Stays}
+use Rattle.obim_engine.proofs.worker.work.Given as goal
+
+abbrev pub invariant-loop : goal.invariant-loop
+invariant-loop g l =
+    Stays l.fn.seat l.seat
+    × (l.seat.view.core.hand ≡ Idle)
+    × (0 < l.left)
+    × g.P.WorkPool.is_side l.shared.pool.now l.side

@@ -1,0 +1,18 @@
+//! A place to watch workers.
+
+use std::sync::Wait;
+
+/// Called by a worker each time that it has taken a vertex, before it reads the vertex's label: a place
+/// to watch workers, or to hold one back. No label depends on it.
+pub trait Gate {
+    /// `worker` counts from 0, and so does `vertex`.
+    fn pass<H: Wait>(&self, rt: &H, worker: u32, vertex: u32);
+}
+
+/// The gate that lets every worker through at once.
+#[derive(Clone, Copy, Debug, PartialEq, Eq)]
+pub struct OpenGate;
+
+impl Gate for OpenGate {
+    fn pass<H: Wait>(&self, _rt: &H, _worker: u32, _vertex: u32) {}
+}

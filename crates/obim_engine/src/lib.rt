@@ -1,0 +1,30 @@
+//! Who works, when is it over, what are the labels?
+//!
+//! `run` gives the least labels of a graph and seeds by any number of workers. Each worker draws a
+//! vertex from a pool, takes its mark, relaxes the arcs that leave it, and hands the vertices whose
+//! labels fell to the pool again. It leaves when it sees the pending total at 0: then no vertex is
+//! marked and no worker holds one.
+//!
+//! A pool, a gate and the settings are hints. `run` ensures that the labels are least whatever the
+//! pool drops, repeats or invents, whatever the gate does, and in whichever order threads step.
+//!
+//! `distances`, `levels` and `components` choose seeds and arcs, and bring a pool of their own.
+//!
+//! Stands on `label_words` for the steps of a worker and on `obim_pool` for the pool. It starts
+//! threads and waits: a call returns only if its workers do, which no contract promises.
+#![tactic(auto)]
+
+mod gate;
+mod group;
+mod operators;
+mod runs;
+mod settings;
+mod worker;
+
+pub use gate::{Gate, OpenGate};
+pub use operators::{components, distances, least_labels, levels};
+pub use runs::{RunFault, run};
+pub use settings::{MAX_CHUNK, MAX_SHIFT, MAX_WORKERS, Settings};
+
+#[cfg(test)]
+mod tests;

@@ -1,0 +1,120 @@
+//! The operators: which arcs and which seeds give distances, hop levels and components.
+
+ghost use Rattle.std.specs.Prelude.{◌≡◌, ◌<◌, ◌≤◌, ◌^◌, length, IfOk};
+ghost use Rattle.route_walks.specs.Label.{AreLeastLabels};
+ghost use Rattle.route_walks.specs.Problem.{seeds_from, seeds_all, unit_weights, both_ways};
+ghost use Rattle.route_walks.specs.Walk.{AreSeeds, HaveSameArcs};
+
+use crate::gate::Gate;
+use crate::runs::{RunFault, solve};
+use crate::settings::Settings;
+use csr_graph::Csr;
+use label_words::Words;
+use obim_pool::LockedPool;
+use route_walks::laws::least_labels_follow_the_arcs;
+use route_walks::{Memory, Seed, both_ways, seeds_all, seeds_from, unit_weights};
+use std::alloc::Global;
+use std::sync::Wait;
+use std::thread::Threads;
+
+/// The least label of each vertex from any seeds, by workers over a pool of their own. The seeds are
+/// given back before the workers start.
+pub fn least_labels<H: Threads + Wait + Sync, G: Gate + Sync>(
+    rt: &H,
+    alloc: Global,
+    csr: &Csr,
+    seeds: Vec<Seed>,
+    settings: &Settings,
+    gate: &G,
+) -> Result<Vec<u64>, RunFault>
+    requires { AreSeeds csr.now.n seeds.items }
+    ensures { IfOk result
+        (λ labels. AreLeastLabels csr.now.n csr.now.arcs seeds.items labels.items) }
+{
+    let (pool, mut sides) = LockedPool::open(alloc, settings.workers)?;
+    let (words, seat) = Words::open(alloc, csr, &seeds)?;
+    drop(seeds);
+    solve(
+        rt, alloc, csr, words, seat, settings, &pool, &mut sides, gate,
+    )
+}
+
+/// The least cost of a walk from the source to each vertex, `INF` where there is none.
+pub fn distances<H: Threads + Wait + Sync, G: Gate + Sync>(
+    rt: &H,
+    alloc: Global,
+    csr: &Csr,
+    source: u32,
+    settings: &Settings,
+    gate: &G,
+) -> Result<Vec<u64>, RunFault>
+    requires { source < csr.now.n }
+    ensures { IfOk result
+        (λ labels. AreLeastLabels csr.now.n csr.now.arcs (seeds_from source) labels.items) }
+{
+    let seeds = seeds_from(alloc, source)?;
+    least_labels(rt, alloc, csr, seeds, settings, gate)
+}
+
+/// The fewest arcs of a walk from the source to each vertex, `INF` where there is none. Each call makes
+/// the graph with weights of 1 anew: for many sources make it once, and ask for `distances` in it.
+pub fn levels<H: Threads + Wait + Sync, G: Gate + Sync>(
+    rt: &H,
+    alloc: Global,
+    csr: &Csr,
+    source: u32,
+    settings: &Settings,
+    gate: &G,
+) -> Result<Vec<u64>, RunFault>
+    requires { source < csr.now.n }
+    ensures { IfOk result (λ labels.
+        AreLeastLabels csr.now.n (unit_weights csr.now.arcs) (seeds_from source) labels.items) }
+{
+    let units = unit_rows(alloc, csr)?;
+    // What is least in the rows is least for the list that they were built of.
+    least_labels_follow_the_arcs();
+    distances(rt, alloc, &units, source, settings, gate)
+}
+
+/// The least number, from 0, of a vertex that arcs join to each vertex, whichever way they point. The
+/// graph has at most 2^31 arcs, since each is taken both ways.
+pub fn components<H: Threads + Wait + Sync, G: Gate + Sync>(
+    rt: &H,
+    alloc: Global,
+    csr: &Csr,
+    settings: &Settings,
+    gate: &G,
+) -> Result<Vec<u64>, RunFault>
+    requires { length csr.now.arcs ≤ 2 ^ 31 }
+    ensures { IfOk result (λ labels.
+        AreLeastLabels csr.now.n (both_ways csr.now.arcs) (seeds_all csr.now.n) labels.items) }
+{
+    let both = both_rows(alloc, csr)?;
+    let seeds = seeds_all(alloc, csr.n())?;
+    // What is least in the rows is least for the list that they were built of.
+    least_labels_follow_the_arcs();
+    least_labels(rt, alloc, &both, seeds, settings, gate)
+}
+
+/// The rows of the same arcs with weight 1.
+fn unit_rows(alloc: Global, csr: &Csr) -> Result<Csr, Memory>
+    ensures vertices { IfOk result (λ units. units.n ≡ csr.now.n) }
+    ensures arcs { IfOk result (λ units. HaveSameArcs units.arcs (unit_weights csr.now.arcs)) }
+{
+    let arcs = csr.arcs(alloc)?;
+    let units = unit_weights(alloc, &arcs)?;
+    drop(arcs);
+    Csr::build(alloc, csr.n(), &units)
+}
+
+/// The rows of the arcs both ways, free.
+fn both_rows(alloc: Global, csr: &Csr) -> Result<Csr, Memory>
+    requires { length csr.now.arcs ≤ 2 ^ 31 }
+    ensures vertices { IfOk result (λ both. both.n ≡ csr.now.n) }
+    ensures arcs { IfOk result (λ both. HaveSameArcs both.arcs (both_ways csr.now.arcs)) }
+{
+    let arcs = csr.arcs(alloc)?;
+    let both = both_ways(alloc, &arcs)?;
+    drop(arcs);
+    Csr::build(alloc, csr.n(), &both)
+}

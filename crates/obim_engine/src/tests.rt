@@ -1,0 +1,241 @@
+//! Worked runs, pools that mislead, a gate that watches, and many runs beside the plain way.
+
+mod gates;
+mod graphs;
+mod pools;
+
+ghost use Rattle.std.specs.Prelude.{◌≡◌, ◌<◌, IfOk};
+ghost use Rattle.route_walks.specs.Label.{AreLeastLabels};
+ghost use Rattle.route_walks.specs.Problem.{seeds_from};
+
+use crate::{
+    MAX_CHUNK, MAX_SHIFT, MAX_WORKERS, OpenGate, RunFault, Settings, components, distances,
+    least_labels, levels, run,
+};
+use csr_graph::Csr;
+use gates::Recorder;
+use graphs::{SIX_LABELS, WORKED, arcs_of, are_seeds, is_graph, random_arcs, six};
+use pools::{FirstIn, Misleading, Useless};
+use route_walks::{ArcRec, Seed, both_ways, plain_labels, seeds_all, seeds_from, unit_weights};
+use std::alloc::Global;
+use std::process::Abort;
+use std::sync::Wait;
+use std::test::Fail;
+use std::thread::Threads;
+
+fn settings(rt: &impl Abort, workers: u32, shift: u32) -> Settings
+    ensures { result.workers ≡ workers }
+{
+    Settings::new(workers, shift, 16).expect(rt, "settings within their limits")
+}
+
+#[test]
+fn limits_of_settings(rt: HostRuntime) {
+    for (workers, shift, chunk) in [(1, 0, 1), (MAX_WORKERS, MAX_SHIFT, MAX_CHUNK)] {
+        assert!(rt; Settings::new(workers, shift, chunk).is_some());
+    }
+    for (workers, shift, chunk) in [(0, 4, 16), (65, 4, 16), (2, 64, 16), (2, 4, 0), (2, 4, 257)] {
+        assert!(rt; Settings::new(workers, shift, chunk).is_none());
+    }
+}
+
+/// The least labels by rounds over all arcs.
+fn plainly(
+    rt: &impl Abort,
+    alloc: Global,
+    n: u32,
+    arcs: &[ArcRec],
+    seeds: &[Seed],
+) -> Result<Vec<u64>, Fail> {
+    let graph = is_graph(n, arcs);
+    let sown = are_seeds(n, seeds);
+    assert!(rt; graph && sown);
+    Ok(plain_labels(alloc, n, arcs, seeds)?)
+}
+
+// The operators beside the plain way, by one worker, two and more workers than vertices.
+#[test]
+fn operators_beside_the_plain_way(rt: HostRuntime) -> Result<(), Fail> {
+    let alloc = rt.alloc();
+    for graph in &WORKED {
+        let arcs = arcs_of(alloc, graph.arcs)?;
+        let n = graph.n;
+        let within = is_graph(n, &arcs) && graph.source < n;
+        assert!(rt; within);
+        let csr = Csr::build(alloc, n, &arcs)?;
+        let few = csr.arc_count() <= 1 << 31;
+        assert!(rt; few);
+        let from = seeds_from(alloc, graph.source)?;
+        let far = plainly(&rt, alloc, n, &arcs, &from)?;
+        let hops = plainly(&rt, alloc, n, &unit_weights(alloc, &arcs)?, &from)?;
+        let joined = plainly(
+            &rt,
+            alloc,
+            n,
+            &both_ways(alloc, &arcs)?,
+            &seeds_all(alloc, n)?,
+        )?;
+        for workers in [1, 2, 8] {
+            let settings = settings(&rt, workers, 2);
+            let labels = distances(&rt, alloc, &csr, graph.source, &settings, &OpenGate)?;
+            assert_eq!(rt; labels.as_slice(), far.as_slice());
+            let labels = levels(&rt, alloc, &csr, graph.source, &settings, &OpenGate)?;
+            assert_eq!(rt; labels.as_slice(), hops.as_slice());
+            let labels = components(&rt, alloc, &csr, &settings, &OpenGate)?;
+            assert_eq!(rt; labels.as_slice(), joined.as_slice());
+        }
+    }
+    Ok(())
+}
+
+// Seeds in no order, two of them at one vertex; and no vertex at all.
+#[test]
+fn labels_from_several_seeds(rt: HostRuntime) -> Result<(), Fail> {
+    let alloc = rt.alloc();
+    let csr = six(alloc)?;
+    let seeds = vec![in alloc;
+        Seed {
+            vertex: 4,
+            start: 3
+        },
+        Seed {
+            vertex: 2,
+            start: 9
+        },
+        Seed {
+            vertex: 2,
+            start: 1
+        },
+    ]?;
+    let settings = settings(&rt, 2, 0);
+    let labels = least_labels(&rt, alloc, &csr, seeds, &settings, &OpenGate)?;
+    assert_eq!(rt; labels.as_slice(), [u64::MAX, 1, 1, 3, 1, 6].as_slice());
+    let none = Csr::build(alloc, 0, &[])?;
+    let labels = components(&rt, alloc, &none, &settings, &OpenGate)?;
+    assert!(rt; labels.is_empty());
+    Ok(())
+}
+
+/// The labels from vertex 0, over a pool that is known by the trait alone.
+fn misled_labels<H: Threads + Wait + Sync>(
+    rt: &H,
+    alloc: Global,
+    csr: &Csr,
+    settings: &Settings,
+) -> Result<Vec<u64>, RunFault>
+    requires { 0 < csr.now.n }
+    ensures { IfOk result
+        (λ labels. AreLeastLabels csr.now.n csr.now.arcs (seeds_from 0) labels.items) }
+{
+    let (pool, mut sides) = Misleading::open(alloc, settings.workers)?;
+    let seeds = seeds_from(alloc, 0)?;
+    run(
+        rt, alloc, csr, &seeds, settings, &pool, &mut sides, &OpenGate,
+    )
+}
+
+#[test]
+fn a_pool_that_misleads(rt: HostRuntime) -> Result<(), Fail> {
+    let csr = six(rt.alloc())?;
+    for workers in [1, 2, 8] {
+        for _ in 0..50_u32 {
+            let labels = misled_labels(&rt, rt.alloc(), &csr, &settings(&rt, workers, 4))?;
+            assert_eq!(rt; labels.as_slice(), SIX_LABELS.as_slice());
+        }
+    }
+    Ok(())
+}
+
+// Pools that keep no vertex: the workers find the marked ones themselves.
+#[test]
+fn pools_that_are_useless(rt: HostRuntime) -> Result<(), Fail> {
+    let alloc = rt.alloc();
+    let csr = six(alloc)?;
+    let seeds = seeds_from(alloc, 0)?;
+    let settings = settings(&rt, 2, 4);
+    for (accepts, gives) in [
+        (true, None),
+        (false, None),
+        (true, Some(0)),
+        (false, Some(6)),
+    ] {
+        let pool = Useless { accepts, gives };
+        let mut sides = Useless::sides(alloc, 2)?;
+        let labels = run(
+            &rt, alloc, &csr, &seeds, &settings, &pool, &mut sides, &OpenGate,
+        )?;
+        assert_eq!(rt; labels.as_slice(), SIX_LABELS.as_slice());
+    }
+    Ok(())
+}
+
+// One worker over a pool that gives the first pushed first: what it pushes, and what the gate sees.
+#[test]
+fn visits_and_pushes_of_one_worker(rt: HostRuntime) -> Result<(), Fail> {
+    let alloc = rt.alloc();
+    let csr = six(alloc)?;
+    let seeds = seeds_from(alloc, 0)?;
+    let at_shift_0 = [
+        (0, 0),
+        (1, 17),
+        (2, 10),
+        (3, 19),
+        (4, 10),
+        (5, 22),
+        (1, 10),
+        (3, 12),
+        (5, 15),
+    ];
+    let at_shift_2 = [
+        (0, 0),
+        (1, 4),
+        (2, 2),
+        (3, 4),
+        (4, 2),
+        (5, 5),
+        (1, 2),
+        (3, 3),
+        (5, 3),
+    ];
+    for (shift, pushes) in [(0, at_shift_0), (2, at_shift_2)] {
+        let gate = Recorder::new(alloc);
+        let mut sides = FirstIn::sides(alloc)?;
+        let settings = settings(&rt, 1, shift);
+        let labels = run(
+            &rt, alloc, &csr, &seeds, &settings, &FirstIn, &mut sides, &gate,
+        )?;
+        assert_eq!(rt; labels.as_slice(), SIX_LABELS.as_slice());
+        assert_eq!(rt; sides[0].pushes.as_slice(), pushes.as_slice());
+        let passed = gate.into_passed();
+        assert_eq!(rt; passed.as_slice(), [0, 1, 2, 3, 4, 5, 1, 3, 5].as_slice());
+    }
+    Ok(())
+}
+
+// Two workers on a graph that is large enough for their steps to meet, many times.
+#[test]
+fn two_workers_beside_one(rt: HostRuntime) -> Result<(), Fail> {
+    let alloc = rt.alloc();
+    let arcs = random_arcs(alloc, 10_000, 40_000)?;
+    let within = is_graph(10_000, &arcs);
+    assert!(rt; within);
+    let csr = Csr::build(alloc, 10_000, &arcs)?;
+    let one = distances(&rt, alloc, &csr, 0, &settings(&rt, 1, 7), &OpenGate)?;
+    for round in 0..300_u32 {
+        let shift = round % 12;
+        let two = distances(&rt, alloc, &csr, 0, &settings(&rt, 2, shift), &OpenGate)?;
+        assert!(rt; two.as_slice() == one.as_slice(), "round {round}");
+    }
+    Ok(())
+}
+
+#[test]
+fn faults_print_themselves(rt: HostRuntime) -> Result<(), Fail> {
+    for (fault, text) in [
+        (RunFault::Memory, "out of memory"),
+        (RunFault::Spawn, "cannot start a thread"),
+    ] {
+        assert_eq!(rt; fault.to_string(rt.alloc())?.as_str(), text);
+    }
+    Ok(())
+}

@@ -1,0 +1,167 @@
+//! One worker: draw a vertex, take it, relax its arcs, and again until the pending total is 0.
+
+ghost use Rattle.std.specs.Prelude.{◌≡◌, ◌+◌, ◌<◌, true, false};
+ghost use Rattle.relax_core.specs.declared.views.Hand.TheVariants.{Idle, Fresh};
+ghost use Rattle.csr_graph.specs.Graph.{end_place};
+ghost use Rattle.label_words.specs.Callers.{Stays, IsInRow};
+ghost use Rattle.label_words.specs.Views.{place_of};
+ghost use Rattle.obim_engine.specs.Workers.{CanLead, AreDone};
+
+use crate::gate::Gate;
+use crate::settings::Settings;
+use crossbeam_utils::Backoff;
+use csr_graph::Csr;
+use label_words::{Step, Words, WorkSeat};
+use obim_pool::WorkPool;
+use std::sync::Wait;
+
+/// After so many fruitless pops in a row a worker looks at every vertex itself: the pool may have lost
+/// some, as where it was refused memory.
+const FRUITLESS_POPS: u32 = 1024;
+
+/// What all workers of a run share.
+#[derive(Drop)]
+pub(crate) struct Shared<'a, P, G> {
+    pub words: &'a Words,
+    pub csr: &'a Csr,
+    pub pool: &'a P,
+    pub gate: &'a G,
+    pub settings: &'a Settings,
+}
+
+/// Works until the seat sees the pending total at 0.
+pub(crate) fn work<H: Wait, P: WorkPool, G: Gate>(
+    rt: &H,
+    shared: &Shared<'_, P, G>,
+    worker: u32,
+    seat: &mut WorkSeat,
+    side: &mut P::Side,
+)
+    requires words { seat.old.words ≡ shared.now.words.now }
+    requires seat { CanLead shared.now.csr.now 1 seat.old }
+    requires side { P.is_side shared.now.pool.now side.old }
+    ensures seat { AreDone seat.old seat.new }
+    ensures side { P.is_side shared.now.pool.now side.new }
+{
+    let backoff = Backoff::new();
+    let mut left = FRUITLESS_POPS;
+    for _ in rt.forever() {
+        match shared.pool.pop(rt, side) {
+            Some(u) if u < shared.csr.n() && shared.words.take(seat, u) => {
+                visit(rt, shared, worker, seat, side, u);
+                left = FRUITLESS_POPS;
+                backoff.reset();
+            }
+            popped => {
+                if shared.words.see(seat) {
+                    return;
+                }
+                left -= 1;
+                if left == 0 {
+                    sweep(rt, shared, worker, seat, side);
+                    left = FRUITLESS_POPS;
+                }
+                pause(&backoff, popped);
+            }
+        }
+    }
+    unreachable!()
+}
+
+/// Waits a little after a fruitless pop. Where the pool gave a vertex, which another worker took, there
+/// may be more, so the processor is kept; where it gave none, the processor may go to others.
+fn pause(backoff: &Backoff, popped: Option<u32>) {
+    if popped.is_some() {
+        backoff.reset();
+        backoff.spin();
+    } else {
+        backoff.snooze();
+    }
+}
+
+/// Visits each vertex that is marked, in rising order: those too that the pool has lost.
+fn sweep<H: Wait, P: WorkPool, G: Gate>(
+    rt: &H,
+    shared: &Shared<'_, P, G>,
+    worker: u32,
+    seat: &mut WorkSeat,
+    side: &mut P::Side,
+)
+    requires words { seat.old.words ≡ shared.now.words.now }
+    requires graph { shared.now.csr.now ≡ seat.old.view.graph }
+    requires idle { seat.old.view.core.hand ≡ Idle }
+    requires side { P.is_side shared.now.pool.now side.old }
+    ensures stays { Stays seat.old seat.new }
+    ensures idle { seat.new.view.core.hand ≡ Idle }
+    ensures side { P.is_side shared.now.pool.now side.new }
+{
+    for v in 0..shared.csr.n() {
+        if shared.words.take(seat, v) {
+            visit(rt, shared, worker, seat, side, v);
+        }
+    }
+}
+
+/// Relaxes the row of the vertex that the seat took, and finishes it.
+fn visit<H: Wait, P: WorkPool, G: Gate>(
+    rt: &H,
+    shared: &Shared<'_, P, G>,
+    worker: u32,
+    seat: &mut WorkSeat,
+    side: &mut P::Side,
+    u: u32,
+)
+    requires words { seat.old.words ≡ shared.now.words.now }
+    requires graph { shared.now.csr.now ≡ seat.old.view.graph }
+    requires fresh { seat.old.view.core.hand ≡ Fresh u }
+    requires credit { seat.old.view.core.credits ≡ 1 }
+    requires side { P.is_side shared.now.pool.now side.old }
+    ensures stays { Stays seat.old seat.new }
+    ensures idle { seat.new.view.core.hand ≡ Idle }
+    ensures side { P.is_side shared.now.pool.now side.new }
+{
+    shared.gate.pass(rt, worker, u);
+    shared.words.read(seat, shared.csr);
+    while relax_next(rt, shared, seat, side, u) {}
+    shared.words.finish(seat, shared.csr);
+}
+
+/// Relaxes the next arc of the row of `u`. Where its head's label falls the head is marked and handed
+/// to the pool. False at the row's end.
+fn relax_next<H: Wait, P: WorkPool, G>(
+    rt: &H,
+    shared: &Shared<'_, P, G>,
+    seat: &mut WorkSeat,
+    side: &mut P::Side,
+    u: u32,
+) -> bool
+    requires words { seat.old.words ≡ shared.now.words.now }
+    requires graph { shared.now.csr.now ≡ seat.old.view.graph }
+    requires row { IsInRow u seat.old.view.core }
+    requires side { P.is_side shared.now.pool.now side.old }
+    ensures stays { Stays seat.old seat.new }
+    ensures row { IsInRow u seat.new.view.core }
+    ensures more { result ≡ true
+        → place_of seat.new.view.core.hand ≡ place_of seat.old.view.core.hand + 1 }
+    ensures arc { result ≡ true
+        → place_of seat.old.view.core.hand < end_place shared.now.csr.now.arcs u }
+    ensures end { result ≡ false
+        → place_of seat.new.view.core.hand ≡ end_place shared.now.csr.now.arcs u }
+    ensures side { P.is_side shared.now.pool.now side.new }
+{
+    match shared.words.relax(seat, shared.csr) {
+        Step::RowEnd => return false,
+        Step::Kept => {}
+        Step::Lowered { head, label } => {
+            if seat.credits() == 1 {
+                shared.words.raise(seat);
+            }
+            shared.words.set_mark(seat);
+            // Where the pool refuses the head, it stays marked all the same.
+            let _ = shared
+                .pool
+                .push(rt, side, head, label >> shared.settings.shift);
+        }
+    }
+    true
+}
