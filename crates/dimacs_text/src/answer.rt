@@ -87,8 +87,9 @@ pub fn put_label(out: &mut Vec<u8>, v: u32, label: u64) -> Result<(), Memory>
     Ok(())
 }
 
-/// Appends the line `k V LABEL` of a vertex, where the label is the number of a vertex too.
-fn put_component(out: &mut Vec<u8>, v: u32, label: u64) -> Result<(), Memory>
+/// Appends the line `k V LABEL` of a vertex, where the label is the number of a vertex too: both are
+/// counted from 0, and from 1 in the line.
+pub fn put_component(out: &mut Vec<u8>, v: u32, label: u64) -> Result<(), Memory>
     requires { (v < 2 ^ 28) × (label < 2 ^ 64 - 1) }
     ensures ok { OnOk result (out.new.items ≡ out.old.items ++ component_text v label) }
     ensures err { OnErr result (out.new.items ≡ out.old.items) }

@@ -1,3 +1,4 @@
 pub mod Known
 pub mod Sending
+pub mod Replies
 pub mod Uniqueness

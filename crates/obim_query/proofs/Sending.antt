@@ -1,19 +1,15 @@
 -- Blocks of sources, put one behind the other and written as they fill up.
-use Rattle.std.proofs.Common.{◌≡◌, ℕ, ◌+◌, ◌<◌, ◌≤◌, ◌^◌, List, [], ◌∷◌, ◌++◌, length, get_or}
-use Rattle.std.proofs.Common.{slice_index, take, Option, refl, sym, subst, ap, ◌∙◌, append_assoc, arith}
+use Rattle.std.proofs.Common.{◌≡◌, ℕ, ◌+◌, ◌<◌, ◌≤◌, ◌^◌, List, [], ◌∷◌, ◌++◌, length, get_or, drop}
+use Rattle.std.proofs.Common.{slice_index, suc, take, drop-cons, Option, refl, sym, subst, ap, ◌∙◌, append_assoc, arith}
 use Rattle.std.specs.List.{All}
 use Rattle.std.specs.Io.KnownBytes.{Appends}
 use Rattle.std.proofs.lemmas.List.{append-nil, take_all, take_more}
 use Rattle.std.proofs.lemmas.List.Elements.{All-from_get_or}
 use Rattle.route_walks.specs.declared.graph.ArcRec.{ArcRec}
-use Rattle.route_walks.specs.declared.graph.TheConstants.{INF}
-use Rattle.route_walks.specs.Walk.{IsGraph}
-use Rattle.route_walks.specs.Label.{AreLeast}
-use Rattle.route_walks.specs.Problem.{seeds_all, both_ways}
-use Rattle.route_walks.specs.Component.{LeastLabelsAreComponents}
+use Rattle.dimacs_text.specs.Answers.{label_text, label_lines, component_text, component_lines}
 use Rattle.obim_query.specs.AnswerText.{IsSourceBlock, AreSourceBlocks}
-use Rattle.obim_query.specs.Bytes.{Waits, Writes, Extends}
-use Rattle.obim_query.proofs.Known.{appends-then}
+use Rattle.obim_query.specs.Bytes.{Waits, Writes}
+use Rattle.obim_query.proofs.Known.{appends-then, waits-put, waits-sent}
 
 pub blocks-push : (n : ℕ) (arcs : List ArcRec) (sources : List ℕ) (source : ℕ) (text block : List ℕ)
     → AreSourceBlocks n arcs sources text → IsSourceBlock n arcs source block
@@ -28,40 +24,74 @@ blocks-push n arcs (first ∷ sources) source text block blocks is_block = (
   ap (λ (front : List ℕ). front ++ block) blocks.4 ∙ append_assoc blocks.0 blocks.1 block,
 )
 
--- the blocks of the first sources were written, but for the bytes that wait
+-- of the whole all is given but what waits and the lines that are not yet put
+pub record IsPut (before after : Option (List ℕ)) (waiting lines whole : List ℕ) : Type 0 where
+  pub text : List ℕ
+  pub waits : Waits before after waiting text
+  pub is_whole : text ++ lines ≡ whole
+
+-- a line more is put, and some of what waits is given
+pub put-more : (before between after : Option (List ℕ)) (waiting line left lines whole : List ℕ)
+    → IsPut before between waiting (line ++ lines) whole → Waits between after left (waiting ++ line)
+    → IsPut before after left lines whole
+put-more before between after waiting line left lines whole put sent = record {
+  text = put.text ++ line;
+  waits =
+      waits-sent before between after (waiting ++ line) left (put.text ++ line)
+      (waits-put before between waiting put.text line put.waits) sent;
+  is_whole = append_assoc put.text line lines ∙ put.is_whole;
+}
+
+pub label_lines-next : (v : ℕ) (labels : List ℕ)
+    → v < length labels
+    → label_lines v (drop v labels) ≡ label_text v (get_or labels v 0) ++ label_lines (v + 1) (drop (v + 1) labels)
+label_lines-next v labels below =
+    let one : suc v ≡ v + 1 = omega arith in
+    ap (label_lines v) (drop-cons labels v 0 below)
+    ∙ ap (λ (k : ℕ). label_text v (get_or labels v 0) ++ label_lines (v + 1) (drop k labels)) one
+
+pub component_lines-next : (v : ℕ) (labels : List ℕ)
+    → v < length labels
+    → component_lines v (drop v labels)
+    ≡ component_text v (get_or labels v 0) ++ component_lines (v + 1) (drop (v + 1) labels)
+component_lines-next v labels below =
+    let one : suc v ≡ v + 1 = omega arith in
+    ap (component_lines v) (drop-cons labels v 0 below)
+    ∙ ap (λ (k : ℕ). component_text v (get_or labels v 0) ++ component_lines (v + 1) (drop k labels)) one
+
+-- all lines are put
+pub all-put : (before after : Option (List ℕ)) (waiting whole : List ℕ)
+    → IsPut before after waiting [] whole
+    → Waits before after waiting whole
+all-put before after waiting whole put =
+    subst (Waits before after waiting) (sym (append-nil put.text) ∙ put.is_whole) put.waits
+
+-- the blocks of the first sources were given, but for the bytes that wait
 pub record AreSent (n : ℕ) (arcs : List ArcRec) (sources : List ℕ) (count : ℕ)
     (before after : Option (List ℕ)) (waiting : List ℕ) : Type 0 where
   pub text : List ℕ
   pub waits : Waits before after waiting text
   pub blocks : AreSourceBlocks n arcs (take count sources) text
 
--- a block more waits, and some of what waits is written
+-- a block more is put, and some of what waits is given
 pub sent-more : (n : ℕ) (arcs : List ArcRec) (sources : List ℕ) (i : ℕ)
-    (before between after : Option (List ℕ)) (waiting put left : List ℕ)
+    (before between after : Option (List ℕ)) (waiting block left : List ℕ)
     → i < length sources → AreSent n arcs sources i before between waiting
-    → Extends (IsSourceBlock n arcs (get_or sources i 0)) waiting put → Waits between after left put
+    → IsSourceBlock n arcs (get_or sources i 0) block → Waits between after left (waiting ++ block)
     → AreSent n arcs sources (i + 1) before after left
-sent-more n arcs sources i before between after waiting put left here sent extends written =
-    let source = get_or sources i 0 in
-    let blocks = blocks-push n arcs (take i sources) source sent.text extends.text sent.blocks extends.is_text in
+sent-more n arcs sources i before between after waiting block left here sent is_block written =
+    let blocks = blocks-push n arcs (take i sources) (get_or sources i 0) sent.text block sent.blocks is_block in
     record {
-      text = sent.text ++ extends.text;
-      waits = record {
-        given = sent.waits.given ++ written.given;
-        whole = ap (λ (xs : List ℕ). xs ++ extends.text) sent.waits.whole
-            ∙ append_assoc sent.waits.given waiting extends.text
-            ∙ ap (λ (xs : List ℕ). sent.waits.given ++ xs) (sym extends.appended ∙ written.whole)
-            ∙ sym (append_assoc sent.waits.given written.given left);
-        appended =
-            appends-then before between after sent.waits.given written.given sent.waits.appended
-            written.appended;
-      };
+      text = sent.text ++ block;
+      waits =
+          waits-sent before between after (waiting ++ block) left (sent.text ++ block)
+          (waits-put before between waiting sent.text block sent.waits) written;
       blocks =
-          subst (λ (xs : List ℕ). AreSourceBlocks n arcs xs (sent.text ++ extends.text))
+          subst (λ (xs : List ℕ). AreSourceBlocks n arcs xs (sent.text ++ block))
           (sym (take_more sources i 0 here)) blocks;
     }
 
--- all was sent, and what waits is written
+-- all was put, and what waits is given
 pub all-sent : (n : ℕ) (arcs : List ArcRec) (sources : List ℕ) (i : ℕ)
     (before between after : Option (List ℕ)) (waiting : List ℕ)
     → length sources ≤ i → AreSent n arcs sources i before between waiting → Appends between after waiting
@@ -74,14 +104,3 @@ all-sent n arcs sources i before between after waiting past sent written =
           subst (Appends before after) (sym sent.waits.whole)
           (appends-then before between after sent.waits.given waiting sent.waits.appended written);
     }
-
--- where each vertex is a seed that starts at its number, each label is below INF
-pub component-labels-found : (n : ℕ) (arcs : List ArcRec) (labels : List ℕ)
-    → LeastLabelsAreComponents → n < 2 ^ 32 → IsGraph n arcs → length labels ≡ n
-    → AreLeast n (both_ways arcs) (seeds_all n) (slice_index labels) → All (λ label. label < INF) labels
-component-labels-found n arcs labels law few graph count least =
-    All-from_get_or (λ label. label < INF) labels 0
-    (λ v below.
-    let inside : v < n = omega (arith, below, count) in
-    let low = (law n arcs (slice_index labels) graph few least v inside).least v ([], refl) in
-    omega (arith, low, inside, few))

@@ -3,13 +3,13 @@ use Rattle.std.proofs.Common.{◌≡◌, ℕ, ◌<◌, List, [], ◌∷◌, ◌+
 use Rattle.std.proofs.lemmas.Grind.{same_number_lists}
 use Rattle.route_walks.specs.declared.graph.ArcRec.{ArcRec}
 use Rattle.route_walks.specs.declared.graph.Seed.{Seed}
-use Rattle.route_walks.specs.Label.{LeastLabelsAreUnique}
+use Rattle.route_walks.specs.Label.{AreLeastLabels, LeastLabelsAreUnique}
 use Rattle.route_walks.specs.Problem.{seeds_from, seeds_all, unit_weights, both_ways}
 use Rattle.dimacs_text.specs.Answers.{distances_text, components_text}
 use Rattle.dimacs_text.specs.Jobs.{Content, Question, absent, from_sources}
 use Rattle.obim_query.specs.declared.asked.Answer.{Answer}
 use Rattle.obim_query.specs.declared.asked.Answer.TheVariants.{Distances, Levels, Components}
-use Rattle.obim_query.specs.AnswerText.{AreLeastLabels, IsSourceBlock, AreSourceBlocks}
+use Rattle.obim_query.specs.AnswerText.{IsSourceBlock, AreSourceBlocks}
 use Rattle.obim_query.specs.AnswerText.{AreAskedBlocks, IsComponentsBlock, IsAnswerText}
 
 labels-same : LeastLabelsAreUnique

@@ -1,19 +1,18 @@
 -- The text that answers a job, by least labels alone: no worker, worklist or order of visits is in it.
-use Rattle.std.specs.Prelude.{◌≡◌, ℕ, List, [], ◌∷◌, ◌++◌, length, slice_index}
+use Rattle.std.specs.Prelude.{◌≡◌, ℕ, List, [], ◌∷◌, ◌++◌}
 use Rattle.route_walks.specs.declared.graph.ArcRec.{ArcRec}
-use Rattle.route_walks.specs.declared.graph.Seed.{Seed}
-use Rattle.route_walks.specs.Label.{AreLeast}
+use Rattle.route_walks.specs.Label.{AreLeastLabels}
 use Rattle.route_walks.specs.Problem.{seeds_from, seeds_all, unit_weights, both_ways}
 use Rattle.dimacs_text.specs.Jobs.{Content, Question, absent, from_sources}
 use Rattle.dimacs_text.specs.Answers.{distances_text, components_text}
 use Rattle.obim_query.specs.declared.asked.Answer.{Answer}
 use Rattle.obim_query.specs.declared.asked.Answer.TheVariants as answer
 
--- a list of the least labels of n vertices
-pub record AreLeastLabels (n : ℕ) (arcs : List ArcRec) (seeds : List Seed)
-    (labels : List ℕ) : Type 0 where
-  pub count : length labels ≡ n
-  pub least : AreLeast n arcs seeds (slice_index labels)
+-- the arcs along which the labels of an answer are least
+abbrev pub arcs_for : Answer → List ArcRec → List ArcRec
+arcs_for answer.Distances arcs = arcs
+arcs_for answer.Levels arcs = unit_weights arcs
+arcs_for answer.Components arcs = both_ways arcs
 
 -- the lines of one source: the least labels from it
 pub record IsSourceBlock (n : ℕ) (arcs : List ArcRec) (source : ℕ) (text : List ℕ) : Type 0 where

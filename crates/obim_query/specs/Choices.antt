@@ -1,17 +1,11 @@
--- What a caller may choose, and which status a fault has.
-use Rattle.std.specs.Prelude.{ℕ, ◌≤◌}
+-- Which fault the program makes of one below it, and which status a fault has.
+use Rattle.std.specs.Prelude.{ℕ}
 use Rattle.dimacs_text.specs.declared.fault.TextFault.{TextFault}
 use Rattle.dimacs_text.specs.declared.fault.TextFault.TheVariants as refused
+use Rattle.obim_engine.specs.declared.runs.RunFault.{RunFault}
+use Rattle.obim_engine.specs.declared.runs.RunFault.TheVariants as stopped
 use Rattle.obim_query.specs.declared.fault.Fault.{Fault}
 use Rattle.obim_query.specs.declared.fault.Fault.TheVariants as fault
-
--- 1 to 64 workers, a shift of 0 to 63 bits, chunks of 1 to 256 vertices
-pub record AreSettings (workers shift chunk : ℕ) : Type 0 where
-  pub some_worker : 1 ≤ workers
-  pub few_workers : workers ≤ 64
-  pub small_shift : shift ≤ 63
-  pub some_chunk : 1 ≤ chunk
-  pub small_chunk : chunk ≤ 256
 
 -- the exit status of the program after a fault
 abbrev pub status_of : Fault → ℕ
@@ -27,3 +21,8 @@ status_of fault.Write = 4
 abbrev pub fault_of : TextFault → Fault
 fault_of refused.Memory = fault.Memory
 fault_of (refused.Line line kind) = fault.Text line kind
+
+-- why a run gave no labels, as a fault of the program
+abbrev pub fault_of_run : RunFault → Fault
+fault_of_run stopped.Memory = fault.Memory
+fault_of_run stopped.Spawn = fault.Spawn

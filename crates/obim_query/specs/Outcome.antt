@@ -109,12 +109,12 @@ IsReplyFault kind job before after fault.Memory = ⊤
 IsReplyFault kind job before after fault.Spawn = ⊤
 IsReplyFault kind job before after fault.Write = ⊤
 
--- the faults of writing blocks
+-- the faults of working out blocks and writing them
 abbrev pub IsWritingFault : Fault → Type 0
 IsWritingFault fault.Read = ⊥
 IsWritingFault fault.TooLong = ⊥
 IsWritingFault (fault.Text line kind) = ⊥
 IsWritingFault fault.NoAsk = ⊥
 IsWritingFault fault.Memory = ⊤
-IsWritingFault fault.Spawn = ⊥
+IsWritingFault fault.Spawn = ⊤
 IsWritingFault fault.Write = ⊤

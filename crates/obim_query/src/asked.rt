@@ -1,6 +1,6 @@
 ghost use Rattle.std.specs.Prelude.{◌≡◌, ◌^◌, ◌≤◌, ◌↔◌, false, IsSome, IfSome};
 
-use crate::settings::Settings;
+use obim_engine::Settings;
 
 /// Which labels are asked for.
 #[derive(Clone, Copy, Debug, PartialEq, Eq)]

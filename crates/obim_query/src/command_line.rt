@@ -1,8 +1,8 @@
 //! What the command line asks for.
 
 use crate::asked::{Answer, Asked, MOST_BYTES};
-use crate::settings::Settings;
 use clap::{Arg, ArgMatches, Command, Error, value_parser};
+use obim_engine::{MAX_CHUNK, MAX_SHIFT, MAX_WORKERS, Settings};
 use std::alloc::Global;
 
 const KINDS: [&str; 3] = ["distances", "levels", "components"];
@@ -33,14 +33,37 @@ Example:
 /// Judges the words of the command line: what they ask for, or clap's text of what is wrong with them,
 /// which may be the help that they ask for. `None` where the settings are outside their limits.
 pub fn asked_by<'a>(alloc: Global, words: &'a [String]) -> Result<Option<Asked>, Error> {
-    let matches = command(alloc)?.try_get_matches_from(words)?;
+    let limits = Limits::new(alloc)?;
+    let matches = command(alloc, &limits)?.try_get_matches_from(words)?;
     let Some(settings) = settings_in(&matches) else {
         return Ok(None);
     };
     Ok(Asked::new(answer_in(&matches), settings, false, MOST_BYTES))
 }
 
-fn command<'a>(alloc: Global) -> Result<Command<'a>, Error> {
+/// What the help says of each setting.
+#[derive(Drop)]
+struct Limits {
+    workers: String,
+    shift: String,
+    chunk: String,
+}
+
+impl Limits {
+    fn new(alloc: Global) -> Result<Limits, Error> {
+        Ok(Limits {
+            workers: format!(in alloc; "How many workers, 1 to {MAX_WORKERS}")?,
+            shift: format!(in alloc;
+                "A label shifted right so far is its priority, 0 to {MAX_SHIFT}"
+            )?,
+            chunk: format!(in alloc;
+                "How many vertices are handed on at a time, 1 to {MAX_CHUNK}"
+            )?,
+        })
+    }
+}
+
+fn command<'a>(alloc: Global, limits: &'a Limits) -> Result<Command<'a>, Error> {
     let answer = Arg::new(alloc, "answer")
         .long("answer")
         .value_name("KIND")
@@ -50,21 +73,21 @@ fn command<'a>(alloc: Global) -> Result<Command<'a>, Error> {
     let workers = Arg::new(alloc, "workers")
         .long("workers")
         .value_name("COUNT")
-        .value_parser(value_parser!(u32).range(1..=64))
+        .value_parser(value_parser!(u32).range(1..=i64::from(MAX_WORKERS)))
         .default_value("2")
-        .help("How many workers, 1 to 64");
+        .help(&limits.workers);
     let shift = Arg::new(alloc, "shift")
         .long("shift")
         .value_name("BITS")
-        .value_parser(value_parser!(u32).range(0..=63))
+        .value_parser(value_parser!(u32).range(0..=i64::from(MAX_SHIFT)))
         .default_value("4")
-        .help("A label shifted right so far is its priority, 0 to 63");
+        .help(&limits.shift);
     let chunk = Arg::new(alloc, "chunk")
         .long("chunk")
         .value_name("SIZE")
-        .value_parser(value_parser!(usize).range(1..=256))
+        .value_parser(value_parser!(usize).range(1..=MAX_CHUNK as i64))
         .default_value("16")
-        .help("How many vertices are handed on at a time, 1 to 256");
+        .help(&limits.chunk);
     let command = Command::new(alloc, "obim_query")
         .about(ABOUT)
         .after_help(JOBS)

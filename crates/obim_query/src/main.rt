@@ -12,19 +12,18 @@ mod asked;
 mod blocks;
 mod command_line;
 mod fault;
-mod gate;
 mod intake;
 pub mod laws;
+mod operators;
 mod outlet;
 mod reply;
-mod settings;
 #[cfg(test)]
 mod tests;
 
 use asked::Asked;
 use command_line::asked_by;
 use fault::{Fault, status};
-use gate::OpenGate;
+use obim_engine::OpenGate;
 use reply::answer;
 use std::env::Env;
 use std::io::{ErrorKind, Read, Write};

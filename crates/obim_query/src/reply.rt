@@ -10,10 +10,11 @@ ghost use Rattle.obim_query.specs.Outcome.{IsRequestFault, IsTrueOfText, WritesN
 use crate::asked::{Answer, Asked};
 use crate::blocks::{write_components, write_sources};
 use crate::fault::Fault;
-use crate::gate::Gate;
 use crate::intake::read_text;
+use crate::operators::{component_labels, rows_for};
 use dimacs_text::{Ask, Job, read_job};
-use route_walks::unit_weights;
+use obim_engine::Gate;
+use route_walks::laws::{least_labels_are_components, least_labels_follow_the_arcs};
 use std::alloc::Global;
 use std::io::{Read, Write};
 use std::sync::Wait;
@@ -22,13 +23,13 @@ use std::thread::Threads;
 /// Reads a job text to its end and writes its answer: exactly the bytes that the least labels of the
 /// job make, whatever the settings and the gate are. A fault of the text is found before anything is
 /// written.
-pub fn answer<H: Threads + Wait + Sync, R: Read, W: Write, G: Gate>(
-    _rt: &H,
+pub fn answer<H: Threads + Wait + Sync, R: Read, W: Write, G: Gate + Sync>(
+    rt: &H,
     alloc: Global,
     reader: &mut R,
     writer: &mut W,
     asked: &Asked,
-    _gate: &G,
+    gate: &G,
 ) -> Result<(), Fault>
     // The whole text was read, it is a job's, and exactly its answer was written.
     ensures answered { OnOk result (IsAnswered asked.now.limit asked.now.answer
@@ -45,11 +46,11 @@ pub fn answer<H: Threads + Wait + Sync, R: Read, W: Write, G: Gate>(
         (W.contents writer.old) (W.contents writer.new)) }
 {
     let job = read_request(alloc, reader, asked.limit)?;
-    respond(alloc, writer, asked.answer, &job)
+    respond(rt, alloc, writer, asked, job, gate)
 }
 
 /// The same over memory: the bytes of the answer to the text.
-pub fn answer_bytes<H: Threads + Wait + Sync, G: Gate>(
+pub fn answer_bytes<H: Threads + Wait + Sync, G: Gate + Sync>(
     rt: &H,
     alloc: Global,
     text: &[u8],
@@ -79,22 +80,36 @@ fn read_request<R: Read>(alloc: Global, reader: &mut R, limit: u64) -> Result<Jo
 }
 
 /// Writes the answer of the job.
-fn respond<W: Write>(alloc: Global, writer: &mut W, answer: Answer, job: &Job) -> Result<(), Fault>
-    requires { IsWithinLimits (content_of job.now) }
-    ensures reply { OnOk result (Writes (IsAnswerText answer (content_of job.now))
+fn respond<H: Threads + Wait + Sync, W: Write, G: Gate + Sync>(
+    rt: &H,
+    alloc: Global,
+    writer: &mut W,
+    asked: &Asked,
+    job: Job,
+    gate: &G,
+) -> Result<(), Fault>
+    requires { IsWithinLimits (content_of job) }
+    ensures reply { OnOk result (Writes (IsAnswerText asked.now.answer (content_of job))
         (W.contents writer.old) (W.contents writer.new)) }
-    ensures says { IfErr result (IsReplyFault answer (content_of job.now)
+    ensures says { IfErr result (IsReplyFault asked.now.answer (content_of job)
         (W.contents writer.old) (W.contents writer.new)) }
 {
-    match (answer, &job.ask) {
-        (Answer::Components, _) => write_components(alloc, writer, job.n, &job.arcs),
-        (_, Ask::Absent) => Err(Fault::NoAsk),
-        (Answer::Distances, Ask::Sources(sources)) => {
-            write_sources(alloc, writer, job.n, &job.arcs, sources)
+    let Job { n, arcs, ask } = job;
+    // What is least in the rows is least for the arcs that they were built of.
+    least_labels_follow_the_arcs();
+    match (asked.answer, ask) {
+        (Answer::Components, _) => {
+            let csr = rows_for(alloc, Answer::Components, n, arcs)?;
+            let labels = component_labels(rt, alloc, &csr, &asked.settings, gate)?;
+            drop(csr);
+            // So each label is the number of a vertex, and none is INF.
+            least_labels_are_components();
+            write_components(alloc, writer, &labels)
         }
-        (Answer::Levels, Ask::Sources(sources)) => {
-            let units = unit_weights(alloc, &job.arcs)?;
-            write_sources(alloc, writer, job.n, &units, sources)
+        (_, Ask::Absent) => Err(Fault::NoAsk),
+        (answer, Ask::Sources(sources)) => {
+            let csr = rows_for(alloc, answer, n, arcs)?;
+            write_sources(rt, alloc, writer, &csr, &sources, &asked.settings, gate)
         }
     }
 }

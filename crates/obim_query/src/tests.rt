@@ -1,11 +1,13 @@
-//! Worked jobs with their answers and faults, and readers and writers that fail.
+//! Worked jobs with their answers and faults, gates that watch workers, and readers and writers that fail.
+
+mod gates;
 
 use crate::asked::{Answer, Asked};
 use crate::fault::{Fault, status};
-use crate::gate::OpenGate;
 use crate::reply::{answer, answer_bytes};
-use crate::settings::Settings;
 use dimacs_text::LineKind;
+use gates::{Meeting, Recorder};
+use obim_engine::{MAX_CHUNK, MAX_SHIFT, MAX_WORKERS, OpenGate, Settings};
 use std::io::{self, ErrorKind, Read, Write};
 use std::process::Abort;
 use std::test::Fail;
@@ -68,7 +70,17 @@ impl Write for Sink {
 }
 
 fn asked(rt: &impl Abort, answer: Answer, limit: u64) -> Asked {
-    let settings = Settings::new(2, 4, 16).expect(rt, "settings within their limits");
+    asked_with(rt, answer, limit, (2, 4, 16))
+}
+
+/// What is asked with so many workers, this shift and chunks of this size.
+fn asked_with(
+    rt: &impl Abort,
+    answer: Answer,
+    limit: u64,
+    (workers, shift, chunk): (u32, u32, usize),
+) -> Asked {
+    let settings = Settings::new(workers, shift, chunk).expect(rt, "settings within their limits");
     Asked::new(answer, settings, false, limit).expect(rt, "a limit of at most 2^36")
 }
 
@@ -102,6 +114,44 @@ fn answers_of_worked_jobs(rt: HostRuntime) -> Result<(), Fail> {
         let bytes = answer_bytes(&rt, rt.alloc(), text, &asked(&rt, kind, 1000), &OpenGate)?;
         assert_eq!(rt; bytes.as_slice(), want);
     }
+    Ok(())
+}
+
+// No setting changes a byte.
+#[test]
+fn settings_change_no_answer(rt: HostRuntime) -> Result<(), Fail> {
+    for workers in [1, 2, MAX_WORKERS] {
+        for shift in [0, MAX_SHIFT] {
+            for chunk in [1, MAX_CHUNK] {
+                let asked = asked_with(&rt, Answer::Distances, 1000, (workers, shift, chunk));
+                let bytes = answer_bytes(&rt, rt.alloc(), SIX, &asked, &OpenGate)?;
+                assert_eq!(rt; bytes.as_slice(), SIX_ANSWER);
+            }
+        }
+    }
+    Ok(())
+}
+
+// One worker visits the vertices in the order of their distance.
+#[test]
+fn visits_of_one_worker(rt: HostRuntime) -> Result<(), Fail> {
+    let gate = Recorder::new(rt.alloc());
+    let asked = asked_with(&rt, Answer::Distances, 1000, (1, 0, 1));
+    let bytes = answer_bytes(&rt, rt.alloc(), SIX, &asked, &gate)?;
+    assert_eq!(rt; bytes.as_slice(), SIX_ANSWER);
+    let passed = gate.into_passed();
+    assert_eq!(rt; passed.as_slice(), [0, 2, 4, 1, 3, 5].as_slice());
+    Ok(())
+}
+
+// Two workers run at the same time: the first to pass waits until the other has come.
+#[test]
+fn two_workers_meet(rt: HostRuntime) -> Result<(), Fail> {
+    let gate = Meeting::new();
+    let asked = asked_with(&rt, Answer::Components, 1000, (2, 4, 1));
+    let bytes = answer_bytes(&rt, rt.alloc(), b"p sp 2 0\n", &asked, &gate)?;
+    assert_eq!(rt; bytes.as_slice(), b"k 1 1\nk 2 2\n".as_slice());
+    assert!(rt; gate.met());
     Ok(())
 }
 
@@ -222,15 +272,10 @@ fn writers_that_fail_or_take_little(rt: HostRuntime) -> Result<(), Fail> {
 
 #[test]
 fn limits_and_statuses(rt: HostRuntime) {
-    for (workers, shift, chunk) in [(0, 4, 16), (65, 4, 16), (2, 64, 16), (2, 4, 0), (2, 4, 257)] {
-        assert!(rt; Settings::new(workers, shift, chunk).is_none());
-    }
-    for (workers, shift, chunk) in [(1, 0, 1), (64, 63, 256)] {
-        let settings = Settings::new(workers, shift, chunk).expect(&rt, "the limits themselves");
-        assert!(rt; Asked::new(Answer::Levels, settings, true, 0).is_none());
-        assert!(rt; Asked::new(Answer::Levels, settings, false, 1 << 36).is_some());
-        assert!(rt; Asked::new(Answer::Levels, settings, false, (1 << 36) + 1).is_none());
-    }
+    let settings = Settings::new(1, 0, 1).expect(&rt, "settings within their limits");
+    assert!(rt; Asked::new(Answer::Levels, settings, true, 0).is_none());
+    assert!(rt; Asked::new(Answer::Levels, settings, false, 1 << 36).is_some());
+    assert!(rt; Asked::new(Answer::Levels, settings, false, (1 << 36) + 1).is_none());
     let text = Fault::Text {
         line: 4,
         kind: LineKind::TooFew,

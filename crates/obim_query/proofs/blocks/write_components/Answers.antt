@@ -1,28 +1,15 @@
-use Rattle.std.proofs.Common.{◌≡◌, ℕ, ◌<◌, All, List, length, slice_index, subst, sym, ap, ◌∙◌, arith}
-use Rattle.route_walks.specs.declared.graph.TheConstants.{INF}
-use Rattle.route_walks.specs.declared.graph.ArcRec.{ArcRec}
-use Rattle.route_walks.specs.declared.graph.Seed.{Seed}
-use Rattle.route_walks.specs.Walk.{IsGraph}
-use Rattle.route_walks.specs.Label.{AreLeast}
-use Rattle.route_walks.specs.Problem.{seeds_all, both_ways}
-use Rattle.obim_query.proofs.Sending.{component-labels-found}
+use Rattle.std.proofs.Common.{◌+◌, drop, get_or, subst}
+use Rattle.dimacs_text.specs.Answers.{component_text, component_lines, components_text}
+use Rattle.obim_query.specs.Bytes.{Waits}
+use Rattle.obim_query.proofs.Sending.{put-more, component_lines-next}
 use Rattle.obim_query.proofs.blocks.write_components.Goals as goal
 
-pub plain_labels-requires-clause-graph : goal.plain_labels-requires-clause-graph
-plain_labels-requires-clause-graph g c =
-    subst (IsGraph c.args.n) (sym c.deref.ensures.value) (c.in_ok-both.ensures.graph c.args.n c.requires.graph)
-
-pub put_components-requires-clause-finite : goal.put_components-requires-clause-finite
-put_components-requires-clause-finite g c =
-    let labels = c.in_ok-labels.labels.items in
-    let along_both =
-    subst (λ (arcs : List ArcRec). AreLeast c.args.n arcs c.deref-2.result.now (slice_index labels))
-    (c.deref.ensures.value ∙ c.in_ok-both.ensures.exact) c.in_ok-labels.ensures.least in
-    let least =
-    subst
-    (λ (seeds : List Seed). AreLeast c.args.n (both_ways c.args.arcs.now) seeds (slice_index labels))
-    (c.deref-2.ensures.value ∙ c.in_ok-seeds.ensures.exact) along_both in
-    let count : length labels ≡ c.args.n = omega (arith, c.in_ok-labels.ensures.length, c.in_ok-labels.labels.ok.0) in
-    subst (All (λ (label : ℕ). label < INF)) (sym c.deref-3.ensures.value)
-    (component-labels-found c.args.n c.args.arcs.now labels c.least_labels_are_components.ensures
-    (omega (arith, c.requires.few)) c.requires.graph count least)
+pub loop-v-preserved : goal.loop-v-preserved
+loop-v-preserved g c =
+    let v = c.loop-v.v in
+    let labels = c.args.labels.now in
+    put-more _ (g.W.Write.contents c.loop-v.writer) _ c.loop-v.waiting.items (component_text v (get_or labels v 0))
+    c.send_if_full.new.waiting.items (component_lines (v + 1) (drop (v + 1) labels)) (components_text labels)
+    (rw (component_lines-next v labels c.loop-v-test.true) at c.loop-v.invariant)
+    (subst (Waits (g.W.Write.contents c.loop-v.writer) (g.W.Write.contents c.send_if_full.new.writer)
+    c.send_if_full.new.waiting.items) c.in_ok-put_component.ensures.ok c.in_ok-send_if_full.ensures.sent)

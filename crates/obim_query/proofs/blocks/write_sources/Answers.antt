@@ -1,20 +1,23 @@
-use Rattle.std.proofs.Common.{List, subst, ap, arith, Ok, Err, Result}
+use Rattle.std.proofs.Common.{get_or, subst, ap}
 use Rattle.std.proofs.lemmas.Result.{on_ok_weaker}
 use Rattle.std.specs.Io.KnownBytes.{Appends}
+use Rattle.dimacs_text.specs.Answers.{distances_text}
 use Rattle.obim_query.proofs.Sending.{sent-more, all-sent}
 use Rattle.obim_query.proofs.blocks.write_sources.Goals as goal
 
 pub loop-source-preserved : goal.loop-source-preserved
 loop-source-preserved g c =
-    sent-more c.args.n c.args.arcs.now c.args.sources.now c.loop-source.source-index _ _ _ _
-    c.put_block.new.waiting.items _ c.loop-source-test.true c.loop-source.invariant
-    c.in_ok-put_block.ensures.block c.in_ok-send_if_full.ensures.sent
+    let source = get_or c.args.sources.now c.loop-source.source-index 0 in
+    sent-more c.args.csr.now.n c.args.csr.now.arcs c.args.sources.now c.loop-source.source-index _ _ _ _ _
+    c.put_block.new.waiting.items c.loop-source-test.true c.loop-source.invariant
+    (record { labels = c.in_ok-labels.labels.items; least = c.in_ok-labels.ensures; written = ap (distances_text source) c.deref.ensures.value })
+    c.in_ok-put_block.ensures.sent
 
 pub returns-clause-blocks : goal.returns-clause-blocks
 returns-clause-blocks g c =
     on_ok_weaker c.finish.result
-    (λ written. all-sent c.args.n c.args.arcs.now c.args.sources.now c.loop-source.source-index _ _ _
+    (λ written. all-sent c.args.csr.now.n c.args.csr.now.arcs c.args.sources.now c.loop-source.source-index _ _ _
     c.loop-source.waiting.items c.loop-source-test.false c.loop-source.invariant
     (subst (Appends (g.W.Write.contents c.loop-source.writer) (g.W.Write.contents c.finish.new.writer))
-    c.deref.ensures.value written))
+    c.deref-2.ensures.value written))
     c.finish.ensures.sent

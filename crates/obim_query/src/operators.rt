@@ -1,0 +1,58 @@
+//! The operators: which rows, seeds and labels an answer kind makes of a job's arcs.
+
+ghost use Rattle.std.specs.Prelude.{◌≡◌, ℕ, ◌≤◌, ◌^◌, length, IfOk};
+ghost use Rattle.route_walks.specs.Label.{AreLeastLabels};
+ghost use Rattle.route_walks.specs.Problem.{seeds_all};
+ghost use Rattle.route_walks.specs.Walk.{IsGraph, HaveSameArcs};
+ghost use Rattle.obim_query.specs.AnswerText.{arcs_for};
+
+use crate::asked::Answer;
+use csr_graph::Csr;
+use obim_engine::{Gate, RunFault, Settings, least_labels};
+use route_walks::{ArcRec, Memory, both_ways, seeds_all, unit_weights};
+use std::alloc::Global;
+use std::sync::Wait;
+use std::thread::Threads;
+
+/// The rows in which the labels of an answer are least, for all of its sources. The list of arcs is
+/// given back.
+pub fn rows_for(alloc: Global, answer: Answer, n: u32, arcs: Vec<ArcRec>) -> Result<Csr, Memory>
+    requires vertices { n ≤ 2 ^ 28 }
+    requires count { length arcs.items ≤ 2 ^ 30 }
+    requires graph { IsGraph n arcs.items }
+    ensures vertices { IfOk result (λ csr. csr.n ≡ n) }
+    ensures arcs { IfOk result (λ csr. HaveSameArcs csr.arcs (arcs_for answer arcs.items)) }
+{
+    let arcs = arcs_of(alloc, answer, arcs)?;
+    Csr::build(alloc, n, &arcs)
+}
+
+/// The arcs of an answer: as they are for distances, with weight 1 for levels, both ways and free for
+/// components.
+fn arcs_of(alloc: Global, answer: Answer, arcs: Vec<ArcRec>) -> Result<Vec<ArcRec>, Memory>
+    requires { length arcs.items ≤ 2 ^ 30 }
+    ensures exact { IfOk result (λ taken. taken.items ≡ arcs_for answer arcs.items) }
+    ensures count { IfOk result (λ taken. length taken.items ≤ 2 ^ 31) }
+    ensures graph { (n : ℕ) → IsGraph n arcs.items → IfOk result (λ taken. IsGraph n taken.items) }
+{
+    match answer {
+        Answer::Distances => Ok(arcs),
+        Answer::Levels => unit_weights(alloc, &arcs),
+        Answer::Components => both_ways(alloc, &arcs),
+    }
+}
+
+/// The component labels, from the rows of components.
+pub fn component_labels<H: Threads + Wait + Sync, G: Gate + Sync>(
+    rt: &H,
+    alloc: Global,
+    csr: &Csr,
+    settings: &Settings,
+    gate: &G,
+) -> Result<Vec<u64>, RunFault>
+    ensures { IfOk result
+        (λ labels. AreLeastLabels csr.now.n csr.now.arcs (seeds_all csr.now.n) labels.items) }
+{
+    let seeds = seeds_all(alloc, csr.n())?;
+    least_labels(rt, alloc, csr, seeds, settings, gate)
+}

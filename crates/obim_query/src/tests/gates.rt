@@ -1,0 +1,71 @@
+//! Gates that watch workers.
+
+use obim_engine::Gate;
+use std::alloc::Global;
+use std::sync::atomic::{AtomicU64, Ordering};
+use std::sync::{Mutex, Wait};
+use std::thread::yield_now;
+
+/// Keeps the vertices that passed, in their order.
+#[derive(Drop)]
+pub(crate) struct Recorder {
+    passed: Mutex<Vec<u32>>,
+}
+
+impl Recorder {
+    pub fn new(alloc: Global) -> Recorder {
+        Recorder {
+            passed: Mutex::new(Vec::new(alloc)),
+        }
+    }
+
+    pub fn into_passed(self) -> Vec<u32> {
+        self.passed.into_inner()
+    }
+}
+
+impl Gate for Recorder {
+    fn pass<H: Wait>(&self, rt: &H, _worker: u32, vertex: u32) {
+        // A test that compares what was kept notices a refused push.
+        let _ = self.passed.lock(rt).push(vertex);
+    }
+}
+
+/// The first call yields this often at most.
+const TURNS: u32 = 10_000_000;
+
+/// Holds the first call back until a second one has come, which only another worker can make.
+#[derive(Drop)]
+pub(crate) struct Meeting {
+    calls: AtomicU64,
+    met: AtomicU64,
+}
+
+impl Meeting {
+    pub fn new() -> Meeting {
+        Meeting {
+            calls: AtomicU64::new(0),
+            met: AtomicU64::new(0),
+        }
+    }
+
+    /// Whether the first call saw the second before its turns ran out.
+    pub fn met(&self) -> bool {
+        self.met.load(Ordering::SeqCst) > 0
+    }
+}
+
+impl Gate for Meeting {
+    fn pass<H: Wait>(&self, _rt: &H, _worker: u32, _vertex: u32) {
+        if self.calls.fetch_add(1, Ordering::SeqCst) > 0 {
+            return;
+        }
+        for _ in 0..TURNS {
+            if self.calls.load(Ordering::SeqCst) > 1 {
+                self.met.store(1, Ordering::SeqCst);
+                return;
+            }
+            yield_now();
+        }
+    }
+}
