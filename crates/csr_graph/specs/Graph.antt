@@ -1,7 +1,7 @@
 -- A directed graph as a number of vertices and a list of arcs, and its rows. (Compressed sparse rows
 -- are those of Saad, Iterative Methods for Sparse Linear Systems, 3.4, with arcs for entries.)
 use Rattle.std.specs.Prelude.{◌≡◌, ℕ, ◌+◌, ◌^◌, ◌<◌, ◌≤◌, ◌==◌, nat_lt, List, length}
-use Rattle.std.specs.Prelude.{filter, count_by, slice_get, Some, AllPairs}
+use Rattle.std.specs.Prelude.{map, filter, count_by, slice_get, Some, AllPairs}
 use Rattle.route_walks.specs.declared.graph.ArcRec.{ArcRec}
 use Rattle.route_walks.specs.Walk.{IsGraph}
 
@@ -29,6 +29,14 @@ HaveSameRows n xs ys = (u : ℕ) → u < n → row_of xs u ≡ row_of ys u
 -- no arc has a lower tail than one before it
 abbrev pub AreByTail : List ArcRec → Type 0
 AreByTail arcs = AllPairs (λ earlier later. earlier.tail ≤ later.tail) arcs
+
+-- an arc turned round
+abbrev pub turned_arc : ArcRec → ArcRec
+turned_arc arc = record { tail = arc.head; head = arc.tail; weight = arc.weight }
+
+-- each arc turned round, in the same order
+abbrev pub turned : List ArcRec → List ArcRec
+turned arcs = map turned_arc arcs
 
 -- a graph in rows: the arcs' ends are vertices, the arcs stand by rising tail, and both counts are
 -- within their limits

@@ -124,6 +124,19 @@ fn rows_of_six_vertices(rt: HostRuntime) -> Result<(), Fail> {
 }
 
 #[test]
+fn arcs_that_enter(rt: HostRuntime) -> Result<(), Fail> {
+    let reversed = Csr::build(rt.alloc(), 6, &GIVEN)?.reversed(rt.alloc())?;
+    assert_eq!(rt; reversed.n(), 6);
+    assert_eq!(rt; reversed.arc_count(), 8);
+    let arcs = reversed.arcs(rt.alloc())?;
+    let want = [(1, 0, 17), (1, 4, 0), (2, 0, 10), (2, 3, 0)];
+    for (arc, want) in arcs.iter().zip(&want) {
+        assert_eq!(rt; (arc.tail, arc.head, arc.weight), *want);
+    }
+    Ok(())
+}
+
+#[test]
 fn a_graph_without_vertices(rt: HostRuntime) -> Result<(), Fail> {
     let csr = Csr::build(rt.alloc(), 0, &[])?;
     assert_eq!(rt; csr.n(), 0);

@@ -1,5 +1,6 @@
 -- The texts of an answer. Vertices, which are counted from 0, stand as their number plus 1.
 use Rattle.std.specs.Prelude.{ℕ, ◌+◌, ◌-◌, ◌^◌, ◌==◌, List, [], ◌∷◌, ◌++◌, codes, decimal, if◌then◌else◌}
+use Rattle.std.specs.Prelude.{length, slice_index}
 
 -- 's V'
 abbrev pub source_text : ℕ → List ℕ
@@ -32,3 +33,17 @@ component_lines v (label ∷ labels) = component_text v label ++ component_lines
 
 abbrev pub components_text : List ℕ → List ℕ
 components_text labels = component_lines 0 labels
+
+-- ' V' for each vertex of a walk, and the end of the line
+abbrev pub vertices_text : List ℕ → List ℕ
+vertices_text [] = codes "\n"
+vertices_text (v ∷ walk) = codes " " ++ decimal (v + 1) ++ vertices_text walk
+
+-- 'w V COST V .. V', where V is the last vertex of the walk
+abbrev pub walk_text : ℕ → List ℕ → List ℕ
+walk_text cost walk =
+    codes "w "
+    ++ decimal (slice_index walk (length walk - 1) + 1)
+    ++ codes " "
+    ++ decimal cost
+    ++ vertices_text walk

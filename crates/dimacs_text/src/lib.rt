@@ -20,7 +20,7 @@ mod line;
 mod plain;
 mod reader;
 
-pub use answer::{put_component, put_components, put_distances, put_label, put_source};
+pub use answer::{put_component, put_components, put_distances, put_label, put_source, put_walk};
 pub use fault::{LineKind, TextFault};
 pub use job::{Ask, Job};
 pub use reader::read_job;

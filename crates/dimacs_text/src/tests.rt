@@ -1,7 +1,8 @@
 //! Texts with the job or the fault that they must give, and the lines of answers.
 
 use crate::{
-    Ask, Job, LineKind, TextFault, put_components, put_distances, put_label, put_source, read_job,
+    Ask, Job, LineKind, TextFault, put_components, put_distances, put_label, put_source, put_walk,
+    read_job,
 };
 use route_walks::{ArcRec, INF};
 use std::alloc::Global;
@@ -164,8 +165,10 @@ fn answers(rt: HostRuntime) -> Result<(), Fail> {
     put_label(&mut out, 0, INF - 1)?;
     put_distances(&mut out, 2, &[INF, 0, 10])?;
     put_components(&mut out, &[0, 0, 2])?;
+    put_walk(&mut out, 15, &[0, 2, 4, 1, 3, 5])?;
+    put_walk(&mut out, 0, &[3])?;
     let lines = "s 268435456\nd 10 inf\nd 1 18446744073709551614\ns 3\nd 1 inf\nd 2 0\nd 3 10\n\
-         k 1 1\nk 2 1\nk 3 3\n";
+         k 1 1\nk 2 1\nk 3 3\nw 6 15 1 3 5 2 4 6\nw 4 0 4\n";
     assert_eq!(rt; out.as_slice(), lines.as_bytes());
     Ok(())
 }

@@ -1,6 +1,6 @@
 -- Labels and blocks that are right along the rows are right along the job's arcs, of which the rows were
 -- built.
-use Rattle.std.proofs.Common.{◌≡◌, ◌≢◌, ℕ, ◌<◌, ◌^◌, List, [], ◌∷◌, length, slice_index, refl, subst, sym, arith}
+use Rattle.std.proofs.Common.{◌≡◌, ◌≢◌, Bool, true, false, ℕ, ◌<◌, ◌^◌, List, [], ◌∷◌, length, slice_index, refl, subst, sym, arith}
 use Rattle.std.specs.List.{All}
 use Rattle.std.proofs.lemmas.List.Elements.{All-from_get_or}
 use Rattle.route_walks.specs.declared.graph.ArcRec.{ArcRec}
@@ -9,45 +9,63 @@ use Rattle.route_walks.specs.Walk.{IsGraph, HaveSameArcs}
 use Rattle.route_walks.specs.Label.{AreLeastLabels, LeastLabelsFollowTheArcs}
 use Rattle.route_walks.specs.Problem.{seeds_from, seeds_all, both_ways, unit_weights}
 use Rattle.route_walks.specs.Component.{LeastLabelsAreComponents}
+use Rattle.walk_report.specs.Parent.{HopsAndParentsFollowTheArcs}
 use Rattle.dimacs_text.specs.Jobs.{Content, Question, from_sources}
 use Rattle.obim_query.specs.declared.asked.Answer.{Answer}
 use Rattle.obim_query.specs.declared.asked.Answer.TheVariants.{Distances, Levels, Components}
-use Rattle.obim_query.specs.AnswerText.{AreSourceBlocks, AreAskedBlocks, IsAnswerText, arcs_for}
+use Rattle.obim_query.specs.AnswerText.{IsBlock, AreSourceBlocks, AreAskedBlocks, IsAnswerText, arcs_for}
 
--- blocks along the same arcs are the same
-blocks-over : LeastLabelsFollowTheArcs
-    → (n : ℕ) (one other : List ArcRec) → HaveSameArcs one other
-    → (sources text : List ℕ) → AreSourceBlocks n one sources text
-    → AreSourceBlocks n other sources text
-blocks-over law n one other same [] text blocks = blocks
-blocks-over law n one other same (source ∷ sources) text blocks =
-    let block = blocks.2 in (
-      blocks.0,
-      blocks.1,
-      record {
-        labels = block.labels;
-        least = law n one other (seeds_from source) block.labels same block.least;
-        written = block.written;
-      },
-      blocks-over law n one other same sources blocks.1 blocks.3,
-      blocks.4,
-    )
+-- a block along the same arcs is the same
+block-over : LeastLabelsFollowTheArcs → HopsAndParentsFollowTheArcs
+    → (walks : Bool) (n : ℕ) (one other : List ArcRec) (source : ℕ) (text : List ℕ) → HaveSameArcs one other
+    → IsBlock walks n one source text
+    → IsBlock walks n other source text
+block-over law walked false n one other source text same block = record {
+  labels = block.labels;
+  least = law n one other (seeds_from source) block.labels same block.least;
+  written = block.written;
+}
+block-over law walked true n one other source text same block =
+    let over = walked n one other source block.labels block.hops block.parents same block.fewest block.before in
+    record {
+      labels = block.labels;
+      least = law n one other (seeds_from source) block.labels same block.least;
+      hops = block.hops;
+      fewest = over.0;
+      parents = block.parents;
+      before = over.1;
+      written = block.written;
+    }
+
+blocks-over : LeastLabelsFollowTheArcs → HopsAndParentsFollowTheArcs
+    → (walks : Bool) (n : ℕ) (one other : List ArcRec) → HaveSameArcs one other
+    → (sources text : List ℕ) → AreSourceBlocks walks n one sources text
+    → AreSourceBlocks walks n other sources text
+blocks-over law walked walks n one other same [] text blocks = blocks
+blocks-over law walked walks n one other same (source ∷ sources) text blocks = (
+  blocks.0,
+  blocks.1,
+  block-over law walked walks n one other source blocks.0 same blocks.2,
+  blocks-over law walked walks n one other same sources blocks.1 blocks.3,
+  blocks.4,
+)
 
 -- the blocks of all sources, from those along the rows
-pub sources_answered : LeastLabelsFollowTheArcs
-    → (kind : Answer) (job : Content) (n : ℕ) (one : List ArcRec) (sources text : List ℕ)
+pub sources_answered : LeastLabelsFollowTheArcs → HopsAndParentsFollowTheArcs
+    → (kind : Answer) (walks : Bool) (job : Content) (n : ℕ) (one : List ArcRec) (sources text : List ℕ)
     → kind ≢ Components → job.question ≡ from_sources sources → n ≡ job.n
-    → HaveSameArcs one (arcs_for kind job.arcs) → AreSourceBlocks n one sources text
-    → IsAnswerText kind job text
-sources_answered law Distances job n one sources text other asked count same blocks =
-    subst (λ (question : Question). AreAskedBlocks job.n job.arcs question text) (sym asked)
-    (subst (λ (m : ℕ). AreSourceBlocks m job.arcs sources text) count
-    (blocks-over law n one job.arcs same sources text blocks))
-sources_answered law Levels job n one sources text other asked count same blocks =
-    subst (λ (question : Question). AreAskedBlocks job.n (unit_weights job.arcs) question text) (sym asked)
-    (subst (λ (m : ℕ). AreSourceBlocks m (unit_weights job.arcs) sources text) count
-    (blocks-over law n one (unit_weights job.arcs) same sources text blocks))
-sources_answered law Components job n one sources text other asked count same blocks = absurd (other refl)
+    → HaveSameArcs one (arcs_for kind job.arcs) → AreSourceBlocks walks n one sources text
+    → IsAnswerText kind walks job text
+sources_answered law walked Distances walks job n one sources text other asked count same blocks =
+    subst (λ (question : Question). AreAskedBlocks walks job.n job.arcs question text) (sym asked)
+    (subst (λ (m : ℕ). AreSourceBlocks walks m job.arcs sources text) count
+    (blocks-over law walked walks n one job.arcs same sources text blocks))
+sources_answered law walked Levels walks job n one sources text other asked count same blocks =
+    subst (λ (question : Question). AreAskedBlocks walks job.n (unit_weights job.arcs) question text) (sym asked)
+    (subst (λ (m : ℕ). AreSourceBlocks walks m (unit_weights job.arcs) sources text) count
+    (blocks-over law walked walks n one (unit_weights job.arcs) same sources text blocks))
+sources_answered law walked Components walks job n one sources text other asked count same blocks =
+    absurd (other refl)
 
 -- the component labels, from those along the rows
 pub components_least : LeastLabelsFollowTheArcs

@@ -1,5 +1,5 @@
 -- Blocks of sources, put one behind the other and written as they fill up.
-use Rattle.std.proofs.Common.{◌≡◌, ℕ, ◌+◌, ◌<◌, ◌≤◌, ◌^◌, List, [], ◌∷◌, ◌++◌, length, get_or, drop}
+use Rattle.std.proofs.Common.{◌≡◌, Bool, ℕ, ◌+◌, ◌<◌, ◌≤◌, ◌^◌, List, [], ◌∷◌, ◌++◌, length, get_or, drop}
 use Rattle.std.proofs.Common.{slice_index, suc, take, drop-cons, Option, refl, sym, subst, ap, ◌∙◌, append_assoc, arith}
 use Rattle.std.specs.List.{All}
 use Rattle.std.specs.Io.KnownBytes.{Appends}
@@ -7,20 +7,20 @@ use Rattle.std.proofs.lemmas.List.{append-nil, take_all, take_more}
 use Rattle.std.proofs.lemmas.List.Elements.{All-from_get_or}
 use Rattle.route_walks.specs.declared.graph.ArcRec.{ArcRec}
 use Rattle.dimacs_text.specs.Answers.{label_text, label_lines, component_text, component_lines}
-use Rattle.obim_query.specs.AnswerText.{IsSourceBlock, AreSourceBlocks}
-use Rattle.obim_query.specs.Bytes.{Waits, Writes}
+use Rattle.obim_query.specs.AnswerText.{IsBlock, AreSourceBlocks, vertex_text, vertex_lines}
+use Rattle.obim_query.specs.Bytes.{Waits, Writes, Puts}
 use Rattle.obim_query.proofs.Known.{appends-then, waits-put, waits-sent}
 
-pub blocks-push : (n : ℕ) (arcs : List ArcRec) (sources : List ℕ) (source : ℕ) (text block : List ℕ)
-    → AreSourceBlocks n arcs sources text → IsSourceBlock n arcs source block
-    → AreSourceBlocks n arcs (sources ++ source ∷ []) (text ++ block)
-blocks-push n arcs [] source text block blocks is_block =
+pub blocks-push : (walks : Bool) (n : ℕ) (arcs : List ArcRec) (sources : List ℕ) (source : ℕ) (text block : List ℕ)
+    → AreSourceBlocks walks n arcs sources text → IsBlock walks n arcs source block
+    → AreSourceBlocks walks n arcs (sources ++ source ∷ []) (text ++ block)
+blocks-push walks n arcs [] source text block blocks is_block =
     (block, [], is_block, refl, ap (λ (front : List ℕ). front ++ block) blocks ∙ sym (append-nil block))
-blocks-push n arcs (first ∷ sources) source text block blocks is_block = (
+blocks-push walks n arcs (first ∷ sources) source text block blocks is_block = (
   blocks.0,
   blocks.1 ++ block,
   blocks.2,
-  blocks-push n arcs sources source blocks.1 block blocks.3 is_block,
+  blocks-push walks n arcs sources source blocks.1 block blocks.3 is_block,
   ap (λ (front : List ℕ). front ++ block) blocks.4 ∙ append_assoc blocks.0 blocks.1 block,
 )
 
@@ -59,6 +59,16 @@ component_lines-next v labels below =
     ap (component_lines v) (drop-cons labels v 0 below)
     ∙ ap (λ (k : ℕ). component_text v (get_or labels v 0) ++ component_lines (v + 1) (drop k labels)) one
 
+pub vertex_lines-next : (hop parent : ℕ → ℕ) (v : ℕ) (labels : List ℕ)
+    → v < length labels
+    → vertex_lines hop parent v (drop v labels)
+    ≡ vertex_text hop parent v (get_or labels v 0) ++ vertex_lines hop parent (v + 1) (drop (v + 1) labels)
+vertex_lines-next hop parent v labels below =
+    let one : suc v ≡ v + 1 = omega arith in
+    ap (vertex_lines hop parent v) (drop-cons labels v 0 below)
+    ∙ ap (λ (k : ℕ). vertex_text hop parent v (get_or labels v 0) ++ vertex_lines hop parent (v + 1) (drop k labels))
+    one
+
 -- all lines are put
 pub all-put : (before after : Option (List ℕ)) (waiting whole : List ℕ)
     → IsPut before after waiting [] whole
@@ -67,39 +77,40 @@ all-put before after waiting whole put =
     subst (Waits before after waiting) (sym (append-nil put.text) ∙ put.is_whole) put.waits
 
 -- the blocks of the first sources were given, but for the bytes that wait
-pub record AreSent (n : ℕ) (arcs : List ArcRec) (sources : List ℕ) (count : ℕ)
+pub record AreSent (walks : Bool) (n : ℕ) (arcs : List ArcRec) (sources : List ℕ) (count : ℕ)
     (before after : Option (List ℕ)) (waiting : List ℕ) : Type 0 where
   pub text : List ℕ
   pub waits : Waits before after waiting text
-  pub blocks : AreSourceBlocks n arcs (take count sources) text
+  pub blocks : AreSourceBlocks walks n arcs (take count sources) text
 
 -- a block more is put, and some of what waits is given
-pub sent-more : (n : ℕ) (arcs : List ArcRec) (sources : List ℕ) (i : ℕ)
-    (before between after : Option (List ℕ)) (waiting block left : List ℕ)
-    → i < length sources → AreSent n arcs sources i before between waiting
-    → IsSourceBlock n arcs (get_or sources i 0) block → Waits between after left (waiting ++ block)
-    → AreSent n arcs sources (i + 1) before after left
-sent-more n arcs sources i before between after waiting block left here sent is_block written =
-    let blocks = blocks-push n arcs (take i sources) (get_or sources i 0) sent.text block sent.blocks is_block in
+pub sent-more : (walks : Bool) (n : ℕ) (arcs : List ArcRec) (sources : List ℕ) (i : ℕ)
+    (before between after : Option (List ℕ)) (waiting left : List ℕ)
+    → i < length sources → AreSent walks n arcs sources i before between waiting
+    → Puts (IsBlock walks n arcs (get_or sources i 0)) between after waiting left
+    → AreSent walks n arcs sources (i + 1) before after left
+sent-more walks n arcs sources i before between after waiting left here sent put =
+    let blocks =
+    blocks-push walks n arcs (take i sources) (get_or sources i 0) sent.text put.text sent.blocks put.is_text in
     record {
-      text = sent.text ++ block;
+      text = sent.text ++ put.text;
       waits =
-          waits-sent before between after (waiting ++ block) left (sent.text ++ block)
-          (waits-put before between waiting sent.text block sent.waits) written;
+          waits-sent before between after (waiting ++ put.text) left (sent.text ++ put.text)
+          (waits-put before between waiting sent.text put.text sent.waits) put.waits;
       blocks =
-          subst (λ (xs : List ℕ). AreSourceBlocks n arcs xs (sent.text ++ block))
+          subst (λ (xs : List ℕ). AreSourceBlocks walks n arcs xs (sent.text ++ put.text))
           (sym (take_more sources i 0 here)) blocks;
     }
 
 -- all was put, and what waits is given
-pub all-sent : (n : ℕ) (arcs : List ArcRec) (sources : List ℕ) (i : ℕ)
+pub all-sent : (walks : Bool) (n : ℕ) (arcs : List ArcRec) (sources : List ℕ) (i : ℕ)
     (before between after : Option (List ℕ)) (waiting : List ℕ)
-    → length sources ≤ i → AreSent n arcs sources i before between waiting → Appends between after waiting
-    → Writes (AreSourceBlocks n arcs sources) before after
-all-sent n arcs sources i before between after waiting past sent written =
+    → length sources ≤ i → AreSent walks n arcs sources i before between waiting → Appends between after waiting
+    → Writes (AreSourceBlocks walks n arcs sources) before after
+all-sent walks n arcs sources i before between after waiting past sent written =
     record {
       text = sent.text;
-      is_text = subst (λ (xs : List ℕ). AreSourceBlocks n arcs xs sent.text) (take_all i sources past) sent.blocks;
+      is_text = subst (λ (xs : List ℕ). AreSourceBlocks walks n arcs xs sent.text) (take_all i sources past) sent.blocks;
       appended =
           subst (Appends before after) (sym sent.waits.whole)
           (appends-then before between after sent.waits.given waiting sent.waits.appended written);

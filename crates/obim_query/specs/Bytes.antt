@@ -38,8 +38,9 @@ pub record Writes (IsText : List ℕ → Type 0) (before after : Option (List �
   pub is_text : IsText text
   pub appended : Appends before after text
 
--- the new bytes are the old ones and a text of this kind
-pub record Extends (IsText : List ℕ → Type 0) (old new : List ℕ) : Type 0 where
+-- a text of this kind was put after what waited, and some of it all was given
+pub record Puts (IsText : List ℕ → Type 0) (before after : Option (List ℕ)) (old new : List ℕ)
+    : Type 0 where
   pub text : List ℕ
   pub is_text : IsText text
-  pub appended : new ≡ old ++ text
+  pub waits : Waits before after new (old ++ text)

@@ -1,11 +1,18 @@
--- Which fault the program makes of one below it, and which status a fault has.
-use Rattle.std.specs.Prelude.{ℕ}
+-- What may be asked, which fault the program makes of one below it, and which status a fault has.
+use Rattle.std.specs.Prelude.{◌≡◌, ◌≢◌, ℕ, ◌^◌, ◌≤◌, Bool, true}
 use Rattle.dimacs_text.specs.declared.fault.TextFault.{TextFault}
 use Rattle.dimacs_text.specs.declared.fault.TextFault.TheVariants as refused
 use Rattle.obim_engine.specs.declared.runs.RunFault.{RunFault}
 use Rattle.obim_engine.specs.declared.runs.RunFault.TheVariants as stopped
+use Rattle.obim_query.specs.declared.asked.Answer.{Answer}
+use Rattle.obim_query.specs.declared.asked.Answer.TheVariants.{Components}
 use Rattle.obim_query.specs.declared.fault.Fault.{Fault}
 use Rattle.obim_query.specs.declared.fault.Fault.TheVariants as fault
+
+-- what may be asked: walks but of components, and a limit of at most 2^36 bytes
+pub record IsAsked (kind : Answer) (walks : Bool) (limit : ℕ) : Type 0 where
+  pub walked : walks ≡ true → kind ≢ Components
+  pub few : limit ≤ 2 ^ 36
 
 -- the exit status of the program after a fault
 abbrev pub status_of : Fault → ℕ

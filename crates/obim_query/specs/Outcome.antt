@@ -1,5 +1,5 @@
 -- What a run of the program has read and written, for each outcome.
-use Rattle.std.specs.Prelude.{◌≡◌, ◌≢◌, ◌≤◌, ℕ, List, length, Option, ⊤}
+use Rattle.std.specs.Prelude.{◌≡◌, ◌≢◌, ◌≤◌, ℕ, Bool, List, length, Option, ⊤}
 use Rattle.std.specs.Io.KnownBytes.{Keeps}
 use Rattle.dimacs_text.specs.declared.fault.LineKind.{LineKind}
 use Rattle.dimacs_text.specs.Jobs.{Content, absent, IsJobText, IsWithinLimits}
@@ -20,17 +20,17 @@ pub record IsRequest (limit : ℕ) (before after : Option (List ℕ)) (job : Con
   pub limits : IsWithinLimits job
 
 -- the whole text was taken, it is a job's, and the job's answer was written and nothing else
-pub record IsAnswered (limit : ℕ) (kind : Answer)
+pub record IsAnswered (limit : ℕ) (kind : Answer) (walks : Bool)
     (taken_from taken_to given_from given_to : Option (List ℕ)) : Type 0 where
   pub job : Content
   pub request : IsRequest limit taken_from taken_to job
-  pub reply : Writes (IsAnswerText kind job) given_from given_to
+  pub reply : Writes (IsAnswerText kind walks job) given_from given_to
 
 -- the text is a job's, and the bytes are the job's answer
-pub record IsAnswerOf (kind : Answer) (text bytes : List ℕ) : Type 0 where
+pub record IsAnswerOf (kind : Answer) (walks : Bool) (text bytes : List ℕ) : Type 0 where
   pub job : Content
   pub is_job : IsJobText text job
-  pub is_answer : IsAnswerText kind job bytes
+  pub is_answer : IsAnswerText kind walks job bytes
 
 -- the whole text was taken, and its first fault is this one
 pub record IsFaulty (before after : Option (List ℕ)) (line : ℕ) (kind : LineKind) : Type 0 where

@@ -1,4 +1,5 @@
-ghost use Rattle.std.specs.Prelude.{◌≡◌, ◌^◌, ◌≤◌, ◌↔◌, false, IsSome, IfSome};
+ghost use Rattle.std.specs.Prelude.{◌≡◌, ◌↔◌, IsSome, IfSome};
+ghost use Rattle.obim_query.specs.Choices.{IsAsked};
 
 use obim_engine::Settings;
 
@@ -23,26 +24,33 @@ pub struct Asked {
     pub answer: Answer,
     /// How to work them out.
     pub settings: Settings,
+    /// Whether a walk is written for each label that has one. Components have none.
+    pub walks: bool,
     /// How many bytes of text are read at most. A longer text is refused.
     pub limit: u64,
-    ghost within: { limit ≤ 2 ^ 36 },
+    ghost within: { IsAsked answer walks limit },
 }
 
 impl Asked {
-    /// What is asked, or `None` where walks are asked for, which no answer has yet, or where the limit
-    /// is above 2^36 bytes.
+    /// What is asked, or `None` where walks are asked for with components, or where the limit is above
+    /// 2^36 bytes.
     pub fn new(answer: Answer, settings: Settings, walks: bool, limit: u64) -> Option<Asked>
-        ensures within { IsSome result ↔ ((walks ≡ false) × (limit ≤ 2 ^ 36)) }
+        ensures within { IsSome result ↔ IsAsked answer walks limit }
         ensures answer { IfSome result (λ asked. asked.answer ≡ answer) }
         ensures settings { IfSome result (λ asked. asked.settings ≡ settings) }
+        ensures walks { IfSome result (λ asked. asked.walks ≡ walks) }
         ensures limit { IfSome result (λ asked. asked.limit ≡ limit) }
     {
-        if walks || limit > MOST_BYTES {
+        if limit > MOST_BYTES {
+            return None;
+        }
+        if walks && matches!(answer, Answer::Components) {
             return None;
         }
         Some(Asked {
             answer,
             settings,
+            walks,
             limit,
         })
     }

@@ -1,46 +1,63 @@
 //! The blocks of an answer, written in pieces as they grow.
 
-ghost use Rattle.std.specs.Prelude.{◌^◌, ◌<◌, ◌≤◌, ◌++◌, length, All, IfErr, OnOk};
+ghost use Rattle.std.specs.Prelude.{◌≡◌, ◌^◌, ◌<◌, ◌≤◌, ◌++◌, ◌↔◌, length, slice_index};
+ghost use Rattle.std.specs.Prelude.{All, IfErr, OnOk};
 ghost use Rattle.std.specs.Io.KnownBytes.{Appends};
 ghost use Rattle.dimacs_text.specs.Answers.{distances_text, components_text};
-ghost use Rattle.route_walks.specs.declared.graph.TheConstants.{INF};
-ghost use Rattle.obim_query.specs.AnswerText.{AreSourceBlocks};
-ghost use Rattle.obim_query.specs.Bytes.{Waits, Writes};
+ghost use Rattle.route_walks.specs.Label.{AreLeastLabels};
+ghost use Rattle.route_walks.specs.Problem.{seeds_from};
+ghost use Rattle.walk_report.specs.Parent.{LeadBack};
+ghost use Rattle.obim_query.specs.AnswerText.{AreSourceBlocks, IsBlock, vertex_text, walks_text};
+ghost use Rattle.obim_query.specs.AnswerText.{AreReached};
+ghost use Rattle.obim_query.specs.Bytes.{Waits, Writes, Puts};
 ghost use Rattle.obim_query.specs.Outcome.{IsWritingFault};
 
+use crate::asked::Asked;
 use crate::fault::Fault;
 use crate::outlet::write_bytes;
 use csr_graph::Csr;
-use dimacs_text::{put_component, put_label, put_source};
-use obim_engine::{Gate, Settings, distances};
+use dimacs_text::{put_component, put_label, put_source, put_walk};
+use obim_engine::{Gate, distances};
+use route_walks::{INF, Memory};
 use std::alloc::Global;
 use std::io::Write;
 use std::sync::Wait;
 use std::thread::Threads;
+use walk_report::{NONE, hops, parents, walk_to};
 
 /// So many bytes wait before they are written.
 const FULL: usize = 1 << 16;
 
-/// Writes the block of each source in turn: the least labels from it along the rows.
+/// Writes the block of each source in turn: the least labels from it along the rows, with their walks
+/// where they are asked for.
 pub fn write_sources<H: Threads + Wait + Sync, W: Write, G: Gate + Sync>(
     rt: &H,
     alloc: Global,
     writer: &mut W,
     csr: &Csr,
     sources: &[u32],
-    settings: &Settings,
+    asked: &Asked,
     gate: &G,
 ) -> Result<(), Fault>
     requires vertices { csr.now.n ≤ 2 ^ 28 }
     requires sources { All (λ source. source < csr.now.n) sources.now }
-    ensures blocks { OnOk result (Writes (AreSourceBlocks csr.now.n csr.now.arcs sources.now)
+    ensures blocks { OnOk result (Writes
+        (AreSourceBlocks asked.now.walks csr.now.n csr.now.arcs sources.now)
         (W.contents writer.old) (W.contents writer.new)) }
     ensures kinds { IfErr result IsWritingFault }
 {
     let mut waiting = Vec::new(alloc);
     for source in sources {
-        let labels = distances(rt, alloc, csr, *source, settings, gate)?;
-        put_block(writer, &mut waiting, *source, &labels)?;
+        let labels = distances(rt, alloc, csr, *source, &asked.settings, gate)?;
+        put_block(
+            alloc,
+            writer,
+            &mut waiting,
+            csr,
+            asked.walks,
+            *source,
+            &labels,
+        )?;
     }
     finish(writer, &waiting)
 }
@@ -67,6 +84,32 @@ pub fn write_components<W: Write>(
 
 /// Puts the block of a source after what waits, and writes what is full of it.
 fn put_block<W: Write>(
+    alloc: Global,
+    writer: &mut W,
+    waiting: &mut Vec<u8>,
+    csr: &Csr,
+    walks: bool,
+    source: u32,
+    labels: &[u64],
+) -> Result<(), Fault>
+    requires vertices { csr.now.n ≤ 2 ^ 28 }
+    requires source { source < csr.now.n }
+    requires least { AreLeastLabels csr.now.n csr.now.arcs (seeds_from source) labels.now }
+    ensures block { OnOk result (Puts (IsBlock walks csr.now.n csr.now.arcs source)
+        (W.contents writer.old) (W.contents writer.new) waiting.old.items waiting.new.items) }
+    ensures kinds { IfErr result IsWritingFault }
+{
+    if walks {
+        let hops = hops(alloc, csr, labels, source)?;
+        let parents = parents(alloc, csr, labels, &hops)?;
+        put_walks(alloc, writer, waiting, source, labels, &hops, &parents)
+    } else {
+        put_labels(writer, waiting, source, labels)
+    }
+}
+
+/// Puts the line of a source and those of the labels from it.
+fn put_labels<W: Write>(
     writer: &mut W,
     waiting: &mut Vec<u8>,
     source: u32,
@@ -84,6 +127,57 @@ fn put_block<W: Write>(
         send_if_full(writer, waiting)?;
     }
     Ok(())
+}
+
+/// Puts the line of a source and those of the labels from it, each with its walk.
+fn put_walks<W: Write>(
+    alloc: Global,
+    writer: &mut W,
+    waiting: &mut Vec<u8>,
+    source: u32,
+    labels: &[u64],
+    hops: &[u32],
+    parents: &[u32],
+) -> Result<(), Fault>
+    requires source { source < 2 ^ 28 }
+    requires vertices { length hops.now ≤ 2 ^ 28 }
+    requires count { length labels.now ≡ length hops.now }
+    requires back { LeadBack hops.now parents.now }
+    requires reached { AreReached labels.now hops.now }
+    ensures sent { OnOk result (Waits (W.contents writer.old) (W.contents writer.new)
+        waiting.new.items (waiting.old.items
+        ++ walks_text source (slice_index hops.now) (slice_index parents.now) labels.now)) }
+    ensures kinds { IfErr result IsWritingFault }
+{
+    put_source(waiting, source)?;
+    for (v, label) in labels.iter().enumerate() {
+        put_vertex(alloc, waiting, v as u32, *label, hops, parents)?;
+        send_if_full(writer, waiting)?;
+    }
+    Ok(())
+}
+
+/// Puts the line of a vertex and, where a walk leads to it, the line of the walk.
+fn put_vertex(
+    alloc: Global,
+    waiting: &mut Vec<u8>,
+    v: u32,
+    label: u64,
+    hops: &[u32],
+    parents: &[u32],
+) -> Result<(), Memory>
+    requires vertex { v < length hops.now }
+    requires vertices { length hops.now ≤ 2 ^ 28 }
+    requires back { LeadBack hops.now parents.now }
+    requires reached { (label ≡ INF) ↔ (slice_index hops.now v ≡ NONE) }
+    ensures put { OnOk result (waiting.new.items ≡ waiting.old.items
+        ++ vertex_text (slice_index hops.now) (slice_index parents.now) v label) }
+{
+    put_label(waiting, v, label)?;
+    match walk_to(alloc, hops, parents, v)? {
+        None => Ok(()),
+        Some(walk) => put_walk(waiting, label, &walk),
+    }
 }
 
 /// Writes what waits where it is much.

@@ -1,7 +1,7 @@
 //! What the command line asks for.
 
 use crate::asked::{Answer, Asked, MOST_BYTES};
-use clap::{Arg, ArgMatches, Command, Error, value_parser};
+use clap::{Arg, ArgAction, ArgMatches, Command, Error, value_parser};
 use obim_engine::{MAX_CHUNK, MAX_SHIFT, MAX_WORKERS, Settings};
 use std::alloc::Global;
 
@@ -21,7 +21,8 @@ count from 1.
   s V                the source V
 
 For each source the answer has the line `s V`, and for each vertex a line
-`d V COST`, with `inf` where no walk leads. For components it has for each vertex
+`d V COST`, with `inf` where no walk leads. With --walks a line `w V COST U .. V`
+follows where one leads: its vertices in order. For components it has for each vertex
 `k V LABEL`: the least vertex that arcs join to V, whichever way they point.
 
 Example:
@@ -30,15 +31,35 @@ Example:
   d 1 0
   d 2 7";
 
-/// Judges the words of the command line: what they ask for, or clap's text of what is wrong with them,
-/// which may be the help that they ask for. `None` where the settings are outside their limits.
-pub fn asked_by<'a>(alloc: Global, words: &'a [String]) -> Result<Option<Asked>, Error> {
+/// Why a command line is refused.
+#[derive(Drop)]
+pub enum Refusal {
+    /// clap's text of what is wrong with it, which may be the help that it asks for.
+    Clap(Error),
+    /// A setting is outside its limits.
+    Limits,
+    /// Walks are asked for with components, which have none.
+    Walks,
+}
+
+impl From<Error> for Refusal {
+    fn from(error: Error) -> Refusal {
+        Refusal::Clap(error)
+    }
+}
+
+/// Judges the words of the command line: what they ask for, or why they are refused.
+pub fn asked_by<'a>(alloc: Global, words: &'a [String]) -> Result<Asked, Refusal> {
     let limits = Limits::new(alloc)?;
     let matches = command(alloc, &limits)?.try_get_matches_from(words)?;
     let Some(settings) = settings_in(&matches) else {
-        return Ok(None);
+        return Err(Refusal::Limits);
     };
-    Ok(Asked::new(answer_in(&matches), settings, false, MOST_BYTES))
+    let walks = matches.get_flag("walks");
+    match Asked::new(answer_in(&matches), settings, walks, MOST_BYTES) {
+        Some(asked) => Ok(asked),
+        None => Err(Refusal::Walks),
+    }
 }
 
 /// What the help says of each setting.
@@ -88,10 +109,15 @@ fn command<'a>(alloc: Global, limits: &'a Limits) -> Result<Command<'a>, Error> 
         .value_parser(value_parser!(usize).range(1..=MAX_CHUNK as i64))
         .default_value("16")
         .help(&limits.chunk);
+    let walks = Arg::new(alloc, "walks")
+        .long("walks")
+        .action(ArgAction::SetTrue)
+        .help("Print a walk for each cost: of fewest arcs, along least tails");
     let command = Command::new(alloc, "obim_query")
         .about(ABOUT)
         .after_help(JOBS)
         .arg(answer)?
+        .arg(walks)?
         .arg(workers)?
         .arg(shift)?
         .arg(chunk)?;

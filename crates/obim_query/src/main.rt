@@ -4,8 +4,9 @@
 //! of `reply::answer` says of any reader and writer that the bytes written are exactly those that the
 //! least labels of the job make, and what was read and written at each fault.
 //!
-//! It stands on `dimacs_text`, which reads job texts and writes labels, and on `route_walks`, which says
-//! what least labels are and computes them plainly.
+//! It stands on `dimacs_text`, which reads job texts and writes labels, on `csr_graph` for the rows, on
+//! `obim_engine`, whose workers give the labels, and on `route_walks`, which says what least labels are;
+//! on `clap` for the command line and on `thiserror` for the texts of faults.
 #![tactic(auto)]
 
 mod asked;
@@ -21,7 +22,7 @@ mod reply;
 mod tests;
 
 use asked::Asked;
-use command_line::asked_by;
+use command_line::{Refusal, asked_by};
 use fault::{Fault, status};
 use obim_engine::OpenGate;
 use reply::answer;
@@ -55,9 +56,10 @@ fn judged<H: AllocGlobal + Env + Print + Eprint>(rt: &H) -> Result<Asked, u8> {
         Err(_) => return Err(fail(rt, Fault::Memory)),
     };
     match asked_by(rt.alloc(), &words) {
-        Ok(Some(asked)) => Ok(asked),
-        Ok(None) => Err(complain(rt, "a setting is outside its limits", USAGE)),
-        Err(error) => Err(shown(rt, &error)),
+        Ok(asked) => Ok(asked),
+        Err(Refusal::Clap(error)) => Err(shown(rt, &error)),
+        Err(Refusal::Limits) => Err(complain(rt, "a setting is outside its limits", USAGE)),
+        Err(Refusal::Walks) => Err(complain(rt, "--walks needs distances or levels", USAGE)),
     }
 }
 

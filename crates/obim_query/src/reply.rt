@@ -19,6 +19,7 @@ use std::alloc::Global;
 use std::io::{Read, Write};
 use std::sync::Wait;
 use std::thread::Threads;
+use walk_report::laws::hops_and_parents_follow_the_arcs;
 
 /// Reads a job text to its end and writes its answer: exactly the bytes that the least labels of the
 /// job make, whatever the settings and the gate are. A fault of the text is found before anything is
@@ -32,7 +33,7 @@ pub fn answer<H: Threads + Wait + Sync, R: Read, W: Write, G: Gate + Sync>(
     gate: &G,
 ) -> Result<(), Fault>
     // The whole text was read, it is a job's, and exactly its answer was written.
-    ensures answered { OnOk result (IsAnswered asked.now.limit asked.now.answer
+    ensures answered { OnOk result (IsAnswered asked.now.limit asked.now.answer asked.now.walks
         (R.remaining reader.old) (R.remaining reader.new)
         (W.contents writer.old) (W.contents writer.new)) }
     // At most the limit was read, and one byte more only where the text is too long.
@@ -57,7 +58,7 @@ pub fn answer_bytes<H: Threads + Wait + Sync, G: Gate + Sync>(
     asked: &Asked,
     gate: &G,
 ) -> Result<Vec<u8>, Fault>
-    ensures { IfOk result (λ bytes. IsAnswerOf asked.now.answer text.now bytes.items) }
+    ensures { IfOk result (λ bytes. IsAnswerOf asked.now.answer asked.now.walks text.now bytes.items) }
 {
     let mut reader = text;
     let mut bytes = Vec::new(alloc);
@@ -89,14 +90,15 @@ fn respond<H: Threads + Wait + Sync, W: Write, G: Gate + Sync>(
     gate: &G,
 ) -> Result<(), Fault>
     requires { IsWithinLimits (content_of job) }
-    ensures reply { OnOk result (Writes (IsAnswerText asked.now.answer (content_of job))
+    ensures reply { OnOk result (Writes (IsAnswerText asked.now.answer asked.now.walks (content_of job))
         (W.contents writer.old) (W.contents writer.new)) }
     ensures says { IfErr result (IsReplyFault asked.now.answer (content_of job)
         (W.contents writer.old) (W.contents writer.new)) }
 {
     let Job { n, arcs, ask } = job;
-    // What is least in the rows is least for the arcs that they were built of.
+    // What is least in the rows is least for the arcs that they were built of, and so are its walks.
     least_labels_follow_the_arcs();
+    hops_and_parents_follow_the_arcs();
     match (asked.answer, ask) {
         (Answer::Components, _) => {
             let csr = rows_for(alloc, Answer::Components, n, arcs)?;
@@ -109,7 +111,7 @@ fn respond<H: Threads + Wait + Sync, W: Write, G: Gate + Sync>(
         (_, Ask::Absent) => Err(Fault::NoAsk),
         (answer, Ask::Sources(sources)) => {
             let csr = rows_for(alloc, answer, n, arcs)?;
-            write_sources(rt, alloc, writer, &csr, &sources, &asked.settings, gate)
+            write_sources(rt, alloc, writer, &csr, &sources, asked, gate)
         }
     }
 }

@@ -132,6 +132,21 @@ fn settings_change_no_answer(rt: HostRuntime) -> Result<(), Fail> {
     Ok(())
 }
 
+// A walk of fewest arcs beside each label, along least tails.
+#[test]
+fn answers_with_walks(rt: HostRuntime) -> Result<(), Fail> {
+    let walks: &[u8] = b"s 1\nd 1 0\nw 1 0 1\nd 2 10\nw 2 10 1 3 5 2\nd 3 10\nw 3 10 1 3\nd 4 12\n\
+        w 4 12 1 3 5 2 4\nd 5 10\nw 5 10 1 3 5\nd 6 15\nw 6 15 1 3 5 2 4 6\n";
+    let settings = Settings::new(2, 4, 16).expect(&rt, "settings within their limits");
+    let asked = Asked::new(Answer::Distances, settings, true, 1000).expect(
+        &rt,
+        "walks of distances",
+    );
+    let bytes = answer_bytes(&rt, rt.alloc(), SIX, &asked, &OpenGate)?;
+    assert_eq!(rt; bytes.as_slice(), walks);
+    Ok(())
+}
+
 // One worker visits the vertices in the order of their distance.
 #[test]
 fn visits_of_one_worker(rt: HostRuntime) -> Result<(), Fail> {
@@ -273,7 +288,9 @@ fn writers_that_fail_or_take_little(rt: HostRuntime) -> Result<(), Fail> {
 #[test]
 fn limits_and_statuses(rt: HostRuntime) {
     let settings = Settings::new(1, 0, 1).expect(&rt, "settings within their limits");
-    assert!(rt; Asked::new(Answer::Levels, settings, true, 0).is_none());
+    assert!(rt; Asked::new(Answer::Levels, settings, true, 0).is_some());
+    assert!(rt; Asked::new(Answer::Components, settings, true, 0).is_none());
+    assert!(rt; Asked::new(Answer::Components, settings, false, 0).is_some());
     assert!(rt; Asked::new(Answer::Levels, settings, false, 1 << 36).is_some());
     assert!(rt; Asked::new(Answer::Levels, settings, false, (1 << 36) + 1).is_none());
     let text = Fault::Text {

@@ -21,14 +21,14 @@ pub attained-start : (arcs : List ArcRec) (seeds : List Seed) (seed : Seed)
 attained-start arcs seeds seed within =
     record { seed = seed; walk = []; seeded = within; walks = refl; costs = omega arith }
 
-walk-push : (arcs : List ArcRec) (u v : ℕ) (walk : List ArcRec) (arc : ArcRec)
+pub walk-push : (arcs : List ArcRec) (u v : ℕ) (walk : List ArcRec) (arc : ArcRec)
     → IsWalk arcs u walk v → Contains arcs arc → arc.tail ≡ v
     → IsWalk arcs u (walk ++ arc ∷ []) arc.head
 walk-push arcs u v [] arc walks within leaves = (within, leaves ∙ sym walks, refl)
 walk-push arcs u v (first ∷ walk) arc walks within leaves =
     (walks.0, walks.1, walk-push arcs first.head v walk arc walks.2 within leaves)
 
-cost-push : (walk : List ArcRec) (arc : ArcRec) → cost (walk ++ arc ∷ []) ≡ cost walk + arc.weight
+pub cost-push : (walk : List ArcRec) (arc : ArcRec) → cost (walk ++ arc ∷ []) ≡ cost walk + arc.weight
 cost-push [] arc = omega arith
 cost-push (first ∷ walk) arc = omega (arith, cost-push walk arc)
 

@@ -2,7 +2,7 @@ use Rattle.std.proofs.Common.{◌+◌, ◌++◌, drop, get_or, subst}
 use Rattle.dimacs_text.specs.Answers.{label_text, label_lines, distances_text}
 use Rattle.obim_query.specs.Bytes.{Waits}
 use Rattle.obim_query.proofs.Sending.{put-more, label_lines-next}
-use Rattle.obim_query.proofs.blocks.put_block.Goals as goal
+use Rattle.obim_query.proofs.blocks.put_labels.Goals as goal
 
 pub loop-v-preserved : goal.loop-v-preserved
 loop-v-preserved g c =

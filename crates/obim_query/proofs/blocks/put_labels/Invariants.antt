@@ -1,7 +1,7 @@
 use Rattle.std.proofs.Common.{◌++◌, drop}
 use Rattle.dimacs_text.specs.Answers.{label_lines, distances_text}
 use Rattle.obim_query.proofs.Sending.{IsPut}
-use Rattle.obim_query.proofs.blocks.put_block.Given as goal
+use Rattle.obim_query.proofs.blocks.put_labels.Given as goal
 
 abbrev pub invariant-loop-v : goal.invariant-loop-v
 invariant-loop-v g l =

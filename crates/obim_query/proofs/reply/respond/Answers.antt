@@ -42,7 +42,7 @@ returns-in_ok-labels-in-Components-default-clause-reply g c =
     (λ written. record {
       text = components_text labels;
       is_text =
-          subst (λ (kind : Answer). IsAnswerText kind (content_of job) (components_text labels))
+          subst (λ (kind : Answer). IsAnswerText kind c.args.asked.now.walks (content_of job) (components_text labels))
           (sym c.in-Components-default.is-0)
           (record { labels = labels; least = least; written = refl });
       appended =
@@ -58,11 +58,11 @@ returns-in_ok-csr-in_default-Sources-clause-reply g c =
     (λ written. record {
       text = written.text;
       is_text =
-          sources_answered c.least_labels_follow_the_arcs.ensures c.args.asked.now.answer (content_of c.args.job) csr.n
-          csr.arcs c.in_default-Sources.sources.items written.text c.in_default-Sources.not-Components-0
+          sources_answered c.least_labels_follow_the_arcs.ensures c.hops_and_parents_follow_the_arcs.ensures
+          c.args.asked.now.answer c.args.asked.now.walks (content_of c.args.job) csr.n csr.arcs c.in_default-Sources.sources.items written.text c.in_default-Sources.not-Components-0
           (ap question_of c.in_default-Sources.is-1)
           c.in_ok-csr-in_default-Sources.ensures.vertices c.in_ok-csr-in_default-Sources.ensures.arcs
-          (subst (λ (sources : List ℕ). AreSourceBlocks csr.n csr.arcs sources written.text)
+          (subst (λ (sources : List ℕ). AreSourceBlocks c.args.asked.now.walks csr.n csr.arcs sources written.text)
           c.deref-in_default-Sources.ensures.value written.is_text);
       appended = written.appended;
     })

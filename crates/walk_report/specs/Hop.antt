@@ -1,0 +1,37 @@
+-- Hops: the fewest arcs of a least walk. Labels and hops are read as functions from the vertex where
+-- one is named, and as lists by vertex where they are kept.
+use Rattle.std.specs.Prelude.{◌≡◌, ℕ, ◌<◌, ◌≤◌, List, length, slice_index}
+use Rattle.route_walks.specs.declared.graph.ArcRec.{ArcRec}
+use Rattle.route_walks.specs.declared.graph.TheConstants.{INF}
+use Rattle.route_walks.specs.Walk.{IsWalk, cost}
+use Rattle.route_walks.specs.Label.{AreLeastLabels}
+use Rattle.route_walks.specs.Problem.{seeds_from}
+use Rattle.walk_report.specs.declared.hop.TheConstants.{NONE}
+
+-- some walk from s to v costs d and has h arcs
+pub record HasWalk (arcs : List ArcRec) (s v d h : ℕ) : Type 0 where
+  pub walk : List ArcRec
+  pub walks : IsWalk arcs s walk v
+  pub costs : cost walk ≡ d
+  pub count : length walk ≡ h
+
+-- h is the hop of v, whose least label is d: some walk from s to v of cost d has h arcs, and none of
+-- that cost has fewer
+pub record IsHop (arcs : List ArcRec) (s v d h : ℕ) : Type 0 where
+  pub walk : HasWalk arcs s v d h
+  pub fewest : (walk : List ArcRec) → IsWalk arcs s walk v → cost walk ≡ d → h ≤ length walk
+
+-- a list of the hops of n vertices from s, with NONE where no walk ends
+pub record AreHops (n : ℕ) (arcs : List ArcRec) (s : ℕ) (labels hops : List ℕ) : Type 0 where
+  pub count : length hops ≡ n
+  pub none : (v : ℕ) → v < n → slice_index labels v ≡ INF → slice_index hops v ≡ NONE
+  pub below : (v : ℕ) → v < n → slice_index labels v < INF → slice_index hops v < NONE
+  pub hop : (v : ℕ) → v < n → slice_index labels v < INF
+      → IsHop arcs s v (slice_index labels v) (slice_index hops v)
+
+-- labels and hops are those from one source
+pub record AreFromOneSource (n : ℕ) (arcs : List ArcRec) (labels hops : List ℕ) : Type 0 where
+  pub source : ℕ
+  pub within : source < n
+  pub least : AreLeastLabels n arcs (seeds_from source) labels
+  pub exact : AreHops n arcs source labels hops

@@ -1,0 +1,4 @@
+pub mod Hop
+pub mod Parent
+pub mod Printed
+pub mod Search

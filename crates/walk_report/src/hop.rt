@@ -1,0 +1,85 @@
+//! Hops, by breadth-first search along tight arcs: those that give their head its least label.
+
+ghost use Rattle.std.specs.Prelude.{◌≡◌, ◌+◌, ◌<◌, ◌↔◌, length, slice_index, IsTrue, IfOk, OnOk};
+ghost use Rattle.route_walks.specs.Label.{AreLeastLabels};
+ghost use Rattle.route_walks.specs.Problem.{seeds_from};
+ghost use Rattle.walk_report.specs.Hop.{AreHops, AreFromOneSource};
+ghost use Rattle.walk_report.specs.Search.{IsTight, IsVisited, IsSearch};
+
+use csr_graph::{Csr, Target};
+use route_walks::{ArcRec, INF, Memory};
+use std::alloc::Global;
+
+/// Stands for the hop of a vertex that no walk reaches, and for the parent of a vertex that has none.
+pub const NONE: u32 = u32::MAX;
+
+/// The hop of each vertex from `s`: the fewest arcs of a walk that costs the vertex's least label.
+/// Takes time in proportion to vertices and arcs, and four bytes a vertex besides the answer.
+pub fn hops(alloc: Global, csr: &Csr, labels: &[u64], s: u32) -> Result<Vec<u32>, Memory>
+    requires source { s < csr.now.n }
+    requires least { AreLeastLabels csr.now.n csr.now.arcs (seeds_from s) labels.now }
+    ensures exact { IfOk result
+        (λ hops. AreHops csr.now.n csr.now.arcs s labels.now hops.items) }
+    ensures from_one_source { IfOk result
+        (λ hops. AreFromOneSource csr.now.n csr.now.arcs labels.now hops.items) }
+{
+    let n = csr.n() as usize;
+    let mut hops = vec![in alloc; NONE; n]?;
+    let mut queue = Vec::with_capacity(alloc, n)?;
+    hops[s as usize] = 0;
+    queue.push(s)?;
+    let mut next = 0;
+    while next < queue.len() {
+        visit(csr, labels, next, &mut hops, &mut queue)?;
+        next += 1;
+    }
+    Ok(hops)
+}
+
+/// Gives a hop to each vertex that has none and that a tight arc joins to the vertex at the place
+/// `next` of the queue, and puts it into the queue.
+fn visit(
+    csr: &Csr,
+    labels: &[u64],
+    next: usize,
+    hops: &mut [u32],
+    queue: &mut Vec<u32>,
+) -> Result<(), Memory>
+    requires labels { length labels.now ≡ csr.now.n }
+    requires place { next < length queue.old.items }
+    requires search { IsSearch csr.now.n csr.now.arcs (slice_index labels.now) hops.old
+        queue.old.items next }
+    ensures search { OnOk result (IsSearch csr.now.n csr.now.arcs (slice_index labels.now)
+        hops.new queue.new.items next) }
+    ensures visited { OnOk result (IsVisited csr.now.arcs (slice_index labels.now)
+        (slice_index hops.new) (slice_index queue.new.items next)) }
+    ensures source { OnOk result (slice_index queue.new.items 0 ≡ slice_index queue.old.items 0) }
+    ensures longer { OnOk result (next < length queue.new.items) }
+{
+    let u = queue[next];
+    let (first, end) = (csr.first(u), csr.end(u));
+    let hop = hops[u as usize] + 1;
+    for k in first..end {
+        let Target { head, weight } = csr.target(k);
+        let arc = ArcRec {
+            tail: u,
+            head,
+            weight,
+        };
+        if hops[head as usize] == NONE && is_tight(labels, &arc) {
+            hops[head as usize] = hop;
+            queue.push(head)?;
+        }
+    }
+    Ok(())
+}
+
+/// Whether going along the arc gives its head's label, which is not `INF`.
+fn is_tight(labels: &[u64], arc: &ArcRec) -> bool
+    requires tail { arc.now.tail < length labels.now }
+    requires head { arc.now.head < length labels.now }
+    ensures { IsTrue result ↔ IsTight (slice_index labels.now) arc.now }
+{
+    let reached = labels[arc.tail as usize].saturating_add(u64::from(arc.weight));
+    reached != INF && reached == labels[arc.head as usize]
+}

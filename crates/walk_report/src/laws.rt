@@ -1,0 +1,22 @@
+//! What a printed walk is, and what hops and parents depend on. These functions do nothing: their
+//! contracts are the laws.
+
+ghost use Rattle.walk_report.specs.Parent.{HopsAndParentsFollowTheArcs, HopsAndParentsAreUnique};
+ghost use Rattle.walk_report.specs.Printed.{PrintedWalksAreWalks};
+
+/// The vertices of a printed walk are those of a walk from the source, whose cost is the least label
+/// and whose number of arcs is the hop.
+pub fn printed_walks_are_walks()
+    ensures { PrintedWalksAreWalks }
+{}
+
+/// Neither the order of the arcs nor how often one stands in the list counts for hops and parents.
+pub fn hops_and_parents_follow_the_arcs()
+    ensures { HopsAndParentsFollowTheArcs }
+{}
+
+/// Arcs, source and least labels decide each hop and each parent, so two programs that print walks by
+/// them print the same ones.
+pub fn hops_and_parents_are_unique()
+    ensures { HopsAndParentsAreUnique }
+{}

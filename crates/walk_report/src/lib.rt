@@ -1,0 +1,23 @@
+//! By which walk?
+//!
+//! Where the least label of a vertex is known, some walk attains it; this crate tells which one to
+//! print. The hop of a vertex is the fewest arcs of such a walk, and its parent the least vertex
+//! from which an arc leads to it, along least labels and from one hop nearer. So parents lead back
+//! to the source, also round circles of arcs that cost nothing. `hops`, `parents` and `walk_to`
+//! compute them. The laws say that what `walk_to` answers is a walk, and that arcs, source and least
+//! labels decide it.
+//!
+//! Stands on `csr_graph` for the rows, and on `route_walks` for walks and least labels.
+#![tactic(auto)]
+
+mod hop;
+pub mod laws;
+mod parent;
+mod printed;
+
+pub use hop::{NONE, hops};
+pub use parent::parents;
+pub use printed::walk_to;
+
+#[cfg(test)]
+mod tests;

@@ -1,0 +1,59 @@
+//! Parents, by one pass over the arcs by rising tail: so the first tail that leads to a vertex is the
+//! least.
+
+ghost use Rattle.std.specs.Prelude.{◌≡◌, ◌+◌, ◌<◌, ◌↔◌, length, slice_index, take, IsTrue, IfOk};
+ghost use Rattle.csr_graph.specs.Graph.{first_place, end_place};
+ghost use Rattle.walk_report.specs.Hop.{AreFromOneSource};
+ghost use Rattle.walk_report.specs.Parent.{AreParents, LeadBack, IsLeading, AreFirstTails};
+
+use crate::hop::NONE;
+use csr_graph::{Csr, Target};
+use route_walks::{ArcRec, Memory};
+use std::alloc::Global;
+
+/// The parent of each vertex: the least vertex from which an arc leads to it along least labels and
+/// from one hop nearer. A least label alone would not do: arcs that cost nothing can form a circle.
+/// Takes time in proportion to vertices and arcs.
+pub fn parents(alloc: Global, csr: &Csr, labels: &[u64], hops: &[u32]) -> Result<Vec<u32>, Memory>
+    requires { AreFromOneSource csr.now.n csr.now.arcs labels.now hops.now }
+    ensures exact { IfOk result
+        (λ parents. AreParents csr.now.n csr.now.arcs labels.now hops.now parents.items) }
+    ensures back { IfOk result (λ parents. LeadBack hops.now parents.items) }
+{
+    let n = csr.n();
+    let mut parents = vec![in alloc; NONE; n as usize]?;
+    for tail in 0..n {
+        lead_from(csr, labels, hops, tail, &mut parents);
+    }
+    Ok(parents)
+}
+
+/// Makes `tail` the parent of each vertex to which it leads and that has none yet.
+fn lead_from(csr: &Csr, labels: &[u64], hops: &[u32], tail: u32, parents: &mut [u32])
+    requires vertex { tail < csr.now.n }
+    requires labels { length labels.now ≡ csr.now.n }
+    requires hops { length hops.now ≡ csr.now.n }
+    requires before { AreFirstTails csr.now.n (take (first_place csr.now.arcs tail) csr.now.arcs)
+        (slice_index labels.now) (slice_index hops.now) parents.old }
+    ensures { AreFirstTails csr.now.n (take (end_place csr.now.arcs tail) csr.now.arcs)
+        (slice_index labels.now) (slice_index hops.now) parents.new }
+{
+    for k in csr.first(tail)..csr.end(tail) {
+        let Target { head, weight } = csr.target(k);
+        let arc = ArcRec { tail, head, weight };
+        if parents[head as usize] == NONE && is_leading(labels, hops, &arc) {
+            parents[head as usize] = tail;
+        }
+    }
+}
+
+/// Whether the arc joins the labels of its ends, and its tail is one hop nearer than its head.
+fn is_leading(labels: &[u64], hops: &[u32], arc: &ArcRec) -> bool
+    requires tail { (arc.now.tail < length labels.now) × (arc.now.tail < length hops.now) }
+    requires head { (arc.now.head < length labels.now) × (arc.now.head < length hops.now) }
+    ensures { IsTrue result ↔ IsLeading (slice_index labels.now) (slice_index hops.now) arc.now }
+{
+    let (tail, head) = (arc.tail as usize, arc.head as usize);
+    labels[tail].checked_add(u64::from(arc.weight)) == Some(labels[head])
+        && hops[tail].checked_add(1) == Some(hops[head])
+}
