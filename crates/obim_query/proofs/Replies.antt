@@ -1,6 +1,6 @@
 -- Labels and blocks that are right along the rows are right along the job's arcs, of which the rows were
 -- built.
-use Rattle.std.proofs.Common.{◌≡◌, ◌≢◌, Bool, true, false, ℕ, ◌<◌, ◌^◌, List, [], ◌∷◌, length, slice_index, refl, subst, sym, arith}
+use Rattle.std.proofs.Common.{◌≡◌, ◌≢◌, Bool, true, false, ℕ, ◌<◌, ◌^◌, List, [], ◌∷◌, slice_index, refl, subst, sym, arith}
 use Rattle.std.specs.List.{All}
 use Rattle.std.proofs.lemmas.List.Elements.{All-from_get_or}
 use Rattle.route_walks.specs.declared.graph.ArcRec.{ArcRec}

@@ -1,5 +1,5 @@
 -- Least labels are unique, so a job has only one answer text of a kind.
-use Rattle.std.proofs.Common.{◌≡◌, Bool, true, false, ℕ, ◌<◌, List, [], ◌∷◌, ◌++◌, length, get_or, slice_index, subst, sym, ap, ◌∙◌, arith}
+use Rattle.std.proofs.Common.{◌≡◌, Bool, true, false, ℕ, ◌<◌, List, [], ◌∷◌, ◌++◌, get_or, slice_index, subst, sym, ap, ◌∙◌, arith}
 use Rattle.std.proofs.lemmas.Grind.{same_number_lists}
 use Rattle.route_walks.specs.declared.graph.ArcRec.{ArcRec}
 use Rattle.route_walks.specs.declared.graph.Seed.{Seed}
@@ -12,7 +12,7 @@ use Rattle.dimacs_text.specs.Jobs.{Content, Question, absent, from_sources}
 use Rattle.obim_query.specs.declared.asked.Answer.{Answer}
 use Rattle.obim_query.specs.declared.asked.Answer.TheVariants.{Distances, Levels, Components}
 use Rattle.obim_query.specs.AnswerText.{IsBlock, AreSourceBlocks, walks_text}
-use Rattle.obim_query.specs.AnswerText.{AreAskedBlocks, IsComponentsBlock, IsAnswerText}
+use Rattle.obim_query.specs.AnswerText.{AreAskedBlocks, IsAnswerText}
 
 labels-same : LeastLabelsAreUnique
     → (n : ℕ) (arcs : List ArcRec) (seeds : List Seed) (xs ys : List ℕ) → AreLeastLabels n arcs seeds xs

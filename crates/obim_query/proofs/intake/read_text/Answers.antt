@@ -1,4 +1,4 @@
-use Rattle.std.proofs.Common.{ℕ, ◌+◌, ◌≡◌, ◌++◌, length, take, arith}
+use Rattle.std.proofs.Common.{ℕ, ◌++◌, take, arith}
 use Rattle.std.proofs.lemmas.List.{length-append, length-take, length-take-le, length-drop}
 use Rattle.std.proofs.lemmas.Result.{err_from_is_err_and}
 use Rattle.obim_query.proofs.Known.{consumes-then}
