@@ -1,6 +1,6 @@
 //! The same job in plain Rust, to compare with: reads all, parses by bytes, builds rows by counting
-//! sort, finds distances by Dijkstra with a binary heap, and formats into one buffer. It stops at the
-//! first line that is wrong, with less care for which fault it is.
+//! sort, finds distances by Dijkstra with a binary heap, and formats into one buffer. With --walks it
+//! prints walks of fewest arcs along least tails too, in pieces. It stops at the first line that is wrong, with less care for which fault it is.
 
 use std::cmp::Reverse;
 use std::collections::BinaryHeap;
@@ -170,7 +170,85 @@ fn put_block(out: &mut Vec<u8>, source: u32, labels: &[u64]) {
     }
 }
 
+const NONE: u32 = u32::MAX;
+
+/// The fewest arcs of a least walk to each vertex, by breadth-first search along tight arcs.
+fn hops(rows: &Rows, labels: &[u64], source: u32) -> Vec<u32> {
+    let mut hops = vec![NONE; labels.len()];
+    let mut queue = vec![source];
+    hops[source as usize] = 0;
+    let mut next = 0;
+    while next < queue.len() {
+        let u = queue[next] as usize;
+        next += 1;
+        for &(head, weight) in &rows.targets[rows.firsts[u]..rows.firsts[u + 1]] {
+            let v = head as usize;
+            if hops[v] == NONE && labels[u] + u64::from(weight) == labels[v] {
+                hops[v] = hops[u] + 1;
+                queue.push(head);
+            }
+        }
+    }
+    hops
+}
+
+/// The least tail of a tight arc that comes from one hop nearer.
+fn parents(rows: &Rows, labels: &[u64], hops: &[u32]) -> Vec<u32> {
+    let mut parents = vec![NONE; labels.len()];
+    for u in (0..labels.len()).filter(|u| hops[*u] != NONE) {
+        for &(head, weight) in &rows.targets[rows.firsts[u]..rows.firsts[u + 1]] {
+            let v = head as usize;
+            let nearer = hops[v] == hops[u] + 1 && labels[u] + u64::from(weight) == labels[v];
+            if nearer && parents[v] == NONE {
+                parents[v] = u as u32;
+            }
+        }
+    }
+    parents
+}
+
+/// Writes the block with walks in pieces, since it may be large.
+fn write_walks(out: &mut impl Write, rows: &Rows, source: u32, labels: &[u64]) -> io::Result<()> {
+    let hops = hops(rows, labels, source);
+    let parents = parents(rows, labels, &hops);
+    let mut lines = Vec::new();
+    put_line(&mut lines, b's', &[u64::from(source) + 1]);
+    let mut walk = Vec::new();
+    for (v, label) in labels.iter().enumerate() {
+        let number = v as u64 + 1;
+        if *label == u64::MAX {
+            lines.extend_from_slice(format!("d {number} inf\n").as_bytes());
+            continue;
+        }
+        put_line(&mut lines, b'd', &[number, *label]);
+        walk.clear();
+        let mut at = v as u32;
+        while at != NONE {
+            walk.push(u64::from(at) + 1);
+            at = parents[at as usize];
+        }
+        walk.extend([*label, number]);
+        walk.reverse();
+        put_line(&mut lines, b'w', &walk);
+        if lines.len() >= 1 << 16 {
+            out.write_all(&lines)?;
+            lines.clear();
+        }
+    }
+    out.write_all(&lines)
+}
+
+fn put_line(out: &mut Vec<u8>, letter: u8, numbers: &[u64]) {
+    out.push(letter);
+    for number in numbers {
+        out.push(b' ');
+        put_number(out, *number);
+    }
+    out.push(b'\n');
+}
+
 fn main() -> io::Result<()> {
+    let walks = std::env::args().any(|word| word == "--walks");
     let mut bytes = Vec::new();
     io::stdin().lock().read_to_end(&mut bytes)?;
     let Some(job) = parse(&bytes) else {
@@ -182,7 +260,12 @@ fn main() -> io::Result<()> {
     if !job.sources.is_empty() {
         let rows = rows(job.n, &job.arcs);
         for source in &job.sources {
-            put_block(&mut out, *source, &distances(&rows, *source));
+            let labels = distances(&rows, *source);
+            if walks {
+                write_walks(&mut io::stdout().lock(), &rows, *source, &labels)?;
+            } else {
+                put_block(&mut out, *source, &labels);
+            }
         }
     }
     io::stdout().lock().write_all(&out)

@@ -67,13 +67,6 @@ vertex_lines-next hop parent v labels below =
     ∙ ap (λ (k : ℕ). vertex_text hop parent v (get_or labels v 0) ++ vertex_lines hop parent (v + 1) (drop k labels))
     one
 
--- all lines are put
-pub all-put : (before after : Option (List ℕ)) (waiting whole : List ℕ)
-    → IsPut before after waiting [] whole
-    → Waits before after waiting whole
-all-put before after waiting whole put =
-    subst (Waits before after waiting) (sym (append-nil put.text) ∙ put.is_whole) put.waits
-
 -- the blocks of the first sources were given, but for the bytes that wait
 pub record AreSent (walks : Bool) (n : ℕ) (arcs : List ArcRec) (sources : List ℕ) (count : ℕ)
     (before after : Option (List ℕ)) (waiting : List ℕ) : Type 0 where
