@@ -1,8 +1,9 @@
 -- A directed graph as a number of vertices and a list of arcs, and its rows. (Compressed sparse rows
 -- are those of Saad, Iterative Methods for Sparse Linear Systems, 3.4, with arcs for entries.)
-use Rattle.std.specs.Prelude.{◌≡◌, ℕ, ◌+◌, ◌^◌, ◌<◌, ◌≤◌, ◌==◌, nat_lt, List, length}
+use Rattle.std.specs.Prelude.{◌≡◌, ℕ, ◌+◌, ◌<◌, ◌≤◌, ◌==◌, nat_lt, List, length}
 use Rattle.std.specs.Prelude.{map, filter, count_by, slice_get, Some, AllPairs}
 use Rattle.route_walks.specs.declared.graph.ArcRec.{ArcRec}
+use Rattle.route_walks.specs.declared.graph.TheConstants.{MAX_ARCS, MAX_VERTICES}
 use Rattle.route_walks.specs.Walk.{IsGraph}
 
 -- the vertices are the numbers below n
@@ -43,8 +44,8 @@ turned arcs = map turned_arc arcs
 pub record IsInRows (graph : Graph) : Type 0 where
   pub ends : IsGraph graph.n graph.arcs
   pub by_tail : AreByTail graph.arcs
-  pub vertices : graph.n ≤ 2 ^ 28
-  pub places : length graph.arcs ≤ 2 ^ 32
+  pub vertices : graph.n ≤ MAX_VERTICES
+  pub places : length graph.arcs ≤ MAX_ARCS
 
 -- the arcs of a graph in rows that leave u are those from the first place of u to its end
 abbrev pub RowsAreRuns : Type 0

@@ -13,7 +13,8 @@ mod csr;
 pub mod laws;
 mod sort;
 
-pub use csr::{Csr, MAX_ARCS, MAX_VERTICES, Target};
+pub use csr::{Csr, Target};
+pub use route_walks::{MAX_ARCS, MAX_VERTICES};
 
 #[cfg(test)]
 mod tests;

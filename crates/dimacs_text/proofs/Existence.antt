@@ -5,6 +5,7 @@ use Rattle.std.proofs.Common.{◌⊎◌, inl, inr, Option, Some, None, Result, O
 use Rattle.std.proofs.Common.{ap₂, subst, ◌∙◌, append-nil, arith, drop}
 use Rattle.std.proofs.lemmas.Bool.Decides.{nat_tests}
 use Rattle.route_walks.specs.declared.graph.ArcRec.{ArcRec}
+use Rattle.route_walks.specs.declared.graph.TheConstants.{MAX_VERTICES}
 use Rattle.dimacs_text.specs.declared.form.Limit.{Limit}
 use Rattle.dimacs_text.specs.declared.form.Section.{Section}
 use Rattle.dimacs_text.specs.declared.form.Section.TheVariants.{Problem, Sources}
@@ -211,10 +212,10 @@ source_of n (u ∷ v ∷ more) e = absurd (let b = and_both (leb 1 u && leb u n)
 
 problem_of : (n : ℕ) (vs : List ℕ) → in_limits (limits n (head Problem)) vs ≡ true → (k m : ℕ) × (vs ≡ k ∷ m ∷ [])
 problem_of n [] e = absurd (cc)
-problem_of n (u ∷ []) e = absurd (let b = and_both (leb 0 u && leb u (2 ^ 28)) _ e in let c = b.1 in cc)
+problem_of n (u ∷ []) e = absurd (let b = and_both (leb 0 u && leb u MAX_VERTICES) _ e in let c = b.1 in cc)
 problem_of n (u ∷ v ∷ []) e = (u, v, refl)
 problem_of n (u ∷ v ∷ w ∷ more) e =
-    absurd (let b = and_both (leb 0 u && leb u (2 ^ 28)) _ e in
+    absurd (let b = and_both (leb 0 u && leb u MAX_VERTICES) _ e in
     let d = and_both (leb 0 v && leb v (2 ^ 30)) _ b.1 in let c = d.1 in cc)
 
 count_of : (n : ℕ) (vs : List ℕ) → in_limits (limits n (head Sources)) vs ≡ true → (k : ℕ) × (vs ≡ k ∷ [])
@@ -383,15 +384,15 @@ pub job_or_fault : (text : List ℕ)
 unfolding IsJobText IsFirstFault
 job_or_fault text =
     answered
-    (fault_or_legal (readings (2 ^ 28) (lines text)) (readings (2 ^ 28) (lines text)) [] start refl refl)
+    (fault_or_legal (readings MAX_VERTICES (lines text)) (readings MAX_VERTICES (lines text)) [] start refl refl)
   where
-    answered : FaultOrLegal (readings (2 ^ 28) (lines text))
+    answered : FaultOrLegal (readings MAX_VERTICES (lines text))
         → ((job : Content)
         × ((said : List (Option Record))
-        × (readings (2 ^ 28) (lines text) ≡ map (λ s. Ok s) said)
+        × (readings MAX_VERTICES (lines text) ≡ map (λ s. Ok s) said)
         × (records_among said ≡ records_of job)))
-        ⊎ ((line : ℕ) × (kind : LineKind) × IsFirstAmong (readings (2 ^ 28) (lines text)) line kind)
+        ⊎ ((line : ℕ) × (kind : LineKind) × IsFirstAmong (readings MAX_VERTICES (lines text)) line kind)
     answered (inl fault) = inr fault
     answered (inr (s, e, legal)) =
-        let job = job_of_legal (records_among s) legal (all_shaped (2 ^ 28) (lines text) s e) in
+        let job = job_of_legal (records_among s) legal (all_shaped MAX_VERTICES (lines text) s e) in
         inl (job.0, (s, e, job.1))

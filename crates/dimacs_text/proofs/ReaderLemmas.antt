@@ -1,7 +1,8 @@
 -- What one more line does to what was read, and what is known at the end.
-use Rattle.std.proofs.Common.{◌≡◌, ℕ, zero, suc, ◌+◌, ◌^◌, ◌<◌, List, [], ◌∷◌, ◌++◌, map}
+use Rattle.std.proofs.Common.{◌≡◌, ℕ, zero, suc, ◌+◌, ◌<◌, List, [], ◌∷◌, ◌++◌, map}
 use Rattle.std.proofs.Common.{inl, inr, Option, Some, None, Ok, option_to_list, refl, sym}
 use Rattle.std.proofs.Common.{ap, ◌∙◌, append-nil, length-append, arith}
+use Rattle.route_walks.specs.declared.graph.TheConstants.{MAX_VERTICES}
 use Rattle.dimacs_text.specs.declared.draft.Draft.{Draft}
 use Rattle.dimacs_text.specs.declared.form.Section.{Section}
 use Rattle.dimacs_text.specs.declared.form.Section.TheVariants.{Problem, Sources}
@@ -19,7 +20,7 @@ use Rattle.dimacs_text.specs.Drafts.{ReadsFirst, IsReadTo, IsFaultIn, IsLackOf}
 use Rattle.dimacs_text.proofs.Machine.{run-append, run_begins, machine_misfit, legal_runs}
 
 pub started : (text : List ℕ) (draft : Draft)
-    → draft.stage ≡ None → draft.vertices ≡ 2 ^ 28
+    → draft.stage ≡ None → draft.vertices ≡ MAX_VERTICES
     → IsReadTo text text 1 draft
 started text draft stage vertices = record {
   said = [];
@@ -110,7 +111,7 @@ at_end n = refl
 
 all_said : (text : List ℕ) (line : ℕ) (draft : Draft)
     → (p : IsReadTo text [] line draft)
-    → readings (2 ^ 28) (lines text) ≡ map (λ x. Ok x) p.said
+    → readings MAX_VERTICES (lines text) ≡ map (λ x. Ok x) p.said
 all_said text line draft p =
     p.split
     ∙ ap (λ l. map (λ x. Ok x) p.said ++ l) (at_end draft.vertices)

@@ -1,8 +1,9 @@
 -- Why a text has one job or one first fault, and not both.
-use Rattle.std.proofs.Common.{◌≡◌, ℕ, zero, suc, ◌+◌, ◌^◌, List, [], ◌∷◌, ◌++◌, length, map}
+use Rattle.std.proofs.Common.{◌≡◌, ℕ, zero, suc, ◌+◌, List, [], ◌∷◌, ◌++◌, length, map}
 use Rattle.std.proofs.Common.{replicate, ◌⊎◌, inl, inr, Option, Some, None, Ok, Err, refl}
 use Rattle.std.proofs.Common.{sym, ap, ap₂, subst, ◌∙◌, append-nil, arith}
 use Rattle.route_walks.specs.declared.graph.ArcRec.{ArcRec}
+use Rattle.route_walks.specs.declared.graph.TheConstants.{MAX_VERTICES}
 use Rattle.dimacs_text.specs.declared.form.Section.{Section}
 use Rattle.dimacs_text.specs.declared.form.Section.TheVariants.{Problem, Sources}
 use Rattle.dimacs_text.specs.declared.form.Item.TheVariants.{Arc, Source}
@@ -181,7 +182,7 @@ pub no_fault : (text : List ℕ) (job : Content) (line : ℕ) (kind : LineKind)
     → ⊥
 unfolding IsJobText IsFirstFault
 no_fault text job line kind (said, reads, is) fault =
-    no_fault_among (readings (2 ^ 28) (lines text)) said line kind reads (job_legal said job is) fault
+    no_fault_among (readings MAX_VERTICES (lines text)) said line kind reads (job_legal said job is) fault
 
 -- the fault at which the machine stops
 abbrev lack_at : At → ℕ → Option (ℕ × LineKind)
@@ -360,7 +361,7 @@ pub one_first_fault : (text : List ℕ) (i j : ℕ) (k l : LineKind)
     → (i ≡ j) × (k ≡ l)
 unfolding IsFirstFault
 one_first_fault text i j k l a b =
-    let first = found (readings (2 ^ 28) (lines text)) i k a in
-    let second = found (readings (2 ^ 28) (lines text)) j l b in
+    let first = found (readings MAX_VERTICES (lines text)) i k a in
+    let second = found (readings MAX_VERTICES (lines text)) j l b in
     let same = sym first ∙ second in
     (ap (λ o. line_or_0 o) same, ap (λ o. kind_or_unknown o) same)

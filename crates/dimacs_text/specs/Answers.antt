@@ -1,6 +1,7 @@
 -- The texts of an answer. Vertices, which are counted from 0, stand as their number plus 1.
-use Rattle.std.specs.Prelude.{ℕ, ◌+◌, ◌-◌, ◌^◌, ◌==◌, List, [], ◌∷◌, ◌++◌, codes, decimal, if◌then◌else◌}
+use Rattle.std.specs.Prelude.{ℕ, ◌+◌, ◌-◌, ◌==◌, List, [], ◌∷◌, ◌++◌, codes, decimal, if◌then◌else◌}
 use Rattle.std.specs.Prelude.{length, slice_index}
+use Rattle.route_walks.specs.declared.graph.TheConstants.{INF}
 
 -- 's V'
 abbrev pub source_text : ℕ → List ℕ
@@ -8,7 +9,7 @@ source_text s = codes "s " ++ decimal (s + 1) ++ codes "\n"
 
 -- a label, or 'inf' where there is no walk
 abbrev pub cost_text : ℕ → List ℕ
-cost_text label = if label == (2 ^ 64 - 1) then codes "inf" else decimal label
+cost_text label = if label == INF then codes "inf" else decimal label
 
 -- 'd V COST'
 abbrev pub label_text : ℕ → ℕ → List ℕ

@@ -2,6 +2,7 @@
 use Rattle.std.specs.Prelude.{◌≡◌, ℕ, ◌+◌, ◌^◌, ◌<◌, ◌≤◌, List, [], ◌∷◌, ◌++◌, length, map, All}
 use Rattle.std.specs.Prelude.{Option, Some, None, Ok, Err, ◌⊎◌, slice_index, option_to_list}
 use Rattle.route_walks.specs.declared.graph.ArcRec.{ArcRec}
+use Rattle.route_walks.specs.declared.graph.TheConstants.{MAX_VERTICES}
 use Rattle.dimacs_text.specs.declared.draft.Draft.{Draft}
 use Rattle.dimacs_text.specs.declared.form.Section.{Section}
 use Rattle.dimacs_text.specs.declared.form.Section.TheVariants.{Problem, Sources}
@@ -53,7 +54,7 @@ AreCountsWithin (Some Sources) missing arcs sources =
 
 -- what was read is within the limits
 pub record IsDraftWithin (draft : Draft) : Type 0 where
-  pub vertices : draft.vertices ≤ 2 ^ 28
+  pub vertices : draft.vertices ≤ MAX_VERTICES
   pub arcs : All (IsArcWithin draft.vertices) draft.arcs.items
   pub sources : All (λ v. v < draft.vertices) draft.sources.items
   pub counts : AreCountsWithin draft.stage draft.missing draft.arcs.items draft.sources.items
@@ -96,7 +97,7 @@ IsLackOf draft number (Line line kind) =
 -- the text, as far as the rest, is what the draft holds
 pub record IsReadTo (text rest : List ℕ) (line : ℕ) (draft : Draft) : Type 0 where
   pub said : List (Option Record)
-  pub split : readings (2 ^ 28) (lines text)
+  pub split : readings MAX_VERTICES (lines text)
       ≡ map (λ s. Ok s) said ++ readings draft.vertices (lines rest)
   pub records : records_among said ≡ records_in draft
   pub at : run start (marks_among said) ≡ Some (at_of draft)

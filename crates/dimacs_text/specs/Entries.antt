@@ -1,5 +1,6 @@
 -- What the reader keeps of a line, as the record that the line is.
 use Rattle.std.specs.Prelude.{ℕ, ◌<◌, ◌≤◌, ◌^◌, List, [], ◌∷◌, Option, Some, None, Result, Ok, Err}
+use Rattle.route_walks.specs.declared.graph.TheConstants.{MAX_VERTICES}
 use Rattle.dimacs_text.specs.declared.form.Entry.{Entry}
 use Rattle.dimacs_text.specs.declared.form.Entry.TheVariants as entry
 use Rattle.dimacs_text.specs.declared.form.Limit.{Limit}
@@ -22,7 +23,7 @@ said_by (Err kind) = Err kind
 
 -- the numbers of an entry are within their limits
 abbrev pub IsEntryWithin : ℕ → Entry → Type 0
-IsEntryWithin n (entry.Problem vertices arcs) = (vertices ≤ 2 ^ 28) × (arcs ≤ 2 ^ 30)
+IsEntryWithin n (entry.Problem vertices arcs) = (vertices ≤ MAX_VERTICES) × (arcs ≤ 2 ^ 30)
 IsEntryWithin n (entry.Arc arc) = IsArcWithin n arc
 IsEntryWithin n (entry.Sources count) = count ≤ 2 ^ 20
 IsEntryWithin n (entry.Source vertex) = vertex < n

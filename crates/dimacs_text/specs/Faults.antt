@@ -1,5 +1,6 @@
 -- The first fault of a text.
-use Rattle.std.specs.Prelude.{◌≡◌, ℕ, ◌+◌, ◌^◌, List, ◌∷◌, ◌++◌, length, map, Option, Some, Ok, Err}
+use Rattle.std.specs.Prelude.{◌≡◌, ℕ, ◌+◌, List, ◌∷◌, ◌++◌, length, map, Option, Some, Ok, Err}
+use Rattle.route_walks.specs.declared.graph.TheConstants.{MAX_VERTICES}
 use Rattle.dimacs_text.specs.declared.fault.LineKind.{LineKind}
 use Rattle.dimacs_text.specs.declared.fault.TextFault.{TextFault}
 use Rattle.dimacs_text.specs.declared.fault.TextFault.TheVariants.{Memory, Line}
@@ -39,7 +40,7 @@ pub data IsFirstAmong (rs : List Reading) (line : ℕ) (kind : LineKind) : Type 
 
 -- the first line of a text that is wrong, counted from 1, and the first kind that fits there
 unfoldable pub IsFirstFault : List ℕ → ℕ → LineKind → Type 0
-IsFirstFault text line kind = IsFirstAmong (readings (2 ^ 28) (lines text)) line kind
+IsFirstFault text line kind = IsFirstAmong (readings MAX_VERTICES (lines text)) line kind
 
 -- a text is refused for want of memory, or at its first fault
 abbrev pub IsFaultOf : List ℕ → TextFault → Type 0

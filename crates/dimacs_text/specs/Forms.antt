@@ -2,6 +2,7 @@
 use Rattle.std.specs.Prelude.{ℕ, ◌-◌, ◌^◌, ◌==◌, ◌&&◌, nat_le, Bool, true, false, List, [], ◌∷◌}
 use Rattle.std.specs.Prelude.{length, drop, Option, Some, None, Result, Ok, Err, option_map}
 use Rattle.std.specs.Prelude.{option_and_then, find, codes, bytes_eq, if◌then◌else◌, slice_index}
+use Rattle.route_walks.specs.declared.graph.TheConstants.{MAX_VERTICES}
 use Rattle.dimacs_text.specs.declared.form.Section.{Section}
 use Rattle.dimacs_text.specs.declared.form.Section.TheVariants.{Problem, Sources}
 use Rattle.dimacs_text.specs.declared.form.Item.{Item}
@@ -36,7 +37,7 @@ up_to most = record { least = 0; most = most }
 
 -- the limits of the numbers behind the words, where vertices are counted to the number given
 abbrev pub limits : ℕ → Form → List Limit
-limits vertices (head Problem) = up_to (2 ^ 28) ∷ up_to (2 ^ 30) ∷ []
+limits vertices (head Problem) = up_to MAX_VERTICES ∷ up_to (2 ^ 30) ∷ []
 limits vertices (head Sources) = up_to (2 ^ 20) ∷ []
 limits vertices (counted Arc) = vertex_limit vertices ∷ vertex_limit vertices ∷ up_to (2 ^ 32 - 1) ∷ []
 limits vertices (counted Source) = vertex_limit vertices ∷ []

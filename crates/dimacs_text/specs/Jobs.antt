@@ -2,6 +2,7 @@
 use Rattle.std.specs.Prelude.{◌≡◌, ℕ, ◌+◌, ◌^◌, ◌<◌, ◌≤◌, List, [], ◌∷◌, ◌++◌}
 use Rattle.std.specs.Prelude.{length, map, filter_map, All, Option, Ok}
 use Rattle.route_walks.specs.declared.graph.ArcRec.{ArcRec}
+use Rattle.route_walks.specs.declared.graph.TheConstants.{MAX_VERTICES}
 use Rattle.dimacs_text.specs.declared.form.Section.TheVariants.{Problem, Sources}
 use Rattle.dimacs_text.specs.declared.form.Item.TheVariants.{Arc, Source}
 use Rattle.dimacs_text.specs.declared.job.Job.{Job}
@@ -65,7 +66,7 @@ records_among said = filter_map (λ record_or_none. record_or_none) said
 unfoldable pub IsJobText : List ℕ → Content → Type 0
 IsJobText text job =
     (said : List (Option Record))
-    × (readings (2 ^ 28) (lines text) ≡ map (λ s. Ok s) said)
+    × (readings MAX_VERTICES (lines text) ≡ map (λ s. Ok s) said)
     × (records_among said ≡ records_of job)
 
 -- both ends of an arc are vertices, and its weight is below 2^32
@@ -82,7 +83,7 @@ IsQuestionWithin n (from_sources vertices) =
 
 -- the limits of a job
 pub record IsWithinLimits (job : Content) : Type 0 where
-  pub vertices : job.n ≤ 2 ^ 28
+  pub vertices : job.n ≤ MAX_VERTICES
   pub arc_count : length job.arcs ≤ 2 ^ 30
   pub arcs : All (IsArcWithin job.n) job.arcs
   pub question : IsQuestionWithin job.n job.question

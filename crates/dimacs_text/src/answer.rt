@@ -3,14 +3,14 @@
 //! A line is made from its end to its front in an array, and then goes out at once: so a refusal of
 //! memory leaves the vector as it was.
 
-ghost use Rattle.std.specs.Prelude.{◌≡◌, ℕ, ◌+◌, ◌-◌, ◌^◌, ◌<◌, ◌≤◌, ◌++◌, ◌∷◌, [], length, take};
+ghost use Rattle.std.specs.Prelude.{◌≡◌, ℕ, ◌+◌, ◌<◌, ◌≤◌, ◌++◌, ◌∷◌, [], length, take};
 ghost use Rattle.std.specs.Prelude.{drop, decimal, codes, All, OnOk, OnErr, vec_len, slice_index};
 ghost use Rattle.dimacs_text.specs.Answers.{source_text, label_text, cost_text};
 ghost use Rattle.dimacs_text.specs.Answers.{distances_text, components_text, component_text};
 ghost use Rattle.dimacs_text.specs.Answers.{vertices_text, walk_text};
 
 use itoa::write_digits;
-use route_walks::{INF, Memory};
+use route_walks::{INF, MAX_VERTICES, Memory};
 
 /// No line has more bytes: a letter, two numbers of at most 20 digits, two spaces and a line feed.
 const ROOM: usize = 44;
@@ -62,7 +62,7 @@ fn put_cost(line: &mut [u8], end: usize, label: u64) -> usize
 
 /// Appends the line `s V` of a source, where vertices are counted from 1.
 pub fn put_source(out: &mut Vec<u8>, s: u32) -> Result<(), Memory>
-    requires { s < 2 ^ 28 }
+    requires { s < MAX_VERTICES }
     ensures ok { OnOk result (out.new.items ≡ out.old.items ++ source_text s) }
     ensures err { OnErr result (out.new.items ≡ out.old.items) }
 {
@@ -75,7 +75,7 @@ pub fn put_source(out: &mut Vec<u8>, s: u32) -> Result<(), Memory>
 
 /// Appends the line `d V COST` of a vertex, where the cost of `INF` is `inf`.
 pub fn put_label(out: &mut Vec<u8>, v: u32, label: u64) -> Result<(), Memory>
-    requires { v < 2 ^ 28 }
+    requires { v < MAX_VERTICES }
     ensures ok { OnOk result (out.new.items ≡ out.old.items ++ label_text v label) }
     ensures err { OnErr result (out.new.items ≡ out.old.items) }
 {
@@ -91,7 +91,7 @@ pub fn put_label(out: &mut Vec<u8>, v: u32, label: u64) -> Result<(), Memory>
 /// Appends the line `k V LABEL` of a vertex, where the label is the number of a vertex too: both are
 /// counted from 0, and from 1 in the line.
 pub fn put_component(out: &mut Vec<u8>, v: u32, label: u64) -> Result<(), Memory>
-    requires { (v < 2 ^ 28) × (label < 2 ^ 64 - 1) }
+    requires { (v < MAX_VERTICES) × (label < INF) }
     ensures ok { OnOk result (out.new.items ≡ out.old.items ++ component_text v label) }
     ensures err { OnErr result (out.new.items ≡ out.old.items) }
 {
@@ -106,8 +106,8 @@ pub fn put_component(out: &mut Vec<u8>, v: u32, label: u64) -> Result<(), Memory
 
 /// Appends the line of a source, and then the line of each vertex in rising order.
 pub fn put_distances(out: &mut Vec<u8>, s: u32, labels: &[u64]) -> Result<(), Memory>
-    requires source { s < 2 ^ 28 }
-    requires vertices { length labels.now ≤ 2 ^ 28 }
+    requires source { s < MAX_VERTICES }
+    requires vertices { length labels.now ≤ MAX_VERTICES }
     ensures ok { OnOk result (out.new.items ≡ out.old.items ++ distances_text s labels.now) }
     ensures err { OnErr result (out.new.items ≡ out.old.items) }
 {
@@ -124,8 +124,8 @@ pub fn put_distances(out: &mut Vec<u8>, s: u32, labels: &[u64]) -> Result<(), Me
 
 /// Appends the line of each vertex with the label of its component, in rising order.
 pub fn put_components(out: &mut Vec<u8>, labels: &[u64]) -> Result<(), Memory>
-    requires vertices { length labels.now ≤ 2 ^ 28 }
-    requires finite { All (λ label. label < 2 ^ 64 - 1) labels.now }
+    requires vertices { length labels.now ≤ MAX_VERTICES }
+    requires finite { All (λ label. label < INF) labels.now }
     ensures ok { OnOk result (out.new.items ≡ out.old.items ++ components_text labels.now) }
     ensures err { OnErr result (out.new.items ≡ out.old.items) }
 {
@@ -143,7 +143,7 @@ pub fn put_components(out: &mut Vec<u8>, labels: &[u64]) -> Result<(), Memory>
 /// order. They are counted from 0, and from 1 in the line.
 pub fn put_walk(out: &mut Vec<u8>, cost: u64, walk: &[u32]) -> Result<(), Memory>
     requires some { 0 < length walk.now }
-    requires vertices { All (λ v. v < 2 ^ 28) walk.now }
+    requires vertices { All (λ v. v < MAX_VERTICES) walk.now }
     ensures ok { OnOk result (out.new.items ≡ out.old.items ++ walk_text cost walk.now) }
     ensures err { OnErr result (out.new.items ≡ out.old.items) }
 {
@@ -158,7 +158,7 @@ pub fn put_walk(out: &mut Vec<u8>, cost: u64, walk: &[u32]) -> Result<(), Memory
 
 /// Appends the start `w V COST` of a walk's line.
 fn put_target(out: &mut Vec<u8>, v: u32, cost: u64) -> Result<(), Memory>
-    requires { v < 2 ^ 28 }
+    requires { v < MAX_VERTICES }
     ensures ok { OnOk result (out.new.items
         ≡ out.old.items ++ codes "w " ++ decimal (v + 1) ++ codes " " ++ decimal cost) }
     ensures err { OnErr result (out.new.items ≡ out.old.items) }
@@ -173,7 +173,7 @@ fn put_target(out: &mut Vec<u8>, v: u32, cost: u64) -> Result<(), Memory>
 
 /// Appends a space and each vertex of a walk, and ends the line.
 fn put_vertices(out: &mut Vec<u8>, walk: &[u32]) -> Result<(), Memory>
-    requires { All (λ v. v < 2 ^ 28) walk.now }
+    requires { All (λ v. v < MAX_VERTICES) walk.now }
     ensures ok { OnOk result (out.new.items ≡ out.old.items ++ vertices_text walk.now) }
     ensures err { OnErr result (out.new.items ≡ out.old.items) }
 {
@@ -193,7 +193,7 @@ fn put_vertices(out: &mut Vec<u8>, walk: &[u32]) -> Result<(), Memory>
 
 /// Appends a space and a vertex.
 fn put_vertex(out: &mut Vec<u8>, v: u32) -> Result<(), Memory>
-    requires { v < 2 ^ 28 }
+    requires { v < MAX_VERTICES }
     ensures ok { OnOk result (out.new.items ≡ out.old.items ++ codes " " ++ decimal (v + 1)) }
     ensures err { OnErr result (out.new.items ≡ out.old.items) }
 {

@@ -9,11 +9,11 @@ ghost use Rattle.dimacs_text.specs.Entries.{record_of, IsEntryWithin};
 ghost use Rattle.dimacs_text.specs.Drafts.{at_by};
 
 use crate::fault::{LineKind, TextFault};
-use crate::form::{Entry, Item, MOST_VERTICES, Section, read_line};
+use crate::form::{Entry, Item, Section, read_line};
 use crate::job::{Ask, Job};
 use crate::line::split_line;
 use crate::plain::plain_arc;
-use route_walks::ArcRec;
+use route_walks::{ArcRec, MAX_VERTICES};
 use std::alloc::{AllocError, Global};
 
 /// No arc's line with its line feed is shorter than `a 1 1 0`.
@@ -110,13 +110,13 @@ impl Draft {
     /// Nothing is read yet.
     pub fn new(alloc: Global) -> Draft
         ensures stage { result.stage ≡ None }
-        ensures vertices { result.vertices ≡ 2 ^ 28 }
+        ensures vertices { result.vertices ≡ MAX_VERTICES }
         ensures within { IsDraftWithin result }
     {
         Draft {
             stage: None,
             missing: 0,
-            vertices: MOST_VERTICES,
+            vertices: MAX_VERTICES,
             arcs: Vec::new(alloc),
             sources: Vec::new(alloc),
         }
@@ -138,7 +138,7 @@ impl Draft {
     fn open_problem(&mut self, vertices: u32, arcs: u32, left: usize) -> Result<(), AllocError>
         requires fits { misfit_at (at_of self.old) (head Section.Problem) ≡ None }
         requires within { IsDraftWithin self.old }
-        requires limits { (vertices ≤ 2 ^ 28) × (arcs ≤ 2 ^ 30) }
+        requires limits { (vertices ≤ MAX_VERTICES) × (arcs ≤ 2 ^ 30) }
         ensures takes { OnOk result (TakesEntry self.old self.new (Entry.Problem vertices arcs)) }
         ensures within { OnOk result (IsDraftWithin self.new) }
     {

@@ -1,6 +1,6 @@
 //! The forms of a line, and what one line says.
 
-ghost use Rattle.std.specs.Prelude.{◌≡◌, ◌≢◌, ◌^◌, ◌≤◌, ◌<◌, ◌&&◌, nat_le, [], ◌∷◌, length};
+ghost use Rattle.std.specs.Prelude.{◌≡◌, ◌≢◌, ◌≤◌, ◌<◌, ◌&&◌, nat_le, [], ◌∷◌, length};
 ghost use Rattle.std.specs.Prelude.{MatchOption, IfOk, IfSome, option_map, map, codes, bytes_eq};
 ghost use Rattle.dimacs_text.specs.Lines.{fields};
 ghost use Rattle.dimacs_text.specs.Peeling.{capped};
@@ -11,10 +11,7 @@ ghost use Rattle.dimacs_text.specs.Entries.{two_said, three_said, IsEntryWithin,
 
 use crate::fault::LineKind;
 use crate::line::{next_field, number_of, trim_cr};
-use route_walks::ArcRec;
-
-/// A text has at most 2^28 vertices.
-pub const MOST_VERTICES: u32 = 268435456;
+use route_walks::{ArcRec, MAX_VERTICES};
 
 const MOST_ARCS: u32 = 1073741824;
 
@@ -203,7 +200,7 @@ fn read_problem(args: &[u8]) -> Result<Entry, LineKind>
         (numbers_within (limits 0 (head Section.Problem)) (fields args.now)) }
     ensures within { IfOk result (IsEntryWithin 0) }
 {
-    let (vertices, arcs) = read_two(args, Limit::up_to(MOST_VERTICES), Limit::up_to(MOST_ARCS))?;
+    let (vertices, arcs) = read_two(args, Limit::up_to(MAX_VERTICES), Limit::up_to(MOST_ARCS))?;
     Ok(Entry::Problem { vertices, arcs })
 }
 

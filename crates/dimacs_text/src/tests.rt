@@ -136,21 +136,13 @@ fn assert_job(rt: &impl Abort, job: &Job, n: u32, last: ArcRec, sources: &[u32])
 
 #[test]
 fn jobs(rt: HostRuntime) -> Result<(), Fail> {
-    let last = ArcRec {
-        tail: 4,
-        head: 5,
-        weight: 20,
-    };
+    let last = ArcRec::new(4, 5, 20);
     assert_job(&rt, &read(rt.alloc(), GRAPH, b"")?, 6, last, &[]);
     let asked = read(rt.alloc(), GRAPH, b"p aux sp ss 3\ns 3\ns 5\ns 3")?;
     assert_eq!(rt; asked.arcs.len(), 8);
     assert_job(&rt, &asked, 6, last, &[2, 4, 2]);
     let spaced = b"c \xff\xfe\r\n\tp  sp 2 1 \r\n\r\na\t1 2 007\r\np aux sp ss 1\r\ns 1";
-    let arc = ArcRec {
-        tail: 0,
-        head: 1,
-        weight: 7,
-    };
+    let arc = ArcRec::new(0, 1, 7);
     assert_job(&rt, &read(rt.alloc(), "", spaced.as_slice())?, 2, arc, &[0]);
     let most = read(rt.alloc(), "", b"p sp 268435456 0\n\n")?;
     assert_eq!(rt; most.n, 268435456);

@@ -93,20 +93,7 @@ fn operators_beside_the_plain_way(rt: HostRuntime) -> Result<(), Fail> {
 fn labels_from_several_seeds(rt: HostRuntime) -> Result<(), Fail> {
     let alloc = rt.alloc();
     let csr = six(alloc)?;
-    let seeds = vec![in alloc;
-        Seed {
-            vertex: 4,
-            start: 3
-        },
-        Seed {
-            vertex: 2,
-            start: 9
-        },
-        Seed {
-            vertex: 2,
-            start: 1
-        },
-    ]?;
+    let seeds = vec![in alloc; Seed::new(4, 3), Seed::new(2, 9), Seed::new(2, 1)]?;
     let settings = settings(&rt, 2, 0);
     let labels = least_labels(&rt, alloc, &csr, seeds, &settings, &OpenGate)?;
     assert_eq!(rt; labels.as_slice(), [u64::MAX, 1, 1, 3, 1, 6].as_slice());

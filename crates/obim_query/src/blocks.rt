@@ -1,6 +1,6 @@
 //! The blocks of an answer, written in pieces as they grow.
 
-ghost use Rattle.std.specs.Prelude.{◌≡◌, ◌^◌, ◌<◌, ◌≤◌, ◌++◌, ◌↔◌, length, slice_index};
+ghost use Rattle.std.specs.Prelude.{◌≡◌, ◌<◌, ◌≤◌, ◌++◌, ◌↔◌, length, slice_index};
 ghost use Rattle.std.specs.Prelude.{All, IfErr, OnOk};
 ghost use Rattle.std.specs.Io.KnownBytes.{Appends};
 ghost use Rattle.dimacs_text.specs.Answers.{distances_text, components_text};
@@ -18,7 +18,7 @@ use crate::outlet::write_bytes;
 use csr_graph::Csr;
 use dimacs_text::{put_component, put_label, put_source, put_walk};
 use obim_engine::{Gate, distances};
-use route_walks::{INF, Memory};
+use route_walks::{INF, MAX_VERTICES, Memory};
 use std::alloc::Global;
 use std::io::Write;
 use std::sync::Wait;
@@ -39,7 +39,7 @@ pub fn write_sources<H: Threads + Wait + Sync, W: Write, G: Gate + Sync>(
     asked: &Asked,
     gate: &G,
 ) -> Result<(), Fault>
-    requires vertices { csr.now.n ≤ 2 ^ 28 }
+    requires vertices { csr.now.n ≤ MAX_VERTICES }
     requires sources { All (λ source. source < csr.now.n) sources.now }
     ensures blocks { OnOk result (Writes
         (AreSourceBlocks asked.now.walks csr.now.n csr.now.arcs sources.now)
@@ -68,7 +68,7 @@ pub fn write_components<W: Write>(
     writer: &mut W,
     labels: &[u64],
 ) -> Result<(), Fault>
-    requires vertices { length labels.now ≤ 2 ^ 28 }
+    requires vertices { length labels.now ≤ MAX_VERTICES }
     requires finite { All (λ label. label < INF) labels.now }
     ensures block { OnOk result (Appends
         (W.contents writer.old) (W.contents writer.new) (components_text labels.now)) }
@@ -92,7 +92,7 @@ fn put_block<W: Write>(
     source: u32,
     labels: &[u64],
 ) -> Result<(), Fault>
-    requires vertices { csr.now.n ≤ 2 ^ 28 }
+    requires vertices { csr.now.n ≤ MAX_VERTICES }
     requires source { source < csr.now.n }
     requires least { AreLeastLabels csr.now.n csr.now.arcs (seeds_from source) labels.now }
     ensures block { OnOk result (Puts (IsBlock walks csr.now.n csr.now.arcs source)
@@ -115,8 +115,8 @@ fn put_labels<W: Write>(
     source: u32,
     labels: &[u64],
 ) -> Result<(), Fault>
-    requires source { source < 2 ^ 28 }
-    requires vertices { length labels.now ≤ 2 ^ 28 }
+    requires source { source < MAX_VERTICES }
+    requires vertices { length labels.now ≤ MAX_VERTICES }
     ensures sent { OnOk result (Waits (W.contents writer.old) (W.contents writer.new)
         waiting.new.items (waiting.old.items ++ distances_text source labels.now)) }
     ensures kinds { IfErr result IsWritingFault }
@@ -139,8 +139,8 @@ fn put_walks<W: Write>(
     hops: &[u32],
     parents: &[u32],
 ) -> Result<(), Fault>
-    requires source { source < 2 ^ 28 }
-    requires vertices { length hops.now ≤ 2 ^ 28 }
+    requires source { source < MAX_VERTICES }
+    requires vertices { length hops.now ≤ MAX_VERTICES }
     requires count { length labels.now ≡ length hops.now }
     requires back { LeadBack hops.now parents.now }
     requires reached { AreReached labels.now hops.now }
@@ -167,7 +167,7 @@ fn put_vertex(
     parents: &[u32],
 ) -> Result<(), Memory>
     requires vertex { v < length hops.now }
-    requires vertices { length hops.now ≤ 2 ^ 28 }
+    requires vertices { length hops.now ≤ MAX_VERTICES }
     requires back { LeadBack hops.now parents.now }
     requires reached { (label ≡ INF) ↔ (slice_index hops.now v ≡ NONE) }
     ensures put { OnOk result (waiting.new.items ≡ waiting.old.items

@@ -9,7 +9,7 @@ ghost use Rattle.obim_query.specs.AnswerText.{arcs_for};
 use crate::asked::Answer;
 use csr_graph::Csr;
 use obim_engine::{Gate, RunFault, Settings, least_labels};
-use route_walks::{ArcRec, Memory, both_ways, seeds_all, unit_weights};
+use route_walks::{ArcRec, MAX_VERTICES, Memory, both_ways, seeds_all, unit_weights};
 use std::alloc::Global;
 use std::sync::Wait;
 use std::thread::Threads;
@@ -17,7 +17,7 @@ use std::thread::Threads;
 /// The rows in which the labels of an answer are least, for all of its sources. The list of arcs is
 /// given back.
 pub fn rows_for(alloc: Global, answer: Answer, n: u32, arcs: Vec<ArcRec>) -> Result<Csr, Memory>
-    requires vertices { n ≤ 2 ^ 28 }
+    requires vertices { n ≤ MAX_VERTICES }
     requires count { length arcs.items ≤ 2 ^ 30 }
     requires graph { IsGraph n arcs.items }
     ensures vertices { IfOk result (λ csr. csr.n ≡ n) }

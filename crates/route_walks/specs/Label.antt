@@ -25,9 +25,13 @@ pub record AreLeastLabels (n : ℕ) (arcs : List ArcRec) (seeds : List Seed)
 abbrev pub IsMet : (ℕ → ℕ) → Seed → Type 0
 IsMet label seed = label seed.vertex ≤ seed.start
 
--- an arc is relaxed: going along it gives its head no lower label
+-- what an arc of this weight offers its head, from a tail of this label: their sum, at most INF
+abbrev pub offer : ℕ → ℕ → ℕ
+offer label weight = min (label + weight) INF
+
+-- an arc is relaxed: it offers its head no lower label
 abbrev pub IsRelaxed : (ℕ → ℕ) → ArcRec → Type 0
-IsRelaxed label arc = label arc.head ≤ min (label arc.tail + arc.weight) INF
+IsRelaxed label arc = label arc.head ≤ offer (label arc.tail) arc.weight
 
 -- labels are settled: all seeds are met and all arcs are relaxed
 pub record IsSettled (arcs : List ArcRec) (seeds : List Seed) (label : ℕ → ℕ) : Type 0 where

@@ -1,5 +1,16 @@
+//! Arcs and seeds, and the label that an arc offers its head.
+
+ghost use Rattle.std.specs.Prelude.{◌≡◌};
+ghost use Rattle.route_walks.specs.Label.{offer};
+
 /// The label of a vertex that no walk has reached yet. Sums of a label and a weight stop here.
 pub const INF: u64 = u64::MAX;
+
+/// A graph has at most this many vertices.
+pub const MAX_VERTICES: u32 = 1 << 28;
+
+/// A graph has at most this many arcs.
+pub const MAX_ARCS: usize = 1 << 32;
 
 /// A directed arc. Vertices are counted from 0; the weight is a cost from 0 to 2^32 - 1.
 #[derive(Clone, Copy, Debug, PartialEq, Eq)]
@@ -9,10 +20,36 @@ pub struct ArcRec {
     pub weight: u32,
 }
 
+impl ArcRec {
+    /// The arc from `tail` to `head`.
+    pub const fn new(tail: u32, head: u32, weight: u32) -> ArcRec
+        ensures { result ≡ record { tail = tail; head = head; weight = weight } }
+    {
+        ArcRec { tail, head, weight }
+    }
+}
+
 /// A vertex, counted from 0, where walks may begin, and the number that a walk from there starts
 /// with: a cost of at most 2^60, where a caller makes it.
 #[derive(Clone, Copy, Debug, PartialEq, Eq)]
 pub struct Seed {
     pub vertex: u32,
     pub start: u64,
+}
+
+impl Seed {
+    /// The seed at `vertex` whose walks start with `start`.
+    pub const fn new(vertex: u32, start: u64) -> Seed
+        ensures { result ≡ record { vertex = vertex; start = start } }
+    {
+        Seed { vertex, start }
+    }
+}
+
+/// The label that an arc of this weight offers its head, from a tail of this label: their sum, or
+/// `INF` where the sum is above it.
+pub fn offer(label: u64, weight: u32) -> u64
+    ensures { result ≡ offer label weight }
+{
+    label.saturating_add(u64::from(weight))
 }

@@ -18,7 +18,7 @@ mod refusal;
 #[cfg(test)]
 mod tests;
 
-pub use graph::{ArcRec, INF, Seed};
+pub use graph::{ArcRec, INF, MAX_ARCS, MAX_VERTICES, Seed, offer};
 pub use plain::{is_settled, plain_labels};
 pub use problem::{both_ways, seeds_all, seeds_from, unit_weights};
 pub use refusal::Memory;

@@ -7,7 +7,7 @@ ghost use Rattle.route_walks.specs.declared.graph.Seed.{Seed};
 ghost use Rattle.route_walks.specs.Walk.{IsGraph, AreSeeds};
 ghost use Rattle.route_walks.specs.Label.{AreLeast, IsMet, IsRelaxed, IsSettled, IsSound};
 
-use crate::graph::{ArcRec, INF, Seed};
+use crate::graph::{ArcRec, INF, Seed, offer};
 use crate::refusal::Memory;
 use std::alloc::Global;
 
@@ -55,19 +55,12 @@ fn are_relaxed(labels: &[u64], arcs: &[ArcRec]) -> bool
     ensures { IsTrue result ↔ All (IsRelaxed (slice_index labels.now)) arcs.now }
 {
     for arc in arcs {
-        if labels[arc.head as usize] > reached_by(labels, arc) {
+        let offered = offer(labels[arc.tail as usize], arc.weight);
+        if labels[arc.head as usize] > offered {
             return false;
         }
     }
     true
-}
-
-/// The number that going along the arc gives its head.
-fn reached_by(labels: &[u64], arc: &ArcRec) -> u64
-    requires { arc.now.tail < length labels.now }
-    ensures { result ≡ min (slice_index labels.now arc.now.tail + arc.now.weight) INF }
-{
-    labels[arc.tail as usize].saturating_add(u64::from(arc.weight))
 }
 
 /// Lowers the label of `v` to `number`, if that is less, and says whether it was.
@@ -118,8 +111,8 @@ fn relax_all(labels: &mut [u64], arcs: &[ArcRec]) -> bool
 {
     let mut fell = false;
     for arc in arcs {
-        let number = reached_by(labels, arc);
-        fell = lower(labels, arc.head, number) || fell;
+        let offered = offer(labels[arc.tail as usize], arc.weight);
+        fell = lower(labels, arc.head, offered) || fell;
     }
     fell
 }

@@ -10,10 +10,6 @@ use std::alloc::Global;
 use std::process::Abort;
 use std::test::Fail;
 
-const fn arc(tail: u32, head: u32, weight: u32) -> ArcRec {
-    ArcRec { tail, head, weight }
-}
-
 fn is_graph(n: u32, arcs: &[ArcRec]) -> bool
     ensures { IsTrue result ↔ IsGraph n arcs.now }
 {
@@ -27,18 +23,17 @@ fn are_seeds(n: u32, seeds: &[Seed]) -> bool
 }
 
 /// Six vertices, with free arcs and a circle of them.
-fn six(alloc: Global) -> Result<Vec<ArcRec>, Fail> {
-    let arcs = vec![in alloc;
-        arc(0, 1, 17),
-        arc(0, 2, 10),
-        arc(1, 3, 2),
-        arc(2, 4, 0),
-        arc(3, 2, 0),
-        arc(3, 5, 3),
-        arc(4, 1, 0),
-        arc(4, 5, 20),
-    ]?;
-    Ok(arcs)
+fn six() -> [ArcRec; 8] {
+    [
+        ArcRec::new(0, 1, 17),
+        ArcRec::new(0, 2, 10),
+        ArcRec::new(1, 3, 2),
+        ArcRec::new(2, 4, 0),
+        ArcRec::new(3, 2, 0),
+        ArcRec::new(3, 5, 3),
+        ArcRec::new(4, 1, 0),
+        ArcRec::new(4, 5, 20),
+    ]
 }
 
 fn expect_labels(
@@ -61,7 +56,7 @@ fn expect_labels(
 #[test]
 fn labels_of_small_graphs(rt: HostRuntime) -> Result<(), Fail> {
     let alloc = rt.alloc();
-    let six = six(alloc)?;
+    let six = six();
     expect_labels(
         &rt,
         alloc,
@@ -94,7 +89,7 @@ fn labels_of_small_graphs(rt: HostRuntime) -> Result<(), Fail> {
         &seeds_all(alloc, 6)?,
         &[0; 6],
     )?;
-    let heavy = [arc(0, 1, u32::MAX), arc(1, 2, u32::MAX)];
+    let heavy = [ArcRec::new(0, 1, u32::MAX), ArcRec::new(1, 2, u32::MAX)];
     expect_labels(
         &rt,
         alloc,
@@ -103,9 +98,13 @@ fn labels_of_small_graphs(rt: HostRuntime) -> Result<(), Fail> {
         &seeds_from(alloc, 0)?,
         &[0, 4294967295, 8589934590],
     )?;
-    let parallel = [arc(0, 1, 7), arc(0, 1, 3), arc(0, 0, 0)];
+    let parallel = [
+        ArcRec::new(0, 1, 7),
+        ArcRec::new(0, 1, 3),
+        ArcRec::new(0, 0, 0),
+    ];
     expect_labels(&rt, alloc, 2, &parallel, &seeds_from(alloc, 0)?, &[0, 3])?;
-    let split = [arc(1, 0, 5)];
+    let split = [ArcRec::new(1, 0, 5)];
     expect_labels(
         &rt,
         alloc,
@@ -114,27 +113,15 @@ fn labels_of_small_graphs(rt: HostRuntime) -> Result<(), Fail> {
         &seeds_all(alloc, 3)?,
         &[0, 0, 2],
     )?;
-    let late = [
-        Seed {
-            vertex: 0,
-            start: INF - 1,
-        },
-        Seed {
-            vertex: 0,
-            start: INF,
-        },
-    ];
+    let late = [Seed::new(0, INF - 1), Seed::new(0, INF)];
     expect_labels(&rt, alloc, 2, &parallel, &late, &[INF - 1, INF])?;
     expect_labels(&rt, alloc, 0, &[], &[], &[])
 }
 
 #[test]
 fn settled_only_where_nothing_falls(rt: HostRuntime) -> Result<(), Fail> {
-    let arcs = [arc(0, 1, 3)];
-    let seeds = [Seed {
-        vertex: 0,
-        start: 1,
-    }];
+    let arcs = [ArcRec::new(0, 1, 3)];
+    let seeds = [Seed::new(0, 1)];
     let (graph, sown) = (is_graph(2, &arcs), are_seeds(2, &seeds));
     assert!(rt; graph && sown);
     for (first, second, want) in [(1, 4, true), (1, 5, false), (2, 4, false), (0, 0, true)] {
@@ -150,37 +137,20 @@ fn settled_only_where_nothing_falls(rt: HostRuntime) -> Result<(), Fail> {
 #[test]
 fn arcs_and_seeds_of_the_problems(rt: HostRuntime) -> Result<(), Fail> {
     let alloc = rt.alloc();
-    let only = [arc(0, 1, 7)];
+    let only = [ArcRec::new(0, 1, 7)];
     assert_eq!(rt;
         seeds_from(alloc, 2)?.as_slice(),
-        [Seed {
-            vertex: 2,
-            start: 0
-        }]
-        .as_slice()
+        [Seed::new(2, 0)].as_slice()
     );
-    let all = [
-        Seed {
-            vertex: 0,
-            start: 0,
-        },
-        Seed {
-            vertex: 1,
-            start: 1,
-        },
-        Seed {
-            vertex: 2,
-            start: 2,
-        },
-    ];
+    let all = [Seed::new(0, 0), Seed::new(1, 1), Seed::new(2, 2)];
     assert_eq!(rt; seeds_all(alloc, 3)?.as_slice(), all.as_slice());
     assert_eq!(rt;
         unit_weights(alloc, &only)?.as_slice(),
-        [arc(0, 1, 1)].as_slice()
+        [ArcRec::new(0, 1, 1)].as_slice()
     );
     assert_eq!(rt;
         both_ways(alloc, &only)?.as_slice(),
-        [arc(0, 1, 0), arc(1, 0, 0)].as_slice()
+        [ArcRec::new(0, 1, 0), ArcRec::new(1, 0, 0)].as_slice()
     );
     Ok(())
 }

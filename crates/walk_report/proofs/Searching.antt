@@ -1,5 +1,5 @@
 -- What breadth-first search keeps, and why its hops are fewest at the end.
-use Rattle.std.proofs.Common.{◌≡◌, ◌≢◌, ℕ, ◌+◌, ◌^◌, ◌<◌, ◌≤◌, List, [], ◌∷◌, ◌++◌, length, slice_index, set, get_or, replicate, eqb}
+use Rattle.std.proofs.Common.{◌≡◌, ◌≢◌, ℕ, ◌+◌, ◌<◌, ◌≤◌, List, [], ◌∷◌, ◌++◌, length, slice_index, set, get_or, replicate, eqb}
 use Rattle.std.proofs.Common.{cond, sym, subst, ap, ◌∙◌, refl, arith, inl, inr}
 use Rattle.std.specs.List.{Contains, count_by, sum_by}
 use Rattle.std.proofs.lemmas.List.{get_or-set_same, get_or-set_other, length-set, get_or_append_left, get_or_push, length_push, get_or-replicate, length-replicate}
@@ -8,7 +8,7 @@ use Rattle.std.proofs.lemmas.List.Sums.{sum_by-set}
 use Rattle.std.proofs.lemmas.List.Folds.{sum_by-replicate}
 use Rattle.std.proofs.lemmas.Bool.{cases_lt, cases_eq, eq-eqb, ne_eqb}
 use Rattle.route_walks.specs.declared.graph.ArcRec.{ArcRec}
-use Rattle.route_walks.specs.declared.graph.TheConstants.{INF}
+use Rattle.route_walks.specs.declared.graph.TheConstants.{INF, MAX_VERTICES}
 use Rattle.route_walks.specs.Walk.{IsArcBelow, IsGraph, IsWalk, cost}
 use Rattle.route_walks.specs.Label.{AreLeastLabels}
 use Rattle.route_walks.specs.Problem.{seeds_from}
@@ -107,7 +107,7 @@ record Found (arcs : List ArcRec) (label : ℕ → ℕ) (u v w : ℕ) : Type 0 w
   pub tight : IsTight label (record { tail = u; head = v; weight = w })
 
 step : (n : ℕ) (arcs : List ArcRec) (label : ℕ → ℕ) (hops queue hops' queue' : List ℕ) (next v w : ℕ)
-    → IsGraph n arcs → n ≤ 2 ^ 28 → IsSearch n arcs label hops queue next → next < length queue
+    → IsGraph n arcs → n ≤ MAX_VERTICES → IsSearch n arcs label hops queue next → next < length queue
     → Found arcs label (slice_index queue next) v w
     → slice_index hops v ≡ NONE
     → Puts hops queue v (slice_index hops (slice_index queue next) + 1) hops' queue'
@@ -224,7 +224,7 @@ step n arcs label hops queue hops' queue' next v w graph few search place found 
 
 -- a vertex that a tight arc joins to the next one gets a hop and is queued
 pub search-more : (n : ℕ) (arcs : List ArcRec) (label : ℕ → ℕ) (hops queue : List ℕ) (next u v w : ℕ)
-    → IsGraph n arcs → n ≤ 2 ^ 28 → IsSearch n arcs label hops queue next → next < length queue
+    → IsGraph n arcs → n ≤ MAX_VERTICES → IsSearch n arcs label hops queue next → next < length queue
     → slice_index queue next ≡ u
     → Contains arcs (record { tail = u; head = v; weight = w }) → IsTight label (record { tail = u; head = v; weight = w })
     → slice_index hops v ≡ NONE
@@ -275,7 +275,7 @@ search-next n arcs label hops queue next search place visited = record {
 
 -- at the end of the queue the hops are fewest
 pub search-done : (n : ℕ) (arcs : List ArcRec) (s : ℕ) (labels hops queue : List ℕ) (next : ℕ)
-    → IsGraph n arcs → n ≤ 2 ^ 28 → s < n → AreLeastLabels n arcs (seeds_from s) labels
+    → IsGraph n arcs → n ≤ MAX_VERTICES → s < n → AreLeastLabels n arcs (seeds_from s) labels
     → IsSearch n arcs (slice_index labels) hops queue next
     → length queue ≤ next → 0 < length queue → slice_index queue 0 ≡ s
     → AreHops n arcs s labels hops

@@ -1,10 +1,11 @@
 -- The first tail that leads to a vertex is the least, where arcs stand by rising tail.
-use Rattle.std.proofs.Common.{◌≡◌, ◌≢◌, ℕ, ◌+◌, ◌^◌, ◌<◌, ◌≤◌, List, [], ◌∷◌, ◌++◌, length, slice_index, set, get_or, take, replicate, sym, subst, ap, ◌∙◌, refl, arith, ◌⊎◌, inl, inr}
+use Rattle.std.proofs.Common.{◌≡◌, ◌≢◌, ℕ, ◌+◌, ◌<◌, ◌≤◌, List, [], ◌∷◌, ◌++◌, length, slice_index, set, get_or, take, replicate, sym, subst, ap, ◌∙◌, refl, arith, ◌⊎◌, inl, inr}
 use Rattle.std.specs.List.{Contains}
 use Rattle.std.proofs.lemmas.Bool.{cases_eq}
 use Rattle.std.proofs.lemmas.List.{get_or-set_same, get_or-set_other, length-set, get_or-replicate, length-replicate, get_or-take, length-take, get_or_default}
 use Rattle.std.proofs.lemmas.List.Elements.{All-contains, Contains-push_cases, Contains-append_left, Contains-append_right}
 use Rattle.route_walks.specs.declared.graph.ArcRec.{ArcRec}
+use Rattle.route_walks.specs.declared.graph.TheConstants.{MAX_VERTICES}
 use Rattle.route_walks.specs.Walk.{IsArcBelow, IsGraph}
 use Rattle.csr_graph.specs.Graph.{Graph, IsInRows}
 use Rattle.walk_report.specs.declared.hop.TheConstants.{NONE}
@@ -76,7 +77,7 @@ tails-pass n arcs arc label hop parents follows tails taken = record {
 }
 
 -- an arc that leads to a vertex without a parent gives it one
-pub tails-put : (n : ℕ) (arcs : List ArcRec) (arc : ArcRec) (label hop : ℕ → ℕ) (parents : List ℕ) → n ≤ 2 ^ 28 → Follows n arcs arc
+pub tails-put : (n : ℕ) (arcs : List ArcRec) (arc : ArcRec) (label hop : ℕ → ℕ) (parents : List ℕ) → n ≤ MAX_VERTICES → Follows n arcs arc
     → AreFirstTails n arcs label hop parents → IsLeading label hop arc → slice_index parents arc.head ≡ NONE
     → AreFirstTails n (arcs ++ arc ∷ []) label hop (set parents arc.head arc.tail)
 tails-put n arcs arc label hop parents few follows tails leading unset =
@@ -148,7 +149,7 @@ follows-at graph rows k arc none lt is =
     }
 
 -- with all arcs passed, first tails are parents
-pub parents-done : (n : ℕ) (arcs : List ArcRec) (labels hops parents : List ℕ) → n ≤ 2 ^ 28 → IsGraph n arcs
+pub parents-done : (n : ℕ) (arcs : List ArcRec) (labels hops parents : List ℕ) → n ≤ MAX_VERTICES → IsGraph n arcs
     → AreFromOneSource n arcs labels hops
     → AreFirstTails n arcs (slice_index labels) (slice_index hops) parents → AreParents n arcs labels hops parents
 parents-done n arcs labels hops parents few graph from tails = record {

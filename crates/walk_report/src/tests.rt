@@ -12,10 +12,6 @@ use std::alloc::Global;
 use std::process::Abort;
 use std::test::Fail;
 
-const fn arc(tail: u32, head: u32, weight: u32) -> ArcRec {
-    ArcRec { tail, head, weight }
-}
-
 fn is_graph(n: u32, arcs: &[ArcRec]) -> bool
     ensures { IsTrue result ↔ IsGraph n arcs.now }
 {
@@ -34,18 +30,17 @@ fn distances(alloc: Global, csr: &Csr, s: u32) -> Result<Vec<u64>, Memory>
 }
 
 /// Six vertices, with free arcs and a circle of them.
-fn six(alloc: Global) -> Result<Vec<ArcRec>, Fail> {
-    let arcs = vec![in alloc;
-        arc(0, 1, 17),
-        arc(0, 2, 10),
-        arc(1, 3, 2),
-        arc(2, 4, 0),
-        arc(3, 2, 0),
-        arc(3, 5, 3),
-        arc(4, 1, 0),
-        arc(4, 5, 20),
-    ]?;
-    Ok(arcs)
+fn six() -> [ArcRec; 8] {
+    [
+        ArcRec::new(0, 1, 17),
+        ArcRec::new(0, 2, 10),
+        ArcRec::new(1, 3, 2),
+        ArcRec::new(2, 4, 0),
+        ArcRec::new(3, 2, 0),
+        ArcRec::new(3, 5, 3),
+        ArcRec::new(4, 1, 0),
+        ArcRec::new(4, 5, 20),
+    ]
 }
 
 /// What is expected of a graph: for each vertex its hop, its parent and its walk, empty for none.
@@ -93,7 +88,7 @@ fn expect_walks(
 #[test]
 fn walks_of_six_vertices(rt: HostRuntime) -> Result<(), Fail> {
     let alloc = rt.alloc();
-    let six = six(alloc)?;
+    let six = six();
     let from_0 = Want {
         hops: &[0, 3, 1, 4, 2, 5],
         parents: &[NONE, 4, 0, 1, 2, 3],
@@ -138,14 +133,23 @@ fn walks_of_six_vertices(rt: HostRuntime) -> Result<(), Fail> {
 #[test]
 fn walks_past_the_least_tight_tail(rt: HostRuntime) -> Result<(), Fail> {
     let alloc = rt.alloc();
-    let free_circle = [arc(2, 1, 5), arc(0, 1, 0), arc(1, 0, 0)];
+    let free_circle = [
+        ArcRec::new(2, 1, 5),
+        ArcRec::new(0, 1, 0),
+        ArcRec::new(1, 0, 0),
+    ];
     let back = Want {
         hops: &[2, 1, 0],
         parents: &[1, 2, NONE],
         walks: &[&[2, 1, 0], &[2, 1], &[2]],
     };
     expect_walks(&rt, alloc, &free_circle, 2, &back)?;
-    let far_tail = [arc(3, 1, 1), arc(1, 0, 0), arc(0, 2, 0), arc(1, 2, 0)];
+    let far_tail = [
+        ArcRec::new(3, 1, 1),
+        ArcRec::new(1, 0, 0),
+        ArcRec::new(0, 2, 0),
+        ArcRec::new(1, 2, 0),
+    ];
     let past = Want {
         hops: &[2, 1, 2, 0],
         parents: &[1, 3, 1, NONE],
@@ -204,7 +208,7 @@ fn random_arcs(alloc: Global, n: u32, count: usize) -> Result<Vec<ArcRec>, Fail>
             .wrapping_add(1442695040888963407);
         let tail = (state >> 33) % u64::from(n);
         let head = (state >> 13) % u64::from(n);
-        arcs.push(arc(tail as u32, head as u32, (state >> 62) as u32))?;
+        arcs.push(ArcRec::new(tail as u32, head as u32, (state >> 62) as u32))?;
     }
     Ok(arcs)
 }

@@ -92,7 +92,7 @@ pub(crate) const WORKED: [Worked; 9] = [
 pub(crate) fn arcs_of(alloc: Global, triples: &[Triple]) -> Result<Vec<ArcRec>, Memory> {
     let mut arcs = Vec::with_capacity(alloc, triples.len())?;
     for &(tail, head, weight) in triples {
-        arcs.push(ArcRec { tail, head, weight })?;
+        arcs.push(ArcRec::new(tail, head, weight))?;
     }
     Ok(arcs)
 }
@@ -121,7 +121,7 @@ pub(crate) fn are_seeds(n: u32, seeds: &[Seed]) -> bool
 pub(crate) fn six(alloc: Global) -> Result<Csr, Fail>
     ensures { IfOk result (λ csr. csr.n ≡ 6) }
 {
-    let arcs = SIX.map(|(tail, head, weight)| ArcRec { tail, head, weight });
+    let arcs = SIX.map(|(tail, head, weight)| ArcRec::new(tail, head, weight));
     Ok(Csr::build(alloc, 6, &arcs)?)
 }
 
@@ -138,7 +138,7 @@ pub(crate) fn random_arcs(alloc: Global, n: u32, count: usize) -> Result<Vec<Arc
         let tail = (bits & 0xfffff) as u32 % n.max(1);
         let head = (bits >> 20 & 0xfffff) as u32 % n.max(1);
         let weight = (bits >> 40 & 0x3ff) as u32;
-        arcs.push(ArcRec { tail, head, weight })?;
+        arcs.push(ArcRec::new(tail, head, weight))?;
     }
     Ok(arcs)
 }

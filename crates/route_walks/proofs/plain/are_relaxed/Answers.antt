@@ -8,7 +8,7 @@ pub loop-arc-preserved : goal.loop-arc-preserved
 loop-arc-preserved c =
     All-more (IsRelaxed (slice_index c.args.labels.now)) c.args.arcs.now c.loop-arc.arc-index
     (record { tail = 0; head = 0; weight = 0 }) c.loop-arc-test.true c.loop-arc.invariant
-    (omega (arith, c.if-labels-arc.false, c.reached_by.ensures))
+    (omega (arith, c.if-labels-arc.false, c.offer-offered.ensures))
 
 pub returns : goal.returns
 returns c = (

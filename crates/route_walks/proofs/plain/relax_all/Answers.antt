@@ -11,13 +11,13 @@ loop-arc-preserved c =
           rw (w.fell-is, w.if-lower.true, c.lower.ensures.lowered)
           (round-fell c.args.labels.now c.loop-arc.labels c.args.arcs.now c.loop-arc.arc-index
           c.loop-arc.fell (record { tail = 0; head = 0; weight = 0 }) c.loop-arc-test.true c.requires
-          c.loop-arc.auto.labels c.reached_by-number.result c.reached_by-number.ensures
+          c.loop-arc.auto.labels c.offer-offered.result c.offer-offered.ensures
           c.loop-arc.invariant (c.lower.ensures.fell.0 w.if-lower.true))
       | else-lower w ↦
           rw (w.fell-is, c.lower.ensures.lowered)
           (round-kept c.args.labels.now c.loop-arc.labels c.args.arcs.now c.loop-arc.arc-index
           c.loop-arc.fell (record { tail = 0; head = 0; weight = 0 }) c.loop-arc-test.true c.requires
-          c.loop-arc.auto.labels c.reached_by-number.result c.reached_by-number.ensures
+          c.loop-arc.auto.labels c.offer-offered.result c.offer-offered.ensures
           c.loop-arc.invariant (not-below c.lower.result _ _ w.if-lower.false c.lower.ensures.fell.1))
     ]
 

@@ -3,6 +3,7 @@ use Rattle.std.proofs.Common.{◌≡◌, ℕ, ◌+◌, ◌^◌, ◌<◌, ◌≤�
 use Rattle.std.proofs.lemmas.List.{get_or_read, get_or-set_same, get_or-set_other, get_or_append_left, length_push}
 use Rattle.std.proofs.lemmas.Bool.{cases_eq, false≢true}
 use Rattle.route_walks.specs.declared.graph.ArcRec.{ArcRec}
+use Rattle.route_walks.specs.declared.graph.TheConstants.{MAX_VERTICES}
 use Rattle.csr_graph.specs.Graph.{Graph, IsInRows}
 use Rattle.csr_graph.proofs.Rows.{arc_with, no_arc}
 use Rattle.walk_report.specs.declared.hop.TheConstants.{NONE}
@@ -69,7 +70,7 @@ reaches graph rows label hops queue next u h s k v w inv at tight unset =
 
 -- the next vertex has a hop of at most its place
 hop_small : (n : ℕ) (arcs : List ArcRec) (label : ℕ → ℕ) (hops queue : List ℕ) (next u : ℕ)
-    → IsSearch n arcs label hops queue next → next < length queue → u ≡ get_or queue next u → n ≤ 2 ^ 28
+    → IsSearch n arcs label hops queue next → next < length queue → u ≡ get_or queue next u → n ≤ MAX_VERTICES
     → slice_index hops u + 1 < 2 ^ 32
 hop_small n arcs label hops queue next u search place read few =
     let is = get_or_read queue next u place read 0 in
