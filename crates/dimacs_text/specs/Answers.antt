@@ -11,9 +11,13 @@ source_text s = codes "s " ++ decimal (s + 1) ++ codes "\n"
 abbrev pub cost_text : ℕ → List ℕ
 cost_text label = if label == INF then codes "inf" else decimal label
 
--- 'd V COST'
+-- 'd V COST', for the text of a cost
+abbrev pub cost_line : ℕ → List ℕ → List ℕ
+cost_line v text = codes "d " ++ decimal (v + 1) ++ codes " " ++ text ++ codes "\n"
+
+-- 'd V COST', for a label
 abbrev pub label_text : ℕ → ℕ → List ℕ
-label_text v label = codes "d " ++ decimal (v + 1) ++ codes " " ++ cost_text label ++ codes "\n"
+label_text v label = cost_line v (cost_text label)
 
 -- the lines of the labels, the first of which is that of the vertex v
 abbrev pub label_lines : ℕ → List ℕ → List ℕ

@@ -1,4 +1,5 @@
 pub mod Known
 pub mod Sending
 pub mod Replies
+pub mod Costs
 pub mod Uniqueness

@@ -63,15 +63,19 @@ abbrev pub IsBlock : Bool → ℕ → List ArcRec → ℕ → List ℕ → Type 
 IsBlock true n arcs source text = IsWalksBlock n arcs source text
 IsBlock false n arcs source text = IsSourceBlock n arcs source text
 
--- the blocks of the sources, in their order
-abbrev pub AreSourceBlocks : Bool → ℕ → List ArcRec → List ℕ → List ℕ → Type 0
-AreSourceBlocks walks n arcs [] text = text ≡ []
-AreSourceBlocks walks n arcs (source ∷ sources) text =
+-- a block for each source, in their order, where a relation says which text is a source's block
+abbrev pub AreBlocks : (ℕ → List ℕ → Type 0) → List ℕ → List ℕ → Type 0
+AreBlocks IsBlockOf [] text = text ≡ []
+AreBlocks IsBlockOf (source ∷ sources) text =
     (block : List ℕ)
     × (rest : List ℕ)
-    × IsBlock walks n arcs source block
-    × AreSourceBlocks walks n arcs sources rest
+    × IsBlockOf source block
+    × AreBlocks IsBlockOf sources rest
     × (text ≡ block ++ rest)
+
+-- the blocks of the sources, in their order
+abbrev pub AreSourceBlocks : Bool → ℕ → List ArcRec → List ℕ → List ℕ → Type 0
+AreSourceBlocks walks n arcs sources text = AreBlocks (IsBlock walks n arcs) sources text
 
 -- the answer to what is asked; without a section of queries there is none
 abbrev pub AreAskedBlocks : Bool → ℕ → List ArcRec → Question → List ℕ → Type 0

@@ -2,3 +2,4 @@ pub mod Choices
 pub mod Bytes
 pub mod AnswerText
 pub mod Outcome
+pub mod Costs

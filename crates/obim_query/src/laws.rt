@@ -1,8 +1,9 @@
 //! Laws of answers: each is the contract of a function that does nothing.
 
 ghost use Rattle.obim_query.specs.AnswerText.{AnswerTextsAreUnique};
+ghost use Rattle.obim_query.specs.Costs.{AnswersSayCosts};
 
-use route_walks::laws::least_labels_are_unique;
+use route_walks::laws::{inf_means_no_walk, least_labels_are_unique};
 use walk_report::laws::hops_and_parents_are_unique;
 
 /// A job has only one answer text of a kind. So what `answer` writes does not depend on how the labels
@@ -12,4 +13,12 @@ pub fn answer_texts_are_unique()
 {
     least_labels_are_unique();
     hops_and_parents_are_unique();
+}
+
+/// In an answer of distances or levels the line of a vertex says `inf` where no walk at all leads there
+/// from the source, and else what the cheapest walk costs.
+pub fn answers_say_costs()
+    ensures { AnswersSayCosts }
+{
+    inf_means_no_walk();
 }

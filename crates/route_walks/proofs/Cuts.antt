@@ -1,13 +1,15 @@
 -- A walk that meets a vertex twice can leave out what lies between, so some walk of no more cost meets
--- none twice; and at most n vertices are met.
-use Rattle.std.proofs.Common.{◌≡◌, ℕ, ◌+◌, ◌<◌, ◌≤◌, List, [], ◌∷◌, length, true}
+-- none twice; and at most n vertices are met. So no least cost is as large as INF.
+use Rattle.std.proofs.Common.{◌≡◌, ℕ, ◌+◌, ◌*◌, ◌^◌, ◌<◌, ◌≤◌, List, [], ◌∷◌, length, true}
 use Rattle.std.proofs.Common.{false, eqb, refl, sym, subst, arith, inl, inr}
-use Rattle.std.specs.List.{IsDistinct, AllByRecursion, list_any}
-use Rattle.std.proofs.lemmas.List.Elements.{All-contains}
+use Rattle.std.specs.List.{All, IsDistinct, AllByRecursion, list_any}
+use Rattle.std.proofs.lemmas.List.Elements.{All-contains, All-weaker}
 use Rattle.std.proofs.lemmas.Bool.{cases_Bool, or_cases, or_parts, eqb-true}
 use Rattle.std.proofs.lemmas.Map.Steps.{length-le_from_distinct_below}
 use Rattle.route_walks.specs.declared.graph.ArcRec.{ArcRec}
+use Rattle.route_walks.specs.declared.graph.Seed.{Seed}
 use Rattle.route_walks.specs.Walk.{IsWalk, cost, IsGraph, IsArcBelow, HasShortWalk}
+use Rattle.route_walks.specs.Label.{InfMeansNoWalk}
 
 -- the vertices that a walk from u meets, u first
 abbrev vertices : ℕ → List ArcRec → List ℕ
@@ -103,3 +105,26 @@ walks_can_be_cut n arcs u v walk graph below walks =
     (met-is-below n arcs graph u v cut.walk below cut.walks) in
     let count = length-vertices u cut.walk in
     record { walk = cut.walk; walks = cut.walks; short = omega (arith, few, count); cheap = cut.cheap }
+
+-- a walk costs at most its length times the greatest weight
+cost-le : (most : ℕ) (arcs : List ArcRec) (u v : ℕ) (walk : List ArcRec)
+    → All (λ (arc : ArcRec). arc.weight ≤ most) arcs → IsWalk arcs u walk v
+    → cost walk ≤ length walk * most
+cost-le most arcs u v [] light walks = omega arith
+cost-le most arcs u v (arc ∷ walk) light walks =
+    let here = All-contains (λ (a : ArcRec). a.weight ≤ most) arcs arc light walks.0 in
+    let rest = cost-le most arcs arc.head v walk light walks.2 in
+    omega (arith, here, rest)
+
+pub inf_means_no_walk : InfMeansNoWalk
+inf_means_no_walk n arcs seeds labels few graph light within starts least v below inf c attained =
+    let seed = attained.seed in
+    let inside = All-contains (λ (s : Seed). s.vertex < n) seeds seed within attained.seeded in
+    let start = All-contains (λ (s : Seed). s.start ≤ 2 ^ 60) seeds seed starts attained.seeded in
+    let cut = walks_can_be_cut n arcs seed.vertex v attained.walk graph inside attained.walks in
+    let weights = All-weaker (λ (a : ArcRec). a.weight < 2 ^ 32) (λ (a : ArcRec). a.weight ≤ 2 ^ 32)
+    (λ a less. omega arith) arcs light in
+    let cheap = cost-le (2 ^ 32) arcs seed.vertex v cut.walk weights cut.walks in
+    let low = (least.least v below).least (seed.start + cost cut.walk)
+    (record { seed = seed; walk = cut.walk; seeded = attained.seeded; walks = cut.walks; costs = refl }) in
+    omega (arith, low, inf, start, cheap, cut.short, few)

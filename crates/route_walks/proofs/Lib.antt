@@ -1,3 +1,4 @@
+pub mod Facts
 pub mod Cuts
 pub mod Labels
 pub mod Lowering

@@ -1,9 +1,9 @@
 -- Labels of vertices, read as functions from the vertex: when they are least, settled, sound.
-use Rattle.std.specs.Prelude.{◌≡◌, ℕ, ◌+◌, ◌<◌, ◌≤◌, min, List, All, length, slice_index}
+use Rattle.std.specs.Prelude.{◌≡◌, ℕ, ◌+◌, ◌^◌, ◌<◌, ◌≤◌, min, List, All, length, slice_index}
 use Rattle.route_walks.specs.declared.graph.ArcRec.{ArcRec}
 use Rattle.route_walks.specs.declared.graph.Seed.{Seed}
-use Rattle.route_walks.specs.declared.graph.TheConstants.{INF}
-use Rattle.route_walks.specs.Walk.{IsAttained, HaveSameArcs}
+use Rattle.route_walks.specs.declared.graph.TheConstants.{INF, MAX_VERTICES}
+use Rattle.route_walks.specs.Walk.{IsAttained, HaveSameArcs, IsGraph, AreSeeds}
 
 -- d is the least label of v: the smallest number attained there, or INF where none below INF is
 pub record IsLeast (arcs : List ArcRec) (seeds : List Seed) (v d : ℕ) : Type 0 where
@@ -70,3 +70,18 @@ LeastLabelsFollowTheArcs =
     → HaveSameArcs one other
     → AreLeastLabels n one seeds labels
     → AreLeastLabels n other seeds labels
+
+-- INF means that no walk exists: where weights are below 2^32 and starts at most 2^60, nothing at all is
+-- attained at a vertex whose least label is INF
+abbrev pub InfMeansNoWalk : Type 0
+InfMeansNoWalk =
+    (n : ℕ) (arcs : List ArcRec) (seeds : List Seed) (labels : List ℕ)
+    → n ≤ MAX_VERTICES
+    → IsGraph n arcs
+    → All (λ arc. arc.weight < 2 ^ 32) arcs
+    → AreSeeds n seeds
+    → All (λ seed. seed.start ≤ 2 ^ 60) seeds
+    → AreLeastLabels n arcs seeds labels
+    → (v : ℕ) → v < n
+    → slice_index labels v ≡ INF
+    → (c : ℕ) → ¬ (IsAttained arcs seeds v c)

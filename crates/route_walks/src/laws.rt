@@ -2,7 +2,7 @@
 
 ghost use Rattle.route_walks.specs.Walk.{WalksCanBeCut};
 ghost use Rattle.route_walks.specs.Label.{SettledAndSoundAreLeast, LeastLabelsAreUnique};
-ghost use Rattle.route_walks.specs.Label.{LeastLabelsFollowTheArcs};
+ghost use Rattle.route_walks.specs.Label.{LeastLabelsFollowTheArcs, InfMeansNoWalk};
 ghost use Rattle.route_walks.specs.Component.{LeastLabelsAreComponents};
 
 /// Among `n` vertices each walk can be cut to at most `n - 1` arcs, at no more cost: what lies between
@@ -26,6 +26,12 @@ pub fn least_labels_are_unique()
 /// stands in the list counts.
 pub fn least_labels_follow_the_arcs()
     ensures { LeastLabelsFollowTheArcs }
+{}
+
+/// A least label of `INF` means that no walk from a seed ends there: a walk that is cut costs less than
+/// 2^60, as at most 2^28 vertices are on it. So `INF` stands for no number that is too large.
+pub fn inf_means_no_walk()
+    ensures { InfMeansNoWalk }
 {}
 
 /// Where each vertex is a seed that starts at its own number, and each arc is taken both ways at no
