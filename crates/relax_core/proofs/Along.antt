@@ -10,7 +10,7 @@ use Rattle.route_walks.specs.declared.graph.Seed.{Seed}
 use Rattle.route_walks.specs.declared.graph.TheConstants.{INF}
 use Rattle.route_walks.specs.Walk.{IsAttained}
 use Rattle.route_walks.specs.Label.{IsRelaxed, IsSound}
-use Rattle.route_walks.proofs.Lowering.{attained-along}
+use Rattle.route_walks.proofs.Facts.{attained-along}
 use Rattle.csr_graph.specs.Graph.{Graph, IsInRows, end_place}
 use Rattle.csr_graph.proofs.Rows.{runs_are_rows}
 use Rattle.relax_core.specs.declared.views.Hand.TheVariants.{Open, Owe}

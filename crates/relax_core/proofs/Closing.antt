@@ -8,7 +8,7 @@ use Rattle.std.proofs.lemmas.Bool.{cases_eq, cases_Bool}
 use Rattle.std.proofs.lemmas.Option.{slice_get-get_or}
 use Rattle.route_walks.specs.declared.graph.Seed.{Seed}
 use Rattle.route_walks.specs.Label.{AreCapped, AreLeast, IsSettled}
-use Rattle.route_walks.proofs.Labels.{settled_and_sound_are_least}
+use Rattle.route_walks.proofs.Facts.{settled_and_sound_are_least}
 use Rattle.csr_graph.specs.Graph.{Graph, IsInRows}
 use Rattle.relax_core.specs.declared.views.Hand.{Hand}
 use Rattle.relax_core.specs.declared.views.Hand.TheVariants.{Idle, Fresh, Open, Owe}

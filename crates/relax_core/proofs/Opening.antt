@@ -16,7 +16,7 @@ use Rattle.route_walks.specs.declared.graph.ArcRec.{ArcRec}
 use Rattle.route_walks.specs.declared.graph.Seed.{Seed}
 use Rattle.route_walks.specs.declared.graph.TheConstants.{INF}
 use Rattle.route_walks.specs.Walk.{IsAttained}
-use Rattle.route_walks.proofs.Lowering.{attained-start}
+use Rattle.route_walks.proofs.Facts.{attained-start}
 use Rattle.csr_graph.specs.Graph.{Graph, IsInRows}
 use Rattle.relax_core.specs.declared.views.Hand.TheVariants.{Idle}
 use Rattle.relax_core.specs.declared.views.View.{View}

@@ -1,139 +1,90 @@
 -- A path is a walk along the arcs both ways, which is free; so what is attained at a vertex are the
 -- numbers of the vertices connected with it.
-use Rattle.std.proofs.Common.{◌≡◌, ℕ, ◌<◌, ◌^◌, List, [], ◌∷◌, zero, suc, refl}
-use Rattle.std.proofs.Common.{sym, subst, ap, ◌∙◌, arith, ◌⊎◌, inl, inr}
-use Rattle.std.specs.List.{Contains, range_with_len}
-use Rattle.std.proofs.lemmas.List.Elements.{All-contains, All-map, Contains-append_cases, Contains-append_right}
+use Rattle.std.proofs.Common.{◌≡◌, ℕ, ◌<◌, ◌≤◌, List, [], ◌∷◌, zero, suc, refl, sym, subst, arith, ◌⊎◌, inl, inr}
+use Rattle.std.specs.List.{All, Contains, range_with_len}
+use Rattle.std.proofs.lemmas.List.Elements.{All-contains, All-map, All-nil, All-cons, Contains-append_cases}
+use Rattle.std.proofs.lemmas.List.Elements.{Contains-append_left, Contains-append_right}
 use Rattle.std.proofs.lemmas.List.FromFn.{get_or-map-range_with_len, length-map-range_with_len}
 use Rattle.route_walks.specs.declared.graph.ArcRec.{ArcRec}
 use Rattle.route_walks.specs.declared.graph.Seed.{Seed}
-use Rattle.route_walks.specs.Walk.{IsArcBelow, IsGraph, IsWalk, cost, IsAttained}
-use Rattle.route_walks.specs.Label.{AreLeast}
+use Rattle.route_walks.specs.Walk.{IsArcBelow, IsGraph, IsWalk, IsAttained}
 use Rattle.route_walks.specs.Problem.{seed_at, seeds_all, along, against, both_ways}
-use Rattle.route_walks.specs.Component.{IsPath, AreConnected, IsComponentLabel}
+use Rattle.route_walks.specs.Component.{IsPath, AreConnected, LeastLabelsAreComponents}
+use Rattle.route_walks.proofs.Cuts.{cost-le}
+use Rattle.route_walks.proofs.Facts.{contains-one}
 
-contains-one : {X : Type 0} (x y : X) → Contains (x ∷ []) y → x ≡ y
-contains-one x y (zero, below, is) = is
-contains-one x y (suc k, below, is) = absurd (omega arith)
+-- the two ways of an arc
+abbrev two_ways : ArcRec → List ArcRec
+two_ways arc = along arc ∷ against arc ∷ []
 
-contains-cons : {X : Type 0} (x : X) (xs : List X) (y : X) → Contains (x ∷ xs) y → (x ≡ y) ⊎ Contains xs y
-contains-cons x xs y within =
-    elim (Contains-append_cases (x ∷ []) xs y within) [ inl here ↦ inl (contains-one x y here) | inr later ↦ inr later ]
+either-way : (arc taken : ArcRec) → Contains (two_ways arc) taken → (along arc ≡ taken) ⊎ (against arc ≡ taken)
+either-way arc taken (zero, below, is) = inl is
+either-way arc taken (suc zero, below, is) = inr is
+either-way arc taken (suc (suc k), below, is) = absurd (omega arith)
 
-contains-along : (arcs : List ArcRec) (arc : ArcRec) → Contains arcs arc → Contains (both_ways arcs) (along arc)
-contains-along [] arc within = absurd (omega (arith, within.1))
-contains-along (first ∷ arcs) arc within =
-    elim (contains-cons first arcs arc within) [
-      | inl here ↦ (0, omega arith, ap along here)
+-- an arc of the graph may be taken either way
+both_ways-of : (arcs : List ArcRec) (arc taken : ArcRec) → Contains arcs arc → Contains (two_ways arc) taken
+    → Contains (both_ways arcs) taken
+both_ways-of [] arc taken within way = absurd (omega (arith, within.1))
+both_ways-of (first ∷ arcs) arc taken within way =
+    elim (Contains-append_cases (first ∷ []) arcs arc within) [
+      | inl here ↦
+          Contains-append_left (two_ways first) (both_ways arcs) taken
+          (subst (λ (a : ArcRec). Contains (two_ways a) taken) (sym (contains-one first arc here)) way)
       | inr later ↦
-          Contains-append_right (along first ∷ against first ∷ []) (both_ways arcs) (along arc)
-          (contains-along arcs arc later)
+          Contains-append_right (two_ways first) (both_ways arcs) taken (both_ways-of arcs arc taken later way)
     ]
 
-contains-against : (arcs : List ArcRec) (arc : ArcRec) → Contains arcs arc → Contains (both_ways arcs) (against arc)
-contains-against [] arc within = absurd (omega (arith, within.1))
-contains-against (first ∷ arcs) arc within =
-    elim (contains-cons first arcs arc within) [
-      | inl here ↦ (1, omega arith, ap against here)
+-- and no other arc is taken
+of_both_ways : (arcs : List ArcRec) (taken : ArcRec) → Contains (both_ways arcs) taken
+    → (arc : ArcRec) × Contains arcs arc × Contains (two_ways arc) taken
+of_both_ways [] taken within = absurd (omega (arith, within.1))
+of_both_ways (first ∷ arcs) taken within =
+    elim (Contains-append_cases (two_ways first) (both_ways arcs) taken within) [
+      | inl here ↦ (first, (0, omega arith, refl), here)
       | inr later ↦
-          Contains-append_right (along first ∷ against first ∷ []) (both_ways arcs) (against arc)
-          (contains-against arcs arc later)
+          let found = of_both_ways arcs taken later in
+          (found.0, Contains-append_right (first ∷ []) arcs found.0 found.1, found.2)
     ]
 
--- an arc of both ways comes from an arc of the graph
-record Source (arcs : List ArcRec) (taken : ArcRec) : Type 0 where
-  arc : ArcRec
-  within : Contains arcs arc
-  way : (along arc ≡ taken) ⊎ (against arc ≡ taken)
-
-source-of : (arcs : List ArcRec) (taken : ArcRec) → Contains (both_ways arcs) taken → Source arcs taken
-source-of [] taken within = absurd (omega (arith, within.1))
-source-of (first ∷ arcs) taken within =
-    elim (contains-cons (along first) (against first ∷ both_ways arcs) taken within) [
-      | inl here ↦ record { arc = first; within = (0, omega arith, refl); way = inl here }
-      | inr rest ↦
-          elim (contains-cons (against first) (both_ways arcs) taken rest) [
-            | inl here ↦ record { arc = first; within = (0, omega arith, refl); way = inr here }
-            | inr later ↦
-                let found = source-of arcs taken later in
-                record {
-                  arc = found.arc;
-                  within = Contains-append_right (first ∷ []) arcs found.arc found.within;
-                  way = found.way;
-                }
-          ]
-    ]
-
--- a free walk along the arcs both ways
-record FreeWalk (arcs : List ArcRec) (u v : ℕ) : Type 0 where
-  walk : List ArcRec
-  walks : IsWalk (both_ways arcs) u walk v
-  free : cost walk ≡ 0
-
-walk-from_path : (arcs : List ArcRec) (u v : ℕ) (path : List ArcRec) → IsPath arcs u path v → FreeWalk arcs u v
-walk-from_path arcs u v [] joins = record { walk = []; walks = joins; free = refl }
+walk-from_path : (arcs : List ArcRec) (u v : ℕ) (path : List ArcRec) → IsPath arcs u path v
+    → (walk : List ArcRec) × IsWalk (both_ways arcs) u walk v
+walk-from_path arcs u v [] joins = ([], joins)
 walk-from_path arcs u v (arc ∷ path) joins =
     elim (joins.1) [
       | inl forward ↦
           let rest = walk-from_path arcs arc.head v path forward.1 in
-          record {
-            walk = along arc ∷ rest.walk;
-            walks = (contains-along arcs arc joins.0, forward.0, rest.walks);
-            free = omega (arith, rest.free);
-          }
+          (along arc ∷ rest.0, (both_ways-of arcs arc (along arc) joins.0 (0, omega arith, refl), forward.0, rest.1))
       | inr backward ↦
           let rest = walk-from_path arcs arc.tail v path backward.1 in
-          record {
-            walk = against arc ∷ rest.walk;
-            walks = (contains-against arcs arc joins.0, backward.0, rest.walks);
-            free = omega (arith, rest.free);
-          }
+          (against arc ∷ rest.0, (both_ways-of arcs arc (against arc) joins.0 (1, omega arith, refl), backward.0, rest.1))
     ]
 
--- a walk along the arcs both ways is a path, and free
-record PathOf (arcs : List ArcRec) (u v : ℕ) (walk : List ArcRec) : Type 0 where
-  path : List ArcRec
-  joins : IsPath arcs u path v
-  free : cost walk ≡ 0
-
-path-from_walk : (arcs : List ArcRec) (u v : ℕ) (walk : List ArcRec)
-    → IsWalk (both_ways arcs) u walk v
-    → PathOf arcs u v walk
-path-from_walk arcs u v [] walks = record { path = []; joins = walks; free = refl }
-path-from_walk arcs u v (taken ∷ walk) walks =
-    let rest = path-from_walk arcs taken.head v walk walks.2 in
-    let source = source-of arcs taken walks.0 in
-    elim (source.way) [
-      | inl forward ↦
-          record {
-            path = source.arc ∷ rest.path;
-            joins = (
-              source.within,
-              inl (
-                ap (λ (a : ArcRec). a.tail) forward ∙ walks.1,
-                subst (λ (x : ℕ). IsPath arcs x rest.path v)
-                    (sym (ap (λ (a : ArcRec). a.head) forward)) rest.joins,
-              ),
-            );
-            free = omega (arith, rest.free, ap (λ (a : ArcRec). a.weight) forward);
-          }
-      | inr backward ↦
-          record {
-            path = source.arc ∷ rest.path;
-            joins = (
-              source.within,
-              inr (
-                ap (λ (a : ArcRec). a.tail) backward ∙ walks.1,
-                subst (λ (x : ℕ). IsPath arcs x rest.path v)
-                    (sym (ap (λ (a : ArcRec). a.head) backward)) rest.joins,
-              ),
-            );
-            free = omega (arith, rest.free, ap (λ (a : ArcRec). a.weight) backward);
-          }
+-- what is connected with the head of an arc taken either way is with its tail
+connected-step : (arcs : List ArcRec) (taken : ArcRec) (v : ℕ) → Contains (both_ways arcs) taken → AreConnected arcs taken.head v
+    → AreConnected arcs taken.tail v
+connected-step arcs taken v within rest =
+    let source = of_both_ways arcs taken within in
+    let Step : ArcRec → Type 0 = λ a. AreConnected arcs a.head v → AreConnected arcs a.tail v in
+    elim (either-way source.0 taken source.2) [
+      | inl forward ↦ subst Step forward (λ r. (source.0 ∷ r.0, (source.1, inl (refl, r.1)))) rest
+      | inr backward ↦ subst Step backward (λ r. (source.0 ∷ r.0, (source.1, inr (refl, r.1)))) rest
     ]
 
-start-below : (n : ℕ) (arcs : List ArcRec)
-    → IsGraph n arcs → (u v : ℕ) (path : List ArcRec) → IsPath arcs u path v → v < n
+connected-from_walk : (arcs : List ArcRec) (u v : ℕ) (walk : List ArcRec) → IsWalk (both_ways arcs) u walk v
+    → AreConnected arcs u v
+connected-from_walk arcs u v [] walks = ([], walks)
+connected-from_walk arcs u v (taken ∷ walk) walks =
+    subst (λ (x : ℕ). AreConnected arcs x v) walks.1
+    (connected-step arcs taken v walks.0 (connected-from_walk arcs taken.head v walk walks.2))
+
+free : (arcs : List ArcRec) → All (λ (arc : ArcRec). arc.weight ≤ 0) (both_ways arcs)
+free [] = All-nil (λ (arc : ArcRec). arc.weight ≤ 0)
+free (arc ∷ arcs) =
+    All-cons (λ (a : ArcRec). a.weight ≤ 0) (along arc) (against arc ∷ both_ways arcs) (omega arith)
+    (All-cons (λ (a : ArcRec). a.weight ≤ 0) (against arc) (both_ways arcs) (omega arith) (free arcs))
+
+start-below : (n : ℕ) (arcs : List ArcRec) → IsGraph n arcs → (u v : ℕ) (path : List ArcRec) → IsPath arcs u path v → v < n
     → u < n
 start-below n arcs graph u v [] joins below = subst (λ (x : ℕ). x < n) (sym joins) below
 start-below n arcs graph u v (arc ∷ path) joins below =
@@ -146,7 +97,7 @@ start-below n arcs graph u v (arc ∷ path) joins below =
 seed-within : (n v : ℕ) → v < n → Contains (seeds_all n) (seed_at v)
 seed-within n v below = (
   v,
-  subst (λ (x : ℕ). v < x) (sym (length-map-range_with_len seed_at 0 n)) below,
+  omega (arith, length-map-range_with_len seed_at 0 n),
   get_or-map-range_with_len seed_at 0 n v v (seed_at v) below (omega arith),
 )
 
@@ -155,34 +106,30 @@ seed-starts n seed within =
     All-contains (λ (s : Seed). s.start ≡ s.vertex) (seeds_all n) seed
     (All-map (λ (s : Seed). s.start ≡ s.vertex) seed_at (range_with_len 0 n) (λ k d below. refl)) within
 
-attained-from_path : (n : ℕ) (arcs : List ArcRec)
-    → IsGraph n arcs → (u v : ℕ) → v < n → AreConnected arcs u v
+attained-from_connected : (n : ℕ) (arcs : List ArcRec) → IsGraph n arcs → (u v : ℕ) → v < n → AreConnected arcs u v
     → IsAttained (both_ways arcs) (seeds_all n) v u
-attained-from_path n arcs graph u v below connected =
-    let free = walk-from_path arcs u v connected.0 connected.1 in
+attained-from_connected n arcs graph u v below connected =
+    let found = walk-from_path arcs u v connected.0 connected.1 in
     record {
       seed = seed_at u;
-      walk = free.walk;
+      walk = found.0;
       seeded = seed-within n u (start-below n arcs graph u v connected.0 connected.1 below);
-      walks = free.walks;
-      costs = omega (arith, free.free);
+      walks = found.1;
+      costs = omega (arith, cost-le 0 (both_ways arcs) u v found.0 (free arcs) found.1);
     }
 
-connected-from_attained : (n : ℕ) (arcs : List ArcRec) (v c : ℕ)
-    → IsAttained (both_ways arcs) (seeds_all n) v c
+connected-from_attained : (n : ℕ) (arcs : List ArcRec) (v c : ℕ) → IsAttained (both_ways arcs) (seeds_all n) v c
     → AreConnected arcs c v
 connected-from_attained n arcs v c attained =
-    let path = path-from_walk arcs attained.seed.vertex v attained.walk attained.walks in
-    let start = seed-starts n attained.seed attained.seeded in
-    let same : attained.seed.vertex ≡ c = omega (arith, start, path.free, attained.costs) in
-    subst (λ (x : ℕ). AreConnected arcs x v) same (path.path, path.joins)
+    let u = attained.seed.vertex in
+    let cheap = cost-le 0 (both_ways arcs) u v attained.walk (free arcs) attained.walks in
+    let same : u ≡ c = omega (arith, seed-starts n attained.seed attained.seeded, cheap, attained.costs) in
+    subst (λ (x : ℕ). AreConnected arcs x v) same (connected-from_walk arcs u v attained.walk attained.walks)
 
-pub least_labels_are_components : (n : ℕ) (arcs : List ArcRec) (label : ℕ → ℕ) → IsGraph n arcs → n < 2 ^ 32
-    → AreLeast n (both_ways arcs) (seeds_all n) label → (v : ℕ) → v < n → IsComponentLabel arcs v (label v)
+pub least_labels_are_components : LeastLabelsAreComponents
 least_labels_are_components n arcs label graph few least v below =
-    let here = attained-from_path n arcs graph v v below ([], refl) in
-    let low = (least v below).least v here in
+    let low = (least v below).least v (attained-from_connected n arcs graph v v below ([], refl)) in
     record {
       connected = connected-from_attained n arcs v (label v) ((least v below).attained (omega (arith, low)));
-      least = λ u connected. (least v below).least u (attained-from_path n arcs graph u v below connected);
+      least = λ u connected. (least v below).least u (attained-from_connected n arcs graph u v below connected);
     }

@@ -1,43 +1,31 @@
 -- A walk that meets a vertex twice can leave out what lies between, so some walk of no more cost meets
 -- none twice; and at most n vertices are met. So no least cost is as large as INF.
-use Rattle.std.proofs.Common.{◌≡◌, ℕ, ◌+◌, ◌*◌, ◌^◌, ◌<◌, ◌≤◌, List, [], ◌∷◌, length, true}
-use Rattle.std.proofs.Common.{false, eqb, refl, sym, subst, arith, inl, inr}
+use Rattle.std.proofs.Common.{◌≡◌, ℕ, ◌+◌, ◌*◌, ◌^◌, ◌<◌, ◌≤◌, List, [], ◌∷◌, length, map, true, false, eqb, refl, sym, subst}
+use Rattle.std.proofs.Common.{◌⊎◌, inl, inr, arith}
 use Rattle.std.specs.List.{All, IsDistinct, AllByRecursion, list_any}
-use Rattle.std.proofs.lemmas.List.Elements.{All-contains, All-weaker}
+use Rattle.std.proofs.lemmas.List.{length-map}
+use Rattle.std.proofs.lemmas.List.Elements.{All-contains, All-weaker, All-nil, All-cons}
 use Rattle.std.proofs.lemmas.Bool.{cases_Bool, or_cases, or_parts, eqb-true}
 use Rattle.std.proofs.lemmas.Map.Steps.{length-le_from_distinct_below}
+use Rattle.std.proofs.lemmas.Map.Views.{Contains-from_any}
 use Rattle.route_walks.specs.declared.graph.ArcRec.{ArcRec}
 use Rattle.route_walks.specs.declared.graph.Seed.{Seed}
-use Rattle.route_walks.specs.Walk.{IsWalk, cost, IsGraph, IsArcBelow, HasShortWalk}
+use Rattle.route_walks.specs.Walk.{IsWalk, cost, IsGraph, IsArcBelow, WalksCanBeCut}
 use Rattle.route_walks.specs.Label.{InfMeansNoWalk}
 
--- the vertices that a walk from u meets, u first
+-- the vertices that a walk enters, and those that a walk from u meets, u first
+abbrev heads : List ArcRec → List ℕ
+heads walk = map (λ (arc : ArcRec). arc.head) walk
+
 abbrev vertices : ℕ → List ArcRec → List ℕ
-vertices u [] = u ∷ []
-vertices u (arc ∷ walk) = u ∷ vertices arc.head walk
+vertices u walk = u ∷ heads walk
 
-abbrev Meets : ℕ → ℕ → List ArcRec → Type 0
-Meets q u walk = list_any (eqb q) (vertices u walk) ≡ true
-
-length-vertices : (u : ℕ) (walk : List ArcRec) → length (vertices u walk) ≡ length walk + 1
-length-vertices u [] = refl
-length-vertices u (arc ∷ walk) = let rest = length-vertices arc.head walk in omega (arith, rest)
-
-met-is-below : (n : ℕ) (arcs : List ArcRec) (graph : IsGraph n arcs) (u v : ℕ) (walk : List ArcRec)
-    → u < n → IsWalk arcs u walk v → (q : ℕ) → Meets q u walk
-    → q < n
-met-is-below n arcs graph u v [] below walks q meets =
-    elim (or_cases (eqb q u) false meets) [
-      | inl here ↦ subst (λ (x : ℕ). x < n) (sym (eqb-true q u here)) below
-      | inr never ↦ cc
-    ]
-met-is-below n arcs graph u v (arc ∷ walk) below walks q meets =
-    elim (or_cases (eqb q u) (list_any (eqb q) (vertices arc.head walk)) meets) [
-      | inl here ↦ subst (λ (x : ℕ). x < n) (sym (eqb-true q u here)) below
-      | inr later ↦
-          met-is-below n arcs graph arc.head v walk
-          (All-contains (IsArcBelow n) arcs arc graph walks.0).1 walks.2 q later
-    ]
+vertices-below : (n : ℕ) (arcs : List ArcRec) → IsGraph n arcs → (u v : ℕ) (walk : List ArcRec) → u < n → IsWalk arcs u walk v
+    → All (λ x. x < n) (vertices u walk)
+vertices-below n arcs graph u v [] below walks = All-cons (λ x. x < n) u [] below (All-nil (λ x. x < n))
+vertices-below n arcs graph u v (arc ∷ walk) below walks =
+    All-cons (λ x. x < n) u (vertices arc.head walk) below
+    (vertices-below n arcs graph arc.head v walk (All-contains (IsArcBelow n) arcs arc graph walks.0).1 walks.2)
 
 -- a walk from u to v that meets no vertex twice, and costs no more than the given number
 record Simple (arcs : List ArcRec) (u v most : ℕ) : Type 0 where
@@ -46,31 +34,24 @@ record Simple (arcs : List ArcRec) (u v most : ℕ) : Type 0 where
   distinct : IsDistinct eqb (vertices u walk)
   cheap : cost walk ≤ most
 
--- what follows the vertex q on a walk that meets it
-from_there : (arcs : List ArcRec) (q u v : ℕ) (walk : List ArcRec)
-    → IsWalk arcs u walk v → IsDistinct eqb (vertices u walk) → Meets q u walk
+-- what follows the vertex q on a walk that begins there or enters it
+from_there : (arcs : List ArcRec) (q u v : ℕ) (walk : List ArcRec) → IsWalk arcs u walk v → IsDistinct eqb (vertices u walk)
+    → (eqb q u ≡ true) ⊎ (list_any (eqb q) (heads walk) ≡ true)
     → Simple arcs q v (cost walk)
 unfolding IsDistinct
-from_there arcs q u v [] walks distinct meets =
-    elim (or_cases (eqb q u) false meets) [
-      | inl here ↦ record { walk = []; walks = cc (eqb-true q u here); distinct = (tt, tt); cheap = omega arith }
-      | inr never ↦ cc
-    ]
-from_there arcs q u v (arc ∷ walk) walks distinct meets =
-    elim (or_cases (eqb q u) (list_any (eqb q) (vertices arc.head walk)) meets) [
-      | inl here ↦
-          subst (λ (x : ℕ). Simple arcs x v (cost (arc ∷ walk))) (sym (eqb-true q u here))
-          (record { walk = arc ∷ walk; walks = walks; distinct = distinct; cheap = omega arith })
-      | inr later ↦
-          let rest = from_there arcs q arc.head v walk walks.2 distinct.1 later in
-          record { walk = rest.walk; walks = rest.walks; distinct = rest.distinct; cheap = omega (arith, rest.cheap) }
-    ]
+from_there arcs q u v walk walks distinct (inl here) =
+    subst (λ (x : ℕ). Simple arcs x v (cost walk)) (sym (eqb-true q u here))
+    (record { walk = walk; walks = walks; distinct = distinct; cheap = omega arith })
+from_there arcs q u v [] walks distinct (inr never) = cc
+from_there arcs q u v (arc ∷ walk) walks distinct (inr later) =
+    let meets = or_cases (eqb q arc.head) (list_any (eqb q) (heads walk)) later in
+    let rest = from_there arcs q arc.head v walk walks.2 distinct.1 meets in
+    record { walk = rest.walk; walks = rest.walks; distinct = rest.distinct; cheap = omega (arith, rest.cheap) }
 
-none_from_list_any : (q : ℕ) (xs : List ℕ) → list_any (eqb q) xs ≡ false → AllByRecursion (λ y. eqb q y ≡ false) xs
-none_from_list_any q [] none = tt
-none_from_list_any q (x ∷ xs) none =
-    let parts = or_parts (eqb q x) (list_any (eqb q) xs) none in
-    (parts.0, none_from_list_any q xs parts.1)
+never_equal : (q : ℕ) (xs : List ℕ) → list_any (eqb q) xs ≡ false → AllByRecursion (λ y. eqb q y ≡ false) xs
+never_equal q [] none = tt
+never_equal q (x ∷ xs) none =
+    let parts = or_parts (eqb q x) (list_any (eqb q) xs) none in (parts.0, never_equal q xs parts.1)
 
 simple : (arcs : List ArcRec) (u v : ℕ) (walk : List ArcRec) → IsWalk arcs u walk v → Simple arcs u v (cost walk)
 unfolding IsDistinct
@@ -79,35 +60,30 @@ simple arcs u v (arc ∷ walk) walks =
     let rest = simple arcs arc.head v walk walks.2 in
     elim (cases_Bool (list_any (eqb u) (vertices arc.head rest.walk))) [
       | inl again ↦
-          let cut = from_there arcs u arc.head v rest.walk rest.walks rest.distinct again in
-          record {
-            walk = cut.walk;
-            walks = cut.walks;
-            distinct = cut.distinct;
-            cheap = omega (arith, cut.cheap, rest.cheap);
-          }
+          let meets = or_cases (eqb u arc.head) (list_any (eqb u) (heads rest.walk)) again in
+          let cut = from_there arcs u arc.head v rest.walk rest.walks rest.distinct meets in
+          record { walk = cut.walk; walks = cut.walks; distinct = cut.distinct; cheap = omega (arith, cut.cheap, rest.cheap) }
       | inr fresh ↦
           record {
             walk = arc ∷ rest.walk;
             walks = (walks.0, walks.1, rest.walks);
-            distinct = (none_from_list_any u (vertices arc.head rest.walk) fresh, rest.distinct);
+            distinct = (never_equal u (vertices arc.head rest.walk) fresh, rest.distinct);
             cheap = omega (arith, rest.cheap);
           }
     ]
 
-pub walks_can_be_cut : (n : ℕ) (arcs : List ArcRec) (u v : ℕ) (walk : List ArcRec)
-    → IsGraph n arcs → u < n → IsWalk arcs u walk v
-    → HasShortWalk n arcs u v (cost walk)
+pub walks_can_be_cut : WalksCanBeCut
 walks_can_be_cut n arcs u v walk graph below walks =
     let cut = simple arcs u v walk walks in
+    let all = vertices-below n arcs graph u v cut.walk below cut.walks in
     let few =
     length-le_from_distinct_below (vertices u cut.walk) n cut.distinct
-    (met-is-below n arcs graph u v cut.walk below cut.walks) in
-    let count = length-vertices u cut.walk in
+    (λ q meets. All-contains (λ x. x < n) (vertices u cut.walk) q all (Contains-from_any eqb-true q (vertices u cut.walk) meets)) in
+    let count = length-map cut.walk (λ (arc : ArcRec). arc.head) in
     record { walk = cut.walk; walks = cut.walks; short = omega (arith, few, count); cheap = cut.cheap }
 
 -- a walk costs at most its length times the greatest weight
-cost-le : (most : ℕ) (arcs : List ArcRec) (u v : ℕ) (walk : List ArcRec)
+pub cost-le : (most : ℕ) (arcs : List ArcRec) (u v : ℕ) (walk : List ArcRec)
     → All (λ (arc : ArcRec). arc.weight ≤ most) arcs → IsWalk arcs u walk v
     → cost walk ≤ length walk * most
 cost-le most arcs u v [] light walks = omega arith

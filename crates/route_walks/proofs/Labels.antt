@@ -1,16 +1,16 @@
 -- Labels that nothing lowers lie at or below each attained number; so settled and sound labels are
 -- least, and least labels are unique.
-use Rattle.std.proofs.Common.{◌≡◌, ℕ, ◌+◌, ◌≤◌, List, [], ◌∷◌, sym, subst, arith, inl, inr}
+use Rattle.std.proofs.Common.{ℕ, ◌+◌, ◌≤◌, List, [], ◌∷◌, sym, subst, arith, inl, inr}
 use Rattle.std.proofs.lemmas.List.Elements.{All-contains}
 use Rattle.std.proofs.lemmas.Bool.{cases_lt}
 use Rattle.route_walks.specs.declared.graph.ArcRec.{ArcRec}
 use Rattle.route_walks.specs.declared.graph.Seed.{Seed}
 use Rattle.route_walks.specs.declared.graph.TheConstants.{INF}
 use Rattle.route_walks.specs.Walk.{IsWalk, cost, IsAttained}
-use Rattle.route_walks.specs.Label.{IsMet, IsRelaxed, IsSettled, IsSound, IsLeast, AreCapped, AreLeast}
+use Rattle.route_walks.specs.Label.{IsMet, IsRelaxed, IsSettled, IsLeast, SettledAndSoundAreLeast, LeastLabelsAreUnique}
 
 -- along a walk labels rise by no more than the weights
-pub label-along : (arcs : List ArcRec) (seeds : List Seed) (label : ℕ → ℕ) → IsSettled arcs seeds label
+label-along : (arcs : List ArcRec) (seeds : List Seed) (label : ℕ → ℕ) → IsSettled arcs seeds label
     → (u v b : ℕ) (walk : List ArcRec) → label u ≤ b → IsWalk arcs u walk v → label v ≤ b + cost walk
 label-along arcs seeds label settled u v b [] below walks = subst (λ (x : ℕ). label x ≤ b + 0) walks (omega arith)
 label-along arcs seeds label settled u v b (arc ∷ walk) below walks =
@@ -22,7 +22,7 @@ label-along arcs seeds label settled u v b (arc ∷ walk) below walks =
     omega (arith, rest)
 
 -- settled labels lie at or below each attained number
-pub settled-below : (arcs : List ArcRec) (seeds : List Seed) (label : ℕ → ℕ) → IsSettled arcs seeds label
+settled-below : (arcs : List ArcRec) (seeds : List Seed) (label : ℕ → ℕ) → IsSettled arcs seeds label
     → (v c : ℕ) → IsAttained arcs seeds v c → label v ≤ c
 settled-below arcs seeds label settled v c attained =
     let met = All-contains (IsMet label) seeds attained.seed settled.met attained.seeded in
@@ -31,8 +31,7 @@ settled-below arcs seeds label settled v c attained =
     attained.walks in
     omega (arith, along, attained.costs)
 
-pub settled_and_sound_are_least : (n : ℕ) (arcs : List ArcRec) (seeds : List Seed) (label : ℕ → ℕ)
-    → AreCapped n label → IsSettled arcs seeds label → IsSound n arcs seeds label → AreLeast n arcs seeds label
+pub settled_and_sound_are_least : SettledAndSoundAreLeast
 settled_and_sound_are_least n arcs seeds label capped settled sound v below =
     record {
       capped = capped v below;
@@ -50,8 +49,6 @@ least-le arcs seeds v c d first second =
       | inr none ↦ omega (arith, first.capped)
     ]
 
-pub least_labels_are_unique : (arcs : List ArcRec) (seeds : List Seed) (v c d : ℕ)
-    → IsLeast arcs seeds v c → IsLeast arcs seeds v d
-    → c ≡ d
+pub least_labels_are_unique : LeastLabelsAreUnique
 least_labels_are_unique arcs seeds v c d first second =
     omega (arith, least-le arcs seeds v c d first second, least-le arcs seeds v d c second first)

@@ -4,4 +4,3 @@ pub mod Labels
 pub mod Lowering
 pub mod SameArcs
 pub mod Components
-pub mod Problems

@@ -42,36 +42,16 @@ fn are_met(labels: &[u64], seeds: &[Seed]) -> bool
     requires { AreSeeds (length labels.now) seeds.now }
     ensures { IsTrue result ↔ All (IsMet (slice_index labels.now)) seeds.now }
 {
-    for seed in seeds {
-        if labels[seed.vertex as usize] > seed.start {
-            return false;
-        }
-    }
-    true
+    seeds
+        .iter()
+        .all(|seed| labels[seed.vertex as usize] <= seed.start)
 }
 
 fn are_relaxed(labels: &[u64], arcs: &[ArcRec]) -> bool
     requires { IsGraph (length labels.now) arcs.now }
     ensures { IsTrue result ↔ All (IsRelaxed (slice_index labels.now)) arcs.now }
 {
-    for arc in arcs {
-        let offered = offer(labels[arc.tail as usize], arc.weight);
-        if labels[arc.head as usize] > offered {
-            return false;
-        }
-    }
-    true
-}
-
-/// Lowers the label of `v` to `number`, if that is less, and says whether it was.
-fn lower(labels: &mut [u64], v: u32, number: u64) -> bool
-    requires { v < length labels.old }
-    ensures lowered { labels.new ≡ slice_set labels.old v (min (slice_index labels.old v) number) }
-    ensures fell { IsTrue result ↔ (number < slice_index labels.old v) }
-{
-    let label = labels[v as usize];
-    labels[v as usize] = label.min(number);
-    number < label
+    arcs.iter().all(|arc| labels[arc.head as usize] <= offer(labels[arc.tail as usize], arc.weight))
 }
 
 /// Turns labels that are all `INF` into least ones.
@@ -81,50 +61,20 @@ fn make_least(labels: &mut [u64], arcs: &[ArcRec], seeds: &[Seed])
     requires none_yet { All (λ label. label ≡ INF) labels.old }
     ensures { AreLeast (length labels.old) arcs.now seeds.now (slice_index labels.new) }
 {
-    meet_seeds(labels, seeds);
-    settle(labels, arcs);
-}
-
-/// Gives the vertex of each seed a label of at most its start.
-fn meet_seeds(labels: &mut [u64], seeds: &[Seed])
-    requires seeds { AreSeeds (length labels.old) seeds.now }
-    requires none_yet { All (λ label. label ≡ INF) labels.old }
-    ensures met { All (IsMet (slice_index labels.new)) seeds.now }
-    ensures sound { (arcs : List ArcRec) → IsSound (length labels.old) arcs seeds.now
-        (slice_index labels.new) }
-{
     for seed in seeds {
-        lower(labels, seed.vertex, seed.start);
+        if seed.start < labels[seed.vertex as usize] {
+            labels[seed.vertex as usize] = seed.start;
+        }
     }
-}
-
-/// One round: goes along each arc in turn, and says whether some label fell.
-fn relax_all(labels: &mut [u64], arcs: &[ArcRec]) -> bool
-    requires { IsGraph (length labels.old) arcs.now }
-    ensures falling { (v : ℕ) → slice_index labels.new v ≤ slice_index labels.old v }
-    ensures sound { (seeds : List Seed)
-        → IsSound (length labels.old) arcs.now seeds (slice_index labels.old)
-        → IsSound (length labels.old) arcs.now seeds (slice_index labels.new) }
-    ensures fell { IsTrue result → sum labels.new < sum labels.old }
-    ensures settled { result ≡ false → (labels.new ≡ labels.old)
-        × All (IsRelaxed (slice_index labels.new)) arcs.now }
-{
-    let mut fell = false;
-    for arc in arcs {
-        let offered = offer(labels[arc.tail as usize], arc.weight);
-        fell = lower(labels, arc.head, offered) || fell;
+    let mut fell = true;
+    while fell {
+        fell = false;
+        for arc in arcs {
+            let offered = offer(labels[arc.tail as usize], arc.weight);
+            if offered < labels[arc.head as usize] {
+                labels[arc.head as usize] = offered;
+                fell = true;
+            }
+        }
     }
-    fell
-}
-
-/// Rounds until no label falls.
-fn settle(labels: &mut [u64], arcs: &[ArcRec])
-    requires { IsGraph (length labels.old) arcs.now }
-    ensures falling { (v : ℕ) → slice_index labels.new v ≤ slice_index labels.old v }
-    ensures sound { (seeds : List Seed)
-        → IsSound (length labels.old) arcs.now seeds (slice_index labels.old)
-        → IsSound (length labels.old) arcs.now seeds (slice_index labels.new) }
-    ensures relaxed { All (IsRelaxed (slice_index labels.new)) arcs.now }
-{
-    while relax_all(labels, arcs) {}
 }

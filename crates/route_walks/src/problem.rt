@@ -10,12 +10,7 @@ use std::alloc::Global;
 pub fn seeds_from(alloc: Global, s: u32) -> Result<Vec<Seed>, Memory>
     ensures { IfOk result (λ seeds. seeds.items ≡ seeds_from s) }
 {
-    Ok(vec![in alloc;
-        Seed {
-            vertex: s,
-            start: 0
-        },
-    ]?)
+    Ok(vec![in alloc; Seed::new(s, 0)]?)
 }
 
 /// The seeds for components of `n` vertices: each vertex starts at its own number, in rising order.
@@ -23,12 +18,8 @@ pub fn seeds_all(alloc: Global, n: u32) -> Result<Vec<Seed>, Memory>
     ensures exact { IfOk result (λ seeds. seeds.items ≡ seeds_all n) }
     ensures within { IfOk result (λ seeds. AreSeeds n seeds.items) }
 {
-    let mut seeds = Vec::with_capacity(alloc, n as usize)?;
-    for vertex in 0..n {
-        let start = u64::from(vertex);
-        seeds.push(Seed { vertex, start })?;
-    }
-    Ok(seeds)
+    let seeds = (0..n).map(|vertex| Seed::new(vertex, u64::from(vertex)));
+    Ok(seeds.collect(alloc)?)
 }
 
 /// The arcs for hop levels: the same ones, in order, each of weight 1.
@@ -37,11 +28,8 @@ pub fn unit_weights(alloc: Global, arcs: &[ArcRec]) -> Result<Vec<ArcRec>, Memor
     ensures count { IfOk result (λ units. length units.items ≡ length arcs.now) }
     ensures graph { (n : ℕ) → IsGraph n arcs.now → IfOk result (λ units. IsGraph n units.items) }
 {
-    let mut units = Vec::with_capacity(alloc, arcs.len())?;
-    for arc in arcs {
-        units.push(ArcRec { weight: 1, ..*arc })?;
-    }
-    Ok(units)
+    let units = arcs.iter().map(|arc| ArcRec { weight: 1, ..*arc });
+    Ok(units.collect(alloc)?)
 }
 
 /// The arcs for components: each one, in order, and then its reverse, both of weight 0.
@@ -53,12 +41,8 @@ pub fn both_ways(alloc: Global, arcs: &[ArcRec]) -> Result<Vec<ArcRec>, Memory>
 {
     let mut both = Vec::with_capacity(alloc, 2 * arcs.len())?;
     for arc in arcs {
-        both.push(ArcRec { weight: 0, ..*arc })?;
-        both.push(ArcRec {
-            tail: arc.head,
-            head: arc.tail,
-            weight: 0,
-        })?;
+        both.push(ArcRec::new(arc.tail, arc.head, 0))?;
+        both.push(ArcRec::new(arc.head, arc.tail, 0))?;
     }
     Ok(both)
 }

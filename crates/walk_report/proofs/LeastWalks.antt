@@ -8,25 +8,9 @@ use Rattle.route_walks.specs.declared.graph.TheConstants.{INF}
 use Rattle.route_walks.specs.Walk.{IsArcBelow, IsGraph, IsWalk, cost, IsAttained}
 use Rattle.route_walks.specs.Label.{AreLeast}
 use Rattle.route_walks.specs.Problem.{seeds_from}
-use Rattle.route_walks.proofs.Lowering.{attained-start, attained-along}
+use Rattle.route_walks.proofs.Facts.{attained-over, attained-by_walk}
 use Rattle.walk_report.specs.declared.hop.TheConstants.{NONE}
 use Rattle.walk_report.specs.Search.{IsTight, IsReached}
-
-pub contains-one : {X : Type 0} (x y : X) → Contains (x ∷ []) y → x ≡ y
-contains-one x y (zero, below, is) = is
-contains-one x y (suc k, below, is) = absurd (omega arith)
-
-pub attained-over : (arcs : List ArcRec) (seeds : List Seed) (u v c : ℕ) (walk : List ArcRec)
-    → IsAttained arcs seeds u c → IsWalk arcs u walk v → IsAttained arcs seeds v (c + cost walk)
-attained-over arcs seeds u v c [] attained walks =
-    let same : c ≡ c + 0 = omega arith in
-    subst (λ (x : ℕ). IsAttained arcs seeds v x) same (subst (λ (x : ℕ). IsAttained arcs seeds x c) walks attained)
-attained-over arcs seeds u v c (arc ∷ walk) attained walks =
-    let here = subst (λ (x : ℕ). IsAttained arcs seeds x c) (sym walks.1) attained in
-    let next = attained-along arcs seeds arc c walks.0 here in
-    let rest = attained-over arcs seeds arc.head v (c + arc.weight) walk next walks.2 in
-    let same : c + arc.weight + cost walk ≡ c + (arc.weight + cost walk) = omega arith in
-    subst (λ (x : ℕ). IsAttained arcs seeds v x) same rest
 
 -- a walk's end is labelled with no more than its start's label and its cost
 pub label-over : (n : ℕ) (arcs : List ArcRec) (seeds : List Seed) (label : ℕ → ℕ) → AreLeast n arcs seeds label
@@ -39,9 +23,7 @@ label-over n arcs seeds label least u v walk below below' finite walks =
 pub label-le-cost : (n : ℕ) (arcs : List ArcRec) (s : ℕ) (label : ℕ → ℕ) → AreLeast n arcs (seeds_from s) label
     → (v : ℕ) (walk : List ArcRec) → v < n → IsWalk arcs s walk v → label v ≤ cost walk
 label-le-cost n arcs s label least v walk below walks =
-    let start = attained-start arcs (seeds_from s) (record { vertex = s; start = 0 }) (0, omega arith, refl) in
-    let low = (least v below).least _ (attained-over arcs (seeds_from s) s v 0 walk start walks) in
-    omega (arith, low)
+    (least v below).least (cost walk) (attained-by_walk arcs s v walk walks)
 
 -- the first arc of a walk along which the labels differ by the cost is tight, and so for the rest
 record FirstStep (label : ℕ → ℕ) (v : ℕ) (arc : ArcRec) (walk : List ArcRec) : Type 0 where

@@ -8,7 +8,7 @@ use Rattle.route_walks.specs.declared.graph.TheConstants.{INF}
 use Rattle.route_walks.specs.Walk.{IsArcBelow, IsGraph, IsWalk, cost}
 use Rattle.route_walks.specs.Label.{AreLeastLabels}
 use Rattle.route_walks.specs.Problem.{seeds_from}
-use Rattle.route_walks.proofs.Lowering.{walk-push, cost-push}
+use Rattle.route_walks.proofs.Facts.{walk-append, cost-append}
 use Rattle.walk_report.specs.declared.hop.TheConstants.{NONE}
 use Rattle.walk_report.specs.Hop.{AreHops}
 use Rattle.walk_report.specs.Parent.{AreParents, LeadBack}
@@ -49,8 +49,8 @@ through-more arcs s u v w d h vertices goes arc_walks =
     let arc : ArcRec = record { tail = u; head = v; weight = w } in
     record {
       walk = goes.walk ++ arc ∷ [];
-      walks = walk-push arcs s u goes.walk arc goes.walks arc_walks.0 refl;
-      costs = omega (arith, cost-push goes.walk arc, goes.costs);
+      walks = walk-append arcs s u v goes.walk (arc ∷ []) goes.walks arc_walks;
+      costs = omega (arith, cost-append goes.walk (arc ∷ []), goes.costs);
       count = omega (arith, length_push goes.walk arc, goes.count);
       through =
           ap (λ (xs : List ℕ). s ∷ xs) (map-append (λ (a : ArcRec). a.head) goes.walk (arc ∷ []))

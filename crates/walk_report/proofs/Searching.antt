@@ -12,11 +12,11 @@ use Rattle.route_walks.specs.declared.graph.TheConstants.{INF, MAX_VERTICES}
 use Rattle.route_walks.specs.Walk.{IsArcBelow, IsGraph, IsWalk, cost}
 use Rattle.route_walks.specs.Label.{AreLeastLabels}
 use Rattle.route_walks.specs.Problem.{seeds_from}
-use Rattle.route_walks.proofs.Lowering.{walk-push, cost-push}
+use Rattle.route_walks.proofs.Facts.{walk-append, cost-append, walk-of_attained}
 use Rattle.walk_report.specs.declared.hop.TheConstants.{NONE}
 use Rattle.walk_report.specs.Hop.{HasWalk, AreHops}
 use Rattle.walk_report.specs.Search.{IsTight, IsReached, IsVisited, IsSearch}
-use Rattle.walk_report.proofs.LeastWalks.{contains-one, label-le-cost, hop-over}
+use Rattle.walk_report.proofs.LeastWalks.{label-le-cost, hop-over}
 
 -- the vertex v gets the hop h, and is put into the queue
 record Puts (hops queue : List ℕ) (v h : ℕ) (hops' queue' : List ℕ) : Type 0 where
@@ -56,8 +56,8 @@ walk-more arcs s u v w d h within walk =
     let arc : ArcRec = record { tail = u; head = v; weight = w } in
     record {
       walk = walk.walk ++ arc ∷ [];
-      walks = walk-push arcs s u walk.walk arc walk.walks within refl;
-      costs = omega (arith, cost-push walk.walk arc, walk.costs);
+      walks = walk-append arcs s u v walk.walk (arc ∷ []) walk.walks (within, refl, refl);
+      costs = omega (arith, cost-append walk.walk (arc ∷ []), walk.costs);
       count = omega (arith, length_push walk.walk arc, walk.count);
     }
 
@@ -299,12 +299,8 @@ search-done n arcs s labels hops queue next graph few within least search done s
     (omega (arith, far, hop_s), far.1) in
     let set : (v : ℕ) → v < n → label v < INF → hop v < NONE =
     λ v below finite.
-    let attained = (least.least v below).attained finite in
-    let seed = contains-one _ _ attained.seeded in
-    let walks : IsWalk arcs s attained.walk v =
-    subst (λ (x : ℕ). IsWalk arcs x attained.walk v) (sym (ap (λ (seed : _). seed.vertex) seed)) attained.walks in
-    (over v attained.walk below finite walks
-    (omega (arith, attained.costs, ap (λ (seed : _). seed.start) seed))).1 in
+    let found = walk-of_attained arcs s v (label v) ((least.least v below).attained finite) in
+    (over v found.0 below finite found.1 found.2).1 in
     record {
       count = search.vertices;
       none = λ v below infinite.

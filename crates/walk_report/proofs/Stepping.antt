@@ -9,8 +9,7 @@ use Rattle.route_walks.specs.declared.graph.TheConstants.{INF}
 use Rattle.route_walks.specs.Walk.{IsArcBelow, IsGraph, IsWalk, cost}
 use Rattle.route_walks.specs.Label.{AreLeastLabels}
 use Rattle.route_walks.specs.Problem.{seeds_from}
-use Rattle.route_walks.proofs.Cuts.{walks_can_be_cut}
-use Rattle.route_walks.proofs.Lowering.{walk-push, cost-push}
+use Rattle.route_walks.proofs.Facts.{walk-append, cost-append, walks_can_be_cut}
 use Rattle.walk_report.specs.declared.hop.TheConstants.{NONE}
 use Rattle.walk_report.specs.Hop.{AreHops}
 use Rattle.walk_report.specs.Parent.{Leads}
@@ -96,10 +95,9 @@ leads-by n arcs s labels hops graph within least exact v (first ∷ walk) below 
     let hop_u = exact.hop u ends.0 finite_u in
     let near = hop_u.fewest step.init step.walks (omega (arith, tight, step.costs, costs)) in
     let longer : IsWalk arcs s (hop_u.walk.walk ++ last ∷ []) v =
-    subst (λ (x : ℕ). IsWalk arcs s (hop_u.walk.walk ++ last ∷ []) x) step.head
-    (walk-push arcs s u hop_u.walk.walk last hop_u.walk.walks step.within refl) in
+    walk-append arcs s u v hop_u.walk.walk (last ∷ []) hop_u.walk.walks (step.within, refl, step.head) in
     let far = (exact.hop v below finite).fewest (hop_u.walk.walk ++ last ∷ []) longer
-    (omega (arith, cost-push hop_u.walk.walk last, hop_u.walk.costs, tight)) in
+    (omega (arith, cost-append hop_u.walk.walk (last ∷ []), hop_u.walk.costs, tight)) in
     let nearer : hop u + 1 ≡ hop v =
     omega (arith, near, far, length_push hop_u.walk.walk last, hop_u.walk.count, step.count, count) in
     let found : Leads arcs label hop u last.head = record {

@@ -1,18 +1,10 @@
-use Rattle.std.proofs.Common.{length, subst, sym, ap, ◌∙◌}
-use Rattle.std.proofs.lemmas.List.{take_all}
-use Rattle.route_walks.specs.Walk.{IsGraph}
-use Rattle.route_walks.specs.Problem.{both_ways}
-use Rattle.route_walks.proofs.Problems.{both_ways-graph, length-both_ways}
+use Rattle.std.proofs.Common.{arith}
+use Rattle.std.proofs.lemmas.Grind.{common_steps, elements}
 use Rattle.route_walks.proofs.problem.both_ways.Goals as goal
 
-pub returns-clause-graph : goal.returns-clause-graph
-returns-clause-graph c =
-    let all = take_all c.loop-arc.arc-index c.args.arcs.now c.loop-arc-test.false in
-    λ n graph.
-    subst (IsGraph n) (sym (c.loop-arc.invariant ∙ ap both_ways all))
-    (both_ways-graph n c.args.arcs.now graph)
-
-pub returns-clause-count : goal.returns-clause-count
-returns-clause-count c =
-    let all = take_all c.loop-arc.arc-index c.args.arcs.now c.loop-arc-test.false in
-    ap length (c.loop-arc.invariant ∙ ap both_ways all) ∙ length-both_ways c.args.arcs.now
+pub loop-arc-preserved : goal.loop-arc-preserved
+loop-arc-preserved c = record {
+  exact = grind (arith, common_steps);
+  count = grind (arith, common_steps);
+  graph = λ n graph. grind (arith, elements, c.loop-arc.invariant.graph n graph, graph);
+}
