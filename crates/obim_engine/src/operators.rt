@@ -2,7 +2,7 @@
 
 ghost use Rattle.std.specs.Prelude.{◌≡◌, ◌<◌, ◌≤◌, ◌^◌, length, IfOk};
 ghost use Rattle.route_walks.specs.Label.{AreLeastLabels};
-ghost use Rattle.route_walks.specs.Problem.{seeds_from, seeds_all, unit_weights, both_ways};
+ghost use Rattle.route_walks.specs.Operators.{seeds_from, seeds_all, unit_weights, both_ways};
 ghost use Rattle.route_walks.specs.Walk.{AreSeeds, HaveSameArcs};
 
 use crate::gate::Gate;

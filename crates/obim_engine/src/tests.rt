@@ -6,7 +6,7 @@ mod pools;
 
 ghost use Rattle.std.specs.Prelude.{◌≡◌, ◌<◌, IfOk};
 ghost use Rattle.route_walks.specs.Label.{AreLeastLabels};
-ghost use Rattle.route_walks.specs.Problem.{seeds_from};
+ghost use Rattle.route_walks.specs.Operators.{seeds_from};
 
 use crate::{
     MAX_CHUNK, MAX_SHIFT, MAX_WORKERS, OpenGate, RunFault, Settings, components, distances,

@@ -12,7 +12,7 @@ use Rattle.route_walks.specs.declared.graph.Seed.{Seed}
 use Rattle.route_walks.specs.declared.graph.TheConstants.{INF, MAX_VERTICES}
 use Rattle.route_walks.specs.Walk.{IsArcBelow, IsGraph, cost}
 use Rattle.route_walks.specs.Label.{AreLeastLabels, InfMeansNoWalk}
-use Rattle.route_walks.specs.Problem.{seeds_from, unit_weight, unit_weights}
+use Rattle.route_walks.specs.Operators.{seeds_from, unit_weight, unit_weights}
 use Rattle.route_walks.proofs.Facts.{attained-by_walk, walk-of_attained}
 use Rattle.dimacs_text.specs.Answers.{cost_text, label_text, label_lines, walk_text}
 use Rattle.dimacs_text.specs.Jobs.{Content, Question, from_sources, IsArcWithin, IsQuestionWithin, IsWithinLimits}

@@ -7,7 +7,7 @@ use Rattle.route_walks.specs.declared.graph.ArcRec.{ArcRec}
 use Rattle.route_walks.specs.declared.graph.TheConstants.{INF}
 use Rattle.route_walks.specs.Walk.{IsGraph, HaveSameArcs}
 use Rattle.route_walks.specs.Label.{AreLeastLabels, LeastLabelsFollowTheArcs}
-use Rattle.route_walks.specs.Problem.{seeds_from, seeds_all, both_ways, unit_weights}
+use Rattle.route_walks.specs.Operators.{seeds_from, seeds_all, both_ways, unit_weights}
 use Rattle.route_walks.specs.Component.{LeastLabelsAreComponents}
 use Rattle.walk_report.specs.Parent.{HopsAndParentsFollowTheArcs}
 use Rattle.dimacs_text.specs.Jobs.{Content, Question, from_sources}

@@ -4,7 +4,7 @@ use Rattle.std.proofs.lemmas.Grind.{same_number_lists}
 use Rattle.route_walks.specs.declared.graph.ArcRec.{ArcRec}
 use Rattle.route_walks.specs.declared.graph.Seed.{Seed}
 use Rattle.route_walks.specs.Label.{AreLeastLabels, LeastLabelsAreUnique}
-use Rattle.route_walks.specs.Problem.{seeds_from, seeds_all, unit_weights, both_ways}
+use Rattle.route_walks.specs.Operators.{seeds_from, seeds_all, unit_weights, both_ways}
 use Rattle.walk_report.specs.Hop.{AreHops}
 use Rattle.walk_report.specs.Parent.{AreParents, HopsAndParentsAreUnique}
 use Rattle.dimacs_text.specs.Answers.{distances_text, components_text}

@@ -4,7 +4,7 @@ use Rattle.std.specs.Prelude.{List, [], ◌∷◌, ◌++◌, length, slice_index
 use Rattle.route_walks.specs.declared.graph.ArcRec.{ArcRec}
 use Rattle.route_walks.specs.declared.graph.TheConstants.{INF}
 use Rattle.route_walks.specs.Label.{AreLeastLabels}
-use Rattle.route_walks.specs.Problem.{seeds_from, seeds_all, unit_weights, both_ways}
+use Rattle.route_walks.specs.Operators.{seeds_from, seeds_all, unit_weights, both_ways}
 use Rattle.dimacs_text.specs.Jobs.{Content, Question, absent, from_sources}
 use Rattle.dimacs_text.specs.Answers.{source_text, label_text, walk_text}
 use Rattle.dimacs_text.specs.Answers.{distances_text, components_text}

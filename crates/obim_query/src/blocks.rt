@@ -5,7 +5,7 @@ ghost use Rattle.std.specs.Prelude.{All, IfErr, OnOk};
 ghost use Rattle.std.specs.Io.KnownBytes.{Appends};
 ghost use Rattle.dimacs_text.specs.Answers.{distances_text, components_text};
 ghost use Rattle.route_walks.specs.Label.{AreLeastLabels};
-ghost use Rattle.route_walks.specs.Problem.{seeds_from};
+ghost use Rattle.route_walks.specs.Operators.{seeds_from};
 ghost use Rattle.walk_report.specs.Parent.{LeadBack};
 ghost use Rattle.obim_query.specs.AnswerText.{AreSourceBlocks, IsBlock, vertex_text, walks_text};
 ghost use Rattle.obim_query.specs.AnswerText.{AreReached};

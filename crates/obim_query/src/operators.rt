@@ -2,7 +2,7 @@
 
 ghost use Rattle.std.specs.Prelude.{◌≡◌, ℕ, ◌≤◌, ◌^◌, length, IfOk};
 ghost use Rattle.route_walks.specs.Label.{AreLeastLabels};
-ghost use Rattle.route_walks.specs.Problem.{seeds_all};
+ghost use Rattle.route_walks.specs.Operators.{seeds_all};
 ghost use Rattle.route_walks.specs.Walk.{IsGraph, HaveSameArcs};
 ghost use Rattle.obim_query.specs.AnswerText.{arcs_for};
 

@@ -8,7 +8,7 @@ use Rattle.std.proofs.lemmas.List.FromFn.{get_or-map-range_with_len, length-map-
 use Rattle.route_walks.specs.declared.graph.ArcRec.{ArcRec}
 use Rattle.route_walks.specs.declared.graph.Seed.{Seed}
 use Rattle.route_walks.specs.Walk.{IsArcBelow, IsGraph, IsWalk, IsAttained}
-use Rattle.route_walks.specs.Problem.{seed_at, seeds_all, along, against, both_ways}
+use Rattle.route_walks.specs.Operators.{seed_at, seeds_all, along, against, both_ways}
 use Rattle.route_walks.specs.Component.{IsPath, AreConnected, LeastLabelsAreComponents}
 use Rattle.route_walks.proofs.Cuts.{cost-le}
 use Rattle.route_walks.proofs.Facts.{contains-one}

@@ -4,7 +4,7 @@ use Rattle.std.specs.List.{Contains}
 use Rattle.route_walks.specs.declared.graph.ArcRec.{ArcRec}
 use Rattle.route_walks.specs.declared.graph.Seed.{Seed}
 use Rattle.route_walks.specs.Walk.{IsWalk, cost, IsAttained}
-use Rattle.route_walks.specs.Problem.{seeds_from}
+use Rattle.route_walks.specs.Operators.{seeds_from}
 pub use Rattle.route_walks.proofs.Cuts.{walks_can_be_cut}
 pub use Rattle.route_walks.proofs.Labels.{settled_and_sound_are_least}
 

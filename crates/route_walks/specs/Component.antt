@@ -3,7 +3,7 @@ use Rattle.std.specs.Prelude.{◌≡◌, ℕ, ◌<◌, ◌≤◌, ◌^◌, ◌�
 use Rattle.route_walks.specs.declared.graph.ArcRec.{ArcRec}
 use Rattle.route_walks.specs.Walk.{IsGraph}
 use Rattle.route_walks.specs.Label.{AreLeast}
-use Rattle.route_walks.specs.Problem.{seeds_all, both_ways}
+use Rattle.route_walks.specs.Operators.{seeds_all, both_ways}
 
 -- a path joins u and v: arcs of the graph, each taken in either direction; the empty path stays
 abbrev pub IsPath : List ArcRec → ℕ → List ArcRec → ℕ → Type 0

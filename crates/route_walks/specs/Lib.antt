@@ -1,4 +1,4 @@
 pub mod Walk
 pub mod Label
-pub mod Problem
+pub mod Operators
 pub mod Component

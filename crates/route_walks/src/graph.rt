@@ -1,4 +1,4 @@
-//! Arcs and seeds, and the label that an arc offers its head.
+//! What is an arc, what is a seed, and which label does an arc offer its head?
 
 ghost use Rattle.std.specs.Prelude.{◌≡◌};
 ghost use Rattle.route_walks.specs.Label.{offer};

@@ -1,4 +1,4 @@
-//! Laws of walks, labels and components: each is the contract of a function that does nothing.
+//! Which laws hold of walks, labels and components? Each is the contract of a function that does nothing.
 
 ghost use Rattle.route_walks.specs.Walk.{WalksCanBeCut};
 ghost use Rattle.route_walks.specs.Label.{SettledAndSoundAreLeast, LeastLabelsAreUnique};

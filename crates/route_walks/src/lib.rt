@@ -4,21 +4,21 @@
 //! Seeds are vertices with a number to start from. A number is attained at a vertex if it is the
 //! start of a seed plus the weights of some walk from there, and the least label of a vertex is the
 //! smallest such number, or `INF` where there is none. The laws say why labels that no arc can
-//! lower, and that are each attained, are least; and `plain_labels` computes them slowly, with no
-//! worklist and no thread.
+//! lower, and that are each attained, are least, and that `INF` means that no walk exists; and
+//! `plain_labels` computes them slowly, with no worklist and no thread.
 //!
 //! The lowest crate: it stands on the standard library alone.
 #![tactic(auto)]
 
 mod graph;
 pub mod laws;
+mod operators;
 mod plain;
-mod problem;
 mod refusal;
 #[cfg(test)]
 mod tests;
 
 pub use graph::{ArcRec, INF, MAX_ARCS, MAX_VERTICES, Seed, offer};
+pub use operators::{both_ways, seeds_all, seeds_from, unit_weights};
 pub use plain::{is_settled, plain_labels};
-pub use problem::{both_ways, seeds_all, seeds_from, unit_weights};
 pub use refusal::Memory;

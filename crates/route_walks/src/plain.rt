@@ -1,4 +1,5 @@
-//! Least labels the plain way: rounds over all arcs until nothing falls, as Bellman and Ford have them.
+//! What are the least labels, worked out the plain way? By rounds over all arcs until no label falls, as
+//! Bellman and Ford have them.
 
 ghost use Rattle.std.specs.Prelude.{◌≡◌, ℕ, ◌+◌, ◌<◌, ◌≤◌, ◌↔◌, false, min, sum, List, length};
 ghost use Rattle.std.specs.Prelude.{vec_len, slice_index, slice_set, All, IsTrue, IfOk};

@@ -1,3 +1,5 @@
+//! What does a call return where the system refuses memory?
+
 use std::alloc::{AllocError, AllocFailed};
 use std::error::Error;
 use std::fmt;

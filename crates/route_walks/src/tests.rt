@@ -1,4 +1,4 @@
-//! Worked examples of labels, and of the arcs and seeds of the three problems.
+//! Do labels, arcs and seeds come out as worked by hand?
 
 ghost use Rattle.std.specs.Prelude.{◌↔◌, length, IsTrue};
 ghost use Rattle.route_walks.specs.Walk.{IsGraph, AreSeeds};
@@ -135,7 +135,7 @@ fn settled_only_where_nothing_falls(rt: HostRuntime) -> Result<(), Fail> {
 }
 
 #[test]
-fn arcs_and_seeds_of_the_problems(rt: HostRuntime) -> Result<(), Fail> {
+fn arcs_and_seeds_of_the_operators(rt: HostRuntime) -> Result<(), Fail> {
     let alloc = rt.alloc();
     let only = [ArcRec::new(0, 1, 7)];
     assert_eq!(rt;

@@ -7,7 +7,7 @@ use Rattle.route_walks.specs.declared.graph.Seed.{Seed}
 use Rattle.route_walks.specs.declared.graph.TheConstants.{INF}
 use Rattle.route_walks.specs.Walk.{IsArcBelow, IsGraph, IsWalk, cost, IsAttained}
 use Rattle.route_walks.specs.Label.{AreLeast}
-use Rattle.route_walks.specs.Problem.{seeds_from}
+use Rattle.route_walks.specs.Operators.{seeds_from}
 use Rattle.route_walks.proofs.Facts.{attained-over, attained-by_walk}
 use Rattle.walk_report.specs.declared.hop.TheConstants.{NONE}
 use Rattle.walk_report.specs.Search.{IsTight, IsReached}

@@ -5,7 +5,7 @@ use Rattle.std.proofs.lemmas.Grind.{same_number_lists}
 use Rattle.route_walks.specs.declared.graph.ArcRec.{ArcRec}
 use Rattle.route_walks.specs.declared.graph.TheConstants.{INF}
 use Rattle.route_walks.specs.Label.{AreLeastLabels}
-use Rattle.route_walks.specs.Problem.{seeds_from}
+use Rattle.route_walks.specs.Operators.{seeds_from}
 use Rattle.walk_report.specs.Hop.{IsHop, AreHops}
 use Rattle.walk_report.specs.Parent.{IsParent, AreParents}
 

@@ -5,7 +5,7 @@ use Rattle.route_walks.specs.declared.graph.ArcRec.{ArcRec}
 use Rattle.route_walks.specs.declared.graph.TheConstants.{INF}
 use Rattle.route_walks.specs.Walk.{IsWalk, cost}
 use Rattle.route_walks.specs.Label.{AreLeastLabels}
-use Rattle.route_walks.specs.Problem.{seeds_from}
+use Rattle.route_walks.specs.Operators.{seeds_from}
 use Rattle.walk_report.specs.declared.hop.TheConstants.{NONE}
 
 -- some walk from s to v costs d and has h arcs

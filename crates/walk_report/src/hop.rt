@@ -2,7 +2,7 @@
 
 ghost use Rattle.std.specs.Prelude.{◌≡◌, ◌+◌, ◌<◌, ◌↔◌, length, slice_index, IsTrue, IfOk, OnOk};
 ghost use Rattle.route_walks.specs.Label.{AreLeastLabels};
-ghost use Rattle.route_walks.specs.Problem.{seeds_from};
+ghost use Rattle.route_walks.specs.Operators.{seeds_from};
 ghost use Rattle.walk_report.specs.Hop.{AreHops, AreFromOneSource};
 ghost use Rattle.walk_report.specs.Search.{IsTight, IsVisited, IsSearch};
 

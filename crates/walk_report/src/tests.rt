@@ -3,7 +3,7 @@
 ghost use Rattle.std.specs.Prelude.{◌≡◌, ◌<◌, ◌↔◌, IsTrue, IfOk};
 ghost use Rattle.route_walks.specs.Walk.{IsGraph};
 ghost use Rattle.route_walks.specs.Label.{AreLeastLabels};
-ghost use Rattle.route_walks.specs.Problem.{seeds_from};
+ghost use Rattle.route_walks.specs.Operators.{seeds_from};
 
 use crate::{NONE, hops, parents, walk_to};
 use csr_graph::{Csr, MAX_ARCS, MAX_VERTICES};

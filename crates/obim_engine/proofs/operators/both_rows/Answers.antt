@@ -3,7 +3,7 @@ use Rattle.std.specs.Prelude.{IfOk}
 use Rattle.csr_graph.specs.Graph.{Graph}
 use Rattle.route_walks.specs.declared.graph.ArcRec.{ArcRec}
 use Rattle.route_walks.specs.Walk.{IsGraph, HaveSameArcs}
-use Rattle.route_walks.specs.Problem.{both_ways}
+use Rattle.route_walks.specs.Operators.{both_ways}
 use Rattle.obim_engine.proofs.operators.both_rows.Goals as goal
 
 pub build-requires-clause-places : goal.build-requires-clause-places

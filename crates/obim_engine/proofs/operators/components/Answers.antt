@@ -2,7 +2,7 @@ use Rattle.std.proofs.Common.{◌∙◌, ℕ, List, ap, subst}
 use Rattle.std.proofs.lemmas.Result.{IfOk-weaker}
 use Rattle.route_walks.specs.declared.graph.Seed.{Seed}
 use Rattle.route_walks.specs.Label.{AreLeastLabels}
-use Rattle.route_walks.specs.Problem.{seeds_all, both_ways}
+use Rattle.route_walks.specs.Operators.{seeds_all, both_ways}
 use Rattle.obim_engine.proofs.operators.components.Goals as goal
 
 pub returns : goal.returns

@@ -1,7 +1,7 @@
 use Rattle.std.proofs.Common.{ℕ, subst}
 use Rattle.std.proofs.lemmas.Result.{IfOk-weaker}
 use Rattle.route_walks.specs.Label.{AreLeastLabels}
-use Rattle.route_walks.specs.Problem.{seeds_from, unit_weights}
+use Rattle.route_walks.specs.Operators.{seeds_from, unit_weights}
 use Rattle.obim_engine.proofs.operators.levels.Goals as goal
 
 pub returns : goal.returns

@@ -3,7 +3,7 @@ use Rattle.std.specs.Prelude.{IfOk}
 use Rattle.csr_graph.specs.Graph.{Graph}
 use Rattle.route_walks.specs.declared.graph.ArcRec.{ArcRec}
 use Rattle.route_walks.specs.Walk.{IsGraph, HaveSameArcs}
-use Rattle.route_walks.specs.Problem.{unit_weights}
+use Rattle.route_walks.specs.Operators.{unit_weights}
 use Rattle.obim_engine.proofs.operators.unit_rows.Goals as goal
 
 pub build-requires-clause-ends : goal.build-requires-clause-ends

@@ -1,6 +1,8 @@
+//! Which arcs and which seeds give distances, hop levels and components?
+
 ghost use Rattle.std.specs.Prelude.{◌≡◌, ℕ, ◌*◌, ◌<◌, ◌^◌, length, IfOk};
 ghost use Rattle.route_walks.specs.Walk.{IsGraph, AreSeeds};
-ghost use Rattle.route_walks.specs.Problem.{seeds_from, seeds_all, unit_weights, both_ways};
+ghost use Rattle.route_walks.specs.Operators.{seeds_from, seeds_all, unit_weights, both_ways};
 
 use crate::graph::{ArcRec, Seed};
 use crate::refusal::Memory;

@@ -1,4 +1,4 @@
--- The three problems: which arcs and which seeds give distances, hop levels and components.
+-- The operators: which arcs and which seeds give distances, hop levels and components.
 use Rattle.std.specs.Prelude.{ℕ, List, [], ◌∷◌, map}
 use Rattle.std.specs.List.{range_with_len, flat_map}
 use Rattle.route_walks.specs.declared.graph.ArcRec.{ArcRec}

@@ -1,7 +1,7 @@
 use Rattle.std.proofs.Common.{◌≡◌, ℕ, ◌*◌, length, take}
 use Rattle.route_walks.specs.Walk.{IsGraph}
-use Rattle.route_walks.specs.Problem.{both_ways}
-use Rattle.route_walks.proofs.problem.both_ways.Given as goal
+use Rattle.route_walks.specs.Operators.{both_ways}
+use Rattle.route_walks.proofs.operators.both_ways.Given as goal
 
 abbrev pub invariant-loop-arc : goal.invariant-loop-arc
 invariant-loop-arc l = record {
