@@ -4,6 +4,8 @@ ghost use Rattle.std.specs.Prelude.{◌≡◌};
 ghost use Rattle.dimacs_text.specs.declared.fault.TextFault.TheVariants.{Memory};
 
 use std::alloc::{AllocError, AllocFailed};
+use std::error::Error;
+use std::fmt;
 
 /// What is wrong with a line. Within a line the kinds are looked for in this order.
 #[derive(Clone, Copy, Debug, PartialEq, Eq)]
@@ -26,6 +28,21 @@ pub enum LineKind {
     NoProblem,
 }
 
+impl fmt::Display for LineKind {
+    fn fmt<W: fmt::Write>(&self, f: &mut fmt::Formatter<W>) -> fmt::Result {
+        f.write_str(match self {
+            LineKind::Unknown => "unknown line",
+            LineKind::Fields => "wrong number of fields",
+            LineKind::Number => "not a number",
+            LineKind::Range => "out of range",
+            LineKind::Misplaced => "misplaced line",
+            LineKind::TooMany => "too many lines",
+            LineKind::TooFew => "too few lines",
+            LineKind::NoProblem => "no problem line",
+        })
+    }
+}
+
 /// Why a text gave no job.
 #[derive(Clone, Copy, Debug, PartialEq, Eq)]
 pub enum TextFault {
@@ -35,6 +52,17 @@ pub enum TextFault {
     /// missing at the end of the text, the line is one past the last.
     Line { line: u64, kind: LineKind },
 }
+
+impl fmt::Display for TextFault {
+    fn fmt<W: fmt::Write>(&self, f: &mut fmt::Formatter<W>) -> fmt::Result {
+        match self {
+            TextFault::Memory => f.write_str("out of memory"),
+            TextFault::Line { line, kind } => write!(f, "line {line}: {kind}"),
+        }
+    }
+}
+
+impl Error for TextFault {}
 
 impl From<AllocError> for TextFault {
     ghost from_gives = { λ _ fault. fault ≡ Memory };

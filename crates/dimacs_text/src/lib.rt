@@ -3,7 +3,7 @@
 //! A job is a graph file (`.gr`) followed by an auxiliary file of sources (`.ss`), both in the formats
 //! of the 9th DIMACS Implementation Challenge on shortest paths. `read_job` gives the job of a text, or
 //! the number of the first line that is wrong and what is wrong with it. The `put_` calls append the
-//! lines of an answer: each appends exactly its bytes, or leaves the vector as it was and answers
+//! lines of an answer: each appends exactly its bytes, or leaves the vector as it was and returns
 //! `Memory`.
 //!
 //! It stands on `route_walks`, whose arcs a job holds. In the interfaces vertices are counted from 0; in

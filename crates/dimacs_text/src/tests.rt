@@ -164,3 +164,25 @@ fn answers(rt: HostRuntime) -> Result<(), Fail> {
     assert_eq!(rt; out.as_slice(), lines.as_bytes());
     Ok(())
 }
+
+#[test]
+fn faults_print_themselves(rt: HostRuntime) -> Result<(), Fail> {
+    let alloc = rt.alloc();
+    let table = [
+        (LineKind::Unknown, "line 1: unknown line"),
+        (LineKind::Fields, "line 1: wrong number of fields"),
+        (LineKind::Number, "line 1: not a number"),
+        (LineKind::Range, "line 1: out of range"),
+        (LineKind::Misplaced, "line 1: misplaced line"),
+        (LineKind::TooMany, "line 1: too many lines"),
+        (LineKind::TooFew, "line 1: too few lines"),
+        (LineKind::NoProblem, "line 1: no problem line"),
+    ];
+    for (kind, want) in table {
+        let fault = TextFault::Line { line: 1, kind };
+        assert_eq!(rt; format!(in alloc; "{fault}")?.as_str(), want);
+    }
+    let refused = TextFault::Memory;
+    assert_eq!(rt; format!(in alloc; "{refused}")?.as_str(), "out of memory");
+    Ok(())
+}

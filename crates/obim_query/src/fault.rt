@@ -17,7 +17,7 @@ pub enum Fault {
     #[error("input too long")]
     TooLong,
     /// The text is no job's: its first fault, with its line, counted from 1. Nothing was written.
-    #[error("line {line}: {words}", words = words_of(.kind))]
+    #[error("line {line}: {kind}")]
     Text { line: u64, kind: LineKind },
     /// Distances or levels were asked for, and the text has no section of queries. Nothing was written.
     #[error("no sources or pairs")]
@@ -68,19 +68,6 @@ impl From<AllocError> for Fault {
 
     fn from(_refused: AllocError) -> Fault {
         Fault::Memory
-    }
-}
-
-fn words_of(kind: &LineKind) -> &'static str {
-    match kind {
-        LineKind::Unknown => "unknown line",
-        LineKind::Fields => "wrong number of fields",
-        LineKind::Number => "not a number",
-        LineKind::Range => "out of range",
-        LineKind::Misplaced => "misplaced line",
-        LineKind::TooMany => "too many lines",
-        LineKind::TooFew => "too few lines",
-        LineKind::NoProblem => "no problem line",
     }
 }
 
