@@ -5,7 +5,9 @@ use Rattle.route_walks.specs.declared.graph.ArcRec.{ArcRec}
 use Rattle.route_walks.specs.declared.graph.Seed.{Seed}
 use Rattle.route_walks.specs.Walk.{IsWalk, cost, IsAttained}
 use Rattle.route_walks.specs.Operators.{seeds_from}
+-- among n vertices a walk can be cut to fewer than n arcs, at no more cost
 pub use Rattle.route_walks.proofs.Cuts.{walks_can_be_cut}
+-- labels that are settled and sound are least
 pub use Rattle.route_walks.proofs.Labels.{settled_and_sound_are_least}
 
 -- a list of one element has no other

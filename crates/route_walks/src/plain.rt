@@ -1,12 +1,9 @@
 //! What are the least labels, worked out the plain way? By rounds over all arcs until no label falls, as
 //! Bellman and Ford have them.
 
-ghost use Rattle.std.specs.Prelude.{◌≡◌, ℕ, ◌+◌, ◌<◌, ◌≤◌, ◌↔◌, false, min, sum, List, length};
-ghost use Rattle.std.specs.Prelude.{vec_len, slice_index, slice_set, All, IsTrue, IfOk};
-ghost use Rattle.route_walks.specs.declared.graph.ArcRec.{ArcRec};
-ghost use Rattle.route_walks.specs.declared.graph.Seed.{Seed};
+ghost use Rattle.std.specs.Prelude.{◌≡◌, ◌↔◌, length, vec_len, slice_index, All, IsTrue, IfOk};
 ghost use Rattle.route_walks.specs.Walk.{IsGraph, AreSeeds};
-ghost use Rattle.route_walks.specs.Label.{AreLeast, IsMet, IsRelaxed, IsSettled, IsSound};
+ghost use Rattle.route_walks.specs.Label.{AreLeast, IsMet, IsRelaxed, IsSettled};
 
 use crate::graph::{ArcRec, INF, Seed, offer};
 use crate::refusal::Memory;
