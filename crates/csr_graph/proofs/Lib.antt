@@ -1,7 +1,5 @@
-pub mod Filters
-pub mod Places
-pub mod Placing
-pub mod Rows
-pub mod Layouts
-pub mod Built
-pub mod SameRows
+pub mod Facts
+mod Filters
+mod Sorting
+mod Placing
+mod Layouts

@@ -1,99 +1,50 @@
 //! A graph of six vertices, whose places were worked out by hand.
 
+ghost use Rattle.std.specs.Prelude.{◌<◌, ◌↔◌, IsTrue};
+ghost use Rattle.route_walks.specs.Walk.{IsGraph};
+
 use crate::{Csr, Target};
 use route_walks::ArcRec;
 use std::test::Fail;
 
 // The arcs as given, not by tail: two leave 3 and come last here.
-const GIVEN: [ArcRec; 8] = [
-    ArcRec {
-        tail: 4,
-        head: 1,
-        weight: 0,
-    },
-    ArcRec {
-        tail: 0,
-        head: 1,
-        weight: 17,
-    },
-    ArcRec {
-        tail: 1,
-        head: 3,
-        weight: 2,
-    },
-    ArcRec {
-        tail: 0,
-        head: 2,
-        weight: 10,
-    },
-    ArcRec {
-        tail: 2,
-        head: 4,
-        weight: 0,
-    },
-    ArcRec {
-        tail: 4,
-        head: 5,
-        weight: 20,
-    },
-    ArcRec {
-        tail: 3,
-        head: 2,
-        weight: 0,
-    },
-    ArcRec {
-        tail: 3,
-        head: 5,
-        weight: 3,
-    },
-];
+fn given() -> [ArcRec; 8] {
+    [
+        ArcRec::new(4, 1, 0),
+        ArcRec::new(0, 1, 17),
+        ArcRec::new(1, 3, 2),
+        ArcRec::new(0, 2, 10),
+        ArcRec::new(2, 4, 0),
+        ArcRec::new(4, 5, 20),
+        ArcRec::new(3, 2, 0),
+        ArcRec::new(3, 5, 3),
+    ]
+}
 
-const BY_TAIL: [ArcRec; 8] = [
-    ArcRec {
-        tail: 0,
-        head: 1,
-        weight: 17,
-    },
-    ArcRec {
-        tail: 0,
-        head: 2,
-        weight: 10,
-    },
-    ArcRec {
-        tail: 1,
-        head: 3,
-        weight: 2,
-    },
-    ArcRec {
-        tail: 2,
-        head: 4,
-        weight: 0,
-    },
-    ArcRec {
-        tail: 3,
-        head: 2,
-        weight: 0,
-    },
-    ArcRec {
-        tail: 3,
-        head: 5,
-        weight: 3,
-    },
-    ArcRec {
-        tail: 4,
-        head: 1,
-        weight: 0,
-    },
-    ArcRec {
-        tail: 4,
-        head: 5,
-        weight: 20,
-    },
-];
+fn by_tail() -> [ArcRec; 8] {
+    [
+        ArcRec::new(0, 1, 17),
+        ArcRec::new(0, 2, 10),
+        ArcRec::new(1, 3, 2),
+        ArcRec::new(2, 4, 0),
+        ArcRec::new(3, 2, 0),
+        ArcRec::new(3, 5, 3),
+        ArcRec::new(4, 1, 0),
+        ArcRec::new(4, 5, 20),
+    ]
+}
+
+fn is_graph(n: u32, arcs: &[ArcRec]) -> bool
+    ensures { IsTrue result ↔ IsGraph n arcs.now }
+{
+    arcs.iter().all(|arc| arc.tail < n && arc.head < n)
+}
 
 #[test]
 fn rows_of_six_vertices(rt: HostRuntime) -> Result<(), Fail> {
-    let csr = Csr::build(rt.alloc(), 6, &GIVEN)?;
+    let given = given();
+    assert!(rt; is_graph(6, &given));
+    let csr = Csr::build(rt.alloc(), 6, &given)?;
     assert_eq!(rt; csr.n(), 6);
     assert_eq!(rt; csr.arc_count(), 8);
     for (u, first, end) in [
@@ -107,25 +58,21 @@ fn rows_of_six_vertices(rt: HostRuntime) -> Result<(), Fail> {
         assert_eq!(rt; csr.first(u), first, "first of {u}");
         assert_eq!(rt; csr.end(u), end, "end of {u}");
     }
-    for (k, arc) in BY_TAIL.iter().enumerate() {
+    for (k, arc) in by_tail().iter().enumerate() {
         assert_eq!(rt; csr.arc(k), *arc, "at {k}");
-        assert_eq!(rt;
-            csr.target(k),
-            Target {
-                head: arc.head,
-                weight: arc.weight
-            },
-            "at {k}"
-        );
+        let Target { head, weight } = csr.target(k);
+        assert_eq!(rt; (head, weight), (arc.head, arc.weight), "at {k}");
     }
     let arcs = csr.arcs(rt.alloc())?;
-    assert!(rt; arcs.as_slice() == BY_TAIL.as_slice());
+    assert!(rt; arcs.as_slice() == by_tail().as_slice());
     Ok(())
 }
 
 #[test]
 fn arcs_that_enter(rt: HostRuntime) -> Result<(), Fail> {
-    let reversed = Csr::build(rt.alloc(), 6, &GIVEN)?.reversed(rt.alloc())?;
+    let given = given();
+    assert!(rt; is_graph(6, &given));
+    let reversed = Csr::build(rt.alloc(), 6, &given)?.reversed(rt.alloc())?;
     assert_eq!(rt; reversed.n(), 6);
     assert_eq!(rt; reversed.arc_count(), 8);
     let arcs = reversed.arcs(rt.alloc())?;

@@ -8,7 +8,7 @@ use Rattle.std.proofs.lemmas.Bool.Decides.{nat_tests}
 use Rattle.atomic_table.specs.Seated.{TableId}
 use Rattle.atomic_table.specs.Table.{Me}
 use Rattle.route_walks.specs.declared.graph.ArcRec.{ArcRec}
-use Rattle.csr_graph.proofs.Places.{first_place-rises}
+use Rattle.csr_graph.proofs.Facts.{first_place_rises}
 use Rattle.csr_graph.specs.Graph.{Graph, first_place, end_place}
 use Rattle.relax_core.specs.declared.views.Hand.{Hand}
 use Rattle.relax_core.specs.declared.views.Hand.TheVariants.{Fresh, Open, Owe}
@@ -57,7 +57,7 @@ ready_not_taken v u was =
     }
 
 first_before_end : (arcs : List ArcRec) (u : ℕ) → first_place arcs u ≤ end_place arcs u
-first_before_end arcs u = first_place-rises arcs u (u + 1) (omega arith)
+first_before_end arcs u = first_place_rises arcs u (u + 1) (omega arith)
 
 pub ready_read : (v : Known) (u d : ℕ) → IsReady v → v.core.hand ≡ Fresh u
     → IsReady (after_read d v)

@@ -12,7 +12,7 @@ use Rattle.route_walks.specs.Walk.{IsAttained}
 use Rattle.route_walks.specs.Label.{IsRelaxed, IsSound}
 use Rattle.route_walks.proofs.Facts.{attained-along}
 use Rattle.csr_graph.specs.Graph.{Graph, IsInRows, end_place}
-use Rattle.csr_graph.proofs.Rows.{runs_are_rows}
+use Rattle.csr_graph.proofs.Facts.{runs_are_rows}
 use Rattle.relax_core.specs.declared.views.Hand.TheVariants.{Open, Owe}
 use Rattle.relax_core.specs.declared.views.View.{View}
 use Rattle.relax_core.specs.Views.{HoldsArc, IsHand, IsInRow}

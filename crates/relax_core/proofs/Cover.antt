@@ -9,8 +9,8 @@ use Rattle.route_walks.specs.declared.graph.ArcRec.{ArcRec}
 use Rattle.route_walks.specs.declared.graph.Seed.{Seed}
 use Rattle.route_walks.specs.Label.{IsMet, IsRelaxed, IsSound}
 use Rattle.csr_graph.specs.Graph.{Graph, IsInRows, first_place, end_place}
-use Rattle.csr_graph.proofs.Places.{first_place-rises}
-use Rattle.csr_graph.proofs.Rows.{rows_are_runs}
+use Rattle.csr_graph.proofs.Facts.{first_place_rises}
+use Rattle.csr_graph.proofs.Facts.{rows_are_runs}
 use Rattle.relax_core.specs.declared.views.Hand.{Hand}
 use Rattle.relax_core.specs.declared.views.Hand.TheVariants.{Idle, Fresh, Open, Owe}
 use Rattle.relax_core.specs.declared.views.View.{View}
@@ -193,7 +193,7 @@ reading graph seeds label mark views s u v w rows was has fresh hand share =
         read = omega arith;
         attained = was.sound u vertex;
         from = omega arith;
-        upto = first_place-rises graph.arcs u (u + 1) (omega arith);
+        upto = first_place_rises graph.arcs u (u + 1) (omega arith);
       });
       own = λ k arc is holds.
           let tail : u ≡ arc.tail = subst (HoldsArc label k arc) fresh holds in

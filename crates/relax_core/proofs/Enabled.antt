@@ -6,7 +6,7 @@ use Rattle.std.proofs.lemmas.Bool.{eq-eqb, ne_eqb, lt-ltb, le-ltb, le-leb}
 use Rattle.std.proofs.lemmas.Option.{slice_get_within, slice_get-get_or}
 use Rattle.route_walks.specs.declared.graph.ArcRec.{ArcRec}
 use Rattle.csr_graph.specs.Graph.{Graph, end_place}
-use Rattle.csr_graph.proofs.Rows.{arc_at, arc_with, no_arc}
+use Rattle.csr_graph.proofs.Facts.{arc_at, arc_with, no_arc}
 use Rattle.relax_core.specs.declared.events.Event.TheVariants.{Relax, Finish, Split}
 use Rattle.relax_core.specs.declared.views.Hand.{Hand}
 use Rattle.relax_core.specs.declared.views.Hand.TheVariants.{Idle, Open, Owe}

@@ -8,8 +8,8 @@ use Rattle.std.proofs.lemmas.Option.{slice_get-get_or}
 use Rattle.route_walks.specs.declared.graph.ArcRec.{ArcRec}
 use Rattle.route_walks.specs.Walk.{IsArcBelow}
 use Rattle.csr_graph.specs.Graph.{Graph, IsInRows, first_place, end_place}
-use Rattle.csr_graph.proofs.Places.{first_place-le}
-use Rattle.csr_graph.proofs.Rows.{arc_at, arc_with, no_arc, tail_between, rows_are_runs}
+use Rattle.csr_graph.proofs.Facts.{first_place_le}
+use Rattle.csr_graph.proofs.Facts.{arc_at, arc_with, no_arc, tail_between, rows_are_runs}
 
 pub record IsAt (graph : Graph) (k u h w : ℕ) : Type 0 where
   pub is : get_or graph.arcs k no_arc ≡ arc_with u h w
@@ -22,7 +22,7 @@ pub at_place : (graph : Graph) → IsInRows graph → (u k h w : ℕ) → first_
     → IfSome (slice_get graph.arcs k) (λ arc. arc.head ≡ h) → IfSome (slice_get graph.arcs k) (λ arc. arc.weight ≡ w)
     → IsAt graph k u h w
 at_place graph rows u k h w low high head weight =
-    let lt : k < length graph.arcs = omega (arith, first_place-le graph.arcs (u + 1)) in
+    let lt : k < length graph.arcs = omega (arith, first_place_le graph.arcs (u + 1)) in
     let is : get_or graph.arcs k no_arc ≡ arc_with u h w =
     arc_at graph.arcs k u h w lt (tail_between graph rows u k no_arc lt low high) head weight in
     let within : Contains graph.arcs (arc_with u h w) =

@@ -1,4 +1,4 @@
-use Rattle.csr_graph.proofs.Rows.{rows_are_runs}
+use Rattle.csr_graph.proofs.Facts.{rows_are_runs}
 use Rattle.csr_graph.proofs.laws.rows_are_runs.Goals as goal
 
 pub returns : goal.returns

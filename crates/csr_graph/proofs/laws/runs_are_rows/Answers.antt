@@ -1,4 +1,4 @@
-use Rattle.csr_graph.proofs.Rows.{runs_are_rows}
+use Rattle.csr_graph.proofs.Facts.{runs_are_rows}
 use Rattle.csr_graph.proofs.laws.runs_are_rows.Goals as goal
 
 pub returns : goal.returns

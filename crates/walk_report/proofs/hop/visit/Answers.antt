@@ -5,7 +5,7 @@ use Rattle.std.proofs.lemmas.Bool.{cases_eq, false≢true}
 use Rattle.route_walks.specs.declared.graph.ArcRec.{ArcRec}
 use Rattle.route_walks.specs.declared.graph.TheConstants.{MAX_VERTICES}
 use Rattle.csr_graph.specs.Graph.{Graph, IsInRows}
-use Rattle.csr_graph.proofs.Rows.{arc_with, no_arc}
+use Rattle.csr_graph.proofs.Facts.{arc_with, no_arc}
 use Rattle.walk_report.specs.declared.hop.TheConstants.{NONE}
 use Rattle.walk_report.specs.Search.{IsTight, IsSearch}
 use Rattle.walk_report.proofs.RowArcs.{IsAt, at_place, place_of}

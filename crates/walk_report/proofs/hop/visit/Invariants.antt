@@ -1,6 +1,6 @@
 use Rattle.std.proofs.Common.{◌≡◌, ℕ, ◌+◌, ◌<◌, ◌≤◌, List, length, slice_index, get_or}
 use Rattle.csr_graph.specs.Graph.{Graph, first_place}
-use Rattle.csr_graph.proofs.Rows.{no_arc}
+use Rattle.csr_graph.proofs.Facts.{no_arc}
 use Rattle.walk_report.specs.declared.hop.TheConstants.{NONE}
 use Rattle.walk_report.specs.Search.{IsTight, IsSearch}
 use Rattle.walk_report.proofs.hop.visit.Given as goal

@@ -4,8 +4,8 @@ use Rattle.std.proofs.lemmas.Bool.{false≢true}
 use Rattle.std.proofs.lemmas.List.{take_more}
 use Rattle.route_walks.specs.declared.graph.ArcRec.{ArcRec}
 use Rattle.csr_graph.specs.Graph.{end_place}
-use Rattle.csr_graph.proofs.Places.{first_place-rises}
-use Rattle.csr_graph.proofs.Rows.{arc_with, no_arc}
+use Rattle.csr_graph.proofs.Facts.{first_place_rises}
+use Rattle.csr_graph.proofs.Facts.{arc_with, no_arc}
 use Rattle.walk_report.specs.Parent.{AreFirstTails}
 use Rattle.walk_report.proofs.RowArcs.{at_place}
 use Rattle.walk_report.proofs.Tails.{tails-pass, tails-put, follows-at}
@@ -51,7 +51,7 @@ loop-k-preserved c =
 pub returns : goal.returns
 returns c =
     let csr = c.args.csr.now in
-    let rises = first_place-rises csr.arcs c.args.tail (c.args.tail + 1) (omega arith) in
+    let rises = first_place_rises csr.arcs c.args.tail (c.args.tail + 1) (omega arith) in
     let ends : c.loop-k.k ≡ end_place csr.arcs c.args.tail = omega arith in
     subst (λ (k : ℕ). AreFirstTails csr.n (take k csr.arcs) (slice_index c.args.labels.now) (slice_index c.args.hops.now) c.loop-k.parents) ends
     c.loop-k.invariant

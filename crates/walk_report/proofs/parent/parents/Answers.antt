@@ -3,7 +3,7 @@ use Rattle.std.proofs.Common.{◌≡◌, ◌∙◌, ℕ, List, [], length, slice
 use Rattle.std.proofs.lemmas.List.{take_all}
 use Rattle.route_walks.specs.declared.graph.ArcRec.{ArcRec}
 use Rattle.csr_graph.specs.Graph.{first_place}
-use Rattle.csr_graph.proofs.Places.{first_place-zero, first_place-all}
+use Rattle.csr_graph.proofs.Facts.{first_place_zero, first_place_all}
 use Rattle.walk_report.specs.declared.hop.TheConstants.{NONE}
 use Rattle.walk_report.specs.Parent.{AreFirstTails}
 use Rattle.walk_report.proofs.Tails.{tails-none, parents-done, parents-lead_back}
@@ -16,7 +16,7 @@ loop-tail-init c =
     let hop : ℕ → ℕ = slice_index c.args.hops.now in
     let made : c.in_ok-parents.parents.items ≡ replicate c.n-n.result NONE = search rules in
     let none : c.in_ok-parents.parents.items ≡ replicate csr.n NONE = made ∙ ap (λ n. replicate n NONE) c.n-n.ensures.vertices in
-    let start : take (first_place csr.arcs 0) csr.arcs ≡ [] = ap (λ k. take k csr.arcs) (first_place-zero csr.arcs) in
+    let start : take (first_place csr.arcs 0) csr.arcs ≡ [] = ap (λ k. take k csr.arcs) (first_place_zero csr.arcs) in
     subst (λ (arcs : List ArcRec). AreFirstTails csr.n arcs label hop c.in_ok-parents.parents.items) (sym start)
     (tails-none csr.n label hop c.in_ok-parents.parents.items none)
 
@@ -25,7 +25,7 @@ returns-clause-exact c =
     let csr = c.args.csr.now in
     let rows = c.n-n.ensures.in_rows in
     let n : c.loop-tail.tail ≡ csr.n = omega (arith, c.n-n.ensures.vertices) in
-    let all : first_place csr.arcs csr.n ≡ length csr.arcs = first_place-all csr.arcs csr.n (λ k d lt. (rows.ends k d lt).0) in
+    let all : first_place csr.arcs csr.n ≡ length csr.arcs = first_place_all csr.arcs csr.n (λ k d lt. (rows.ends k d lt).0) in
     let whole : take (first_place csr.arcs c.loop-tail.tail) csr.arcs ≡ csr.arcs =
     ap (λ u. take (first_place csr.arcs u) csr.arcs) n ∙ take_all _ csr.arcs (omega (arith, all)) in
     parents-done csr.n csr.arcs c.args.labels.now c.args.hops.now c.loop-tail.parents.items rows.vertices rows.ends c.requires

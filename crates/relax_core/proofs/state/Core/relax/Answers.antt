@@ -3,8 +3,8 @@ use Rattle.std.proofs.Common.{◌≡◌, ◌∙◌, sym, ap, ◌+◌, ◌<◌, �
 use Rattle.std.specs.Prelude.{slice_index}
 use Rattle.std.proofs.lemmas.List.{get_or_read}
 use Rattle.route_walks.specs.declared.graph.ArcRec.{ArcRec}
-use Rattle.csr_graph.proofs.Places.{first_place-le}
-use Rattle.csr_graph.proofs.Rows.{arc_with, no_arc}
+use Rattle.csr_graph.proofs.Facts.{first_place_le}
+use Rattle.csr_graph.proofs.Facts.{arc_with, no_arc}
 use Rattle.relax_core.specs.State.{State}
 use Rattle.relax_core.specs.Events.{after, live_view, offer, relax_arc}
 use Rattle.relax_core.specs.declared.events.Event.TheVariants.{Relax}
@@ -17,7 +17,7 @@ index-requires c =
     let same : length c.self.inside.labels.items ≡ length c.args.self.now.labels =
     ap (λ (s : State). length s.labels) c.self.view_is in
     let place : c.in-Open.k < length c.args.csr.now.arcs =
-    omega (arith, c.end.ensures.place, first_place-le c.args.csr.now.arcs (c.in-Open.u + 1)) in
+    omega (arith, c.end.ensures.place, first_place_le c.args.csr.now.arcs (c.in-Open.u + 1)) in
     omega (
       arith,
       head_in c.args.csr.now c.args.self.now c.in-Open.k _ _ c.requires place
@@ -29,7 +29,7 @@ index_mut-requires c =
     let same : length c.self.inside.labels.items ≡ length c.args.self.now.labels =
     ap (λ (s : State). length s.labels) c.self.view_is in
     let place : c.in-Open.k < length c.args.csr.now.arcs =
-    omega (arith, c.end.ensures.place, first_place-le c.args.csr.now.arcs (c.in-Open.u + 1)) in
+    omega (arith, c.end.ensures.place, first_place_le c.args.csr.now.arcs (c.in-Open.u + 1)) in
     omega (
       arith,
       head_in c.args.csr.now c.args.self.now c.in-Open.k _ _ c.requires place
@@ -57,7 +57,7 @@ returns c =
     let live : live_view state.views c.args.seat ≡ Some c.in-Some.view =
     ap (λ (s : State). live_view s.views c.args.seat) c.self.view_is ∙ sym c.in-Some.ensures in
     let place : c.in-Open.k < length c.args.csr.now.arcs =
-    omega (arith, c.end.ensures.place, first_place-le c.args.csr.now.arcs (c.in-Open.u + 1)) in
+    omega (arith, c.end.ensures.place, first_place_le c.args.csr.now.arcs (c.in-Open.u + 1)) in
     let head = c.target-head.result.head in
     let arc : ArcRec = arc_with (get_or c.args.csr.now.arcs c.in-Open.k no_arc).tail head c.target-head.result.weight in
     let offered : c.offered-x.result ≡ offer c.in-Open.d arc = c.offered-x.ensures in
