@@ -1,8 +1,6 @@
-pub mod LeastWalks
-pub mod Searching
-pub mod RowArcs
-pub mod Stepping
-pub mod Tails
-pub mod Printing
-pub mod SameArcs
-pub mod Uniqueness
+mod LeastWalks
+mod Searching
+mod RowArcs
+mod Tails
+mod Printing
+mod Determined

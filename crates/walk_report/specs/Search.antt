@@ -1,5 +1,6 @@
--- The search for hops: what is true of the hops so far and of the queue.
-use Rattle.std.specs.Prelude.{◌≡◌, ℕ, ◌+◌, ◌<◌, ◌≤◌, ◌==◌, ◌⊎◌, List, length, slice_index}
+-- The search for hops: what is true of the hops so far and of the queue. Not part of what a caller is
+-- promised.
+use Rattle.std.specs.Prelude.{◌≡◌, ℕ, ◌+◌, ◌<◌, ◌≤◌, ◌==◌, List, length, slice_index}
 use Rattle.std.specs.Prelude.{count_by, Contains}
 use Rattle.route_walks.specs.declared.graph.ArcRec.{ArcRec}
 use Rattle.route_walks.specs.declared.graph.TheConstants.{INF}
@@ -10,21 +11,22 @@ use Rattle.walk_report.specs.Hop.{HasWalk}
 abbrev pub IsTight : (ℕ → ℕ) → ArcRec → Type 0
 IsTight label arc = (label arc.tail + arc.weight ≡ label arc.head) × (label arc.head < INF)
 
--- the head of an arc has a hop, of at most one more than the tail's
-abbrev pub IsReached : (ℕ → ℕ) → ArcRec → Type 0
-IsReached hop arc = (hop arc.head ≤ hop arc.tail + 1) × (hop arc.head < NONE)
+-- v has a hop, of at most the given number
+abbrev pub IsReached : (ℕ → ℕ) → ℕ → ℕ → Type 0
+IsReached hop most v = (hop v ≤ most) × (hop v < NONE)
 
--- each tight arc that leaves u is reached
+-- the head of each tight arc that leaves u is reached, by at most one hop more
 abbrev pub IsVisited : List ArcRec → (ℕ → ℕ) → (ℕ → ℕ) → ℕ → Type 0
 IsVisited arcs label hop u =
-    (arc : ArcRec) → Contains arcs arc → arc.tail ≡ u → IsTight label arc → IsReached hop arc
+    (arc : ArcRec) → Contains arcs arc → arc.tail ≡ u → IsTight label arc
+    → IsReached hop (hop u + 1) arc.head
 
--- v stands in the queue, at the given place or after
-pub record IsQueued (queue : List ℕ) (from v : ℕ) : Type 0 where
-  pub place : ℕ
-  pub later : from ≤ place
-  pub within : place < length queue
-  pub here : slice_index queue place ≡ v
+-- the vertex v was found as the k-th: a walk from s of its label's cost has h arcs, and h is at most k
+pub record IsFound (n : ℕ) (arcs : List ArcRec) (label : ℕ → ℕ) (s v h k : ℕ) : Type 0 where
+  pub vertex : v < n
+  pub early : h ≤ k
+  pub walk : HasWalk arcs s v (label v) h
+  pub finite : label v < INF
 
 -- breadth-first search from the first vertex of the queue, where those before the place next are
 -- visited
@@ -33,13 +35,12 @@ pub record IsSearch (n : ℕ) (arcs : List ArcRec) (label : ℕ → ℕ)
   pub vertices : length hops ≡ n
   pub room : count_by (λ hop. hop == NONE) hops + length queue ≡ n
   pub fits : (v : ℕ) → v < n → slice_index hops v ≤ NONE
-  pub queued : (k : ℕ) → k < length queue
-      → (slice_index queue k < n) × (slice_index hops (slice_index queue k) ≤ k)
-  pub rising : (j k : ℕ) → j ≤ k → k < length queue
-      → slice_index hops (slice_index queue j) ≤ slice_index hops (slice_index queue k)
-  pub near : (v : ℕ) → v < n → slice_index hops v < NONE → next < length queue
-      → slice_index hops v ≤ slice_index hops (slice_index queue next) + 1
-  pub covered : (v : ℕ) → v < n → slice_index hops v < NONE
-      → IsQueued queue next v ⊎ IsVisited arcs label (slice_index hops) v
-  pub sound : (v : ℕ) → v < n → slice_index hops v < NONE
-      → HasWalk arcs (slice_index queue 0) v (label v) (slice_index hops v) × (label v < INF)
+  pub found : (k : ℕ) → k < length queue
+      → IsFound n arcs label (slice_index queue 0) (slice_index queue k) (slice_index hops (slice_index queue k)) k
+  pub rising : (k : ℕ) → k + 1 < length queue
+      → slice_index hops (slice_index queue k) ≤ slice_index hops (slice_index queue (k + 1))
+  pub near : (k : ℕ) → k < length queue → next < length queue
+      → slice_index hops (slice_index queue k) ≤ slice_index hops (slice_index queue next) + 1
+  pub queued : (v : ℕ) → v < n → slice_index hops v < NONE
+      → (k : ℕ) × (k < length queue) × (slice_index queue k ≡ v)
+  pub visited : (k : ℕ) → k < next → IsVisited arcs label (slice_index hops) (slice_index queue k)

@@ -9,5 +9,5 @@ returns-clause-vertices c =
     let hop = slice_index hops c.args.v in
     let walk : c.loop-k.walk.items ≡ printed_walk (slice_index c.args.parents.now) hop c.args.v = search rules in
     subst (All (λ u. u < length hops)) (sym walk)
-    (printed_walk-within hops c.args.parents.now c.requires.back hop c.args.v c.requires.vertex refl
+    (printed_walk-within c.requires.back hop c.args.v c.requires.vertex refl
     (omega (arith, c.type_inv.hops c.args.v)))
