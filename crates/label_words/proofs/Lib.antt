@@ -1,8 +1,6 @@
-pub mod Lists
+pub mod Steps
 pub mod Keeps
 pub mod Moves
-pub mod Joins
 pub mod Ties
-pub mod Laying
+pub mod Sowing
 pub mod Ends
-pub mod Steps

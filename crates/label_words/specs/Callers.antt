@@ -2,17 +2,18 @@
 -- crates above and in the tests here.
 use Rattle.std.specs.Prelude.{◌≡◌, ℕ, ◌⊎◌}
 use Rattle.relax_core.specs.declared.views.View.{View}
-use Rattle.label_words.specs.Views.{Held, IsOpen, vertex_of}
+use Rattle.relax_core.specs.Views.{IsOpen, vertex_of}
+use Rattle.label_words.specs.Known.{Held}
 
 -- the seat is still of its words, their graph and their seeds, and has its share
 pub record Stays (old new : Held) : Type 0 where
   pub words : new.words ≡ old.words
-  pub graph : new.view.graph ≡ old.view.graph
-  pub seeds : new.view.seeds ≡ old.view.seeds
-  pub share : new.view.core.share ≡ old.view.core.share
+  pub graph : new.known.graph ≡ old.known.graph
+  pub seeds : new.known.seeds ≡ old.known.seeds
+  pub share : new.known.view.share ≡ old.known.view.share
 
 -- the row of u is open, and the seat has one credit or two
-pub record IsInRow (u : ℕ) (core : View) : Type 0 where
-  pub hand : IsOpen core.hand
-  pub vertex : vertex_of core.hand ≡ u
-  pub credits : (core.credits ≡ 1) ⊎ (core.credits ≡ 2)
+pub record HasRowOpen (u : ℕ) (view : View) : Type 0 where
+  pub hand : IsOpen view.hand
+  pub vertex : vertex_of view.hand ≡ u
+  pub credits : (view.credits ≡ 1) ⊎ (view.credits ≡ 2)

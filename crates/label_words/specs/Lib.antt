@@ -1,6 +1,9 @@
-pub mod Views
+pub mod Layout
+pub mod Known
+pub mod Seats
 pub mod Rule
-pub mod Closing
-pub mod Pauses
+pub mod Closed
+pub mod Paused
 pub mod Callers
 pub mod Laws
+pub mod Sown

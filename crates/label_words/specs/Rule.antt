@@ -1,51 +1,40 @@
--- The rule of the words: between any two steps the words and all views are a lawful core, and no label
--- is above what any seat knows of it.
-use Rattle.std.specs.Prelude.{◌≡◌, ◌≢◌, ℕ, ◌+◌, ◌*◌, ◌<◌, ◌≤◌, nat_lt, Bool}
-use Rattle.std.specs.Prelude.{List, false, length, map, slice_index, slice_index_or, All}
+-- The rule of the words: between any two steps they hold a lawful core with the views of all seats, and
+-- no label is above what any seat knows of it.
+use Rattle.std.specs.Prelude.{◌≡◌, ◌≢◌, ℕ, ◌<◌, ◌≤◌, List, length, map, slice_index, All}
 use mathlib.Core.Option.{some}
 use lib.ListN.{get_elem?}
 use Rattle.route_walks.specs.declared.graph.Seed.{Seed}
-use Rattle.csr_graph.specs.Graph.{Graph, IsInRows}
+use Rattle.csr_graph.specs.Graph.{Graph}
 use Rattle.relax_core.specs.declared.views.View.{View}
-use Rattle.relax_core.specs.Lawful.{Covers, Account}
-use Rattle.relax_core.specs.State.{State}
+use Rattle.relax_core.specs.State.{State, IsLawful, mark_of as is_marked}
 use Rattle.label_words.specs.declared.known.Known.{Known}
+use Rattle.label_words.specs.Layout.{word_count, total_of, label_of, mark_of}
 
--- the pending total is word 0
-abbrev pub total_of : List ℕ → ℕ
-total_of words = slice_index words 0
+abbrev pub views_of : List Known → List View
+views_of seats = map (λ (seat : Known). seat.view) seats
 
--- the label of v is word 2v + 1
-abbrev pub label_of : List ℕ → ℕ → ℕ
-label_of words v = slice_index words (2 * v + 1)
-
--- v is marked where word 2v + 2 isn't 0
-abbrev pub mark_of : List ℕ → ℕ → Bool
-mark_of words v = nat_lt 0 (slice_index words (2 * v + 2))
-
-abbrev pub cores : List Known → List View
-cores views = map (λ (v : Known). v.core) views
-
--- a seat knows the graph and the seeds, and no label is above what it knows
-pub record Knows (graph : Graph) (seeds : List Seed) (label : ℕ → ℕ) (view : Known) : Type 0 where
-  pub graph_is : view.graph ≡ graph
-  pub seeds_are : view.seeds ≡ seeds
-  pub above : All (λ entry. label entry.0 ≤ entry.1) view.known
-
--- the rule
-pub record IsKept
-    (graph : Graph) (seeds : List Seed) (words : List ℕ) (views : List Known)
-    : Type 0 where
-  pub rows : IsInRows graph
-  pub count : length words ≡ 2 * graph.n + 1
-  pub covers : Covers graph seeds (label_of words) (mark_of words) (cores views)
-  pub account : Account graph.n (mark_of words) (total_of words) (cores views)
-  pub knows : (s : ℕ) (view : Known) → get_elem? views s ≡ some view → view.core.share ≢ 0
-      → Knows graph seeds (label_of words) view
-
--- the words of a state in their order: its total, then the label and the mark of each of n vertices
+-- the words hold a state of n vertices: its total, and the label and the mark of each vertex
 pub record IsLaid (state : State) (n : ℕ) (words : List ℕ) : Type 0 where
-  pub count : length words ≡ 2 * n + 1
+  pub count : length words ≡ word_count n
   pub total : total_of words ≡ state.total
   pub labels : (v : ℕ) → v < n → label_of words v ≡ slice_index state.labels v
-  pub marks : (v : ℕ) → v < n → mark_of words v ≡ slice_index_or state.marks v false
+  pub marks : (v : ℕ) → v < n → mark_of words v ≡ is_marked state.marks v
+
+-- a seat knows the graph and the seeds, and no label is above what it knows
+pub record Knows (graph : Graph) (seeds : List Seed) (label : ℕ → ℕ) (seat : Known) : Type 0 where
+  pub graph_is : seat.graph ≡ graph
+  pub seeds_are : seat.seeds ≡ seeds
+  pub above : All (λ entry. label entry.0 ≤ entry.1) seat.labels
+
+-- and so does each seat that isn't spent
+abbrev pub AllKnow : Graph → List Seed → (ℕ → ℕ) → List Known → Type 0
+AllKnow graph seeds label seats =
+    (s : ℕ) (seat : Known) → get_elem? seats s ≡ some seat → seat.view.share ≢ 0 → Knows graph seeds label seat
+
+-- the rule
+pub record AreLawful (graph : Graph) (seeds : List Seed) (words : List ℕ) (seats : List Known) : Type 0 where
+  pub state : State
+  pub lawful : IsLawful graph seeds state
+  pub laid : IsLaid state graph.n words
+  pub views_are : state.views ≡ views_of seats
+  pub knows : AllKnow graph seeds (label_of words) seats

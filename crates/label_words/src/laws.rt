@@ -4,11 +4,11 @@
 ghost use Rattle.label_words.specs.Laws.{TakeIsItsEvent, ReadIsItsEvent, RelaxIsItsEvent};
 ghost use Rattle.label_words.specs.Laws.{RaiseIsItsEvent, SetMarkIsItsEvent, FinishIsItsEvent};
 ghost use Rattle.label_words.specs.Laws.{SeeIsItsEvent, SplitIsItsEvent, JoinIsItsEvent};
-ghost use Rattle.label_words.specs.Laws.{KeptIsLawful};
+ghost use Rattle.label_words.specs.Laws.{LawfulWordsHoldACore, UnmarkedPauseIsLeast};
 
 /// What the rule of the words keeps between any two steps is a lawful core.
-pub fn kept_words_are_lawful()
-    ensures { KeptIsLawful }
+pub fn lawful_words_hold_a_core()
+    ensures { LawfulWordsHoldACore }
 {}
 
 /// Each call of one seat does to its word and to its seat what its event does to the core.
@@ -27,4 +27,9 @@ pub fn calls_are_events()
 pub fn splits_and_joins_are_events()
     ensures split { SplitIsItsEvent }
     ensures join { JoinIsItsEvent }
+{}
+
+/// A pause in which no vertex is marked has least labels.
+pub fn unmarked_pauses_are_least()
+    ensures { UnmarkedPauseIsLeast }
 {}

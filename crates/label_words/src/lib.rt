@@ -29,19 +29,22 @@
 //! }
 //! ```
 //!
-//! A worker that finds nothing to take calls `see`, and is done where it answers true.
+//! A worker that finds nothing to take calls `see`, and is done where it returns true.
 //!
 //! Stands on `relax_core` for the law of each event, on `csr_graph` for the rows and on `atomic_table`.
 #![tactic(auto)]
 
-mod closing;
+mod closed;
 mod known;
 pub mod laws;
+mod layout;
+mod opening;
 mod pause;
+mod plays;
 mod seat;
 mod words;
 
-pub use closing::Closed;
+pub use closed::Closed;
 pub use known::Known;
 pub use pause::Paused;
 pub use seat::WorkSeat;

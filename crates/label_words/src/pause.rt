@@ -1,3 +1,5 @@
+//! What is left of a run that is paused.
+
 ghost use Rattle.std.specs.Prelude.{◌≡◌, ◌<◌, length};
 ghost use Rattle.relax_core.specs.State.{mark_of};
 
@@ -11,7 +13,7 @@ pub struct Paused {
 }
 
 impl Model for Paused {
-    ghost use Rattle.label_words.specs.Pauses.{Rest};
+    ghost use Rattle.label_words.specs.Paused.{Rest};
 
     ghost Value = { Rest };
 

@@ -1,8 +1,11 @@
+//! A worker's place at the words.
+
 ghost use Rattle.std.specs.Prelude.{◌≡◌, ◌≤◌};
 ghost use Rattle.relax_core.specs.declared.views.TheConstants.{SHARES};
+ghost use Rattle.label_words.specs.Known.{hand_of};
 
 use crate::known::Place;
-use relax_core::Hand;
+use relax_core::{Hand, View};
 use std::marker::Model;
 
 /// A worker's place at the words: what it holds, its credits, whether it saw the total at 0, and its
@@ -12,51 +15,48 @@ use std::marker::Model;
 #[derive(Drop)]
 pub struct WorkSeat {
     pub(crate) place: Place,
-    pub(crate) hand: Hand,
-    pub(crate) credits: u8,
-    pub(crate) saw: bool,
-    pub(crate) share: u32,
+    pub(crate) view: View,
 }
 
 impl Model for WorkSeat {
     ghost use Rattle.std.specs.Prelude.{◌≡◌, []};
-    ghost use Rattle.label_words.specs.Views.{Held, IsTied};
+    ghost use Rattle.label_words.specs.Known.{Held};
+    ghost use Rattle.label_words.specs.Seats.{IsTied};
 
     ghost Value = { Held };
 
-    ghost view = { λ s. record { words = s.place.table_id; view = s.place.me.0 } };
+    ghost view = { λ s. record { words = s.place.table_id; known = s.place.me.0 } };
 
-    ghost invariant = { λ s.
-        IsTied s.place.table_id s.place.me.0 s.hand s.credits s.saw s.share × (s.place.me.1 ≡ []) };
+    ghost invariant = { λ s. IsTied s.place.table_id s.place.me.0 s.view × (s.place.me.1 ≡ []) };
 }
 
 impl WorkSeat {
     /// What the seat holds.
     pub fn hand(&self) -> Hand
-        ensures { result ≡ self.now.view.core.hand }
+        ensures { result ≡ hand_of self.now }
     {
-        self.hand
+        self.view.hand
     }
 
     /// The part of the pending total that stands for what the seat holds: 0 to 2.
     pub fn credits(&self) -> u8
-        ensures { result ≡ self.now.view.core.credits }
+        ensures { result ≡ self.now.known.view.credits }
     {
-        self.credits
+        self.view.credits
     }
 
     /// Whether the seat saw the pending total at 0.
     pub fn saw(&self) -> bool
-        ensures { result ≡ self.now.view.core.saw }
+        ensures { result ≡ self.now.known.view.saw }
     {
-        self.saw
+        self.view.saw
     }
 
     /// Of the 65536 shares that all seats have together.
     pub fn share(&self) -> u32
-        ensures share { result ≡ self.now.view.core.share }
+        ensures share { result ≡ self.now.known.view.share }
         ensures most { result ≤ SHARES }
     {
-        self.share
+        self.view.share
     }
 }

@@ -40,7 +40,7 @@ const SEEDS: [Seed; 1] = [Seed {
     start: 0,
 }];
 
-// A call, and what it answers.
+// A call, and what it returns.
 #[derive(Clone, Copy, Debug)]
 enum Call {
     Take(u32, bool),
@@ -95,13 +95,13 @@ fn graph(alloc: Global) -> Result<Csr, Fail>
     Ok(Csr::build(alloc, 4, &ARCS)?)
 }
 
-// Whether the seat is as the call asks, the call answers as the schedule says, and the credits are
+// Whether the seat is as the call asks, the call returns what the schedule says, and the credits are
 // those of the schedule then.
 fn goes(words: &Words, seat: &mut WorkSeat, csr: &Csr, call: Call, credits: u8) -> bool
     requires words { seat.old.words ≡ words.now }
-    requires graph { csr.now ≡ seat.old.view.graph }
+    requires graph { csr.now ≡ seat.old.known.graph }
     ensures words { seat.new.words ≡ seat.old.words }
-    ensures graph { seat.new.view.graph ≡ seat.old.view.graph }
+    ensures graph { seat.new.known.graph ≡ seat.old.known.graph }
 {
     let answers = match (call, seat.hand()) {
         (Take(u, taken), Hand::Idle) if u < csr.n() => words.take(seat, u) == taken,
@@ -130,7 +130,7 @@ fn goes(words: &Words, seat: &mut WorkSeat, csr: &Csr, call: Call, credits: u8) 
 // Goes through the schedule with two seats of the same words.
 fn play(rt: &impl Abort, words: &Words, left: &mut WorkSeat, right: &mut WorkSeat, csr: &Csr)
     requires words { (left.old.words ≡ words.now) × (right.old.words ≡ words.now) }
-    requires graph { (csr.now ≡ left.old.view.graph) × (csr.now ≡ right.old.view.graph) }
+    requires graph { (csr.now ≡ left.old.known.graph) × (csr.now ≡ right.old.known.graph) }
     ensures words { (left.new.words ≡ words.now) × (right.new.words ≡ words.now) }
 {
     for i in 0..31_usize {
@@ -165,7 +165,7 @@ fn two_seats_go_through_the_schedule(rt: HostRuntime) -> Result<(), Fail> {
 #[test]
 fn marked_just_after_opening(rt: HostRuntime) -> Result<(), Fail> {
     let csr = graph(rt.alloc())?;
-    let seeds = [(2, 5), (0, 3), (2, 4)].map(|(vertex, start)| Seed { vertex, start });
+    let seeds = [Seed::new(2, 5), Seed::new(0, 3), Seed::new(2, 4)];
     let (words, seat) = Words::open(rt.alloc(), &csr, &seeds)?;
     assert_eq!(rt; words.marked_label(&seat, 0), Some(3));
     assert_eq!(rt; words.marked_label(&seat, 1), None);

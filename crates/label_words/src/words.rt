@@ -1,19 +1,26 @@
-ghost use Rattle.std.specs.Prelude.{◌≡◌, ◌<◌, ◌≤◌, ◌^◌, length, IfOk};
-ghost use Rattle.route_walks.specs.Walk.{AreSeeds};
-ghost use Rattle.label_words.specs.Rule.{IsLaid};
-ghost use Rattle.relax_core.specs.declared.views.Hand.TheVariants.{Idle};
-ghost use Rattle.label_words.specs.Views.{IsFresh, IsOpen, Owes, IsAtRowEnd};
-ghost use Rattle.label_words.specs.Views.{IsFound, GoesAlong, Attains};
-ghost use Rattle.label_words.specs.Views.{first_known, after_take, after_read, after_raise};
-ghost use Rattle.label_words.specs.Views.{after_set_mark, after_finish, after_see};
-ghost use Rattle.label_words.specs.Views.{left_half, right_half, both_views};
+//! The words of a run, and the calls on them.
 
-use crate::known::{Board, Finishes, Halves, Key, Marks, Raises, Reads, Relaxes, Sees, Takes};
+ghost use Rattle.std.specs.Prelude.{◌≡◌, ◌⊎◌, ◌<◌, ◌≤◌, true, not, IfOk};
+ghost use Rattle.route_walks.specs.Walk.{AreSeeds};
+ghost use Rattle.relax_core.specs.declared.views.TheConstants.{SHARES};
+ghost use Rattle.relax_core.specs.Views.{IsFresh, IsOpen, Owes, IsAtRowEnd};
+ghost use Rattle.label_words.specs.Known.{hand_of, IsIdle, IsFound, GoesAlong, Attains};
+ghost use Rattle.label_words.specs.Known.{first_known, after_take, after_read, after_raise};
+ghost use Rattle.label_words.specs.Known.{after_set_mark, after_finish, after_see};
+ghost use Rattle.label_words.specs.Known.{left_half, right_half, both_known};
+ghost use Rattle.label_words.specs.Closed.{IsClosed, IsBelowKnown};
+
+use crate::closed::{Closed, read_labels, read_marks};
+use crate::known::{Board, Key};
+use crate::layout::{TOTAL, label_word, mark_word};
+use crate::opening::lay;
+use crate::pause::Paused;
+use crate::plays::{Finishes, Halves, Marks, Raises, Reads, Relaxes, Sees, Takes};
 use crate::seat::WorkSeat;
 use atomic_table::Table;
 use csr_graph::{Csr, Target};
-use relax_core::{Core, Hand, SHARES, open_core};
-use route_walks::{INF, Memory, Seed};
+use relax_core::{Hand, SHARES, View};
+use route_walks::{Memory, Seed, offer};
 use std::alloc::Global;
 use std::marker::Model;
 use std::snapshot::Snapshot;
@@ -47,30 +54,23 @@ impl Model for Words {
 impl Words {
     /// The words that a run over this graph begins with: each seeded vertex has its least start as label
     /// and is marked, the others have `INF` and no mark, and the total is the number of marks. The one
-    /// seat is idle, has all shares, and knows no label.
+    /// seat is idle, has all shares, and knows no label. Takes 32 bytes a vertex while it works, and
+    /// leaves 16.
     pub fn open(alloc: Global, csr: &Csr, seeds: &[Seed]) -> Result<(Words, WorkSeat), Memory>
         requires { AreSeeds csr.now.n seeds.now }
         ensures seat { IfOk result
-            (λ opened. opened.1 ≡ record { words = opened.0; view = first_known csr.now seeds.now }) }
+            (λ opened. opened.1 ≡ record { words = opened.0; known = first_known csr.now seeds.now }) }
     {
-        // What stands in the next copy is let go at once, so that at most two stand together.
-        let core = open_core(alloc, csr, seeds)?;
-        let words = lay(alloc, &core, csr.n())?;
-        drop(core);
-        let mut held = Vec::with_capacity(alloc, seeds.len())?;
-        held.extend_from_slice(seeds)?;
-        let key: Key = (Snapshot::of(csr), Snapshot::of(&held));
-        drop(held);
+        // The copy is for the contracts alone and is let go before the words take any room.
+        let mut copy = Vec::with_capacity(alloc, seeds.len())?;
+        copy.extend_from_slice(seeds)?;
+        let key: Key = (Snapshot::of(csr), Snapshot::of(&copy));
+        drop(copy);
+        let words = lay(alloc, csr.n(), seeds)?;
         let (table, place) = Table::of_words(alloc, &words, &key)?;
         drop(words);
-        let seat = WorkSeat {
-            place,
-            hand: Hand::Idle,
-            credits: 0,
-            saw: false,
-            share: SHARES,
-        };
-        Ok((Words { table }, seat))
+        let view = View::idle(SHARES);
+        Ok((Words { table }, WorkSeat { place, view }))
     }
 
     /// The label at which `v` is marked, or `None` where it isn't marked. It is a look that takes no step
@@ -78,53 +78,44 @@ impl Words {
     /// vertices that are handed to a worklist.
     pub fn marked_label(&self, seat: &WorkSeat, v: u32) -> Option<u64>
         requires words { seat.now.words ≡ self.now }
-        requires vertex { v < seat.now.view.graph.n }
+        requires vertex { v < seat.now.known.graph.n }
     {
         // Only the contract asks for the seat: what is read of it brings in how many vertices it knows.
-        let _share = seat.share;
-        if self.table.shared.peek(2 * v as usize + 2) == 0 {
+        let _share = seat.view.share;
+        if self.table.shared.peek(mark_word(v)) == 0 {
             return None;
         }
-        Some(self.table.shared.peek(2 * v as usize + 1))
+        Some(self.table.shared.peek(label_word(v)))
     }
 
     /// Takes the mark of `u` away by one swap. Where it was set, the seat holds `u` with one credit and
-    /// the answer is true.
+    /// this returns true.
     pub fn take(&self, seat: &mut WorkSeat, u: u32) -> bool
         requires words { seat.old.words ≡ self.now }
-        requires idle { seat.old.view.core.hand ≡ Idle }
-        requires vertex { u < seat.old.view.graph.n }
-        ensures { seat.new ≡ record seat.old { view = after_take result u seat.old.view } }
+        requires idle { IsIdle seat.old }
+        requires vertex { u < seat.old.known.graph.n }
+        ensures { seat.new ≡ record seat.old { known = after_take result u seat.old.known } }
     {
-        let mark = 2 * u as usize + 2;
-        let was = self.table.shared.swap::<Takes>(&mut seat.place, mark, 0) > 0;
-        if was {
-            seat.hand = Hand::Fresh { u };
-            seat.credits = 1;
-        }
+        let shared = &self.table.shared;
+        let was = shared.swap::<Takes>(&mut seat.place, mark_word(u), 0) > 0;
+        seat.view.take(was, u);
         was
     }
 
     /// Reads the label of the vertex that the seat holds, by one load, and opens its row.
     pub fn read(&self, seat: &mut WorkSeat, csr: &Csr) -> u64
         requires words { seat.old.words ≡ self.now }
-        requires graph { csr.now ≡ seat.old.view.graph }
-        requires fresh { IsFresh seat.old.view.core.hand }
-        ensures seat { seat.new ≡ record seat.old { view = after_read result seat.old.view } }
-        ensures found { IsFound seat.old.view result }
+        requires graph { csr.now ≡ seat.old.known.graph }
+        requires fresh { IsFresh (hand_of seat.old) }
+        ensures seat { seat.new ≡ record seat.old { known = after_read result seat.old.known } }
+        ensures found { IsFound seat.old.known result }
     {
-        let Hand::Fresh { u } = seat.hand else {
+        let Hand::Fresh { u } = seat.view.hand else {
             unreachable!()
         };
-        let d = self
-            .table
-            .shared
-            .load::<Reads>(&mut seat.place, 2 * u as usize + 1);
-        seat.hand = Hand::Open {
-            u,
-            d,
-            k: csr.first(u),
-        };
+        let shared = &self.table.shared;
+        let d = shared.load::<Reads>(&mut seat.place, label_word(u));
+        seat.view.read(d, csr.first(u));
         d
     }
 
@@ -132,30 +123,26 @@ impl Words {
     /// there is no step. What the arc offers is the sum of label and weight, at most `INF`.
     pub fn relax(&self, seat: &mut WorkSeat, csr: &Csr) -> Step
         requires words { seat.old.words ≡ self.now }
-        requires graph { csr.now ≡ seat.old.view.graph }
-        requires open { IsOpen seat.old.view.core.hand }
+        requires graph { csr.now ≡ seat.old.known.graph }
+        requires open { IsOpen (hand_of seat.old) }
         ensures words { seat.new.words ≡ seat.old.words }
-        ensures step { GoesAlong seat.old.view result seat.new.view }
-        ensures attained { Attains seat.old.view result }
+        ensures step { GoesAlong seat.old.known result seat.new.known }
+        ensures attained { Attains seat.old.known result }
     {
-        let Hand::Open { u, d, k } = seat.hand else {
+        let Hand::Open { u, d, k } = seat.view.hand else {
             unreachable!()
         };
         if k == csr.end(u) {
             return Step::RowEnd;
         }
         let Target { head, weight } = csr.target(k);
-        let label = d.saturating_add(u64::from(weight));
-        let found = self
-            .table
-            .shared
-            .fetch_min::<Relaxes>(&mut seat.place, 2 * head as usize + 1, label);
-        let k = k + 1;
+        let label = offer(d, weight);
+        let shared = &self.table.shared;
+        let found = shared.fetch_min::<Relaxes>(&mut seat.place, label_word(head), label);
+        seat.view.relax(label < found, u, d, k, head);
         if label < found {
-            seat.hand = Hand::Owe { u, d, k, head };
             Step::Lowered { head, label }
         } else {
-            seat.hand = Hand::Open { u, d, k };
             Step::Kept
         }
     }
@@ -163,120 +150,109 @@ impl Words {
     /// Adds one to the total, for the mark that the seat owes.
     pub fn raise(&self, seat: &mut WorkSeat)
         requires words { seat.old.words ≡ self.now }
-        requires owes { Owes seat.old.view.core.hand }
-        requires credit { seat.old.view.core.credits ≡ 1 }
-        ensures { seat.new ≡ record seat.old { view = after_raise seat.old.view } }
+        requires owes { Owes (hand_of seat.old) }
+        requires credit { seat.old.known.view.credits ≡ 1 }
+        ensures { seat.new ≡ record seat.old { known = after_raise seat.old.known } }
     {
-        self.table.shared.fetch_add::<Raises>(&mut seat.place, 0, 1);
-        seat.credits = 2;
+        let shared = &self.table.shared;
+        shared.fetch_add::<Raises>(&mut seat.place, TOTAL, 1);
+        seat.view.raise();
     }
 
     /// Sets the mark that the seat owes, by one swap. Where it was not set before, one credit goes to it
-    /// and the answer is true; otherwise the seat keeps both.
+    /// and this returns true; otherwise the seat keeps both.
     pub fn set_mark(&self, seat: &mut WorkSeat) -> bool
         requires words { seat.old.words ≡ self.now }
-        requires owes { Owes seat.old.view.core.hand }
-        requires credits { seat.old.view.core.credits ≡ 2 }
-        ensures { seat.new ≡ record seat.old { view = after_set_mark result seat.old.view } }
+        requires owes { Owes (hand_of seat.old) }
+        requires credits { seat.old.known.view.credits ≡ 2 }
+        ensures { seat.new ≡ record seat.old { known = after_set_mark (not result) seat.old.known } }
     {
-        let Hand::Owe { u, d, k, head } = seat.hand else {
+        let Hand::Owe { u, d, k, head } = seat.view.hand else {
             unreachable!()
         };
-        let new = self
-            .table
-            .shared
-            .swap::<Marks>(&mut seat.place, 2 * head as usize + 2, 1)
-            == 0;
-        seat.hand = Hand::Open { u, d, k };
-        seat.credits = if new { 1 } else { 2 };
-        new
+        let shared = &self.table.shared;
+        let was = shared.swap::<Marks>(&mut seat.place, mark_word(head), 1) > 0;
+        seat.view.set_mark(was, u, d, k);
+        !was
     }
 
     /// Takes the seat's credits from the total, by one `fetch_sub`, at the end of its row. The seat is
     /// idle then. The graph says where the row ends.
     pub fn finish(&self, seat: &mut WorkSeat, csr: &Csr)
         requires words { seat.old.words ≡ self.now }
-        requires graph { csr.now ≡ seat.old.view.graph }
-        requires open { IsOpen seat.old.view.core.hand }
-        requires row_end { IsAtRowEnd seat.old.view }
-        ensures { seat.new ≡ record seat.old { view = after_finish seat.old.view } }
+        requires graph { csr.now ≡ seat.old.known.graph }
+        requires open { IsOpen (hand_of seat.old) }
+        requires row_end { IsAtRowEnd seat.old.known.graph (hand_of seat.old) }
+        ensures { seat.new ≡ record seat.old { known = after_finish seat.old.known } }
     {
         // Only the contract asks where the row ends.
         let _ = csr;
-        let credits = u64::from(seat.credits);
-        self.table
-            .shared
-            .fetch_sub::<Finishes>(&mut seat.place, 0, credits);
-        seat.hand = Hand::Idle;
-        seat.credits = 0;
+        let credits = u64::from(seat.view.credits);
+        let shared = &self.table.shared;
+        shared.fetch_sub::<Finishes>(&mut seat.place, TOTAL, credits);
+        seat.view.finish();
     }
 
     /// Looks at the total, by one load. True, and the seat saw, where it was 0.
     pub fn see(&self, seat: &mut WorkSeat) -> bool
         requires words { seat.old.words ≡ self.now }
-        requires idle { seat.old.view.core.hand ≡ Idle }
-        ensures { seat.new ≡ record seat.old { view = after_see result seat.old.view } }
+        requires idle { IsIdle seat.old }
+        ensures { seat.new ≡ record seat.old { known = after_see result seat.old.known } }
     {
-        let zero = self.table.shared.load::<Sees>(&mut seat.place, 0) == 0;
-        seat.saw = seat.saw || zero;
+        let zero = self.table.shared.load::<Sees>(&mut seat.place, TOTAL) == 0;
+        seat.view.see(zero);
         zero
     }
 
     /// A new idle seat with half the share, rounded down, which knows what this one knows.
     pub fn split(&self, seat: &mut WorkSeat) -> WorkSeat
         requires words { seat.old.words ≡ self.now }
-        requires idle { seat.old.view.core.hand ≡ Idle }
-        requires share { 2 ≤ seat.old.view.core.share }
-        ensures this { seat.new ≡ record seat.old { view = left_half seat.old.view } }
-        ensures new { result ≡ record seat.old { view = right_half seat.old.view } }
+        requires idle { IsIdle seat.old }
+        requires share { 2 ≤ seat.old.known.view.share }
+        ensures this { seat.new ≡ record seat.old { known = left_half seat.old.known } }
+        ensures new { result ≡ record seat.old { known = right_half seat.old.known } }
     {
         let place = self.table.shared.split_seat::<Halves>(&mut seat.place);
-        let share = seat.share / 2;
-        seat.share -= share;
-        WorkSeat {
-            place,
-            hand: Hand::Idle,
-            credits: 0,
-            saw: false,
-            share,
-        }
+        let view = seat.view.split();
+        WorkSeat { place, view }
     }
 
     /// Takes in another seat of these words: its share, what it knows, and that it saw.
     pub fn join(&self, seat: &mut WorkSeat, other: WorkSeat)
         requires words { (seat.old.words ≡ self.now) × (other.words ≡ self.now) }
-        requires idle { seat.old.view.core.hand ≡ Idle }
-        requires other_idle { other.view.core.hand ≡ Idle }
-        ensures { seat.new ≡ record seat.old { view = both_views seat.old.view other.view } }
+        requires idle { IsIdle seat.old }
+        requires other_idle { IsIdle other }
+        ensures { seat.new ≡ record seat.old { known = both_known seat.old.known other.known } }
     {
-        let WorkSeat {
-            place,
-            hand: _,
-            credits: _,
-            saw,
-            share,
-        } = other;
+        let WorkSeat { place, view } = other;
         self.table
             .shared
             .join_seat::<Halves>(&mut seat.place, place);
-        seat.saw = seat.saw || saw;
-        // Shares are never more than all: the rule says it, and this says it where no rule is at hand.
-        seat.share = (seat.share + share).min(SHARES);
+        seat.view.join(view);
     }
-}
 
-/// The words of a core in their order: its total, then the label and the mark of each vertex.
-fn lay(alloc: Global, core: &Core, n: u32) -> Result<Vec<u64>, Memory>
-    requires labels { length core.now.labels ≡ n }
-    requires marks { length core.now.marks ≡ n }
-    requires vertices { n ≤ 2 ^ 28 }
-    ensures { IfOk result (λ words. IsLaid core.now n words.items) }
-{
-    let mut words = Vec::with_capacity(alloc, 2 * n as usize + 1)?;
-    words.push(core.pending())?;
-    for v in 0..n {
-        words.push(core.label(v))?;
-        words.push(u64::from(core.mark(v)))?;
+    /// Ends the run. The seat saw the total at 0, or it has all shares. After `Memory` the run is lost.
+    /// Labels take eight bytes a vertex; where the seat didn't see 0, the marks take one more.
+    pub fn close(self, alloc: Global, seat: WorkSeat) -> Result<Closed, Memory>
+        requires words { seat.words ≡ self }
+        requires idle { IsIdle seat }
+        requires done { (seat.known.view.saw ≡ true) ⊎ (seat.known.view.share ≡ SHARES) }
+        ensures closed { IfOk result (λ closed. IsClosed seat.known closed) }
+        ensures known { IfOk result (λ closed. IsBelowKnown seat.known closed) }
+    {
+        let n = (self.table.word_count() - 8) / 2;
+        let mut labels = vec![in alloc; 0; n]?;
+        // Where the seat saw 0 there are no marks to read.
+        let mut marks = vec![in alloc; false; if seat.view.saw { 0 } else { n }]?;
+        let WorkSeat { place, view } = seat;
+        let last = self.table.close_with(place);
+        read_labels(&last, &mut labels);
+        read_marks(&last, &mut marks);
+        last.free();
+        if view.saw {
+            Ok(Closed::Settled(labels))
+        } else {
+            Ok(Closed::Paused(Paused { labels, marks }))
+        }
     }
-    Ok(words)
 }

@@ -4,17 +4,17 @@ use Rattle.csr_graph.specs.Graph.{Graph}
 use Rattle.relax_core.specs.declared.views.Hand.TheVariants.{Idle}
 use Rattle.relax_core.specs.declared.views.TheConstants.{SHARES}
 use Rattle.label_words.specs.Callers.{Stays}
-use Rattle.label_words.specs.Views.{Held}
+use Rattle.label_words.specs.Known.{Held}
 
 -- a seat can lead so many workers on a graph: it holds nothing, and has a share for each of them
 pub record CanLead (graph : Graph) (workers : ℕ) (seat : Held) : Type 0 where
-  pub graph_is : graph ≡ seat.view.graph
-  pub idle : seat.view.core.hand ≡ Idle
-  pub enough : workers ≤ seat.view.core.share
-  pub shares : seat.view.core.share ≤ SHARES
+  pub graph_is : graph ≡ seat.known.graph
+  pub idle : seat.known.view.hand ≡ Idle
+  pub enough : workers ≤ seat.known.view.share
+  pub shares : seat.known.view.share ≤ SHARES
 
 -- workers are done: the seat is still of its words, holds nothing, and saw the pending total at 0
 pub record AreDone (old new : Held) : Type 0 where
   pub stays : Stays old new
-  pub idle : new.view.core.hand ≡ Idle
-  pub saw : new.view.core.saw ≡ true
+  pub idle : new.known.view.hand ≡ Idle
+  pub saw : new.known.view.saw ≡ true

@@ -24,7 +24,7 @@ use std::thread::Threads;
 pub enum RunFault {
     /// The system refused memory, before the workers started or while the words were closed.
     Memory,
-    /// The system refused a thread. No run answers it: where a thread can't be started, its workers run
+    /// The system refused a thread. No run returns it: where a thread can't be started, its workers run
     /// on the thread that wanted it.
     Spawn,
 }
@@ -102,7 +102,7 @@ where
     requires workers { length sides.old ≡ settings.now.workers }
     requires sides { All (P.is_side pool.now) sides.old }
     ensures labels { IfOk result
-        (λ labels. AreLeastLabels csr.now.n csr.now.arcs seat.view.seeds labels.items) }
+        (λ labels. AreLeastLabels csr.now.n csr.now.arcs seat.known.seeds labels.items) }
     ensures sides { All (P.is_side pool.now) sides.new }
 {
     push_marked(rt, &words, &seat, csr, settings, pool, &mut sides[0]);
@@ -125,7 +125,7 @@ fn push_marked<H: Wait, P: WorkPool>(
     side: &mut P::Side,
 )
     requires words { seat.now.words ≡ words.now }
-    requires graph { csr.now ≡ seat.now.view.graph }
+    requires graph { csr.now ≡ seat.now.known.graph }
     requires side { P.is_side pool.now side.old }
     ensures { P.is_side pool.now side.new }
 {

@@ -3,8 +3,8 @@
 ghost use Rattle.std.specs.Prelude.{◌≡◌, ◌+◌, ◌<◌, true, false};
 ghost use Rattle.relax_core.specs.declared.views.Hand.TheVariants.{Idle, Fresh};
 ghost use Rattle.csr_graph.specs.Graph.{end_place};
-ghost use Rattle.label_words.specs.Callers.{Stays, IsInRow};
-ghost use Rattle.label_words.specs.Views.{place_of};
+ghost use Rattle.label_words.specs.Callers.{Stays, HasRowOpen};
+ghost use Rattle.relax_core.specs.Views.{place_of};
 ghost use Rattle.obim_engine.specs.Workers.{CanLead, AreDone};
 
 use crate::gate::Gate;
@@ -88,11 +88,11 @@ fn sweep<H: Wait, P: WorkPool, G: Gate>(
     side: &mut P::Side,
 )
     requires words { seat.old.words ≡ shared.now.words.now }
-    requires graph { shared.now.csr.now ≡ seat.old.view.graph }
-    requires idle { seat.old.view.core.hand ≡ Idle }
+    requires graph { shared.now.csr.now ≡ seat.old.known.graph }
+    requires idle { seat.old.known.view.hand ≡ Idle }
     requires side { P.is_side shared.now.pool.now side.old }
     ensures stays { Stays seat.old seat.new }
-    ensures idle { seat.new.view.core.hand ≡ Idle }
+    ensures idle { seat.new.known.view.hand ≡ Idle }
     ensures side { P.is_side shared.now.pool.now side.new }
 {
     for v in 0..shared.csr.n() {
@@ -112,12 +112,12 @@ fn visit<H: Wait, P: WorkPool, G: Gate>(
     u: u32,
 )
     requires words { seat.old.words ≡ shared.now.words.now }
-    requires graph { shared.now.csr.now ≡ seat.old.view.graph }
-    requires fresh { seat.old.view.core.hand ≡ Fresh u }
-    requires credit { seat.old.view.core.credits ≡ 1 }
+    requires graph { shared.now.csr.now ≡ seat.old.known.graph }
+    requires fresh { seat.old.known.view.hand ≡ Fresh u }
+    requires credit { seat.old.known.view.credits ≡ 1 }
     requires side { P.is_side shared.now.pool.now side.old }
     ensures stays { Stays seat.old seat.new }
-    ensures idle { seat.new.view.core.hand ≡ Idle }
+    ensures idle { seat.new.known.view.hand ≡ Idle }
     ensures side { P.is_side shared.now.pool.now side.new }
 {
     shared.gate.pass(rt, worker, u);
@@ -136,17 +136,17 @@ fn relax_next<H: Wait, P: WorkPool, G>(
     u: u32,
 ) -> bool
     requires words { seat.old.words ≡ shared.now.words.now }
-    requires graph { shared.now.csr.now ≡ seat.old.view.graph }
-    requires row { IsInRow u seat.old.view.core }
+    requires graph { shared.now.csr.now ≡ seat.old.known.graph }
+    requires row { HasRowOpen u seat.old.known.view }
     requires side { P.is_side shared.now.pool.now side.old }
     ensures stays { Stays seat.old seat.new }
-    ensures row { IsInRow u seat.new.view.core }
+    ensures row { HasRowOpen u seat.new.known.view }
     ensures more { result ≡ true
-        → place_of seat.new.view.core.hand ≡ place_of seat.old.view.core.hand + 1 }
+        → place_of seat.new.known.view.hand ≡ place_of seat.old.known.view.hand + 1 }
     ensures arc { result ≡ true
-        → place_of seat.old.view.core.hand < end_place shared.now.csr.now.arcs u }
+        → place_of seat.old.known.view.hand < end_place shared.now.csr.now.arcs u }
     ensures end { result ≡ false
-        → place_of seat.new.view.core.hand ≡ end_place shared.now.csr.now.arcs u }
+        → place_of seat.new.known.view.hand ≡ end_place shared.now.csr.now.arcs u }
     ensures side { P.is_side shared.now.pool.now side.new }
 {
     match shared.words.relax(seat, shared.csr) {

@@ -1,229 +1,169 @@
 -- The law of cover of a seat that relaxes the next arc of its row.
-use Rattle.std.proofs.Common.{◌≡◌, ◌∙◌, sym, ap, subst, refl, ℕ, ◌+◌, ◌<◌, ◌≤◌, min, Bool}
-use Rattle.std.proofs.Common.{cond, List, ◌⊎◌, inl, inr, Some, set, arith}
-use Rattle.std.specs.Prelude.{Contains, slice_get, nat_lt}
-use Rattle.std.proofs.lemmas.List.Elements.{All-contains}
+use Rattle.std.proofs.Common.{◌≡◌, ◌∙◌, sym, refl, ℕ, ◌+◌, ◌<◌, ◌≤◌, min, List, ◌⊎◌, inl, inr, Some}
+use Rattle.std.proofs.Common.{length, set, arith}
+use Rattle.std.specs.Prelude.{slice_get, nat_lt}
 use Rattle.std.proofs.lemmas.Bool.{cases_eq, cases_lt, lt-ltb, le-ltb}
-use Rattle.std.proofs.lemmas.Option.{get_or_from_slice_get, slice_get_within, same_Some}
+use Rattle.std.proofs.lemmas.List.{get_or_default}
+use Rattle.std.proofs.lemmas.Option.{slice_get-get_or, same_Some}
 use Rattle.route_walks.specs.declared.graph.ArcRec.{ArcRec}
 use Rattle.route_walks.specs.declared.graph.Seed.{Seed}
 use Rattle.route_walks.specs.declared.graph.TheConstants.{INF}
 use Rattle.route_walks.specs.Walk.{IsAttained}
 use Rattle.route_walks.specs.Label.{IsRelaxed, IsSound}
 use Rattle.route_walks.proofs.Facts.{attained-along}
-use Rattle.csr_graph.specs.Graph.{Graph, IsInRows, end_place}
-use Rattle.csr_graph.proofs.Facts.{runs_are_rows}
+use Rattle.csr_graph.specs.Graph.{Graph, IsInRows, first_place, end_place}
+use Rattle.csr_graph.proofs.Facts.{first_place_le, runs_are_rows}
+use Rattle.relax_core.specs.declared.views.Hand.{Hand}
 use Rattle.relax_core.specs.declared.views.Hand.TheVariants.{Open, Owe}
-use Rattle.relax_core.specs.declared.views.View.{View}
-use Rattle.relax_core.specs.Views.{HoldsArc, IsHand, IsInRow}
-use Rattle.relax_core.specs.Lawful.{Covers, IsCovered}
-use Rattle.relax_core.specs.Events.{offer}
-use Rattle.relax_core.specs.Laws.{HasView, AgreeBut}
-use Rattle.relax_core.proofs.Cover.{covers_step, hand_at, held_here}
+use Rattle.relax_core.specs.Views.{HoldsArc, IsHand, IsInRow, HasNextArc, vertex_of, read_of, place_of, next_arc}
+use Rattle.relax_core.specs.Views.{next_offer, no_arc, went_along}
+use Rattle.relax_core.specs.Lawful.{IsCovered}
+use Rattle.relax_core.specs.Laws.{AgreeBut, RelaxingKeepsCover, LoweringAttains}
+use Rattle.relax_core.proofs.Cover.{covers_step, row_falls, hand_at, held_here}
 
--- the arc that an open hand comes to next leaves the hand's vertex
-next_tail : (graph : Graph) (seeds : List Seed) (label : ℕ → ℕ) (u d k : ℕ) (arc : ArcRec)
-    → IsInRows graph → IsInRow graph seeds label u d k → k < end_place graph.arcs u
-    → slice_get graph.arcs k ≡ Some arc
-    → arc.tail ≡ u
-next_tail graph seeds label u d k arc rows row before is = runs_are_rows graph rows u k arc is row.from before
+-- ---- the next arc of a row
 
-arc_in : (graph : Graph) (k : ℕ) (arc : ArcRec) → slice_get graph.arcs k ≡ Some arc → Contains graph.arcs arc
-arc_in graph k arc is = (k, slice_get_within graph.arcs k arc is, get_or_from_slice_get graph.arcs k arc arc is)
+-- the next arc is one of the graph, and stands at its place
+pub next_place : (graph : Graph) (hand : Hand) → HasNextArc graph hand → place_of hand < length graph.arcs
+next_place graph hand before = omega (arith, before, first_place_le graph.arcs (vertex_of hand + 1))
 
-pub head_in : (graph : Graph) (k : ℕ) (arc : ArcRec)
-    → IsInRows graph → slice_get graph.arcs k ≡ Some arc
-    → arc.head < graph.n
-head_in graph k arc rows is =
-    (All-contains (λ (a : ArcRec). (a.tail < graph.n) × (a.head < graph.n)) graph.arcs arc rows.ends
-    (arc_in graph k arc is)).1
+pub next_is : (graph : Graph) (hand : Hand) → HasNextArc graph hand
+    → slice_get graph.arcs (place_of hand) ≡ Some (next_arc graph hand)
+next_is graph hand before = slice_get-get_or graph.arcs (place_of hand) no_arc (next_place graph hand before)
 
--- what an open hand offers is attained, if it is below INF
-offer_attained : (graph : Graph) (seeds : List Seed) (label : ℕ → ℕ) (u d k : ℕ) (arc : ArcRec)
-    → IsInRows graph → IsInRow graph seeds label u d k → k < end_place graph.arcs u → slice_get graph.arcs k ≡ Some arc
-    → offer d arc < INF → IsAttained graph.arcs seeds arc.head (offer d arc)
-offer_attained graph seeds label u d k arc rows row before is below =
-    let tail : arc.tail ≡ u = next_tail graph seeds label u d k arc rows row before is in
-    let sum : d + arc.weight ≡ offer d arc = omega arith in
-    let read : IsAttained graph.arcs seeds arc.tail d =
-    subst (λ (t : ℕ). IsAttained graph.arcs seeds t d) (sym tail) (row.attained (omega arith)) in
-    subst (IsAttained graph.arcs seeds arc.head) sum
-    (attained-along graph.arcs seeds arc d (arc_in graph k arc is) read)
+-- its head is a vertex
+pub head_in : (graph : Graph) (hand : Hand) → IsInRows graph → HasNextArc graph hand
+    → (next_arc graph hand).head < graph.n
+head_in graph hand rows before = (rows.ends (place_of hand) no_arc (next_place graph hand before)).1
 
-pub lowering_attains : (graph : Graph) (seeds : List Seed) (label : ℕ → ℕ) (mark : ℕ → Bool)
-    (views : List View) (s u d k : ℕ) (arc : ArcRec) (v : View)
-    → IsInRows graph → Covers graph seeds label mark views → HasView views s v
-    → v.hand ≡ Open u d k → k < end_place graph.arcs u → slice_get graph.arcs k ≡ Some arc
-    → offer d arc < INF → IsAttained graph.arcs seeds arc.head (offer d arc)
-lowering_attains graph seeds label mark views s u d k arc v rows was has open' before is =
-    offer_attained graph seeds label u d k arc rows
-    (hand_at graph seeds label mark views s v (Open u d k) was has.here open') before is
+-- what going along the next arc of a hand's row does to labels
+record GoesAlong (graph : Graph) (seeds : List Seed) (label label' : ℕ → ℕ) (hand : Hand) : Type 0 where
+  pub rows : IsInRows graph
+  pub row : IsInRow graph seeds label (vertex_of hand) (read_of hand) (place_of hand)
+  pub before : HasNextArc graph hand
+  pub lesser : label' (next_arc graph hand).head ≡ min (label (next_arc graph hand).head) (next_offer graph hand)
+  pub agree : AgreeBut (next_arc graph hand).head label label'
 
--- what one arc does to labels, and to the hand that goes along it
-pub record GoesAlong (graph : Graph) (seeds : List Seed) (label label' : ℕ → ℕ) (u d k : ℕ)
-    (arc : ArcRec) (w : View) : Type 0 where
-  pub row : IsInRow graph seeds label u d k
-  pub before : k < end_place graph.arcs u
-  pub is : slice_get graph.arcs k ≡ Some arc
-  pub lesser : label' arc.head ≡ min (label arc.head) (offer d arc)
-  pub agree : AgreeBut arc.head label label'
-  pub hand : w.hand ≡ cond (nat_lt (offer d arc) (label arc.head)) (Owe u d (k + 1) arc.head) (Open u d (k + 1))
+-- the arc leaves the hand's vertex
+next_tail : {graph : Graph} {seeds : List Seed} {label : ℕ → ℕ} (hand : Hand)
+    → IsInRows graph → IsInRow graph seeds label (vertex_of hand) (read_of hand) (place_of hand)
+    → HasNextArc graph hand → (next_arc graph hand).tail ≡ vertex_of hand
+next_tail {graph} hand rows row before =
+    runs_are_rows graph rows (vertex_of hand) (place_of hand) (next_arc graph hand) (next_is graph hand before) row.from
+    before
 
-along_falls : (graph : Graph) (seeds : List Seed) (label label' : ℕ → ℕ) (u d k : ℕ) (arc : ArcRec) (w : View)
-    → GoesAlong graph seeds label label' u d k arc w → (x : ℕ) → label' x ≤ label x
-along_falls graph seeds label label' u d k arc w goes x =
-    elim (cases_eq x arc.head) [
+-- what it offers is attained, if it is below INF
+offer_attained : {graph : Graph} {seeds : List Seed} {label : ℕ → ℕ} (hand : Hand)
+    → IsInRows graph → IsInRow graph seeds label (vertex_of hand) (read_of hand) (place_of hand)
+    → HasNextArc graph hand → next_offer graph hand < INF
+    → IsAttained graph.arcs seeds (next_arc graph hand).head (next_offer graph hand)
+offer_attained {graph} {seeds} hand rows row before below =
+    let arc = next_arc graph hand in
+    let sum : read_of hand + arc.weight ≡ next_offer graph hand = omega arith in
+    let lt = next_place graph hand before in
+    rw (← sum) (attained-along graph.arcs seeds arc (read_of hand)
+    (place_of hand, lt, get_or_default graph.arcs (place_of hand) arc no_arc lt)
+    (rw (next_tail hand rows row before) (row.attained (omega arith))))
+
+pub lowering_attains : LoweringAttains
+lowering_attains graph seeds label mark views s v rows was has held before =
+    offer_attained v.hand rows (hand_at was has held) before
+
+-- a label is kept, or it is that of the head, and it fell to what is offered
+kept_or_fell : {graph : Graph} {seeds : List Seed} {label label' : ℕ → ℕ} {hand : Hand}
+    → GoesAlong graph seeds label label' hand → (x : ℕ)
+    → (label' x ≡ label x)
+    ⊎ (((next_arc graph hand).head ≡ x) × (label' x ≡ next_offer graph hand)
+    × (next_offer graph hand < label (next_arc graph hand).head))
+kept_or_fell {graph} {label} {hand} goes x =
+    elim (cases_eq x (next_arc graph hand).head) [
+      | inr other ↦ inl (goes.agree x other)
       | inl same ↦
-          let new : label' x ≡ label' arc.head = ap label' same in
-          let old : label x ≡ label arc.head = ap label same in
-          omega (arith, goes.lesser)
-      | inr other ↦ omega (arith, goes.agree x other)
+          elim (cases_lt (next_offer graph hand) (label (next_arc graph hand).head)) [
+            | inl lowered ↦ inr (sym same, rw same (omega (arith, goes.lesser)), lowered)
+            | inr least ↦ inl (rw same (omega (arith, goes.lesser)))
+          ]
     ]
 
-along_sound : (graph : Graph) (seeds : List Seed) (label label' : ℕ → ℕ) (u d k : ℕ) (arc : ArcRec) (w : View)
-    → IsInRows graph → IsSound graph.n graph.arcs seeds label → GoesAlong graph seeds label label' u d k arc w
+-- no label rises
+labels_fall : {graph : Graph} {seeds : List Seed} {label label' : ℕ → ℕ} {hand : Hand}
+    → GoesAlong graph seeds label label' hand → (x : ℕ) → label' x ≤ label x
+labels_fall goes x =
+    elim (kept_or_fell goes x) [
+      | inl kept ↦ omega arith
+      | inr fell ↦ rw (← fell.0) (omega (arith, goes.lesser))
+    ]
+
+-- every label stays sound
+labels_sound : {graph : Graph} {seeds : List Seed} {label label' : ℕ → ℕ} {hand : Hand}
+    → IsSound graph.n graph.arcs seeds label → GoesAlong graph seeds label label' hand
     → IsSound graph.n graph.arcs seeds label'
-along_sound graph seeds label label' u d k arc w rows sound goes x vertex below =
-    elim (cases_eq x arc.head) [
-      | inl same ↦
-          let new : label' x ≡ label' arc.head = ap label' same in
-          let old : label x ≡ label arc.head = ap label same in
-          elim (cases_lt (offer d arc) (label arc.head)) [
-            | inl lowered ↦
-                let is : offer d arc ≡ label' x = omega (arith, goes.lesser) in
-                let attained : IsAttained graph.arcs seeds arc.head (offer d arc) =
-                offer_attained graph seeds label u d k arc rows goes.row goes.before goes.is (omega arith) in
-                subst (IsAttained graph.arcs seeds x) is
-                (subst (λ (y : ℕ). IsAttained graph.arcs seeds y (offer d arc)) (sym same) attained)
-            | inr kept ↦
-                let is : label x ≡ label' x = omega (arith, goes.lesser) in
-                subst (IsAttained graph.arcs seeds x) is (sound x vertex (omega arith))
-          ]
-      | inr other ↦
-          let is : label x ≡ label' x = sym (goes.agree x other) in
-          subst (IsAttained graph.arcs seeds x) is (sound x vertex (omega arith))
+labels_sound {hand} sound goes x vertex below =
+    elim (kept_or_fell goes x) [
+      | inl kept ↦ rw kept (sound x vertex (omega arith))
+      | inr fell ↦ rw (fell.1, ← fell.0) (offer_attained hand goes.rows goes.row goes.before (omega (arith, fell.1)))
     ]
 
 -- the arc itself is relaxed afterwards
-along_relaxed : (graph : Graph) (seeds : List Seed) (label label' : ℕ → ℕ) (u d k : ℕ) (arc : ArcRec) (w : View)
-    → IsInRows graph → GoesAlong graph seeds label label' u d k arc w → d ≡ label u → IsRelaxed label' arc
-along_relaxed graph seeds label label' u d k arc w rows goes fresh =
-    let tail : arc.tail ≡ u = next_tail graph seeds label u d k arc rows goes.row goes.before goes.is in
-    let old : label arc.tail ≡ d = ap label tail ∙ sym fresh in
-    elim (cases_eq arc.tail arc.head) [
-      | inl same ↦
-          let new : label' arc.tail ≡ label' arc.head = ap label' same in
-          omega (arith, goes.lesser)
-      | inr other ↦ omega (arith, goes.lesser, goes.agree arc.tail other)
+arc_relaxed : {graph : Graph} {seeds : List Seed} {label label' : ℕ → ℕ} {hand : Hand}
+    → GoesAlong graph seeds label label' hand → read_of hand ≡ label (vertex_of hand)
+    → IsRelaxed label' (next_arc graph hand)
+arc_relaxed {graph} {label} {label'} {hand} goes fresh =
+    let arc = next_arc graph hand in
+    let old = next_tail hand goes.rows goes.row goes.before in
+    elim (kept_or_fell goes arc.tail) [
+      | inl kept ↦ omega (arith, goes.lesser, rw (← old) at fresh)
+      | inr fell ↦ rw (← fell.0) (omega arith)
     ]
 
--- a label that changed is that of the head, and the seat owes the head a mark
-along_kept : (graph : Graph) (seeds : List Seed) (label label' : ℕ → ℕ) (u d k : ℕ) (arc : ArcRec) (w : View)
-    → GoesAlong graph seeds label label' u d k arc w
-    → (x : ℕ) → (label' x ≡ label x) ⊎ ((arc.head ≡ x) × (w.hand ≡ Owe u d (k + 1) arc.head))
-along_kept graph seeds label label' u d k arc w goes x =
-    elim (cases_eq x arc.head) [
-      | inl same ↦
-          let new : label' x ≡ label' arc.head = ap label' same in
-          let old : label x ≡ label arc.head = ap label same in
-          elim (cases_lt (offer d arc) (label arc.head)) [
-            | inl lowered ↦
-                inr (
-                  sym same,
-                  goes.hand
-                      ∙ ap (λ b. cond b (Owe u d (k + 1) arc.head) (Open u d (k + 1)))
-                      (lt-ltb (offer d arc) (label arc.head) lowered),
-                )
-            | inr kept ↦ inl (omega (arith, goes.lesser))
-          ]
-      | inr other ↦ inl (goes.agree x other)
-    ]
-
--- the rest of the row stays in the seat's hand
-along_held : (graph : Graph) (seeds : List Seed) (label label' : ℕ → ℕ) (u d k : ℕ) (arc : ArcRec) (w : View)
-    → GoesAlong graph seeds label label' u d k arc w
-    → (j : ℕ) (arc' : ArcRec) → u ≡ arc'.tail → d ≡ label' u → k + 1 ≤ j → HoldsArc label' j arc' w.hand
-along_held graph seeds label label' u d k arc w goes j arc' tail fresh later =
-    elim (cases_lt (offer d arc) (label arc.head)) [
-      | inl lowered ↦
-          let owes : w.hand ≡ Owe u d (k + 1) arc.head =
-          goes.hand
-          ∙ ap (λ b. cond b (Owe u d (k + 1) arc.head) (Open u d (k + 1)))
-          (lt-ltb (offer d arc) (label arc.head) lowered) in
-          subst (HoldsArc label' j arc') (sym owes) (inr (tail, fresh, later))
-      | inr kept ↦
-          let opens : w.hand ≡ Open u d (k + 1) =
-          goes.hand
-          ∙ ap (λ b. cond b (Owe u d (k + 1) arc.head) (Open u d (k + 1)))
-          (le-ltb (offer d arc) (label arc.head) kept) in
-          subst (HoldsArc label' j arc') (sym opens) (tail, fresh, later)
-    ]
-
-along_hand : (graph : Graph) (seeds : List Seed) (label label' : ℕ → ℕ) (u d k : ℕ) (arc : ArcRec) (w : View)
-    → IsInRows graph → GoesAlong graph seeds label label' u d k arc w → IsHand graph seeds label' w.hand
-along_hand graph seeds label label' u d k arc w rows goes =
-    let row : IsInRow graph seeds label' u d (k + 1) = record {
-      vertex = goes.row.vertex;
-      read = omega (arith, goes.row.read, along_falls graph seeds label label' u d k arc w goes u);
-      attained = goes.row.attained;
-      from = omega (arith, goes.row.from);
-      upto = omega (arith, goes.before);
-    } in
-    elim (cases_lt (offer d arc) (label arc.head)) [
-      | inl lowered ↦
-          let owes : w.hand ≡ Owe u d (k + 1) arc.head =
-          goes.hand
-          ∙ ap (λ b. cond b (Owe u d (k + 1) arc.head) (Open u d (k + 1)))
-          (lt-ltb (offer d arc) (label arc.head) lowered) in
-          subst (IsHand graph seeds label') (sym owes) (row, head_in graph k arc rows goes.is)
-      | inr kept ↦
-          let opens : w.hand ≡ Open u d (k + 1) =
-          goes.hand
-          ∙ ap (λ b. cond b (Owe u d (k + 1) arc.head) (Open u d (k + 1)))
-          (le-ltb (offer d arc) (label arc.head) kept) in
-          subst (IsHand graph seeds label') (sym opens) row
-    ]
-
-pub relaxing : (graph : Graph) (seeds : List Seed) (label label' : ℕ → ℕ) (mark : ℕ → Bool)
-    (views : List View) (s u d k : ℕ) (arc : ArcRec) (v w : View)
-    → IsInRows graph → Covers graph seeds label mark views → HasView views s v
-    → v.hand ≡ Open u d k → k < end_place graph.arcs u → slice_get graph.arcs k ≡ Some arc
-    → label' arc.head ≡ min (label arc.head) (offer d arc) → AgreeBut arc.head label label'
-    → w.hand ≡ cond (nat_lt (offer d arc) (label arc.head)) (Owe u d (k + 1) arc.head) (Open u d (k + 1))
-    → w.share ≡ v.share
-    → Covers graph seeds label' mark (set views s w)
-relaxing graph seeds label label' mark views s u d k arc v w rows was has open' before is lesser agree hand share =
-    let row : IsInRow graph seeds label u d k =
-    hand_at graph seeds label mark views s v (Open u d k) was has.here open' in
-    let goes : GoesAlong graph seeds label label' u d k arc w =
-    record { row = row; before = before; is = is; lesser = lesser; agree = agree; hand = hand } in
-    let owed : (j : ℕ) (arc' : ArcRec) → arc.head ≡ arc'.tail → w.hand ≡ Owe u d (k + 1) arc.head
+pub relaxing : RelaxingKeepsCover
+relaxing graph seeds label label' mark views s v rows was has held before lesser agree =
+    let arc = next_arc graph v.hand in
+    let x = next_offer graph v.hand in
+    let fell = nat_lt x (label arc.head) in
+    let w = went_along fell arc.head v in
+    let row : IsInRow graph seeds label (vertex_of v.hand) (read_of v.hand) (place_of v.hand) = hand_at was has held in
+    let goes : GoesAlong graph seeds label label' v.hand =
+    record { rows = rows; row = row; before = before; lesser = lesser; agree = agree } in
+    let from : first_place graph.arcs (vertex_of v.hand) ≤ place_of v.hand + 1 = omega (arith, row.from) in
+    let upto : place_of v.hand + 1 ≤ end_place graph.arcs (vertex_of v.hand) = omega arith in
+    let later : IsInRow graph seeds label' (vertex_of v.hand) (read_of v.hand) (place_of v.hand + 1) =
+    assumption (row_falls (labels_fall goes) row) in
+    -- what holds of the hand that owes and of the open one holds of the new hand
+    let either : (P : Hand → Type 0)
+    → (x < label arc.head → P (Owe (vertex_of v.hand) (read_of v.hand) (place_of v.hand + 1) arc.head))
+    → P (Open (vertex_of v.hand) (read_of v.hand) (place_of v.hand + 1)) → P w.hand = λ P owe open'.
+    elim (cases_lt x (label arc.head)) [
+      | inl lowered ↦ rw (lt-ltb x (label arc.head) lowered) (owe lowered)
+      | inr least ↦ rw (le-ltb x (label arc.head) least) open'
+    ] in
+    let owed : (j : ℕ) (arc' : ArcRec) → arc.head ≡ arc'.tail → x < label arc.head
     → IsCovered label' mark (set views s w) j arc' =
-    λ j arc' tail owes. held_here label' mark views s v w j arc' (Owe u d (k + 1) arc.head) has.here owes (inl tail) in
-    covers_step graph seeds label label' mark mark views s v w was has share (record {
-      falls = along_falls graph seeds label label' u d k arc w goes;
-      sound = along_sound graph seeds label label' u d k arc w rows was.sound goes;
-      hand = along_hand graph seeds label label' u d k arc w rows goes;
+    λ j arc' tail lowered. held_here label' mark w j arc' has (rw (lt-ltb x (label arc.head) lowered) (inl tail)) in
+    covers_step {w = w} was has refl (record {
+      falls = labels_fall goes;
+      sound = labels_sound was.sound goes;
+      hand = either (IsHand graph seeds label') (λ _. (later, head_in graph v.hand rows before)) later;
       own = λ j arc' at holds.
-          let held : HoldsArc label j arc' (Open u d k) = subst (HoldsArc label j arc') open' holds in
-          elim (cases_eq j k) [
+          let own = rw held at holds in
+          elim (cases_eq j (place_of v.hand)) [
             | inl same ↦
-                let one : arc' ≡ arc = same_Some arc' arc (sym at ∙ ap (slice_get graph.arcs) same ∙ is) in
-                inl (subst (IsRelaxed label') (sym one)
-                (along_relaxed graph seeds label label' u d k arc w rows goes held.1))
+                let one = same_Some arc' arc (sym (rw same at at) ∙ next_is graph v.hand before) in
+                inl (rw one (arc_relaxed goes own.1))
             | inr other ↦
-                elim (along_kept graph seeds label label' u d k arc w goes u) [
+                elim (kept_or_fell goes (vertex_of v.hand)) [
                   | inl kept ↦
-                      held_here label' mark views s v w j arc' w.hand has.here refl
-                      (along_held graph seeds label label' u d k arc w goes j arc' held.0
-                      (held.1 ∙ sym kept) (omega (arith, held.2)))
-                  | inr lowered ↦ owed j arc' (lowered.0 ∙ held.0) lowered.1
+                      let rest : HoldsArc label' j arc'
+                      (Open (vertex_of v.hand) (read_of v.hand) (place_of v.hand + 1)) =
+                      (own.0, own.1 ∙ sym kept, omega (arith, own.2)) in
+                      held_here label' mark w j arc' has (either (HoldsArc label' j arc') (λ _. inr rest) rest)
+                  | inr fell' ↦ owed j arc' (fell'.0 ∙ own.0) fell'.2
                 ]
           ];
       others = λ j arc'.
-          elim (along_kept graph seeds label label' u d k arc w goes arc'.tail) [
+          elim (kept_or_fell goes arc'.tail) [
             | inl kept ↦ inl kept
-            | inr lowered ↦ inr (owed j arc' lowered.0 lowered.1)
+            | inr fell' ↦ inr (owed j arc' fell'.0 fell'.2)
           ];
-      marked = λ j arc' is_marked. inr (inl is_marked);
+      set_before = λ j arc' marked. inr (inl marked);
     })

@@ -7,3 +7,5 @@ pub mod Running
 pub mod Opening
 pub mod Enabled
 pub mod Replaying
+pub mod Stopping
+pub mod Facts

@@ -4,9 +4,9 @@ use Rattle.std.specs.Prelude.{length, slice_index, slice_index_or, All, Any}
 use Rattle.route_walks.specs.declared.graph.Seed.{Seed}
 use Rattle.route_walks.specs.declared.graph.TheConstants.{INF}
 use Rattle.csr_graph.specs.Graph.{Graph, IsInRows}
-use Rattle.relax_core.specs.declared.views.Hand.TheVariants.{Idle}
 use Rattle.relax_core.specs.declared.views.View.{View}
 use Rattle.relax_core.specs.declared.views.TheConstants.{SHARES}
+use Rattle.relax_core.specs.Views.{idle_view}
 use Rattle.relax_core.specs.Lawful.{Covers, Account, marks_below}
 
 -- labels and marks by vertex, the pending total, and the views by seat
@@ -33,10 +33,6 @@ pub record IsLawful (graph : Graph) (seeds : List Seed) (state : State) : Type 0
 abbrev pub IsOf : Graph → State → Type 0
 IsOf graph state = (seeds : List Seed) × IsLawful graph seeds state
 
--- the view of the one seat of an opening core
-abbrev pub first_view : View
-first_view = record { hand = Idle; credits = 0; saw = false; share = SHARES }
-
 -- labels and marks from which a run begins: each seeded vertex has its least start and is marked, each
 -- other has INF and no mark
 pub record IsStarted (labels : List ℕ) (marks : List Bool) (seeds : List Seed) : Type 0 where
@@ -48,10 +44,10 @@ pub record IsStarted (labels : List ℕ) (marks : List Bool) (seeds : List Seed)
   pub capped : (u : ℕ) → u < length labels → slice_index labels u ≤ INF
 
 -- the opening of a graph and seeds: the labels and marks that a run begins with, the number of marks as
--- total, and one idle view
+-- total, and one idle view with all shares
 pub record IsOpening (graph : Graph) (seeds : List Seed) (state : State) : Type 0 where
   pub labels : length state.labels ≡ graph.n
   pub marks : length state.marks ≡ graph.n
   pub started : IsStarted state.labels state.marks seeds
   pub total : state.total ≡ marks_below (mark_of state.marks) graph.n
-  pub views : state.views ≡ first_view ∷ []
+  pub views : state.views ≡ idle_view SHARES ∷ []

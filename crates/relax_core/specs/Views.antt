@@ -1,12 +1,165 @@
--- What a view holds, and what a lawful view may hold.
-use Rattle.std.specs.Prelude.{◌≡◌, ℕ, ◌<◌, ◌≤◌, ◌⊎◌, List}
+-- What a view holds, what each event makes of it, and what a lawful view may hold.
+use Rattle.std.specs.Prelude.{◌≡◌, ◌≢◌, ℕ, ◌+◌, ◌-◌, ◌/◌, ◌<◌, ◌≤◌, ◌⊎◌, min, Bool, true, false}
+use Rattle.std.specs.Prelude.{◌||◌, if◌then◌else◌, List, Some, slice_get, slice_index_or}
 use Rattle.route_walks.specs.declared.graph.ArcRec.{ArcRec}
 use Rattle.route_walks.specs.declared.graph.Seed.{Seed}
 use Rattle.route_walks.specs.declared.graph.TheConstants.{INF}
 use Rattle.route_walks.specs.Walk.{IsAttained}
+use Rattle.route_walks.specs.Label.{offer}
 use Rattle.csr_graph.specs.Graph.{Graph, first_place, end_place}
 use Rattle.relax_core.specs.declared.views.Hand.{Hand}
 use Rattle.relax_core.specs.declared.views.Hand.TheVariants.{Idle, Fresh, Open, Owe}
+use Rattle.relax_core.specs.declared.views.View.{View}
+use Rattle.relax_core.specs.declared.views.TheConstants.{SHARES}
+
+-- ---- hands
+
+-- the vertex that a hand is about
+abbrev pub vertex_of : Hand → ℕ
+vertex_of Idle = 0
+vertex_of (Fresh u) = u
+vertex_of (Open u d k) = u
+vertex_of (Owe u d k head) = u
+
+-- the label that a hand relaxes with
+abbrev pub read_of : Hand → ℕ
+read_of Idle = 0
+read_of (Fresh u) = 0
+read_of (Open u d k) = d
+read_of (Owe u d k head) = d
+
+-- the place of the arc that a hand relaxes next
+abbrev pub place_of : Hand → ℕ
+place_of Idle = 0
+place_of (Fresh u) = 0
+place_of (Open u d k) = k
+place_of (Owe u d k head) = k
+
+-- the vertex that a hand owes a mark
+abbrev pub owed_of : Hand → ℕ
+owed_of Idle = 0
+owed_of (Fresh u) = 0
+owed_of (Open u d k) = 0
+owed_of (Owe u d k head) = head
+
+-- the hand is fresh, open, or owes a mark
+abbrev pub IsFresh : Hand → Type 0
+IsFresh hand = hand ≡ Fresh (vertex_of hand)
+
+abbrev pub IsOpen : Hand → Type 0
+IsOpen hand = hand ≡ Open (vertex_of hand) (read_of hand) (place_of hand)
+
+abbrev pub Owes : Hand → Type 0
+Owes hand = hand ≡ Owe (vertex_of hand) (read_of hand) (place_of hand) (owed_of hand)
+
+-- the same as tests
+abbrev pub is_idle : Hand → Bool
+is_idle Idle = true
+is_idle (Fresh u) = false
+is_idle (Open u d k) = false
+is_idle (Owe u d k head) = false
+
+abbrev pub is_fresh : Hand → Bool
+is_fresh Idle = false
+is_fresh (Fresh u) = true
+is_fresh (Open u d k) = false
+is_fresh (Owe u d k head) = false
+
+abbrev pub is_open : Hand → Bool
+is_open Idle = false
+is_open (Fresh u) = false
+is_open (Open u d k) = true
+is_open (Owe u d k head) = false
+
+abbrev pub owes : Hand → Bool
+owes Idle = false
+owes (Fresh u) = false
+owes (Open u d k) = false
+owes (Owe u d k head) = true
+
+-- ---- the row of a hand
+
+abbrev pub no_arc : ArcRec
+no_arc = record { tail = 0; head = 0; weight = 0 }
+
+-- the arc that a hand relaxes next, and what it offers its head
+abbrev pub next_arc : Graph → Hand → ArcRec
+next_arc graph hand = slice_index_or graph.arcs (place_of hand) no_arc
+
+abbrev pub next_offer : Graph → Hand → ℕ
+next_offer graph hand = offer (read_of hand) (next_arc graph hand).weight
+
+-- the row has another arc, or the hand is at its end
+abbrev pub HasNextArc : Graph → Hand → Type 0
+HasNextArc graph hand = place_of hand < end_place graph.arcs (vertex_of hand)
+
+abbrev pub IsAtRowEnd : Graph → Hand → Type 0
+IsAtRowEnd graph hand = place_of hand ≡ end_place graph.arcs (vertex_of hand)
+
+-- ---- what each event makes of the view of its seat
+
+-- an idle view, which saw nothing; one without a share is spent
+abbrev pub idle_view : ℕ → View
+idle_view share = record { hand = Idle; credits = 0; saw = false; share = share }
+
+-- Take: a vertex that was marked is held, with one credit
+abbrev pub taken : Bool → ℕ → View → View
+taken was u v = record v {
+  hand = if was then Fresh u else v.hand;
+  credits = if was then 1 else v.credits;
+}
+
+-- Read: the row is open with the label that was read
+abbrev pub opened : ℕ → ℕ → View → View
+opened d k v = record v { hand = Open (vertex_of v.hand) d k }
+
+-- Relax: the next arc is done; where its head's label fell, the head is owed a mark
+abbrev pub went_along : Bool → ℕ → View → View
+went_along fell head v = record v {
+  hand =
+      if fell
+      then Owe (vertex_of v.hand) (read_of v.hand) (place_of v.hand + 1) head
+      else Open (vertex_of v.hand) (read_of v.hand) (place_of v.hand + 1);
+}
+
+-- Raise: a second credit, for the mark that is owed
+abbrev pub raised : View → View
+raised v = record v { credits = 2 }
+
+-- SetMark: nothing is owed; one of two credits went to the mark, unless it was set before
+abbrev pub marked : Bool → View → View
+marked was v = record v {
+  hand = Open (vertex_of v.hand) (read_of v.hand) (place_of v.hand);
+  credits = if was then 2 else 1;
+}
+
+-- Finish: nothing is held
+abbrev pub finished : View → View
+finished v = record v { hand = Idle; credits = 0 }
+
+-- See: the seat saw, if the total is 0
+abbrev pub looked : Bool → View → View
+looked zero v = record v { saw = v.saw || zero }
+
+-- Split: the seat keeps the larger half of its share, and a new one has the other
+abbrev pub kept_half : View → View
+kept_half v = record v { share = v.share - v.share / 2 }
+
+abbrev pub new_half : View → View
+new_half v = idle_view (v.share / 2)
+
+-- Join: both shares, which are never more than all, and what either saw
+abbrev pub joined : View → View → View
+joined v w = record v { saw = v.saw || w.saw; share = min (v.share + w.share) SHARES }
+
+-- ---- views by seat
+
+-- the view of seat s is v, and it isn't spent
+pub record HasView (views : List View) (s : ℕ) (v : View) : Type 0 where
+  pub here : slice_get views s ≡ Some v
+  pub live : v.share ≢ 0
+
+-- ---- lawful views
 
 -- the hand holds the arc at place k: the arc's tail is still to be read, or the arc is still to be
 -- relaxed with the present label of its tail, or the tail is still to be marked

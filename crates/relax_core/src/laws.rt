@@ -13,14 +13,17 @@ ghost use Rattle.relax_core.specs.Laws.{
   MarkingKeepsCover,
   QuietIsSettled,
   RaisingKeepsAccount,
+  ReadingKeepsAccount,
   ReadingKeepsCover,
+  RelaxingKeepsAccount,
   RelaxingKeepsCover,
+  RunsDontStop,
   RunsKeepLawful,
   SeeingKeepsAccount,
   SplittingKeepsAccount,
   SplittingKeepsCover,
-  StayingKeepsAccount,
   StayingKeepsCover,
+  StopsOnce,
   TakingKeepsAccount,
   TakingKeepsCover,
   TotalIsBounded,
@@ -36,13 +39,13 @@ pub fn taking()
 /// A seat that reads the label of the vertex that it holds has the whole row to relax with it.
 pub fn reading()
     ensures cover { ReadingKeepsCover }
-    ensures account { StayingKeepsAccount }
+    ensures account { ReadingKeepsAccount }
 {}
 
 /// A seat that relaxes an arc owes the head a mark where its label fell.
 pub fn relaxing()
     ensures cover { RelaxingKeepsCover }
-    ensures account { StayingKeepsAccount }
+    ensures account { RelaxingKeepsAccount }
     ensures attained { LoweringAttains }
 {}
 
@@ -98,4 +101,11 @@ pub fn closing()
 pub fn running()
     ensures event { EventsKeepLawful }
     ensures run { RunsKeepLawful }
+{}
+
+/// A list of events is a run from the opening or stops, never both, and at one place alone. So what
+/// `replay` returns is told by the list.
+pub fn stopping()
+    ensures run { RunsDontStop }
+    ensures once { StopsOnce }
 {}

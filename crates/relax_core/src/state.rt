@@ -1,9 +1,12 @@
-ghost use Rattle.std.specs.Prelude.{◌≡◌, ◌<◌, ◌≤◌, ◌^◌, ℕ, false, length, count_by};
+//! The whole state of a run, and how it opens.
+
+ghost use Rattle.std.specs.Prelude.{◌≡◌, ◌<◌, ◌≤◌, ℕ, false, length, count_by};
 ghost use Rattle.std.specs.Prelude.{slice_index, slice_set, min, IfOk, All};
 ghost use Rattle.route_walks.specs.Walk.{AreSeeds};
+ghost use Rattle.route_walks.specs.declared.graph.TheConstants.{MAX_VERTICES};
 ghost use Rattle.relax_core.specs.State.{IsLawful, IsOpening, IsOf, IsStarted, mark_of};
 
-use crate::views::{Hand, SHARES, View};
+use crate::views::{SHARES, View};
 use csr_graph::Csr;
 use route_walks::{INF, Memory, Seed};
 use std::alloc::Global;
@@ -75,13 +78,7 @@ pub fn open_core(alloc: Global, csr: &Csr, seeds: &[Seed]) -> Result<Core, Memor
     let n = csr.n() as usize;
     let mut labels = vec![in alloc; INF; n]?;
     let mut marks = vec![in alloc; false; n]?;
-    let first = View {
-        hand: Hand::Idle,
-        credits: 0,
-        saw: false,
-        share: SHARES,
-    };
-    let views = vec![in alloc; first]?;
+    let views = vec![in alloc; View::idle(SHARES)]?;
     start(&mut labels, &mut marks, seeds);
     let total = count_marks(&marks);
     Ok(Core {
@@ -109,7 +106,7 @@ fn start(labels: &mut [u64], marks: &mut [bool], seeds: &[Seed])
 
 /// How many vertices are marked.
 fn count_marks(marks: &[bool]) -> u64
-    requires { length marks.now ≤ 2 ^ 28 }
+    requires { length marks.now ≤ MAX_VERTICES }
     ensures { result ≡ count_by (λ mark. mark) marks.now }
 {
     marks.iter().filter(|mark| **mark).count() as u64

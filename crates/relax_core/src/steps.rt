@@ -1,6 +1,7 @@
 //! What each event does to a core.
 
-ghost use Rattle.std.specs.Prelude.{◌≡◌, ◌↔◌, ◌+◌, min, None, Some, List, IfOk, IsSome, OnErr, OnOk};
+ghost use Rattle.std.specs.Prelude.{◌≡◌, ◌↔◌, ◌<◌, None, Some, List, length};
+ghost use Rattle.std.specs.Prelude.{IfOk, IfSome, IsSome, OnErr, OnOk};
 ghost use Rattle.route_walks.specs.declared.graph.Seed.{Seed};
 ghost use Rattle.relax_core.specs.Events.{IsDone, IsSplit, after, live_view};
 ghost use Rattle.relax_core.specs.State.{IsLawful, IsOf};
@@ -9,7 +10,7 @@ use crate::events::Event;
 use crate::state::Core;
 use crate::views::{Hand, View};
 use csr_graph::{Csr, Target};
-use route_walks::{INF, Memory};
+use route_walks::{Memory, offer};
 use std::alloc::Global;
 use std::error::Error;
 use std::fmt;
@@ -37,7 +38,8 @@ impl Error for CoreFault {}
 impl Core {
     // The view of a seat that isn't spent.
     fn live(&self, seat: usize) -> Option<View>
-        ensures { result ≡ live_view self.now.views seat }
+        ensures view { result ≡ live_view self.now.views seat }
+        ensures place { IfSome result (λ view. seat < length self.now.views) }
     {
         match self.views.get(seat) {
             Some(view) if view.share != 0 => Some(*view),
@@ -49,7 +51,7 @@ impl Core {
         requires { IsOf csr.now self.old }
         ensures { IsDone csr.now self.old (Event.Take seat u) result self.new }
     {
-        let Some(view) = self.live(seat) else {
+        let Some(mut view) = self.live(seat) else {
             return false;
         };
         let Hand::Idle = view.hand else {
@@ -58,17 +60,10 @@ impl Core {
         if u >= csr.n() {
             return false;
         }
-        let marked = self.marks[u as usize];
+        let was = self.marks[u as usize];
         self.marks[u as usize] = false;
-        self.views[seat] = if marked {
-            View {
-                hand: Hand::Fresh { u },
-                credits: 1,
-                ..view
-            }
-        } else {
-            view
-        };
+        view.take(was, u);
+        self.views[seat] = view;
         true
     }
 
@@ -76,21 +71,14 @@ impl Core {
         requires { IsOf csr.now self.old }
         ensures { IsDone csr.now self.old (Event.Read seat) result self.new }
     {
-        let Some(view) = self.live(seat) else {
+        let Some(mut view) = self.live(seat) else {
             return false;
         };
         let Hand::Fresh { u } = view.hand else {
             return false;
         };
-        let d = self.labels[u as usize];
-        self.views[seat] = View {
-            hand: Hand::Open {
-                u,
-                d,
-                k: csr.first(u),
-            },
-            ..view
-        };
+        view.read(self.label(u), csr.first(u));
+        self.views[seat] = view;
         true
     }
 
@@ -98,7 +86,7 @@ impl Core {
         requires { IsOf csr.now self.old }
         ensures { IsDone csr.now self.old (Event.Relax seat) result self.new }
     {
-        let Some(view) = self.live(seat) else {
+        let Some(mut view) = self.live(seat) else {
             return false;
         };
         let Hand::Open { u, d, k } = view.hand else {
@@ -108,19 +96,11 @@ impl Core {
             return false;
         }
         let Target { head, weight } = csr.target(k);
-        let x = offered(d, weight);
-        let hand = if x < self.labels[head as usize] {
-            self.labels[head as usize] = x;
-            Hand::Owe {
-                u,
-                d,
-                k: k + 1,
-                head,
-            }
-        } else {
-            Hand::Open { u, d, k: k + 1 }
-        };
-        self.views[seat] = View { hand, ..view };
+        let label = offer(d, weight);
+        let found = self.label(head);
+        self.labels[head as usize] = found.min(label);
+        view.relax(label < found, u, d, k, head);
+        self.views[seat] = view;
         true
     }
 
@@ -128,7 +108,7 @@ impl Core {
         requires { IsOf csr.now self.old }
         ensures { IsDone csr.now self.old (Event.Raise seat) result self.new }
     {
-        let Some(view) = self.live(seat) else {
+        let Some(mut view) = self.live(seat) else {
             return false;
         };
         let Hand::Owe { .. } = view.hand else {
@@ -138,7 +118,8 @@ impl Core {
             return false;
         }
         self.total += 1;
-        self.views[seat] = View { credits: 2, ..view };
+        view.raise();
+        self.views[seat] = view;
         true
     }
 
@@ -146,7 +127,7 @@ impl Core {
         requires { IsOf csr.now self.old }
         ensures { IsDone csr.now self.old (Event.SetMark seat) result self.new }
     {
-        let Some(view) = self.live(seat) else {
+        let Some(mut view) = self.live(seat) else {
             return false;
         };
         let Hand::Owe { u, d, k, head } = view.hand else {
@@ -155,14 +136,10 @@ impl Core {
         if view.credits != 2 {
             return false;
         }
-        let marked = self.marks[head as usize];
+        let was = self.marks[head as usize];
         self.marks[head as usize] = true;
-        let credits = if marked { 2 } else { 1 };
-        self.views[seat] = View {
-            hand: Hand::Open { u, d, k },
-            credits,
-            ..view
-        };
+        view.set_mark(was, u, d, k);
+        self.views[seat] = view;
         true
     }
 
@@ -170,7 +147,7 @@ impl Core {
         requires { IsOf csr.now self.old }
         ensures { IsDone csr.now self.old (Event.Finish seat) result self.new }
     {
-        let Some(view) = self.live(seat) else {
+        let Some(mut view) = self.live(seat) else {
             return false;
         };
         let Hand::Open { u, k, .. } = view.hand else {
@@ -180,11 +157,8 @@ impl Core {
             return false;
         }
         self.total -= u64::from(view.credits);
-        self.views[seat] = View {
-            hand: Hand::Idle,
-            credits: 0,
-            ..view
-        };
+        view.finish();
+        self.views[seat] = view;
         true
     }
 
@@ -192,16 +166,14 @@ impl Core {
         requires { IsOf csr.now self.old }
         ensures { IsDone csr.now self.old (Event.See seat) result self.new }
     {
-        let Some(view) = self.live(seat) else {
+        let Some(mut view) = self.live(seat) else {
             return false;
         };
         let Hand::Idle = view.hand else {
             return false;
         };
-        self.views[seat] = View {
-            saw: view.saw || self.total == 0,
-            ..view
-        };
+        view.see(self.total == 0);
+        self.views[seat] = view;
         true
     }
 
@@ -211,7 +183,7 @@ impl Core {
         ensures refused { OnErr result (IsSome (after csr.now self.old (Event.Split seat))
             × (self.new ≡ self.old)) }
     {
-        let Some(view) = self.live(seat) else {
+        let Some(mut view) = self.live(seat) else {
             return Ok(false);
         };
         let Hand::Idle = view.hand else {
@@ -220,17 +192,9 @@ impl Core {
         if view.share < 2 {
             return Ok(false);
         }
-        let half = view.share / 2;
-        self.views.push(View {
-            hand: Hand::Idle,
-            credits: 0,
-            saw: false,
-            share: half,
-        })?;
-        self.views[seat] = View {
-            share: view.share - half,
-            ..view
-        };
+        let new = view.split();
+        self.views.push(new)?;
+        self.views[seat] = view;
         Ok(true)
     }
 
@@ -241,7 +205,7 @@ impl Core {
         if seat == other {
             return false;
         }
-        let Some(view) = self.live(seat) else {
+        let Some(mut view) = self.live(seat) else {
             return false;
         };
         let Some(gone) = self.live(other) else {
@@ -250,21 +214,13 @@ impl Core {
         let (Hand::Idle, Hand::Idle) = (view.hand, gone.hand) else {
             return false;
         };
-        self.views[seat] = View {
-            saw: view.saw || gone.saw,
-            share: view.share + gone.share,
-            ..view
-        };
-        self.views[other] = View {
-            hand: Hand::Idle,
-            credits: 0,
-            saw: false,
-            share: 0,
-        };
+        view.join(gone);
+        self.views[seat] = view;
+        self.views[other] = View::idle(0);
         true
     }
 
-    // Does an event, and answers whether it was enabled; an enabled `Split` may find no memory.
+    // Does an event, and returns whether it was enabled; an enabled `Split` may find no memory.
     fn step(&mut self, csr: &Csr, event: Event) -> Result<bool, Memory>
         requires { IsOf csr.now self.old }
         ensures step { IfOk result (λ done. IsDone csr.now self.old event done self.new) }
@@ -284,13 +240,6 @@ impl Core {
             Event::Join(seat, other) => Ok(self.join(csr, seat, other)),
         }
     }
-}
-
-/// The label that an arc offers its head, from a tail of label `d`: their sum, or `INF` past it.
-fn offered(d: u64, weight: u32) -> u64
-    ensures { result ≡ min (d + weight) INF }
-{
-    d.saturating_add(u64::from(weight))
 }
 
 /// Does an event exactly where it is enabled; elsewhere, and where a `Split` finds no memory, the core

@@ -5,5 +5,5 @@ abbrev pub invariant-loop-i : goal.invariant-loop-i
 invariant-loop-i g l =
     (l.left.words ≡ l.words)
     × (l.right.words ≡ l.words)
-    × (l.csr ≡ l.left.view.graph)
-    × (l.csr ≡ l.right.view.graph)
+    × (l.csr ≡ l.left.known.graph)
+    × (l.csr ≡ l.right.known.graph)

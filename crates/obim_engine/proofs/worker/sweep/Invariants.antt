@@ -6,5 +6,5 @@ use Rattle.obim_engine.proofs.worker.sweep.Given as goal
 abbrev pub invariant-loop-v : goal.invariant-loop-v
 invariant-loop-v g l =
     Stays l.fn.seat l.seat
-    × (l.seat.view.core.hand ≡ Idle)
+    × (l.seat.known.view.hand ≡ Idle)
     × g.P.WorkPool.is_side l.shared.pool.now l.side

@@ -1,14 +1,14 @@
 use Rattle.std.proofs.Common.{◌-◌}
 use Rattle.csr_graph.specs.Graph.{end_place}
-use Rattle.label_words.specs.Callers.{Stays, IsInRow}
-use Rattle.label_words.specs.Views.{place_of}
+use Rattle.label_words.specs.Callers.{Stays, HasRowOpen}
+use Rattle.relax_core.specs.Views.{place_of}
 use Rattle.obim_engine.proofs.worker.visit.Given as goal
 
 abbrev pub invariant-loop : goal.invariant-loop
 invariant-loop g l =
     Stays l.fn.seat l.seat
-    × IsInRow l.u l.seat.view.core
+    × HasRowOpen l.u l.seat.known.view
     × g.P.WorkPool.is_side l.shared.pool.now l.side
 
 abbrev pub decreases-loop : goal.decreases-loop
-decreases-loop g l = end_place l.shared.csr.now.arcs l.u - place_of l.seat.view.core.hand
+decreases-loop g l = end_place l.shared.csr.now.arcs l.u - place_of l.seat.known.view.hand

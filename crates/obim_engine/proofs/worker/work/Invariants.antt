@@ -6,6 +6,6 @@ use Rattle.obim_engine.proofs.worker.work.Given as goal
 abbrev pub invariant-loop : goal.invariant-loop
 invariant-loop g l =
     Stays l.fn.seat l.seat
-    × (l.seat.view.core.hand ≡ Idle)
+    × (l.seat.known.view.hand ≡ Idle)
     × (0 < l.left)
     × g.P.WorkPool.is_side l.shared.pool.now l.side

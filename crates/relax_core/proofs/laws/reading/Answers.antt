@@ -2,8 +2,5 @@ use Rattle.relax_core.proofs.Cover as cover
 use Rattle.relax_core.proofs.Accounts as account
 use Rattle.relax_core.proofs.laws.reading.Goals as goal
 
-pub returns-clause-cover : goal.returns-clause-cover
-returns-clause-cover c = cover.reading
-
-pub returns-clause-account : goal.returns-clause-account
-returns-clause-account c = account.staying
+pub returns : goal.returns
+returns c = record { cover = cover.reading; account = account.reading }

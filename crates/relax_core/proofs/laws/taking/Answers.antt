@@ -2,8 +2,5 @@ use Rattle.relax_core.proofs.Cover as cover
 use Rattle.relax_core.proofs.Accounts as account
 use Rattle.relax_core.proofs.laws.taking.Goals as goal
 
-pub returns-clause-cover : goal.returns-clause-cover
-returns-clause-cover c = cover.taking
-
-pub returns-clause-account : goal.returns-clause-account
-returns-clause-account c = account.taking
+pub returns : goal.returns
+returns c = record { cover = cover.taking; account = account.taking }

@@ -9,8 +9,5 @@ returns-in-Ok-true-clause-lawful c seeds lawful =
     (MatchBool-at_true _ _ c.in-Ok-true.field-0-test c.in-Ok-true.ensures.step)
 
 pub returns-in-Ok-true-clause-belongs : goal.returns-in-Ok-true-clause-belongs
-returns-in-Ok-true-clause-belongs c = (
-  c.requires.0,
-  event_keeps_lawful c.args.csr.now c.requires.0 c.args.core.now c.step.new.self c.args.event c.requires.1
-      (MatchBool-at_true _ _ c.in-Ok-true.field-0-test c.in-Ok-true.ensures.step),
-)
+returns-in-Ok-true-clause-belongs c =
+    (c.requires.0, returns-in-Ok-true-clause-lawful c c.requires.0 c.requires.1)

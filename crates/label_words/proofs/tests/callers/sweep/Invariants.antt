@@ -4,4 +4,4 @@ use Rattle.label_words.specs.Callers.{Stays}
 use Rattle.label_words.proofs.tests.callers.sweep.Given as goal
 
 abbrev pub invariant-loop-u : goal.invariant-loop-u
-invariant-loop-u l = Stays l.fn.seat l.seat × (l.seat.view.core.hand ≡ Idle)
+invariant-loop-u l = Stays l.fn.seat l.seat × (l.seat.known.view.hand ≡ Idle)

@@ -4,4 +4,4 @@ use Rattle.label_words.specs.Callers.{Stays}
 use Rattle.label_words.proofs.tests.callers.sweep_thrice.Given as goal
 
 abbrev pub invariant-loop : goal.invariant-loop
-invariant-loop l = Stays l.fn.seat l.seat × (l.seat.view.core.hand ≡ Idle)
+invariant-loop l = Stays l.fn.seat l.seat × (l.seat.known.view.hand ≡ Idle)

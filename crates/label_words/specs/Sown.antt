@@ -1,0 +1,20 @@
+-- What the words hold while seeds are sown into them. Not part of what a caller is promised.
+use Rattle.std.specs.Prelude.{◌≡◌, ℕ, ◌≤◌, List, [], ◌∷◌, length}
+use Rattle.route_walks.specs.declared.graph.Seed.{Seed}
+use Rattle.route_walks.specs.declared.graph.TheConstants.{MAX_VERTICES}
+use Rattle.relax_core.specs.declared.views.TheConstants.{SHARES}
+use Rattle.relax_core.specs.Lawful.{marks_below}
+use Rattle.relax_core.specs.State.{State, IsStarted, mark_of}
+use Rattle.relax_core.specs.Views.{idle_view}
+use Rattle.label_words.specs.Rule.{IsLaid}
+
+-- the words hold the opening of n vertices and these seeds
+pub record IsSown (n : ℕ) (seeds : List Seed) (words : List ℕ) : Type 0 where
+  pub state : State
+  pub laid : IsLaid state n words
+  pub vertices : n ≤ MAX_VERTICES
+  pub labels : length state.labels ≡ n
+  pub marks : length state.marks ≡ n
+  pub started : IsStarted state.labels state.marks seeds
+  pub total : state.total ≡ marks_below (mark_of state.marks) n
+  pub views : state.views ≡ idle_view SHARES ∷ []

@@ -1,0 +1,45 @@
+//! What the words leave when a run ends.
+
+ghost use Rattle.std.specs.Prelude.{◌+◌, ◌*◌, ◌≤◌, length};
+ghost use Rattle.std.specs.Slots.{slots_items, slots_len, IsFull};
+ghost use Rattle.route_walks.specs.declared.graph.TheConstants.{MAX_VERTICES};
+ghost use Rattle.label_words.specs.Layout.{word_count};
+ghost use Rattle.label_words.specs.Closed.{AreLabelsOf, AreMarksOf};
+
+use crate::layout::{label_word, mark_word};
+use crate::pause::Paused;
+use atomic_table::Closed as LastWords;
+use std::alloc::Global;
+
+/// What the words leave.
+#[derive(Drop)]
+pub enum Closed {
+    /// The seat saw the total at 0: the least label of each vertex.
+    Settled(Vec<u64>),
+    /// It didn't: labels, and the vertices whose arcs are to be relaxed again.
+    Paused(Paused),
+}
+
+/// Reads the labels of the first vertices, as many as there is room for.
+pub(crate) fn read_labels(last: &LastWords<(), Global>, labels: &mut [u64])
+    requires full { IsFull last.now.words }
+    requires vertices { length labels.old ≤ MAX_VERTICES }
+    requires within { word_count (length labels.old) ≤ slots_len last.now.words }
+    ensures { AreLabelsOf (slots_items last.now.words) labels.new }
+{
+    for v in 0..labels.len() {
+        labels[v] = last.word(label_word(v as u32));
+    }
+}
+
+/// Reads the marks of the first vertices, as many as there is room for.
+pub(crate) fn read_marks(last: &LastWords<(), Global>, marks: &mut [bool])
+    requires full { IsFull last.now.words }
+    requires vertices { length marks.old ≤ MAX_VERTICES }
+    requires within { word_count (length marks.old) ≤ slots_len last.now.words }
+    ensures { AreMarksOf (slots_items last.now.words) marks.new }
+{
+    for v in 0..marks.len() {
+        marks[v] = last.word(mark_word(v as u32)) > 0;
+    }
+}

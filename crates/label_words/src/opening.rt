@@ -1,0 +1,63 @@
+//! The words that a run begins with, laid straight from the seeds.
+
+ghost use Rattle.std.specs.Prelude.{◌≡◌, ℕ, ◌<◌, ◌≤◌, ◌++◌, ◌∷◌, [], List, length, All, IfOk};
+ghost use Rattle.route_walks.specs.declared.graph.TheConstants.{MAX_VERTICES};
+ghost use Rattle.route_walks.specs.declared.graph.Seed.{Seed};
+ghost use Rattle.route_walks.specs.Walk.{AreSeeds};
+ghost use Rattle.label_words.specs.Layout.{word_count as count};
+ghost use Rattle.label_words.specs.Sown.{IsSown};
+
+use crate::layout::{TOTAL, label_word, mark_word, word_count};
+use route_walks::{INF, Memory, Seed};
+use std::alloc::Global;
+
+/// The words of `n` vertices: seeded ones have their least start as label and are marked, the others
+/// have `INF` and no mark, and the total is the number of marks.
+pub(crate) fn lay(alloc: Global, n: u32, seeds: &[Seed]) -> Result<Vec<u64>, Memory>
+    requires vertices { n ≤ MAX_VERTICES }
+    requires seeds { AreSeeds n seeds.now }
+    ensures { IfOk result (λ words. IsSown n seeds.now words.items) }
+{
+    let mut words = vec![in alloc; 0; word_count(n)]?;
+    clear_labels(&mut words, n);
+    sow_all(&mut words, n, seeds);
+    Ok(words)
+}
+
+/// Gives each of `n` vertices the label `INF`; all other words are 0.
+fn clear_labels(words: &mut [u64], n: u32)
+    requires vertices { n ≤ MAX_VERTICES }
+    requires count { length words.old ≡ count n }
+    requires zero { All (λ word. word ≡ 0) words.old }
+    ensures { IsSown n [] words.new }
+{
+    for v in 0..n {
+        words[label_word(v)] = INF;
+    }
+}
+
+/// Sows the seeds into words without any.
+fn sow_all(words: &mut [u64], n: u32, seeds: &[Seed])
+    requires seeds { AreSeeds n seeds.now }
+    requires none { IsSown n [] words.old }
+    ensures { IsSown n seeds.now words.new }
+{
+    for seed in seeds {
+        sow(words, seed);
+    }
+}
+
+/// Gives the seed's vertex the lesser of its label and the seed's start, and a mark.
+fn sow(words: &mut [u64], seed: &Seed)
+    requires { (n : ℕ) × (seeds : List Seed) × (seed.now.vertex < n) × IsSown n seeds words.old }
+    ensures { (n : ℕ) (seeds : List Seed)
+        → IsSown n seeds words.old
+        → seed.now.vertex < n
+        → IsSown n (seeds ++ seed.now ∷ []) words.new }
+{
+    let (label, mark) = (label_word(seed.vertex), mark_word(seed.vertex));
+    let new_marks = if words[mark] == 0 { 1 } else { 0 };
+    words[label] = words[label].min(seed.start);
+    words[TOTAL] += new_marks;
+    words[mark] = 1;
+}
