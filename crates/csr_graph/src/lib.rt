@@ -6,7 +6,7 @@
 //! run, `target` and `arc` read a place. The laws say that the runs are exactly the rows, and that
 //! the rows determine the list.
 //!
-//! Stands on `route_walks`, whose arcs it keeps and whose `Memory` it answers.
+//! Stands on `route_walks`, whose arcs it keeps and whose `Memory` it returns.
 #![tactic(auto)]
 
 mod csr;

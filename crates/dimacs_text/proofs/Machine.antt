@@ -9,7 +9,7 @@ use Rattle.dimacs_text.specs.declared.form.Item.TheVariants.{Arc, Source}
 use Rattle.dimacs_text.specs.declared.fault.LineKind.{LineKind}
 use Rattle.dimacs_text.specs.declared.fault.LineKind.TheVariants.{Misplaced, TooMany, TooFew}
 use Rattle.dimacs_text.specs.Forms.{Form, head, counted}
-use Rattle.dimacs_text.specs.Stages.{At, start, within, same_item, phase_of, can_come, count_fault}
+use Rattle.dimacs_text.specs.Stages.{At, start, within, phase_of, can_come, count_fault}
 use Rattle.dimacs_text.specs.Stages.{missing_at, misfit_at, one_less, next_at, unless_wrong, run}
 use Rattle.dimacs_text.specs.Shapes.{Mark, heads, one, Part, item_of, may_follow}
 use Rattle.dimacs_text.specs.Shapes.{marks_of, form_of_mark, AreInTurn, IsLegal}
@@ -20,12 +20,6 @@ abbrev pub Completes : At → List Mark → Type 0
 Completes start ms = IsLegal ms
 Completes (within s j) ms =
     (ps : List Part) × AreInTurn s ps × (ms ≡ replicate j (one (item_of s)) ++ flat_map marks_of ps)
-
-same_item_eq : (i k : Item) → same_item i k ≡ true → i ≡ k
-same_item_eq Arc Arc e = refl
-same_item_eq Arc Source e = absurd (cc)
-same_item_eq Source Arc e = absurd (cc)
-same_item_eq Source Source e = refl
 
 -- a mark that fits leads to a legal list
 head_leads : (a : At) (t : Section) (k : ℕ) (rest : List Mark)

@@ -13,9 +13,9 @@ use crate::fault::LineKind;
 use crate::line::{next_field, number_of, trim_cr};
 use route_walks::{ArcRec, MAX_VERTICES};
 
-const MOST_ARCS: u32 = 1073741824;
+const MAX_TEXT_ARCS: u32 = 1073741824;
 
-const MOST_QUERIES: u32 = 1048576;
+const MAX_SOURCES: u32 = 1048576;
 
 /// A part of a text: a head with a count, and then as many items as it counts.
 #[derive(Clone, Copy, Debug, PartialEq, Eq)]
@@ -200,7 +200,11 @@ fn read_problem(args: &[u8]) -> Result<Entry, LineKind>
         (numbers_within (limits 0 (head Section.Problem)) (fields args.now)) }
     ensures within { IfOk result (IsEntryWithin 0) }
 {
-    let (vertices, arcs) = read_two(args, Limit::up_to(MAX_VERTICES), Limit::up_to(MOST_ARCS))?;
+    let (vertices, arcs) = read_two(
+        args,
+        Limit::up_to(MAX_VERTICES),
+        Limit::up_to(MAX_TEXT_ARCS),
+    )?;
     Ok(Entry::Problem { vertices, arcs })
 }
 
@@ -225,7 +229,7 @@ fn read_sources(args: &[u8]) -> Result<Entry, LineKind>
         (numbers_within (limits 0 (head Section.Sources)) (fields args.now)) }
     ensures within { IfOk result (IsEntryWithin 0) }
 {
-    let count = read_one(args, Limit::up_to(MOST_QUERIES))?;
+    let count = read_one(args, Limit::up_to(MAX_SOURCES))?;
     Ok(Entry::Sources(count))
 }
 

@@ -15,7 +15,7 @@
 //! pool.pop(&rt, &mut sides[1]) // Some(13)
 //! ```
 //!
-//! Stands on `route_walks`, whose `Memory` it answers.
+//! Stands on `route_walks`, whose `Memory` it returns.
 #![tactic(auto)]
 
 mod locked;

@@ -15,7 +15,7 @@ pub enum Answer {
 }
 
 /// The most bytes of a job text that are ever read: 2^36.
-pub const MOST_BYTES: u64 = 68719476736;
+pub const MAX_BYTES: u64 = 68719476736;
 
 /// What is asked of a job text.
 #[derive(Clone, Copy, Debug, PartialEq, Eq)]
@@ -41,7 +41,7 @@ impl Asked {
         ensures walks { IfSome result (λ asked. asked.walks ≡ walks) }
         ensures limit { IfSome result (λ asked. asked.limit ≡ limit) }
     {
-        if limit > MOST_BYTES {
+        if limit > MAX_BYTES {
             return None;
         }
         if walks && matches!(answer, Answer::Components) {

@@ -1,6 +1,6 @@
 //! What the command line asks for.
 
-use crate::asked::{Answer, Asked, MOST_BYTES};
+use crate::asked::{Answer, Asked, MAX_BYTES};
 use clap::{Arg, ArgAction, ArgMatches, Command, Error, value_parser};
 use obim_engine::{MAX_CHUNK, MAX_SHIFT, MAX_WORKERS, Settings};
 use std::alloc::Global;
@@ -56,7 +56,7 @@ pub fn asked_by<'a>(alloc: Global, words: &'a [String]) -> Result<Asked, Refusal
         return Err(Refusal::Limits);
     };
     let walks = matches.get_flag("walks");
-    match Asked::new(answer_in(&matches), settings, walks, MOST_BYTES) {
+    match Asked::new(answer_in(&matches), settings, walks, MAX_BYTES) {
         Some(asked) => Ok(asked),
         None => Err(Refusal::Walks),
     }

@@ -4,7 +4,7 @@
 //! print. The hop of a vertex is the fewest arcs of such a walk, and its parent the least vertex
 //! from which an arc leads to it, along least labels and from one hop nearer. So parents lead back
 //! to the source, also round circles of arcs that cost nothing. `hops`, `parents` and `walk_to`
-//! compute them. The laws say that what `walk_to` answers is a walk, and that arcs, source and least
+//! compute them. The laws say that what `walk_to` returns is a walk, and that arcs, source and least
 //! labels decide it.
 //!
 //! Stands on `csr_graph` for the rows, and on `route_walks` for walks and least labels.

@@ -1,4 +1,4 @@
-//! The walk to a vertex, from its end to its front by parents.
+//! The walk to a vertex, from its end to its beginning by parents.
 
 ghost use Rattle.std.specs.Prelude.{◌≡◌, ◌<◌, ◌↔◌, length, slice_index, IsNone, IfOk, IfSome, All};
 ghost use Rattle.walk_report.specs.Parent.{LeadBack};
