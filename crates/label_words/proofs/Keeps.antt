@@ -182,8 +182,7 @@ pub allows_quiet : {me : Mine} {word : ℕ} (f : ℕ → ℕ) (event : ℕ → E
     → IsTheEvent (event id) was.state words id me.0 word (f x) (record me.0 { view = view x }))
     → Allowed me word f (λ x new. (new ≡ (record me.0 { view = view x }, me.1)) × IsReady new.0)
 allows_quiet {me} f event view ready within apart same step graph seeds slots id state holds count at below =
-    let call =
-    allows (λ x. Unit {0}) event view (λ x. me.0.labels) ready within (λ x v e. absurd (apart v e)) same
+    let call = allows (λ x. Unit {0}) event view (λ x. me.0.labels) ready within (λ x v e. absurd (apart v e)) same
     (λ words seats id x was holds mine is below. (step words seats id x was holds is below, λ above. above, tt))
     graph seeds slots id state holds count at below in
     (call.0, call.1, call.2, call.3, (call.4.0, call.4.1))

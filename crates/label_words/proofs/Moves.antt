@@ -37,8 +37,7 @@ pub take_allowed : (u : ℕ) (me : Mine) → IsReady me.0 → me.0.view.hand ≡
     (λ found new. ((x : ℕ) → mark_word u ≡ mark_word x → new ≡ (after_take (nat_lt 0 found) x me.0, me.1))
     × IsReady new.0)
 take_allowed u me ready idle vertex graph seeds slots id state holds count at below =
-    let call =
-    allows_quiet (λ n. 0) (λ s. Take s u) (λ found. taken (nat_lt 0 found) u me.0.view) ready (omega arith)
+    let call = allows_quiet (λ n. 0) (λ s. Take s u) (λ found. taken (nat_lt 0 found) u me.0.view) ready (omega arith)
     (λ v e. absurd (omega arith)) (λ x. refl)
     (λ words seats s x was holds is below. rw (← is) (taking was.state words s u me.0 holds idle vertex))
     graph seeds slots id state holds count at below in
@@ -84,8 +83,8 @@ pub relax_allowed : (head x : ℕ) (me : Mine) → IsReady me.0 → IsOpen me.0.
 relax_allowed head x me ready held before heads offers =
     let within : head < me.0.graph.n = rw heads at (head_in me.0.graph me.0.view.hand ready.rows before) in
     let fell = λ (found : ℕ). nat_lt (next_offer me.0.graph me.0.view.hand) found in
-    allows (λ found. next_offer me.0.graph me.0.view.hand < found → OfferAttains me.0) Relax (λ found. (after_relax (fell found) me.0).view) (λ found. (after_relax (fell found) me.0).labels)
-    ready (omega arith) (λ y v e. omega arith) (λ y. refl)
+    allows (λ found. next_offer me.0.graph me.0.view.hand < found → OfferAttains me.0) Relax
+    (λ found. (after_relax (fell found) me.0).view) (λ found. (after_relax (fell found) me.0).labels) ready (omega arith) (λ y v e. omega arith) (λ y. refl)
     (λ words seats s found was holds mine is below. (
       rw (← is, ← offers) (relaxing was.state words s head me.0 holds held before heads),
       above_if (fell found) (label_of (set words (label_word head) (min found x)))
@@ -98,7 +97,8 @@ pub raise_allowed : (me : Mine) → IsReady me.0 → Owes me.0.view.hand → me.
     → Allowed me 0 (λ n. (n + 1) % 18446744073709551616)
     (λ found new. (new ≡ (after_raise me.0, me.1)) × IsReady new.0)
 raise_allowed me ready owe one =
-    allows_quiet (λ n. (n + 1) % 18446744073709551616) Raise (λ found. raised me.0.view) ready (omega arith) (λ v e. absurd (omega arith)) (λ x. refl)
+    allows_quiet (λ n. (n + 1) % 18446744073709551616) Raise (λ found. raised me.0.view) ready (omega arith)
+    (λ v e. absurd (omega arith)) (λ x. refl)
     (λ words seats s x was holds is below.
     let bound = total_is_bounded _ _ _ _ _ _ was.lawful.covers was.lawful.account in
     let small : total_of words + 1 < 18446744073709551616 =
@@ -128,7 +128,8 @@ pub finish_allowed : (c : ℕ) (me : Mine) → IsReady me.0 → IsOpen me.0.view
     → Allowed me 0 (λ n. (n + (18446744073709551616 - c)) % 18446744073709551616)
     (λ found new. (new ≡ (after_finish me.0, me.1)) × IsReady new.0)
 finish_allowed c me ready held end credits =
-    allows_quiet (λ n. (n + (18446744073709551616 - c)) % 18446744073709551616) Finish (λ found. finished me.0.view) ready (omega arith) (λ v e. absurd (omega arith)) (λ x. refl)
+    allows_quiet (λ n. (n + (18446744073709551616 - c)) % 18446744073709551616) Finish (λ found. finished me.0.view)
+    ready (omega arith) (λ v e. absurd (omega arith)) (λ x. refl)
     (λ words seats s x was holds is below.
     rw (lessened x c (omega (arith, total_above was.lawful.account holds.has, was.laid.total)) below, ← is, ← credits)
     (finishing was.state words s me.0 holds held end))
@@ -156,7 +157,7 @@ splits graph seeds id seat ready idle two state holds at =
       lawful = event_keeps_lawful seat.graph seat.seeds was.state _ (Split id) was.lawful event;
       laid = laid_views _ was.laid;
       views_are =
-          rw (was.views_are, map-append (λ (k : Known). k.view) left (right_half seat ∷ []), map-set (λ (k : Known). k.view) state.views id (left_half seat)) refl;
+          rw (was.views_are, map-append _ left (right_half seat ∷ []), map-set _ state.views id (left_half seat)) refl;
       knows = λ t half at' alive.
           elim (at_snoc left (right_half seat) half t at') [
             | inl old ↦
@@ -189,7 +190,8 @@ joins graph seeds id other seat seat' ready ready' idle idle' state holds at apa
       state = record was.state { views = set (set was.state.views id (both_known seat seat').view) other gone.view };
       lawful = event_keeps_lawful seat.graph seat.seeds was.state _ (Join id other) was.lawful event;
       laid = laid_views _ was.laid;
-      views_are = rw (was.views_are, map-set (λ (k : Known). k.view) both other gone, map-set (λ (k : Known). k.view) state.views id (both_known seat seat')) refl;
+      views_are =
+          rw (was.views_are, map-set _ both other gone, map-set _ state.views id (both_known seat seat')) refl;
       knows =
           all_know_still {label = label_of state.words} both other gone (λ v. omega arith)
           (all_know_still state.views id (both_known seat seat') (λ v. omega arith) was.knows
