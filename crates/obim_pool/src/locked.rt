@@ -1,3 +1,5 @@
+//! A pool that all workers share under one lock.
+
 ghost use Rattle.std.specs.Prelude.{◌≡◌, All, IfNone, IfOk, IfSome, OnErr, OnOk, vec_len, ⊤};
 ghost use Rattle.obim_pool.specs.Bags.{AreNoneEmpty, HaveNoVertex, HaveSameVertices};
 ghost use Rattle.obim_pool.specs.Bags.{PutsLast, TakesLowest, vertex_count};

@@ -1,3 +1,5 @@
+//! What an engine of workers asks of a pool of vertices.
+
 use std::sync::Wait;
 
 /// A pool of vertices to work on, each with a metric: lower ones are preferred, softly. Each worker

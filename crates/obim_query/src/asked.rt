@@ -1,3 +1,5 @@
+//! What a command line asks for.
+
 ghost use Rattle.std.specs.Prelude.{◌≡◌, ◌↔◌, IsSome, IfSome};
 ghost use Rattle.obim_query.specs.Choices.{IsAsked};
 

@@ -1,3 +1,5 @@
+//! Why the program gives no answer, and the status that it ends with.
+
 ghost use Rattle.std.specs.Prelude.{◌≡◌};
 ghost use Rattle.obim_query.specs.declared.fault.Fault.TheVariants as fault;
 ghost use Rattle.obim_query.specs.Choices.{fault_of, fault_of_run, status_of};
@@ -7,7 +9,7 @@ use obim_engine::RunFault;
 use std::alloc::AllocError;
 use thiserror::Error;
 
-/// Why there is no answer, or only a front of one.
+/// Why there is no answer, or only a prefix of one.
 #[derive(Clone, Copy, Debug, PartialEq, Eq, Error)]
 pub enum Fault {
     /// The reader failed. Nothing was written.

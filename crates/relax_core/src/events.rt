@@ -1,3 +1,5 @@
+//! The steps that seats can take.
+
 /// One step of one seat. A seat is a place in the list of views, counted from 0.
 #[derive(Clone, Copy, Debug, PartialEq, Eq)]
 pub enum Event {

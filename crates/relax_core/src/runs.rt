@@ -1,3 +1,5 @@
+//! A list of events from the opening on: a run, or the first event that is not enabled.
+
 ghost use Rattle.std.specs.Prelude.{◌≡◌, ℕ, Err, IfOk};
 ghost use Rattle.route_walks.specs.Walk.{AreSeeds};
 ghost use Rattle.relax_core.specs.Runs.{IsReached, StopsAt};
