@@ -20,7 +20,7 @@ pub data IsCostText (arcs : List ArcRec) (source v : ℕ) (text : List ℕ) : Ty
       → text ≡ decimal (cost cheapest)
       → IsCostText arcs source v text
 
--- the lines of so many vertices from v on: 'd V COST' for each, and behind it perhaps that of a walk
+-- the lines of so many vertices from v on: 'd V COST' for each, and after it perhaps that of a walk
 abbrev pub AreCostLines : Bool → List ArcRec → ℕ → ℕ → ℕ → List ℕ → Type 0
 AreCostLines walks arcs source v zero text = text ≡ []
 AreCostLines walks arcs source v (suc count) text =
