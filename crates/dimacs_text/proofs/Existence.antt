@@ -1,382 +1,232 @@
 -- Why each text is a job's or has a first fault.
-use Rattle.std.proofs.Common.{◌≡◌, ℕ, zero, suc, ◌+◌, ◌-◌, ◌^◌, Bool, true, false, cond, ◌&&◌, leb}
-use Rattle.std.proofs.Common.{eqb, List, [], ◌∷◌, ◌++◌, length, map, flat_map, replicate, get_or}
-use Rattle.std.proofs.Common.{◌⊎◌, inl, inr, Option, Some, None, Result, Ok, Err, refl, sym, ap}
-use Rattle.std.proofs.Common.{ap₂, subst, ◌∙◌, append-nil, arith, drop}
-use Rattle.std.proofs.lemmas.Bool.Decides.{nat_tests}
+use Rattle.std.proofs.Common.{◌≡◌, ℕ, zero, suc, ◌+◌, ◌-◌, true, ◌&&◌, leb, List, [], ◌∷◌, ◌++◌, length, map}
+use Rattle.std.proofs.Common.{flat_map, replicate, get_or, ◌⊎◌, inl, inr, Option, Some, None, Ok, Err, refl, sym, ap}
+use Rattle.std.proofs.Common.{ap₂, ◌∙◌, append-nil, arith, ◌<◌, ◌≤◌}
+use Rattle.std.proofs.lemmas.Bool.{and_parts, ltb-true}
+use Rattle.std.proofs.lemmas.Grind.{common_steps}
 use Rattle.route_walks.specs.declared.graph.ArcRec.{ArcRec}
 use Rattle.route_walks.specs.declared.graph.TheConstants.{MAX_VERTICES}
+use Rattle.dimacs_text.specs.declared.form.Item.{Item}
 use Rattle.dimacs_text.specs.declared.form.Limit.{Limit}
 use Rattle.dimacs_text.specs.declared.form.Section.{Section}
 use Rattle.dimacs_text.specs.declared.form.Section.TheVariants.{Problem, Sources}
 use Rattle.dimacs_text.specs.declared.form.Item.TheVariants.{Arc, Source}
 use Rattle.dimacs_text.specs.declared.fault.LineKind.{LineKind}
-use Rattle.dimacs_text.specs.declared.fault.LineKind.TheVariants.{Fields, Range}
-use Rattle.dimacs_text.specs.Lines.{lines, fields, without_cr}
-use Rattle.dimacs_text.specs.Forms.{Form, head, counted, Record, Reading, readings, reading}
-use Rattle.dimacs_text.specs.Forms.{fields_reading, record_reading, form_of, limits, words, in_form}
-use Rattle.dimacs_text.specs.Forms.{in_limits, numbers, numbers_within, checked, vertices_after}
-use Rattle.dimacs_text.specs.Shapes.{Mark, heads, one, mark_of, Part, marks_of, IsLegal}
-use Rattle.dimacs_text.specs.Shapes.{AreInTurn, item_of, may_follow, lack_of}
-use Rattle.dimacs_text.specs.Stages.{At, start, within, run, unless_wrong, misfit_at, next_at}
-use Rattle.dimacs_text.specs.Jobs.{Content, Question, absent, from_sources, arc_record}
-use Rattle.dimacs_text.specs.Jobs.{source_record, problem_record, sources_record, records_of}
-use Rattle.dimacs_text.specs.Jobs.{records_of_question, records_among, IsJobText}
-use Rattle.dimacs_text.specs.Faults.{marks_among, IsFirstAmong, unread, misfit, unfinished, IsFirstFault}
-use Rattle.dimacs_text.specs.Drafts.{mark_in}
-use Rattle.dimacs_text.proofs.Machine.{legal_runs, run_begins, machine_misfit, complete, run-append}
-use Rattle.dimacs_text.proofs.ReaderLemmas.{form-mark, map_ok-push, records-push}
-use Rattle.dimacs_text.proofs.TextLaws.{map_mark-append}
+use Rattle.dimacs_text.specs.declared.fault.LineKind.TheVariants.{TooFew, NoProblem}
+use Rattle.dimacs_text.specs.declared.form.Form.{Form}
+use Rattle.dimacs_text.specs.declared.form.Form.TheVariants.{Head, Counted}
+use Rattle.dimacs_text.specs.Grammar.{place, form_of_token, Token, opens, adds, Part, tokens_of, IsLegal, AreInTurn}
+use Rattle.dimacs_text.specs.Grammar.{item_of}
+use Rattle.dimacs_text.specs.Lines.{lines}
+use Rattle.dimacs_text.specs.Forms.{reading, Record, Reading, readings, limits, in_limits}
+use Rattle.dimacs_text.specs.declared.stage.Stage.{Stage}
+use Rattle.dimacs_text.specs.declared.stage.Stage.TheVariants.{Start, Within}
+use Rattle.dimacs_text.specs.reader.Machine.{run, misfit_at}
+use Rattle.dimacs_text.specs.Jobs.{Content, Question, absent, from_sources, arc_record, source_record, problem_record}
+use Rattle.dimacs_text.specs.Jobs.{sources_record, records_of, records_of_question, records_among, IsJobText}
+use Rattle.dimacs_text.specs.Faults.{tokens_among, IsFirstAmong, unfinished, IsFirstFault}
+use Rattle.dimacs_text.specs.reader.Drafts.{token_in, after_line, Progress, Fits, IsReadAmong, IsLackAt}
+use Rattle.dimacs_text.proofs.FormLemmas.{are_within}
+use Rattle.dimacs_text.proofs.Limits.{IsShaped, AreShaped, all_shaped, all_within}
+use Rattle.dimacs_text.proofs.Machine.{run_begins, complete}
+use Rattle.dimacs_text.proofs.TextLaws.{arc_back, source_back}
+use Rattle.dimacs_text.proofs.ReaderLemmas.{incomplete, form-token, all_said, line_leads, line_wrong}
 
 -- the readings have a first fault, or all say something, and that is legal
 abbrev FaultOrLegal : List Reading → Type 0
 FaultOrLegal rs =
     ((line : ℕ) × (kind : LineKind) × IsFirstAmong rs line kind)
-    ⊎ ((s : List (Option Record)) × (rs ≡ map (λ x. Ok x) s) × IsLegal (marks_among s))
+    ⊎ ((s : List (Option Record)) × (rs ≡ map (λ x. Ok x) s) × IsLegal (tokens_among s))
 
-at_the_end : (rs : List Reading) (said : List (Option Record)) (a : At)
-    → rs ≡ map (λ x. Ok x) said → run start (marks_among said) ≡ Some a
+not_ended : (rs : List Reading) (said : List (Option Record)) (a : Stage) (kind : LineKind)
+    → rs ≡ map (λ x. Ok x) said → run Start (tokens_among said) ≡ Some a → IsLackAt a kind
     → FaultOrLegal rs
-at_the_end rs said start e runs =
-    inl (
-      length said + 1,
-      lack_of (marks_among said),
-      unfinished said e (run_begins (marks_among said) start runs)
-          (λ legal. let other = legal_runs (marks_among said) legal in let o1 = other.1 in cc) refl refl,
+not_ended rs said a kind e runs lack =
+    let legal = incomplete (tokens_among said) a kind runs lack in
+    inl (_, _, unfinished said e (run_begins (tokens_among said) a runs) legal refl refl)
+
+at_the_end : (rs : List Reading) (said : List (Option Record)) (a : Stage)
+    → rs ≡ map (λ x. Ok x) said → run Start (tokens_among said) ≡ Some a
+    → FaultOrLegal rs
+at_the_end rs said Start e runs = not_ended rs said Start NoProblem e runs refl
+at_the_end rs said (Within s zero) e runs = inr (said, e, complete (tokens_among said) s runs)
+at_the_end rs said (Within s (suc j)) e runs = not_ended rs said (Within s (suc j)) TooFew e runs refl
+
+fault_or_legal : (ls all : List (List ℕ)) (line : ℕ) (p : Progress)
+    → IsReadAmong all ls line p
+    → FaultOrLegal (readings MAX_VERTICES all)
+fault_or_legal [] all line p r = at_the_end (readings MAX_VERTICES all) r.said p.stage (all_said all line p r) r.stage
+fault_or_legal (l ∷ ls) all line p r =
+    by_reading (reading p.vertices l) refl
+    (λ s e fits. fault_or_legal ls all (line + 1) (after_line p s) (line_leads p all ls l s line e fits r))
+  where
+    by_fit : (rec : Record) (o : Option LineKind)
+        → reading p.vertices l ≡ Ok (Some rec) → misfit_at p.stage rec.form ≡ o
+        → (misfit_at p.stage rec.form ≡ None → FaultOrLegal (readings MAX_VERTICES all))
+        → FaultOrLegal (readings MAX_VERTICES all)
+    by_fit rec (Some k) e is go = inl (line, k, line_wrong p all ls l line k (inr (rec, e, is)) r)
+    by_fit rec None e is go = go is
+
+    by_reading : (x : Reading)
+        → reading p.vertices l ≡ x
+        → ((s : Option Record)
+        → reading p.vertices l ≡ Ok s → Fits p.stage s → FaultOrLegal (readings MAX_VERTICES all))
+        → FaultOrLegal (readings MAX_VERTICES all)
+    by_reading (Err k) e go = inl (line, k, line_wrong p all ls l line k (inl e) r)
+    by_reading (Ok None) e go = go None e tt
+    by_reading (Ok (Some rec)) e go = by_fit rec (misfit_at p.stage rec.form) e refl (λ f. go (Some rec) e f)
+
+numbers_count : (ls : List Limit) (vs : List ℕ) → in_limits ls vs ≡ true → length vs ≡ length ls
+numbers_count [] [] e = refl
+numbers_count [] (v ∷ vs) e = absurd (cc)
+numbers_count (l ∷ ls) [] e = absurd (cc)
+numbers_count (l ∷ ls) (v ∷ vs) e =
+    ap (λ n. suc n) (numbers_count ls vs (and_parts (leb l.least v && leb v l.most) (in_limits ls vs) e).1)
+
+vertex_back : (v : ℕ) → 1 ≤ v → v ≡ v - 1 + 1
+vertex_back v some = omega arith
+
+-- the numbers of each form, as what is kept of them gives them back
+abbrev numbers_back : Form → List ℕ → List ℕ
+numbers_back (Head Problem) vs = get_or vs 0 0 ∷ get_or vs 1 0 ∷ []
+numbers_back (Head Sources) vs = get_or vs 0 0 ∷ []
+numbers_back (Counted Arc) vs = (get_or vs 0 0 - 1 + 1) ∷ (get_or vs 1 0 - 1 + 1) ∷ get_or vs 2 0 ∷ []
+numbers_back (Counted Source) vs = (get_or vs 0 0 - 1 + 1) ∷ []
+
+numbers_same : (n : ℕ) (f : Form) (vs : List ℕ) → in_limits (limits n f) vs ≡ true → vs ≡ numbers_back f vs
+numbers_same n (Head Problem) vs e =
+    let count = numbers_count (limits n (Head Problem)) vs e in grind (arith, common_steps)
+numbers_same n (Head Sources) vs e =
+    let count = numbers_count (limits n (Head Sources)) vs e in grind (arith, common_steps)
+numbers_same n (Counted Arc) vs e =
+    let count = numbers_count (limits n (Counted Arc)) vs e in
+    let limit = are_within (limits n (Counted Arc)) vs e in
+    let three : vs ≡ get_or vs 0 0 ∷ get_or vs 1 0 ∷ get_or vs 2 0 ∷ [] = grind (arith, common_steps) in
+    three
+    ∙ ap₂ (λ x y. x ∷ y ∷ get_or vs 2 0 ∷ []) (vertex_back (get_or vs 0 0) (limit 0 (omega arith)).0)
+    (vertex_back (get_or vs 1 0) (limit 1 (omega arith)).0)
+numbers_same n (Counted Source) vs e =
+    let count = numbers_count (limits n (Counted Source)) vs e in
+    let limit = are_within (limits n (Counted Source)) vs e in
+    let one : vs ≡ get_or vs 0 0 ∷ [] = grind (arith, common_steps) in
+    one ∙ ap (λ x. x ∷ []) (vertex_back (get_or vs 0 0) (limit 0 (omega arith)).0)
+
+-- a record has the form of its token, and the last number of a head is its count
+record_back : (r : Record) (m : Token)
+    → IsShaped r → token_in r ≡ m
+    → r ≡ record { form = form_of_token m; numbers = numbers_back (form_of_token m) r.numbers }
+record_back r m (n, e) is =
+    let form : r.form ≡ form_of_token m = sym (form-token r.form r.numbers) ∙ ap (λ x. form_of_token x) is in
+    ap (λ vs. record { form = r.form; numbers = vs }) (numbers_same n r.form r.numbers e)
+    ∙ ap (λ f. record { form = f; numbers = numbers_back f r.numbers }) form
+
+arc_by : (r : Record) → IsShaped r → token_in r ≡ adds Arc → (arc : ArcRec) × (r ≡ arc_record arc)
+arc_by r shaped m = (arc_back r, record_back r (adds Arc) shaped m)
+
+source_by : (r : Record) → IsShaped r → token_in r ≡ adds Source → (v : ℕ) × (r ≡ source_record v)
+source_by r shaped m = (source_back r, record_back r (adds Source) shaped m)
+
+problem_by : (r : Record) (c : ℕ) → IsShaped r → token_in r ≡ opens Problem c → (k : ℕ) × (r ≡ problem_record k c)
+problem_by r c shaped m =
+    let same = record_back r (opens Problem c) shaped m in
+    let last : opens Problem (get_or r.numbers 1 0) ≡ opens Problem c = ap token_in (sym same) ∙ m in
+    let count : get_or r.numbers 1 0 ≡ c = cc in
+    (get_or r.numbers 0 0, same ∙ ap (λ x. problem_record (get_or r.numbers 0 0) x) count)
+
+sources_by : (r : Record) (c : ℕ) → IsShaped r → token_in r ≡ opens Sources c → r ≡ sources_record c
+sources_by r c shaped m =
+    let same = record_back r (opens Sources c) shaped m in
+    let last : opens Sources (get_or r.numbers 0 0) ≡ opens Sources c = ap token_in (sym same) ∙ m in
+    let count : get_or r.numbers 0 0 ≡ c = cc in same ∙ ap (λ x. sources_record x) count
+
+-- the records of so many items, and those after them
+items_in : {X : Type 0} (rec : X → Record) (i : Item) (k : ℕ) (rs : List Record) (rest : List Token)
+    → ((r : Record) → IsShaped r → token_in r ≡ adds i → (x : X) × (r ≡ rec x))
+    → map token_in rs ≡ replicate k (adds i) ++ rest → AreShaped rs
+    → (xs : List X)
+    × (others : List Record)
+    × (length xs ≡ k)
+    × (rs ≡ map rec xs ++ others)
+    × (map token_in others ≡ rest)
+    × AreShaped others
+items_in rec i zero rs rest by e shaped = ([], rs, refl, refl, e, shaped)
+items_in rec i (suc k) [] rest by e shaped = absurd (cc)
+items_in rec i (suc k) (r ∷ rs) rest by e shaped =
+    let first : token_in r ≡ adds i = cc in
+    let later : map token_in rs ≡ replicate k (adds i) ++ rest = cc in
+    let x = by r shaped.0 first in
+    let more = items_in rec i k rs rest by later shaped.1 in
+    (x.0 ∷ more.0, more.1, ap (λ n. suc n) more.2, ap₂ (λ y l. y ∷ l) x.1 more.3, more.4, more.5)
+
+no_records : (rs : List Record) → map token_in rs ≡ [] → rs ≡ []
+no_records [] e = refl
+no_records (r ∷ rs) e = absurd (cc)
+
+-- after the last place no section follows
+last_place : (s : Section) → place s ≤ 1
+last_place Problem = omega arith
+last_place Sources = omega arith
+
+none_follows : (s : Section) (ps : List Part) → 0 < place s → AreInTurn s ps → ps ≡ []
+none_follows s [] after turn = refl
+none_follows s (p ∷ ps) after turn =
+    absurd (omega (arith, last_place p.section, ltb-true (place s) (place p.section) turn.0))
+
+-- the section of a question, which is at place 1
+query_in : (s : Section) (k : ℕ) (r : Record) (rs : List Record)
+    → 0 < place s → token_in r ≡ opens s k → map token_in rs ≡ replicate k (adds (item_of s)) ++ []
+    → IsShaped r → AreShaped rs
+    → (q : Question) × (r ∷ rs ≡ records_of_question q)
+query_in Problem k r rs after m e top shaped = absurd (omega arith)
+query_in Sources k r rs after m e top shaped =
+    let (vs, others, count, same, none, more) = items_in source_record Source k rs [] source_by e shaped in (
+      from_sources vs,
+      ap₂ (λ x xs. x ∷ xs) (sources_by r k top m ∙ ap (λ n. sources_record n) (sym count))
+          (same ∙ ap (λ l. map source_record vs ++ l) (no_records others none) ∙ append-nil (map source_record vs)),
     )
-at_the_end rs said (within s zero) e runs = inr (said, e, complete (marks_among said) s runs)
-at_the_end rs said (within s (suc j)) e runs =
-    inl (
-      length said + 1,
-      lack_of (marks_among said),
-      unfinished said e (run_begins (marks_among said) (within s (suc j)) runs)
-          (λ legal. let other = legal_runs (marks_among said) legal in let o1 = other.1 in cc) refl refl,
-    )
 
-marks-push : (said : List (Option Record)) (r : Record)
-    → marks_among (said ++ Some r ∷ []) ≡ marks_among said ++ mark_in r ∷ []
-marks-push said r = ap (λ l. map mark_in l) (records-push said (Some r)) ∙ map_mark-append (records_among said) (r ∷ [])
-
-marks-skip : (said : List (Option Record)) → marks_among (said ++ None ∷ []) ≡ marks_among said
-marks-skip said = ap (λ l. map mark_in l) (records-push said None ∙ append-nil (records_among said))
-
-at_a_record : (all : List Reading) (said : List (Option Record)) (a : At) (r : Record)
-    (rest : List Reading) (o : Option LineKind)
-    → all ≡ map (λ x. Ok x) said ++ Ok (Some r) ∷ rest → run start (marks_among said) ≡ Some a
-    → misfit_at a r.form ≡ o
-    → (run start (marks_among (said ++ Some r ∷ [])) ≡ Some (next_at a (mark_in r)) → FaultOrLegal all)
-    → FaultOrLegal all
-at_a_record all said a r rest (Some k) e runs is later =
-    inl (
-      length said + 1,
-      k,
-      misfit said r rest e (run_begins (marks_among said) a runs)
-          (machine_misfit (marks_among said) a (mark_in r) k runs
-          (ap (λ f. misfit_at a f) (form-mark r.form r.numbers) ∙ is)) refl,
-    )
-at_a_record all said a r rest None e runs is later =
-    later (ap (λ ms. run start ms) (marks-push said r)
-    ∙ run-append (marks_among said) start a (mark_in r ∷ []) runs
-    ∙ ap (λ o. unless_wrong o (Some (next_at a (mark_in r))))
-    (ap (λ f. misfit_at a f) (form-mark r.form r.numbers) ∙ is))
-
-fault_or_legal : (rest : List Reading) (all : List Reading) (said : List (Option Record)) (a : At)
-    → all ≡ map (λ x. Ok x) said ++ rest → run start (marks_among said) ≡ Some a
-    → FaultOrLegal all
-fault_or_legal [] all said a e runs = at_the_end all said a (e ∙ append-nil (map (λ x. Ok x) said)) runs
-fault_or_legal (Err k ∷ rest) all said a e runs =
-    inl (length said + 1, k, unread said rest e (run_begins (marks_among said) a runs) refl)
-fault_or_legal (Ok None ∷ rest) all said a e runs =
-    fault_or_legal rest all (said ++ None ∷ []) a (e ∙ map_ok-push said None rest)
-    (ap (λ ms. run start ms) (marks-skip said) ∙ runs)
-fault_or_legal (Ok (Some r) ∷ rest) all said a e runs =
-    at_a_record all said a r rest (misfit_at a r.form) e runs refl (λ f.
-    fault_or_legal rest all (said ++ Some r ∷ []) (next_at a (mark_in r))
-    (e ∙ map_ok-push said (Some r) rest) f)
-
--- a record has as many numbers as its form, within limits
-abbrev IsShaped : Record → Type 0
-IsShaped r = (n : ℕ) × (in_limits (limits n r.form) r.numbers ≡ true)
-
-abbrev chosen : Bool → List ℕ → Result (List ℕ) LineKind
-chosen b ws = cond b (Ok ws) (Err Range)
-
-by_test : (ls : List Limit) (ws vs : List ℕ) (b : Bool)
-    → in_limits ls ws ≡ b → chosen b ws ≡ Ok vs
-    → in_limits ls vs ≡ true
-by_test ls ws vs true is f = let same : ws ≡ vs = cc in subst (λ l. in_limits ls l ≡ true) same is
-by_test ls ws vs false is f = absurd (cc)
-
-checked_within : (ls : List Limit) (o : Option (List ℕ)) (vs : List ℕ) → checked ls o ≡ Ok vs → in_limits ls vs ≡ true
-checked_within ls None vs e = absurd (cc)
-checked_within ls (Some ws) vs e = by_test ls ws vs (in_limits ls ws) refl e
-
-abbrev counted_or : Bool → List Limit → List (List ℕ) → Result (List ℕ) LineKind
-counted_or b ls fs = cond b (checked ls (numbers fs)) (Err Fields)
-
-by_count : (ls : List Limit) (fs : List (List ℕ)) (vs : List ℕ) (b : Bool)
-    → counted_or b ls fs ≡ Ok vs
-    → in_limits ls vs ≡ true
-by_count ls fs vs true e = checked_within ls (numbers fs) vs e
-by_count ls fs vs false e = absurd (cc)
-
-numbers_shaped : (ls : List Limit) (fs : List (List ℕ)) (vs : List ℕ)
-    → numbers_within ls fs ≡ Ok vs
-    → in_limits ls vs ≡ true
-unfolding numbers_within
-numbers_shaped ls fs vs e = by_count ls fs vs (eqb (length fs) (length ls)) e
-
-form_shaped : (n : ℕ) (form : Form) (res : Result (List ℕ) LineKind) (r : Record)
-    → ((vs : List ℕ) → res ≡ Ok vs → in_limits (limits n form) vs ≡ true)
-    → in_form form res ≡ Ok (Some r)
-    → IsShaped r
-form_shaped n form (Ok vs) r f e =
-    let same : record { form = form; numbers = vs } ≡ r = cc in
-    subst (λ x. IsShaped x) same (n, f vs refl)
-form_shaped n form (Err k) r f e = absurd (cc)
-
-record_shaped : (n : ℕ) (o : Option Form) (fs : List (List ℕ)) (r : Record)
-    → record_reading n o fs ≡ Ok (Some r)
-    → IsShaped r
-record_shaped n None fs r e = absurd (cc)
-record_shaped n (Some form) fs r e =
-    form_shaped n form (numbers_within (limits n form) (drop (length (words form)) fs)) r
-    (λ vs f. numbers_shaped (limits n form) (drop (length (words form)) fs) vs f) e
-
-abbrev comment_or : Bool → Reading → Reading
-comment_or b later = cond b (Ok None) later
-
-by_comment : (b : Bool) (later : Reading) (r : Record)
-    → (later ≡ Ok (Some r) → IsShaped r) → comment_or b later ≡ Ok (Some r)
-    → IsShaped r
-by_comment true later r f e = absurd (cc)
-by_comment false later r f e = f e
-
-fields_shaped : (n : ℕ) (fs : List (List ℕ)) (r : Record) → fields_reading n fs ≡ Ok (Some r) → IsShaped r
-unfolding fields_reading
-fields_shaped n [] r e = absurd (cc)
-fields_shaped n (f ∷ fs) r e =
-    by_comment (eqb (get_or f 0 0) 99) (record_reading n (form_of (f ∷ fs)) (f ∷ fs)) r
-    (λ g. record_shaped n (form_of (f ∷ fs)) (f ∷ fs) r g) e
-
-reading_shaped : (n : ℕ) (line : List ℕ) (r : Record) → reading n line ≡ Ok (Some r) → IsShaped r
-unfolding reading
-reading_shaped n line r e = fields_shaped n (fields (without_cr line)) r e
-
-abbrev AreShaped : List Record → Type 0
-AreShaped [] = Unit {0}
-AreShaped (r ∷ rs) = IsShaped r × AreShaped rs
-
-all_shaped : (n : ℕ) (ls : List (List ℕ)) (s : List (Option Record))
-    → readings n ls ≡ map (λ x. Ok x) s
-    → AreShaped (records_among s)
-unfolding readings
-all_shaped n [] [] e = tt
-all_shaped n [] (x ∷ s) e = absurd (cc)
-all_shaped n (l ∷ ls) [] e = absurd (cc)
-all_shaped n (l ∷ ls) (None ∷ s) e = all_shaped (vertices_after n (reading n l)) ls s (cc)
-all_shaped n (l ∷ ls) (Some r ∷ s) e =
-    (reading_shaped n l r (cc), all_shaped (vertices_after n (reading n l)) ls s (cc))
-
--- a record of a form, from its shape
-from_one : (n u : ℕ) → (leb 1 u && leb u n) ≡ true → u ≡ u - 1 + 1
-from_one n u e = grind (arith, nat_tests)
-
-and_both : (a b : Bool) → (a && b) ≡ true → (a ≡ true) × (b ≡ true)
-and_both true b e = (refl, e)
-and_both false b e = absurd (cc)
-
-arc_of : (n : ℕ) (vs : List ℕ)
-    → in_limits (limits n (counted Arc)) vs ≡ true
-    → (arc : ArcRec) × (vs ≡ (arc_record arc).numbers)
-arc_of n [] e = absurd (cc)
-arc_of n (u ∷ []) e = absurd (let b = and_both (leb 1 u && leb u n) _ e in let c = b.1 in cc)
-arc_of n (u ∷ v ∷ []) e =
-    absurd (let b = and_both (leb 1 u && leb u n) _ e in
-    let d = and_both (leb 1 v && leb v n) _ b.1 in let c = d.1 in cc)
-arc_of n (u ∷ v ∷ w ∷ []) e =
-    let b = and_both (leb 1 u && leb u n) _ e in
-    let d = and_both (leb 1 v && leb v n) _ b.1 in (
-      record { tail = u - 1; head = v - 1; weight = w },
-      ap₂ (λ x y. x ∷ y ∷ w ∷ []) (from_one n u b.0) (from_one n v d.0),
-    )
-arc_of n (u ∷ v ∷ w ∷ x ∷ more) e =
-    absurd (let b = and_both (leb 1 u && leb u n) _ e in
-    let d = and_both (leb 1 v && leb v n) _ b.1 in
-    let f = and_both (leb 0 w && leb w (2 ^ 32 - 1)) _ d.1 in let c = f.1 in cc)
-
-source_of : (n : ℕ) (vs : List ℕ) → in_limits (limits n (counted Source)) vs ≡ true → (v : ℕ) × (vs ≡ (v + 1) ∷ [])
-source_of n [] e = absurd (cc)
-source_of n (u ∷ []) e = let b = and_both (leb 1 u && leb u n) _ e in (u - 1, ap (λ x. x ∷ []) (from_one n u b.0))
-source_of n (u ∷ v ∷ more) e = absurd (let b = and_both (leb 1 u && leb u n) _ e in let c = b.1 in cc)
-
-problem_of : (n : ℕ) (vs : List ℕ) → in_limits (limits n (head Problem)) vs ≡ true → (k m : ℕ) × (vs ≡ k ∷ m ∷ [])
-problem_of n [] e = absurd (cc)
-problem_of n (u ∷ []) e = absurd (let b = and_both (leb 0 u && leb u MAX_VERTICES) _ e in let c = b.1 in cc)
-problem_of n (u ∷ v ∷ []) e = (u, v, refl)
-problem_of n (u ∷ v ∷ w ∷ more) e =
-    absurd (let b = and_both (leb 0 u && leb u MAX_VERTICES) _ e in
-    let d = and_both (leb 0 v && leb v (2 ^ 30)) _ b.1 in let c = d.1 in cc)
-
-count_of : (n : ℕ) (vs : List ℕ) → in_limits (limits n (head Sources)) vs ≡ true → (k : ℕ) × (vs ≡ k ∷ [])
-count_of n [] e = absurd (cc)
-count_of n (u ∷ []) e = (u, refl)
-count_of n (u ∷ v ∷ more) e = absurd (let b = and_both (leb 0 u && leb u (2 ^ 20)) _ e in let c = b.1 in cc)
-
-arc_record_of : (f : Form) (vs : List ℕ)
-    → IsShaped (record { form = f; numbers = vs }) → mark_of f vs ≡ one Arc
-    → (arc : ArcRec) × (record { form = f; numbers = vs } ≡ arc_record arc)
-arc_record_of (counted Arc) vs (n, e) m =
-    let a = arc_of n vs e in (a.0, ap (λ l. record { form = counted Arc; numbers = l }) a.1)
-arc_record_of (counted Source) vs s m = absurd (cc)
-arc_record_of (head t) vs s m = absurd (cc)
-
-source_record_of : (f : Form) (vs : List ℕ)
-    → IsShaped (record { form = f; numbers = vs }) → mark_of f vs ≡ one Source
-    → (v : ℕ) × (record { form = f; numbers = vs } ≡ source_record v)
-source_record_of (counted Source) vs (n, e) m =
-    let a = source_of n vs e in (a.0, ap (λ l. record { form = counted Source; numbers = l }) a.1)
-source_record_of (counted Arc) vs s m = absurd (cc)
-source_record_of (head t) vs s m = absurd (cc)
-
-problem_record_of : (f : Form) (vs : List ℕ) (c : ℕ)
-    → IsShaped (record { form = f; numbers = vs }) → mark_of f vs ≡ heads Problem c
-    → (k : ℕ) × (record { form = f; numbers = vs } ≡ problem_record k c)
-problem_record_of (head Problem) vs c (n, e) m =
-    let a = problem_of n vs e in
-    let last : heads Problem a.1 ≡ heads Problem c = ap (λ l. mark_of (head Problem) l) (sym a.2) ∙ m in
-    let same : a.1 ≡ c = cc in
-    (a.0, ap (λ l. record { form = head Problem; numbers = l }) (a.2 ∙ ap (λ x. a.0 ∷ x ∷ []) same))
-problem_record_of (head Sources) vs c s m = absurd (cc)
-problem_record_of (counted i) vs c s m = absurd (cc)
-
-sources_record_of : (f : Form) (vs : List ℕ) (c : ℕ)
-    → IsShaped (record { form = f; numbers = vs }) → mark_of f vs ≡ heads Sources c
-    → record { form = f; numbers = vs } ≡ sources_record c
-sources_record_of (head Sources) vs c (n, e) m =
-    let a = count_of n vs e in
-    let last : heads Sources a.0 ≡ heads Sources c = ap (λ l. mark_of (head Sources) l) (sym a.1) ∙ m in
-    let same : a.0 ≡ c = cc in
-    ap (λ l. record { form = head Sources; numbers = l }) (a.1 ∙ ap (λ x. x ∷ []) same)
-sources_record_of (head Problem) vs c s m = absurd (cc)
-sources_record_of (counted i) vs c s m = absurd (cc)
-
--- the records behind a mark of so many arcs, and those of so many sources
-pub record ArcsIn (rs : List Record) (k : ℕ) (rest : List Mark) : Type 0 where
-  arcs : List ArcRec
-  others : List Record
-  count : length arcs ≡ k
-  same : rs ≡ map arc_record arcs ++ others
-  marks : map mark_in others ≡ rest
-  shaped : AreShaped others
-
-arcs_in : (k : ℕ) (rs : List Record) (rest : List Mark)
-    → map mark_in rs ≡ replicate k (one Arc) ++ rest → AreShaped rs
-    → ArcsIn rs k rest
-arcs_in zero rs rest e shaped = record { arcs = []; others = rs; count = refl; same = refl; marks = e; shaped = shaped }
-arcs_in (suc k) [] rest e shaped = absurd (cc)
-arcs_in (suc k) (r ∷ rs) rest e shaped =
-    let first : mark_of r.form r.numbers ≡ one Arc = cc in
-    let later : map mark_in rs ≡ replicate k (one Arc) ++ rest = cc in
-    let arc = arc_record_of r.form r.numbers shaped.0 first in
-    let more = arcs_in k rs rest later shaped.1 in
-    record {
-      arcs = arc.0 ∷ more.arcs;
-      others = more.others;
-      count = ap (λ n. suc n) more.count;
-      same = ap₂ (λ x xs. x ∷ xs) arc.1 more.same;
-      marks = more.marks;
-      shaped = more.shaped;
-    }
-
-sources_in : (k : ℕ) (rs : List Record)
-    → map mark_in rs ≡ replicate k (one Source) → AreShaped rs
-    → (vs : List ℕ) × (length vs ≡ k) × (rs ≡ map source_record vs)
-sources_in zero [] e shaped = ([], refl, refl)
-sources_in zero (r ∷ rs) e shaped = absurd (cc)
-sources_in (suc k) [] e shaped = absurd (cc)
-sources_in (suc k) (r ∷ rs) e shaped =
-    let first : mark_of r.form r.numbers ≡ one Source = cc in
-    let later : map mark_in rs ≡ replicate k (one Source) = cc in
-    let source = source_record_of r.form r.numbers shaped.0 first in
-    let more = sources_in k rs later shaped.1 in
-    (source.0 ∷ more.0, ap (λ n. suc n) more.1, ap₂ (λ x xs. x ∷ xs) source.1 more.2)
+question_in : (s : Section) (ps : List Part) (rs : List Record)
+    → place s ≡ 0 → AreInTurn s ps → map token_in rs ≡ flat_map tokens_of ps → AreShaped rs
+    → (q : Question) × (rs ≡ records_of_question q)
+question_in s [] rs first turn e shaped = (absent, no_records rs e)
+question_in s (p ∷ ps) [] first turn e shaped = absurd (cc)
+question_in s (p ∷ ps) (r ∷ rs) first turn e shaped =
+    let next = ltb-true (place s) (place p.section) turn.0 in
+    let after : 0 < place p.section = omega arith in
+    let none = none_follows p.section ps after turn.1 in
+    let top : token_in r ≡ opens p.section p.count = cc in
+    let later : map token_in rs ≡ replicate p.count (adds (item_of p.section)) ++ flat_map tokens_of ps = cc in
+    query_in p.section p.count r rs after top
+    (later ∙ ap (λ l. replicate p.count (adds (item_of p.section)) ++ flat_map tokens_of l) none) shaped.0
+    shaped.1
 
 abbrev JobOf : List Record → Type 0
 JobOf rs = (job : Content) × (rs ≡ records_of job)
 
-no_records : (rs : List Record) → map mark_in rs ≡ [] → rs ≡ []
-no_records [] e = refl
-no_records (r ∷ rs) e = absurd (cc)
-
--- a job that asks nothing, and one that asks for sources
-job_absent : (k : ℕ) (r : Record) (rs : List Record)
-    → mark_in r ∷ map mark_in rs ≡ heads Problem k ∷ (replicate k (one Arc) ++ []) → AreShaped (r ∷ rs)
+-- the section at place 0 is the problem
+job_of_parts : (s : Section) (k : ℕ) (ps : List Part) (r : Record) (rs : List Record)
+    → place s ≡ 0 → AreInTurn s ps → token_in r ≡ opens s k
+    → map token_in rs ≡ replicate k (adds (item_of s)) ++ flat_map tokens_of ps
+    → IsShaped r → AreShaped rs
     → JobOf (r ∷ rs)
-job_absent k r rs e shaped =
-    let first : mark_of r.form r.numbers ≡ heads Problem k = cc in
-    let later : map mark_in rs ≡ replicate k (one Arc) ++ [] = cc in
-    let top = problem_record_of r.form r.numbers k shaped.0 first in
-    let a = arcs_in k rs [] later shaped.1 in (
-      record { n = top.0; arcs = a.arcs; question = absent },
-      ap₂ (λ x xs. x ∷ xs) (top.1 ∙ ap (λ m. problem_record top.0 m) (sym a.count))
-          (a.same ∙ ap (λ l. map arc_record a.arcs ++ l) (no_records a.others a.marks)),
+job_of_parts Sources k ps r rs first turn m e top shaped = absurd (cc)
+job_of_parts Problem k ps r rs first turn m e top shaped =
+    let (arcs, others, count, same, tokens, more) = items_in arc_record Arc k rs (flat_map tokens_of ps) arc_by e shaped in
+    let problem = problem_by r k top m in
+    let asked = question_in Problem ps others refl turn tokens more in (
+      record { n = problem.0; arcs = arcs; question = asked.0 },
+      ap₂ (λ x xs. x ∷ xs) (problem.1 ∙ ap (λ c. problem_record problem.0 c) (sym count))
+          (same ∙ ap (λ l. map arc_record arcs ++ l) asked.1),
     )
 
-question_in : (k : ℕ) (rs : List Record)
-    → map mark_in rs ≡ heads Sources k ∷ (replicate k (one Source) ++ []) → AreShaped rs
-    → (q : Question) × (rs ≡ records_of_question q)
-question_in k [] e shaped = absurd (cc)
-question_in k (r ∷ rs) e shaped =
-    let first : mark_of r.form r.numbers ≡ heads Sources k = cc in
-    let later : map mark_in rs ≡ replicate k (one Source) ++ [] = cc in
-    let v = sources_in k rs (later ∙ append-nil (replicate k (one Source))) shaped.1 in (
-      from_sources v.0,
-      ap₂ (λ x xs. x ∷ xs)
-          (sources_record_of r.form r.numbers k shaped.0 first ∙ ap (λ m. sources_record m) (sym v.1)) v.2,
-    )
-
-job_asking : (k j : ℕ) (r : Record) (rs : List Record)
-    → mark_in r ∷ map mark_in rs
-    ≡ heads Problem k ∷ (replicate k (one Arc) ++ (heads Sources j ∷ (replicate j (one Source) ++ [])))
-    → AreShaped (r ∷ rs)
-    → JobOf (r ∷ rs)
-job_asking k j r rs e shaped =
-    let first : mark_of r.form r.numbers ≡ heads Problem k = cc in
-    let later : map mark_in rs ≡ replicate k (one Arc) ++ (heads Sources j ∷ (replicate j (one Source) ++ [])) = cc in
-    let top = problem_record_of r.form r.numbers k shaped.0 first in
-    let a = arcs_in k rs (heads Sources j ∷ (replicate j (one Source) ++ [])) later shaped.1 in
-    let q = question_in j a.others a.marks a.shaped in (
-      record { n = top.0; arcs = a.arcs; question = q.0 },
-      ap₂ (λ x xs. x ∷ xs) (top.1 ∙ ap (λ m. problem_record top.0 m) (sym a.count))
-          (a.same ∙ ap (λ l. map arc_record a.arcs ++ l) q.1),
-    )
-
-job_of_second : (k j : ℕ) (t : Section) (more : List Part) (r : Record) (rs : List Record)
-    → may_follow Problem t ≡ true → AreInTurn t more
-    → mark_in r ∷ map mark_in rs
-    ≡ heads Problem k
-    ∷ (replicate k (one Arc)
-    ++ ((heads t j ∷ replicate j (one (item_of t))) ++ flat_map marks_of more)) → AreShaped (r ∷ rs)
-    → JobOf (r ∷ rs)
-job_of_second k j Problem more r rs may turn e shaped = absurd (cc)
-job_of_second k j Sources [] r rs may turn e shaped = job_asking k j r rs e shaped
-job_of_second k j Sources (p ∷ more) r rs may turn e shaped = absurd (let never = turn.0 in cc)
-
-job_of_parts : (s : Section) (k : ℕ) (ps : List Part) (rs : List Record)
-    → s ≡ Problem → AreInTurn s ps
-    → map mark_in rs ≡ (heads s k ∷ replicate k (one (item_of s))) ++ flat_map marks_of ps → AreShaped rs
-    → JobOf rs
-job_of_parts Sources k ps rs first turn e shaped = absurd (cc)
-job_of_parts Problem k ps [] first turn e shaped = absurd (cc)
-job_of_parts Problem k [] (r ∷ rs) first turn e shaped = job_absent k r rs e shaped
-job_of_parts Problem k (p ∷ ps) (r ∷ rs) first turn e shaped =
-    job_of_second k p.count p.section ps r rs turn.0 turn.1 e shaped
-
-job_of_legal : (rs : List Record) → IsLegal (map mark_in rs) → AreShaped rs → JobOf rs
+job_of_legal : (rs : List Record) → IsLegal (map token_in rs) → AreShaped rs → JobOf rs
 unfolding IsLegal
 job_of_legal rs ([], bad, e) shaped = absurd bad
-job_of_legal rs (p ∷ ps, order, e) shaped = job_of_parts p.section p.count ps rs order.0 order.1 e shaped
+job_of_legal [] (p ∷ ps, order, e) shaped = absurd (cc)
+job_of_legal (r ∷ rs) (p ∷ ps, order, e) shaped =
+    let top : token_in r ≡ opens p.section p.count = cc in
+    let later : map token_in rs ≡ replicate p.count (adds (item_of p.section)) ++ flat_map tokens_of ps = cc in
+    job_of_parts p.section p.count ps r rs order.0 order.1 top later shaped.0 shaped.1
 
 pub job_or_fault : (text : List ℕ)
     → ((job : Content) × IsJobText text job)
@@ -384,7 +234,8 @@ pub job_or_fault : (text : List ℕ)
 unfolding IsJobText IsFirstFault
 job_or_fault text =
     answered
-    (fault_or_legal (readings MAX_VERTICES (lines text)) (readings MAX_VERTICES (lines text)) [] start refl refl)
+    (fault_or_legal (lines text) (lines text) 1 (record { records = []; stage = Start; vertices = MAX_VERTICES })
+    (record { said = []; split = refl; records = refl; stage = refl; count = refl }))
   where
     answered : FaultOrLegal (readings MAX_VERTICES (lines text))
         → ((job : Content)
@@ -394,5 +245,6 @@ job_or_fault text =
         ⊎ ((line : ℕ) × (kind : LineKind) × IsFirstAmong (readings MAX_VERTICES (lines text)) line kind)
     answered (inl fault) = inr fault
     answered (inr (s, e, legal)) =
-        let job = job_of_legal (records_among s) legal (all_shaped MAX_VERTICES (lines text) s e) in
+        let job = job_of_legal (records_among s) legal
+        (all_shaped MAX_VERTICES (records_among s) (all_within MAX_VERTICES (lines text) s e)) in
         inl (job.0, (s, e, job.1))

@@ -1,107 +1,117 @@
 -- What the fields of a line say as numbers within limits.
-use Rattle.std.proofs.Common.{◌≡◌, ℕ, ◌^◌, ◌<◌, Bool, true, false, ◌&&◌, leb, List, [], ◌∷◌}
-use Rattle.std.proofs.Common.{length, map, Option, Some, None, Ok, Err, option_map, refl, sym}
-use Rattle.std.proofs.Common.{ap, ◌∙◌, arith, ap₂, eq-eqb, option_and_then}
-use Rattle.std.proofs.lemmas.Bool.{ne_eqb}
+use Rattle.std.proofs.Common.{◌≡◌, ℕ, zero, suc, ◌^◌, ◌<◌, Bool, true, false, ◌&&◌, leb, eqb, cond, List, [], ◌∷◌}
+use Rattle.std.proofs.Common.{◌++◌, length, Option, Some, None, Result, Ok, Err, option_map, refl, ap, ap₂}
+use Rattle.std.proofs.Common.{arith, eq-eqb, option_and_then, append_assoc}
+use Rattle.std.specs.Option.{option_or}
+use Rattle.std.proofs.lemmas.Grind.{common_steps}
+use Rattle.std.proofs.lemmas.Bool.{and_parts}
 use Rattle.std.proofs.lemmas.Bool.Decides.{nat_tests}
 use Rattle.dimacs_text.specs.declared.form.Limit.{Limit}
-use Rattle.dimacs_text.specs.declared.fault.LineKind.TheVariants as kinds
-use Rattle.dimacs_text.specs.Peeling.{capped}
+use Rattle.dimacs_text.specs.declared.fault.LineKind.{LineKind}
+use Rattle.dimacs_text.specs.Lines.{number}
+use Rattle.dimacs_text.specs.reader.Pieces.{capped}
+use Rattle.dimacs_text.specs.reader.Entries.{AreWithin}
 use Rattle.dimacs_text.specs.Forms.{numbers, numbers_within, in_limits, checked}
+use Rattle.dimacs_text.specs.declared.fault.LineKind.TheVariants as kinds
 
--- a cap above the limit changes nothing
-pub capped_within : (low high v : ℕ)
-    → high < 2 ^ 32
-    → (leb low (capped v) && leb (capped v) high) ≡ (leb low v && leb v high)
-capped_within low high v small = grind (arith, nat_tests)
+-- what is said in the end, from the numbers so far and those that follow, where something may be wrong
+abbrev pub said_with : Option LineKind → List ℕ → List Limit → Option (List ℕ) → Result (List ℕ) LineKind
+said_with wrong vs ls None = Err kinds.Number
+said_with None vs ls (Some ws) = cond (in_limits ls ws) (Ok (vs ++ ws)) (Err kinds.Range)
+said_with (Some kind) vs ls (Some ws) = Err kind
 
-pub capped_exact : (low high v : ℕ) → high < 2 ^ 32 → (leb low (capped v) && leb (capped v) high) ≡ true → capped v ≡ v
-capped_exact low high v small e = grind (arith, nat_tests)
+abbrev pub said_after : Option LineKind → List ℕ → List Limit → List (List ℕ) → Result (List ℕ) LineKind
+said_after wrong vs ls fs =
+    cond (eqb (length fs) (length ls)) (said_with wrong vs ls (numbers fs)) (Err kinds.Fields)
 
-pub wrong_count : (ls : List Limit) (fs : List (List ℕ))
-    → (length fs ≡ length ls → ⊥)
-    → numbers_within ls fs ≡ Err kinds.Fields
+pub said_first : (ls : List Limit) (fs : List (List ℕ)) → numbers_within ls fs ≡ said_after None [] ls fs
 unfolding numbers_within
-wrong_count ls fs ne = rw (ne_eqb (length fs) (length ls) ne) refl
-
--- the largest number of each limit has 32 bits
-abbrev pub FitAll : List Limit → Type 0
-FitAll [] = Unit {0}
-FitAll (l ∷ ls) = (l.most < 2 ^ 32) × FitAll ls
-
-in_limits-capped : (ls : List Limit) (vs : List ℕ) → FitAll ls → in_limits ls (map capped vs) ≡ in_limits ls vs
-in_limits-capped [] [] fit = refl
-in_limits-capped [] (v ∷ vs) fit = refl
-in_limits-capped (l ∷ ls) [] fit = refl
-in_limits-capped (l ∷ ls) (v ∷ vs) fit =
-    ap₂ (λ a b. a && b) (capped_within l.least l.most v fit.0) (in_limits-capped ls vs fit.1)
-
-pub and_parts : (a b : Bool) → (a && b) ≡ true → (a ≡ true) × (b ≡ true)
-and_parts true true e = (refl, refl)
-and_parts true false e = absurd (cc)
-and_parts false b e = absurd (cc)
-
-map_capped : (ls : List Limit) (vs : List ℕ) → FitAll ls → in_limits ls (map capped vs) ≡ true → map capped vs ≡ vs
-map_capped [] [] fit e = refl
-map_capped [] (v ∷ vs) fit e = absurd (cc)
-map_capped (l ∷ ls) [] fit e = refl
-map_capped (l ∷ ls) (v ∷ vs) fit e =
-    let both = and_parts (leb l.least (capped v) && leb (capped v) l.most) (in_limits ls (map capped vs)) e in
-    ap₂ (λ x xs. x ∷ xs) (capped_exact l.least l.most v fit.0 both.0) (map_capped ls vs fit.1 both.1)
-
-right_count : (ls : List Limit) (fs : List (List ℕ))
-    → length fs ≡ length ls
-    → numbers_within ls fs ≡ checked ls (numbers fs)
-unfolding numbers_within
-right_count ls fs e = rw (eq-eqb (length fs) (length ls) e) refl
-
--- what the capped numbers of the fields say
-pub no_numbers : (ls : List Limit) (fs : List (List ℕ))
-    → length fs ≡ length ls → None ≡ option_map (λ vs. map capped vs) (numbers fs)
-    → Err kinds.Number ≡ numbers_within ls fs
-no_numbers ls fs e is = sym (right_count ls fs e ∙ of_none (numbers fs) is)
+said_first ls fs = ap (λ r. cond (eqb (length fs) (length ls)) r (Err kinds.Fields)) (same (numbers fs))
   where
-    of_none : (o : Option (List ℕ)) → None ≡ option_map (λ vs. map capped vs) o → checked ls o ≡ Err kinds.Number
-    of_none None is = refl
-    of_none (Some vs) is = absurd (cc)
+    same : (o : Option (List ℕ)) → checked ls o ≡ said_with None [] ls o
+    same None = refl
+    same (Some vs) = refl
 
-pub some_numbers : (ls : List Limit) (fs : List (List ℕ)) (vs : List ℕ)
-    → length fs ≡ length ls → FitAll ls → Some vs ≡ option_map (λ ws. map capped ws) (numbers fs)
-    → in_limits ls vs ≡ true
-    → Ok vs ≡ numbers_within ls fs
-some_numbers ls fs vs e fit is within = sym (right_count ls fs e ∙ of_some (numbers fs) is)
+-- a step of the reading, for whatever the fields after it say
+said_more : (wrong wrong' : Option LineKind) (vs vs' : List ℕ) (l : Limit) (ls : List Limit)
+    (f : List ℕ) (fs : List (List ℕ))
+    → ((p : Option (List ℕ))
+    → said_with wrong vs (l ∷ ls) (option_and_then (λ v. option_map (λ us. v ∷ us) p) (number f))
+    ≡ said_with wrong' vs' ls p)
+    → said_after wrong vs (l ∷ ls) (f ∷ fs) ≡ said_after wrong' vs' ls fs
+said_more wrong wrong' vs vs' l ls f fs same =
+    let count : eqb (length (f ∷ fs)) (length (l ∷ ls)) ≡ eqb (length fs) (length ls) = grind (arith, nat_tests) in
+    ap₂ (λ b r. cond b r (Err kinds.Fields)) count (same (numbers fs))
+
+-- a field more is no number,
+pub said_no_number : (wrong : Option LineKind) (vs vs' : List ℕ) (l : Limit) (ls : List Limit)
+    (f : List ℕ) (fs : List (List ℕ))
+    → None ≡ option_map capped (number f)
+    → said_after wrong vs (l ∷ ls) (f ∷ fs) ≡ said_after (Some kinds.Number) vs' ls fs
+said_no_number wrong vs vs' l ls f fs e =
+    said_more wrong (Some kinds.Number) vs vs' l ls f fs (λ p. same (number f) p e)
   where
-    of_some : (o : Option (List ℕ)) → Some vs ≡ option_map (λ ws. map capped ws) o → checked ls o ≡ Ok vs
-    of_some None is = absurd (cc)
-    of_some (Some ws) is =
-        let same : vs ≡ map capped ws = cc in
-        let yes : in_limits ls (map capped ws) ≡ true = ap (λ xs. in_limits ls xs) (sym same) ∙ within in
-        rw (sym (in_limits-capped ls ws fit) ∙ yes) (ap (λ xs. Ok xs) (sym (same ∙ map_capped ls ws fit yes)))
+    same : (o : Option ℕ) (p : Option (List ℕ))
+        → None ≡ option_map capped o
+        → said_with wrong vs (l ∷ ls) (option_and_then (λ v. option_map (λ us. v ∷ us) p) o)
+        ≡ said_with (Some kinds.Number) vs' ls p
+    same (Some v) p is = absurd (cc)
+    same None None is = refl
+    same None (Some us) is = refl
 
-pub out_of_range : (ls : List Limit) (fs : List (List ℕ)) (vs : List ℕ)
-    → length fs ≡ length ls → FitAll ls → Some vs ≡ option_map (λ ws. map capped ws) (numbers fs)
-    → in_limits ls vs ≡ false
-    → Err kinds.Range ≡ numbers_within ls fs
-out_of_range ls fs vs e fit is within = sym (right_count ls fs e ∙ of_some (numbers fs) is)
+-- or a number, within the limit or out of range
+pub said_number : (test : Bool) (wrong : Option LineKind) (vs vs' : List ℕ) (l : Limit) (ls : List Limit)
+    (value : ℕ) (f : List ℕ) (fs : List (List ℕ))
+    → l.most < 2 ^ 32 → Some value ≡ option_map capped (number f)
+    → (leb l.least value && leb value l.most) ≡ test → (test ≡ true → vs' ≡ vs ++ value ∷ [])
+    → said_after wrong vs (l ∷ ls) (f ∷ fs)
+    ≡ said_after (cond test wrong (option_or wrong (Some kinds.Range))) vs' ls fs
+said_number test wrong vs vs' l ls value f fs small e within next =
+    said_more wrong (cond test wrong (option_or wrong (Some kinds.Range))) vs vs' l ls f fs
+    (λ p. same test wrong (number f) p e within next)
   where
-    of_some : (o : Option (List ℕ)) → Some vs ≡ option_map (λ ws. map capped ws) o → checked ls o ≡ Err kinds.Range
-    of_some None is = absurd (cc)
-    of_some (Some ws) is =
-        let same : vs ≡ map capped ws = cc in
-        rw (sym (in_limits-capped ls ws fit) ∙ ap (λ xs. in_limits ls xs) (sym same) ∙ within) refl
-
-pub one_number : (o : Option ℕ)
-    → option_map (λ n. n ∷ []) (option_map capped o)
-    ≡ option_map (λ vs. map capped vs) (option_and_then (λ v. option_map (λ vs. v ∷ vs) (Some [])) o)
-one_number None = refl
-one_number (Some v) = refl
-
-pub and-true : (b : Bool) → (b && true) ≡ b
-and-true true = refl
-and-true false = refl
+    same : (t : Bool) (w : Option LineKind) (o : Option ℕ) (p : Option (List ℕ))
+        → Some value ≡ option_map capped o
+        → (leb l.least value && leb value l.most) ≡ t → (t ≡ true → vs' ≡ vs ++ value ∷ [])
+        → said_with w vs (l ∷ ls) (option_and_then (λ v. option_map (λ us. v ∷ us) p) o)
+        ≡ said_with (cond t w (option_or w (Some kinds.Range))) vs' ls p
+    same t w None p is test next = absurd (cc)
+    same t w (Some v) None is test next = refl
+    same true (Some kind) (Some v) (Some us) is test next = refl
+    same false (Some kind) (Some v) (Some us) is test next = refl
+    same true None (Some v) (Some us) is test next =
+        let cap : value ≡ capped v = cc in
+        let exact : v ≡ value = grind (arith, nat_tests) in
+        rw (exact, test, next refl, append_assoc) refl
+    same false None (Some v) (Some us) is test next =
+        let cap : value ≡ capped v = cc in
+        let out : (leb l.least v && leb v l.most) ≡ false = grind (arith, nat_tests) in
+        rw out refl
 
 -- numbers within their limits are those of the fields
 pub exact_numbers : (ls : List Limit) (fs : List (List ℕ)) (vs : List ℕ)
     → length fs ≡ length ls → numbers fs ≡ Some vs → in_limits ls vs ≡ true
     → numbers_within ls fs ≡ Ok vs
-exact_numbers ls fs vs e is within = right_count ls fs e ∙ ap (λ o. checked ls o) is ∙ rw within refl
+unfolding numbers_within
+exact_numbers ls fs vs e is within = rw (eq-eqb (length fs) (length ls) e, is, within) refl
+
+-- numbers that are said are within their limits
+pub said_within : (ls : List Limit) (fs : List (List ℕ)) (vs : List ℕ)
+    → numbers_within ls fs ≡ Ok vs
+    → in_limits ls vs ≡ true
+unfolding numbers_within
+said_within ls fs vs e = by_cases (eqb (length fs) (length ls)) (numbers fs) e
+  where
+    by_cases : (count : Bool) (o : Option (List ℕ))
+        → cond count (checked ls o) (Err kinds.Fields) ≡ Ok vs
+        → in_limits ls vs ≡ true
+    by_cases false o f = absurd (cc)
+    by_cases true None f = absurd (cc)
+    by_cases true (Some ws) f = grind (arith, common_steps)
+
+pub are_within : (ls : List Limit) (vs : List ℕ) → in_limits ls vs ≡ true → AreWithin ls vs
+are_within [] vs e k h = absurd (omega arith)
+are_within (l ∷ ls) [] e k h = absurd (cc)
+are_within (l ∷ ls) (v ∷ vs) e zero h = grind (arith, nat_tests)
+are_within (l ∷ ls) (v ∷ vs) e (suc k) h =
+    are_within ls vs (and_parts (leb l.least v && leb v l.most) (in_limits ls vs) e).1 k (omega arith)

@@ -4,6 +4,7 @@ pub mod FormLemmas
 pub mod WordLemmas
 pub mod ReaderLemmas
 pub mod AnswerLemmas
-pub mod PlainLemmas
+pub mod FastArcLemmas
 pub mod TextLaws
 pub mod Existence
+pub mod Limits

@@ -1,264 +1,156 @@
--- A machine that reads marks one by one, and what it says of the legal lists.
-use Rattle.std.proofs.Common.{◌≡◌, ℕ, zero, suc, Bool, true, false, List, [], ◌∷◌, ◌++◌}
-use Rattle.std.proofs.Common.{map, flat_map, replicate, Option, Some, None, refl, sym, ap}
-use Rattle.std.proofs.Common.{subst, ◌∙◌, append_assoc, append-nil, cond}
+-- A machine that reads tokens one by one, and what it says of the legal lists.
+use Rattle.std.proofs.Common.{◌≡◌, ℕ, zero, suc, Bool, true, false, List, [], ◌∷◌, ◌++◌, map, flat_map, replicate}
+use Rattle.std.proofs.Common.{Option, Some, None, refl, sym, ap, ap₂, inl, inr, subst, ◌∙◌, append_assoc, append-nil}
+use Rattle.std.proofs.Common.{cond, eqb, eq-eqb}
+use Rattle.std.proofs.lemmas.Bool.{eqb-true}
+use Rattle.std.proofs.lemmas.List.{map-append}
 use Rattle.dimacs_text.specs.declared.form.Section.{Section}
-use Rattle.dimacs_text.specs.declared.form.Section.TheVariants.{Problem, Sources}
+use Rattle.dimacs_text.specs.declared.form.Section.TheVariants.{Problem}
 use Rattle.dimacs_text.specs.declared.form.Item.{Item}
 use Rattle.dimacs_text.specs.declared.form.Item.TheVariants.{Arc, Source}
+use Rattle.dimacs_text.specs.declared.form.Form.{Form}
+use Rattle.dimacs_text.specs.declared.form.Form.TheVariants.{Head, Counted}
 use Rattle.dimacs_text.specs.declared.fault.LineKind.{LineKind}
 use Rattle.dimacs_text.specs.declared.fault.LineKind.TheVariants.{Misplaced, TooMany, TooFew}
-use Rattle.dimacs_text.specs.Forms.{Form, head, counted}
-use Rattle.dimacs_text.specs.Stages.{At, start, within, phase_of, can_come, count_fault}
-use Rattle.dimacs_text.specs.Stages.{missing_at, misfit_at, one_less, next_at, unless_wrong, run}
-use Rattle.dimacs_text.specs.Shapes.{Mark, heads, one, Part, item_of, may_follow}
-use Rattle.dimacs_text.specs.Shapes.{marks_of, form_of_mark, AreInTurn, IsLegal}
-use Rattle.dimacs_text.specs.Shapes.{BeginsLegal, FitsSomeCounts, IsMisfit, MisfitKind}
+use Rattle.dimacs_text.specs.declared.stage.Stage.{Stage}
+use Rattle.dimacs_text.specs.declared.stage.Stage.TheVariants.{Start, Within}
+use Rattle.dimacs_text.specs.reader.Machine.{phase_of, item_number, same_item, can_come, count_fault, missing_at}
+use Rattle.dimacs_text.specs.reader.Machine.{misfit_at, next_at, unless_wrong, run}
+use Rattle.dimacs_text.specs.Grammar.{Token, opens, adds, Part, item_of, place, may_follow, tokens_of, form_of_token}
+use Rattle.dimacs_text.specs.Grammar.{AreInTurn, IsLegal, BeginsLegal, FitsSomeCounts, IsMisfit, MisfitKind, excess}
 
--- these marks complete a legal list from there
-abbrev pub Completes : At → List Mark → Type 0
-Completes start ms = IsLegal ms
-Completes (within s j) ms =
-    (ps : List Part) × AreInTurn s ps × (ms ≡ replicate j (one (item_of s)) ++ flat_map marks_of ps)
+-- items with one number are one item
+abbrev item_at : ℕ → Item
+item_at zero = Arc
+item_at (suc n) = Source
 
--- a mark that fits leads to a legal list
-head_leads : (a : At) (t : Section) (k : ℕ) (rest : List Mark)
-    → misfit_at a (head t) ≡ None → Completes (within t k) rest
-    → Completes a (heads t k ∷ rest)
+same_item_eq : (i j : Item) → same_item i j ≡ true → i ≡ j
+same_item_eq i j e = sym (back i) ∙ ap (λ n. item_at n) (eqb-true (item_number i) (item_number j) e) ∙ back j
+  where
+    back : (k : Item) → item_at (item_number k) ≡ k
+    back Arc = refl
+    back Source = refl
+
+-- the machine goes on where nothing is wrong: the form can come there, and the count is right
+pub goes : (o : Option LineKind) (x : Option Stage) (b : Stage) → unless_wrong o x ≡ Some b → (o ≡ None) × (x ≡ Some b)
+goes None x b e = (refl, e)
+goes (Some k) x b e = absurd (cc)
+
+can_fit : (ok : Bool) (o : Option LineKind) → cond ok o (Some Misplaced) ≡ None → (ok ≡ true) × (o ≡ None)
+can_fit true o e = (refl, e)
+can_fit false o e = absurd (cc)
+
+-- these tokens complete a legal list from there
+abbrev pub Completes : Stage → List Token → Type 0
+Completes Start ms = IsLegal ms
+Completes (Within s j) ms =
+    (ps : List Part) × AreInTurn s ps × (ms ≡ replicate j (adds (item_of s)) ++ flat_map tokens_of ps)
+
+-- a token that fits leads to a legal list
+step_leads : (a : Stage) (m : Token) (rest : List Token)
+    → misfit_at a (form_of_token m) ≡ None → Completes (next_at a m) rest
+    → Completes a (m ∷ rest)
 unfolding IsLegal
-head_leads start Problem k rest e (ps, turn, eq) =
-    (record { section = Problem; count = k } ∷ ps, (refl, turn), ap (λ l. heads Problem k ∷ l) eq)
-head_leads start Sources k rest e c = absurd (cc)
-head_leads (within Problem zero) Problem k rest e c = absurd (cc)
-head_leads (within Problem zero) Sources k rest e (ps, turn, eq) =
-    (record { section = Sources; count = k } ∷ ps, (refl, turn), ap (λ l. heads Sources k ∷ l) eq)
-head_leads (within Sources zero) Problem k rest e c = absurd (cc)
-head_leads (within Sources zero) Sources k rest e c = absurd (cc)
-head_leads (within Problem (suc j)) Problem k rest e c = absurd (cc)
-head_leads (within Problem (suc j)) Sources k rest e c = absurd (cc)
-head_leads (within Sources (suc j)) Problem k rest e c = absurd (cc)
-head_leads (within Sources (suc j)) Sources k rest e c = absurd (cc)
+step_leads Start (opens t k) rest e (ps, turn, eq) = (
+  record { section = t; count = k } ∷ ps,
+  (eqb-true (place t) 0 (can_fit (eqb (place t) 0) None e).0, turn),
+  ap (λ l. opens t k ∷ l) eq,
+)
+step_leads (Within s zero) (opens t k) rest e (ps, turn, eq) = (
+  record { section = t; count = k } ∷ ps,
+  ((can_fit (may_follow s t) None e).0, turn),
+  ap (λ l. opens t k ∷ l) eq,
+)
+step_leads (Within s (suc j)) (opens t k) rest e c =
+    absurd (let few = (can_fit (may_follow s t) (Some TooFew) e).1 in cc)
+step_leads Start (adds i) rest e c = absurd (cc)
+step_leads (Within s zero) (adds i) rest e c =
+    absurd (let many = (can_fit (same_item (item_of s) i) (Some TooMany) e).1 in cc)
+step_leads (Within s (suc j)) (adds i) rest e (ps, turn, eq) =
+    let same = same_item_eq (item_of s) i (can_fit (same_item (item_of s) i) None e).0 in
+    (ps, turn, ap₂ (λ x l. adds x ∷ l) (sym same) eq)
 
-item_leads : (a : At) (i : Item) (rest : List Mark)
-    → misfit_at a (counted i) ≡ None → Completes (one_less a) rest
-    → Completes a (one i ∷ rest)
-item_leads start i rest e c = absurd (cc)
-item_leads (within Problem zero) Arc rest e c = absurd (cc)
-item_leads (within Problem zero) Source rest e c = absurd (cc)
-item_leads (within Sources zero) Arc rest e c = absurd (cc)
-item_leads (within Sources zero) Source rest e c = absurd (cc)
-item_leads (within Problem (suc j)) Arc rest e (ps, turn, eq) = (ps, turn, ap (λ l. one Arc ∷ l) eq)
-item_leads (within Problem (suc j)) Source rest e c = absurd (cc)
-item_leads (within Sources (suc j)) Arc rest e c = absurd (cc)
-item_leads (within Sources (suc j)) Source rest e (ps, turn, eq) = (ps, turn, ap (λ l. one Source ∷ l) eq)
-
-step_leads : (a : At) (m : Mark) (rest : List Mark)
-    → misfit_at a (form_of_mark m) ≡ None → Completes (next_at a m) rest
-    → Completes a (m ∷ rest)
-step_leads a (heads t k) rest e c = head_leads a t k rest e c
-step_leads a (one i) rest e c = item_leads a i rest e c
-
-lead_cases : (a : At) (m : Mark) (after : Option At) (b : At) (rest : List Mark) (o : Option LineKind)
-    → misfit_at a (form_of_mark m) ≡ o → (after ≡ Some b → Completes (next_at a m) rest)
-    → unless_wrong o after ≡ Some b
-    → Completes a (m ∷ rest)
-lead_cases a m after b rest None e c r = step_leads a m rest e (c r)
-lead_cases a m after b rest (Some k) e c r = absurd (cc)
-
--- marks that the machine reads lead on to what completes a legal list
-pub run_leads : (ms : List Mark) (a b : At) (rest : List Mark)
+-- tokens that the machine reads lead on to what completes a legal list
+pub run_leads : (ms : List Token) (a b : Stage) (rest : List Token)
     → run a ms ≡ Some b → Completes b rest
     → Completes a (ms ++ rest)
-run_leads [] a b rest e c = let same : b ≡ a = cc in subst (λ (x : At). Completes x rest) same c
+run_leads [] a b rest e c = let same : b ≡ a = cc in subst (λ (x : Stage). Completes x rest) same c
 run_leads (m ∷ ms) a b rest e c =
-    lead_cases a m (run (next_at a m) ms) b (ms ++ rest) (misfit_at a (form_of_mark m)) refl
-    (λ r. run_leads ms (next_at a m) b rest r c) e
+    let on = goes (misfit_at a (form_of_token m)) (run (next_at a m) ms) b e in
+    step_leads a m (ms ++ rest) on.0 (run_leads ms (next_at a m) b rest on.1 c)
 
 -- the machine reads a legal list to its end
-items_run : (s : Section) (j : ℕ) (rest : List Mark)
-    → run (within s j) (replicate j (one (item_of s)) ++ rest) ≡ run (within s 0) rest
+items_run : (s : Section) (j : ℕ) (rest : List Token)
+    → run (Within s j) (replicate j (adds (item_of s)) ++ rest) ≡ run (Within s 0) rest
 items_run s zero rest = refl
-items_run Problem (suc j) rest = items_run Problem j rest
-items_run Sources (suc j) rest = items_run Sources j rest
+items_run s (suc j) rest =
+    let n = item_number (item_of s) in
+    rw (eq-eqb n n refl) (items_run s j rest)
 
 parts_run : (ps : List Part) (s : Section)
     → AreInTurn s ps
-    → (t : Section) × (run (within s 0) (flat_map marks_of ps) ≡ Some (within t 0))
+    → (t : Section) × (run (Within s 0) (flat_map tokens_of ps) ≡ Some (Within t 0))
 parts_run [] s turn = (s, refl)
 parts_run (p ∷ ps) s turn =
     let later = parts_run ps p.section turn.1 in
     let may : may_follow s p.section ≡ true = turn.0 in
-    (later.0, rw may (items_run p.section p.count (flat_map marks_of ps) ∙ later.1))
+    (later.0, rw may (items_run p.section p.count (flat_map tokens_of ps) ∙ later.1))
 
-problem_runs : (s : Section) (k : ℕ) (ps : List Part)
-    → s ≡ Problem → AreInTurn s ps
-    → (t : Section)
-    × (run start ((heads s k ∷ replicate k (one (item_of s))) ++ flat_map marks_of ps)
-    ≡ Some (within t 0))
-problem_runs Problem k ps e turn =
-    let later = parts_run ps Problem turn in
-    (later.0, items_run Problem k (flat_map marks_of ps) ∙ later.1)
-problem_runs Sources k ps e turn = absurd (cc)
-
-pub legal_runs : (ms : List Mark) → IsLegal ms → (t : Section) × (run start ms ≡ Some (within t 0))
+pub legal_runs : (ms : List Token) → IsLegal ms → (t : Section) × (run Start ms ≡ Some (Within t 0))
 unfolding IsLegal
 legal_runs ms ([], bad, e) = absurd bad
 legal_runs ms (p ∷ ps, order, e) =
-    let runs = problem_runs p.section p.count ps order.0 order.1 in
-    (runs.0, ap (λ l. run start l) e ∙ runs.1)
+    let later = parts_run ps p.section order.1 in (
+      later.0,
+      ap (λ l. run Start l) e
+          ∙ rw (eq-eqb (place p.section) 0 order.0)
+          (items_run p.section p.count (flat_map tokens_of ps) ∙ later.1),
+    )
 
 -- what was read before counts by where it led to
-append_cases : (o : Option LineKind) (x y : Option At) (b : At) (z : Option At)
-    → unless_wrong o x ≡ Some b → (x ≡ Some b → y ≡ z)
-    → unless_wrong o y ≡ z
-append_cases None x y b z e f = f e
-append_cases (Some k) x y b z e f = absurd (cc)
-
-pub run-append : (ms : List Mark) (a b : At) (rest : List Mark) → run a ms ≡ Some b → run a (ms ++ rest) ≡ run b rest
+pub run-append : (ms : List Token) (a b : Stage) (rest : List Token) → run a ms ≡ Some b → run a (ms ++ rest) ≡ run b rest
 run-append [] a b rest e = let same : a ≡ b = cc in ap (λ x. run x rest) same
 run-append (m ∷ ms) a b rest e =
-    append_cases (misfit_at a (form_of_mark m)) (run (next_at a m) ms) (run (next_at a m) (ms ++ rest)) b
-    (run b rest) e (run-append ms (next_at a m) b rest)
+    let on = goes (misfit_at a (form_of_token m)) (run (next_at a m) ms) b e in
+    ap (λ o. unless_wrong o (run (next_at a m) (ms ++ rest))) on.0 ∙ run-append ms (next_at a m) b rest on.1
 
-completion : (b : At) → (rest : List Mark) × Completes b rest
+completion : (b : Stage) → (rest : List Token) × Completes b rest
 unfolding IsLegal
-completion start = (heads Problem 0 ∷ [], (record { section = Problem; count = 0 } ∷ [], (refl, tt), refl))
-completion (within s j) = (replicate j (one (item_of s)), ([], tt, sym (append-nil (replicate j (one (item_of s))))))
+completion Start = (opens Problem 0 ∷ [], (record { section = Problem; count = 0 } ∷ [], (refl, tt), refl))
+completion (Within s j) = (replicate j (adds (item_of s)), ([], tt, sym (append-nil (replicate j (adds (item_of s))))))
 
--- some legal list begins with the marks that the machine reads
-pub run_begins : (ms : List Mark) (b : At) → run start ms ≡ Some b → BeginsLegal ms
+-- some legal list begins with the tokens that the machine reads
+pub run_begins : (ms : List Token) (b : Stage) → run Start ms ≡ Some b → BeginsLegal ms
 unfolding BeginsLegal
-run_begins ms b e = let c = completion b in (c.0, run_leads ms start b c.0 e c.1)
+run_begins ms b e = let c = completion b in (c.0, run_leads ms Start b c.0 e c.1)
 
-stuck_ends : (ms more : List Mark) (b : At) (m : Mark) (k : LineKind)
-    → run start ms ≡ Some b → misfit_at b (form_of_mark m) ≡ Some k
-    → run start ((ms ++ m ∷ []) ++ more) ≡ None
-stuck_ends ms more b m k e w = rw append_assoc (run-append ms start b (m ∷ more) e ∙ (rw w refl))
-
--- no legal list begins with the marks that the machine can't read
-pub stuck : (ms : List Mark) (b : At) (m : Mark) (k : LineKind)
-    → run start ms ≡ Some b → misfit_at b (form_of_mark m) ≡ Some k → BeginsLegal (ms ++ m ∷ [])
+-- no legal list begins with the tokens that the machine can't read
+stuck : (ms : List Token) (b : Stage) (m : Token) (k : LineKind)
+    → run Start ms ≡ Some b → misfit_at b (form_of_token m) ≡ Some k → BeginsLegal (ms ++ m ∷ [])
     → ⊥
 unfolding BeginsLegal
 stuck ms b m k e w (more, legal) =
+    let ends : run Start ((ms ++ m ∷ []) ++ more) ≡ None =
+    rw append_assoc (run-append ms Start b (m ∷ more) e ∙ (rw w refl)) in
     let runs = legal_runs ((ms ++ m ∷ []) ++ more) legal in
-    let ends = stuck_ends ms more b m k e w in
     let r1 = runs.1 in cc
 
 -- a text that is complete there is legal, and no other is
-pub complete : (ms : List Mark) (s : Section) → run start ms ≡ Some (within s 0) → IsLegal ms
-complete ms s e =
-    let done = run_leads ms start (within s 0) [] e ([], tt, refl) in
-    rw (← append-nil ms) done
+pub complete : (ms : List Token) (s : Section) → run Start ms ≡ Some (Within s 0) → IsLegal ms
+complete ms s e = rw (← append-nil ms) (run_leads ms Start (Within s 0) [] e ([], tt, refl))
 
 -- what forms alone allow
 abbrev pub phase_after : Option Section → Form → Option Section
-phase_after p (head next) = Some next
-phase_after p (counted item) = p
+phase_after p (Head next) = Some next
+phase_after p (Counted item) = p
 
 abbrev pub allowed : Option Section → List Form → Option (Option Section)
 allowed p [] = Some p
 allowed p (f ∷ fs) = cond (can_come p f) (allowed (phase_after p f) fs) None
 
--- forms that are allowed are those of marks that the machine reads, with counts that fit
-pub record Counted (p : Option Section) (fs : List Form) : Type 0 where
-  at : At
-  marks : List Mark
-  end : At
-  phase : phase_of at ≡ p
-  same : map form_of_mark marks ≡ fs
-  runs : run at marks ≡ Some end
-
-count_head : (p : Option Section) (t : Section) (fs : List Form)
-    → can_come p (head t) ≡ true → Counted (Some t) fs
-    → Counted p (head t ∷ fs)
-count_head p t fs ok c = head_of p ok c.at c.phase c.runs
-  where
-    head_of : (q : Option Section)
-        → can_come q (head t) ≡ true → (a : At) → phase_of a ≡ Some t → run a c.marks ≡ Some c.end
-        → Counted q (head t ∷ fs)
-    head_of q may start ph r = absurd (cc)
-    head_of None may (within s j) ph r =
-        record {
-          at = start;
-          marks = heads t j ∷ c.marks;
-          end = c.end;
-          phase = refl;
-          same = ap (λ l. head t ∷ l) c.same;
-          runs = rw may (let e : s ≡ t = cc in subst (λ x. run (within x j) c.marks ≡ Some c.end) e r);
-        }
-    head_of (Some u) may (within s j) ph r =
-        record {
-          at = within u 0;
-          marks = heads t j ∷ c.marks;
-          end = c.end;
-          phase = refl;
-          same = ap (λ l. head t ∷ l) c.same;
-          runs = rw may (let e : s ≡ t = cc in subst (λ x. run (within x j) c.marks ≡ Some c.end) e r);
-        }
-
-count_item : (p : Option Section) (i : Item) (fs : List Form)
-    → can_come p (counted i) ≡ true → Counted p fs
-    → Counted p (counted i ∷ fs)
-count_item p i fs ok c = item_of_at p ok c.at c.phase c.runs
-  where
-    item_of_at : (q : Option Section)
-        → can_come q (counted i) ≡ true → (a : At) → phase_of a ≡ q → run a c.marks ≡ Some c.end
-        → Counted q (counted i ∷ fs)
-    item_of_at None may a ph r = absurd (cc)
-    item_of_at (Some u) may start ph r = absurd (cc)
-    item_of_at (Some u) may (within s j) ph r =
-        record {
-          at = within u (suc j);
-          marks = one i ∷ c.marks;
-          end = c.end;
-          phase = refl;
-          same = ap (λ l. counted i ∷ l) c.same;
-          runs = rw may (let e : s ≡ u = cc in subst (λ x. run (within x j) c.marks ≡ Some c.end) e r);
-        }
-
-allowed_cases : {A : Type 0} (b : Bool) (x : Option A) (q : A) → cond b x None ≡ Some q → (b ≡ true) × (x ≡ Some q)
+pub allowed_cases : {A : Type 0} (b : Bool) (x : Option A) (q : A) → cond b x None ≡ Some q → (b ≡ true) × (x ≡ Some q)
 allowed_cases true x q e = (refl, e)
 allowed_cases false x q e = absurd (cc)
-
-count_all : (fs : List Form) (p q : Option Section) → allowed p fs ≡ Some q → Counted p fs
-count_all [] None q e = record { at = start; marks = []; end = start; phase = refl; same = refl; runs = refl }
-count_all [] (Some s) q e =
-    record { at = within s 0; marks = []; end = within s 0; phase = refl; same = refl; runs = refl }
-count_all (head t ∷ fs) p q e =
-    let both = allowed_cases (can_come p (head t)) (allowed (Some t) fs) q e in
-    count_head p t fs both.0 (count_all fs (Some t) q both.1)
-count_all (counted i ∷ fs) p q e =
-    let both = allowed_cases (can_come p (counted i)) (allowed p fs) q e in
-    count_item p i fs both.0 (count_all fs p q both.1)
-
--- the forms of marks that the machine reads are allowed
-wrong_cases : (ok : Bool) (o : Option LineKind) (x : Option At) (b : At)
-    → unless_wrong (cond ok o (Some Misplaced)) x ≡ Some b
-    → (ok ≡ true) × (x ≡ Some b)
-wrong_cases true None x b e = (refl, e)
-wrong_cases true (Some k) x b e = absurd (cc)
-wrong_cases false o x b e = absurd (cc)
-
-phase-next : (a : At) (m : Mark)
-    → can_come (phase_of a) (form_of_mark m) ≡ true
-    → phase_of (next_at a m) ≡ phase_after (phase_of a) (form_of_mark m)
-phase-next a (heads t k) e = refl
-phase-next start (one i) e = refl
-phase-next (within s zero) (one i) e = refl
-phase-next (within s (suc j)) (one i) e = refl
-
-run_allowed : (ms : List Mark) (a b : At)
-    → run a ms ≡ Some b
-    → allowed (phase_of a) (map form_of_mark ms) ≡ Some (phase_of b)
-run_allowed [] a b e = let same : a ≡ b = cc in ap (λ x. Some (phase_of x)) same
-run_allowed (m ∷ ms) a b e =
-    let both =
-    wrong_cases (can_come (phase_of a) (form_of_mark m)) (count_fault (form_of_mark m) (missing_at a))
-    (run (next_at a m) ms) b e in
-    let later = run_allowed ms (next_at a m) b both.1 in
-    let same = phase-next a m both.0 in
-    rw both.0 (rw (← same) later)
 
 allowed-append : (fs gs : List Form) (p q : Option Section)
     → allowed p fs ≡ Some q
@@ -268,77 +160,112 @@ allowed-append (f ∷ fs) gs p q e =
     let both = allowed_cases (can_come p f) (allowed (phase_after p f) fs) q e in
     rw both.0 (allowed-append fs gs (phase_after p f) q both.1)
 
-map_form-append : (ms ns : List Mark) → map form_of_mark (ms ++ ns) ≡ map form_of_mark ms ++ map form_of_mark ns
-map_form-append [] ns = refl
-map_form-append (m ∷ ms) ns = ap (λ l. form_of_mark m ∷ l) (map_form-append ms ns)
+-- the forms of tokens that the machine reads are allowed
+phase-next : (a : Stage) (m : Token) → phase_of (next_at a m) ≡ phase_after (phase_of a) (form_of_token m)
+phase-next a (opens t k) = refl
+phase-next Start (adds i) = refl
+phase-next (Within s zero) (adds i) = refl
+phase-next (Within s (suc j)) (adds i) = refl
+
+pub run_allowed : (ms : List Token) (a b : Stage)
+    → run a ms ≡ Some b
+    → allowed (phase_of a) (map form_of_token ms) ≡ Some (phase_of b)
+run_allowed [] a b e = let same : a ≡ b = cc in ap (λ x. Some (phase_of x)) same
+run_allowed (m ∷ ms) a b e =
+    let on = goes (misfit_at a (form_of_token m)) (run (next_at a m) ms) b e in
+    let fit =
+    can_fit (can_come (phase_of a) (form_of_token m)) (count_fault (form_of_token m) (missing_at a)) on.0 in
+    let later = run_allowed ms (next_at a m) b on.1 in
+    let same = phase-next a m in
+    rw fit.0 (rw (← same) later)
+
+-- forms that are allowed are read where each head counts the items after it
+abbrev items_ahead : List Form → ℕ
+items_ahead [] = 0
+items_ahead (Head t ∷ fs) = 0
+items_ahead (Counted i ∷ fs) = suc (items_ahead fs)
+
+abbrev with_counts : List Form → List Token
+with_counts [] = []
+with_counts (Head t ∷ fs) = opens t (items_ahead fs) ∷ with_counts fs
+with_counts (Counted i ∷ fs) = adds i ∷ with_counts fs
+
+forms_with_counts : (fs : List Form) → map form_of_token (with_counts fs) ≡ fs
+forms_with_counts [] = refl
+forms_with_counts (Head t ∷ fs) = ap (λ l. Head t ∷ l) (forms_with_counts fs)
+forms_with_counts (Counted i ∷ fs) = ap (λ l. Counted i ∷ l) (forms_with_counts fs)
+
+abbrev at_phase : Option Section → ℕ → Stage
+at_phase None j = Start
+at_phase (Some s) j = Within s j
+
+allowed_runs : (fs : List Form) (p q : Option Section)
+    → allowed p fs ≡ Some q
+    → run (at_phase p (items_ahead fs)) (with_counts fs) ≡ Some (at_phase q 0)
+allowed_runs [] p q e = let same : p ≡ q = cc in ap (λ x. Some (at_phase x 0)) same
+allowed_runs (Head t ∷ fs) None q e =
+    let both = allowed_cases (can_come None (Head t)) (allowed (Some t) fs) q e in
+    rw both.0 (allowed_runs fs (Some t) q both.1)
+allowed_runs (Head t ∷ fs) (Some s) q e =
+    let both = allowed_cases (can_come (Some s) (Head t)) (allowed (Some t) fs) q e in
+    rw both.0 (allowed_runs fs (Some t) q both.1)
+allowed_runs (Counted i ∷ fs) None q e = absurd (cc)
+allowed_runs (Counted i ∷ fs) (Some s) q e =
+    let both = allowed_cases (can_come (Some s) (Counted i)) (allowed (Some s) fs) q e in
+    rw both.0 (allowed_runs fs (Some s) q both.1)
 
 -- a form that can come fits with some counts
-pub fits : (ms : List Mark) (b : At) (m : Mark)
-    → run start ms ≡ Some b → can_come (phase_of b) (form_of_mark m) ≡ true
+fits : (ms : List Token) (b : Stage) (m : Token)
+    → run Start ms ≡ Some b → can_come (phase_of b) (form_of_token m) ≡ true
     → FitsSomeCounts (ms ++ m ∷ [])
 unfolding FitsSomeCounts
 fits ms b m e ok =
-    let before = run_allowed ms start b e in
-    let all : allowed None (map form_of_mark (ms ++ m ∷ []))
-    ≡ Some (phase_after (phase_of b) (form_of_mark m)) =
-    rw map_form-append
-    (allowed-append (map form_of_mark ms) (form_of_mark m ∷ []) None (phase_of b) before ∙ rw ok refl) in
-    let c = count_all (map form_of_mark (ms ++ m ∷ [])) None (phase_after (phase_of b) (form_of_mark m)) all in
-    begun c.marks c.end (map form_of_mark (ms ++ m ∷ [])) c.at c.phase c.runs c.same
-  where
-    begun : (ns : List Mark) (d : At) (fs : List Form) (a : At)
-        → phase_of a ≡ None → run a ns ≡ Some d → map form_of_mark ns ≡ fs
-        → (others : List Mark) × (map form_of_mark others ≡ fs) × BeginsLegal others
-    begun ns d fs start ph r same = (ns, same, run_begins ns d r)
-    begun ns d fs (within s j) ph r same = absurd (cc)
+    let fs = map form_of_token (ms ++ m ∷ []) in
+    let end = phase_after (phase_of b) (form_of_token m) in
+    let all : allowed None fs ≡ Some end =
+    ap (λ l. allowed None l) (map-append form_of_token ms (m ∷ []))
+    ∙ allowed-append (map form_of_token ms) (form_of_token m ∷ []) None (phase_of b) (run_allowed ms Start b e)
+    ∙ rw ok refl in
+    (with_counts fs, forms_with_counts fs, run_begins (with_counts fs) (at_phase end 0) (allowed_runs fs None end all))
 
 -- a form that can't come fits with no counts
-pub fits_not : (ms : List Mark) (b : At) (m : Mark)
-    → run start ms ≡ Some b → can_come (phase_of b) (form_of_mark m) ≡ false
+fits_not : (ms : List Token) (b : Stage) (m : Token)
+    → run Start ms ≡ Some b → can_come (phase_of b) (form_of_token m) ≡ false
     → FitsSomeCounts (ms ++ m ∷ [])
     → ⊥
 unfolding FitsSomeCounts BeginsLegal
 fits_not ms b m e never (others, same, (more, legal)) =
     let runs = legal_runs (others ++ more) legal in
-    let goes = run_allowed (others ++ more) start (within runs.0 0) runs.1 in
-    let before = run_allowed ms start b e in
-    let forms : map form_of_mark (others ++ more)
-    ≡ (map form_of_mark ms ++ form_of_mark m ∷ []) ++ map form_of_mark more =
-    map_form-append others more
-    ∙ ap (λ l. l ++ map form_of_mark more) (same ∙ map_form-append ms (m ∷ [])) in
-    let stops : allowed None ((map form_of_mark ms ++ form_of_mark m ∷ []) ++ map form_of_mark more)
+    let goes = run_allowed (others ++ more) Start (Within runs.0 0) runs.1 in
+    let forms : map form_of_token (others ++ more)
+    ≡ (map form_of_token ms ++ form_of_token m ∷ []) ++ map form_of_token more =
+    map-append form_of_token others more
+    ∙ ap (λ l. l ++ map form_of_token more) (same ∙ map-append form_of_token ms (m ∷ [])) in
+    let stops : allowed None ((map form_of_token ms ++ form_of_token m ∷ []) ++ map form_of_token more)
     ≡ None =
-    rw append_assoc (allowed-append (map form_of_mark ms) (form_of_mark m ∷ map form_of_mark more)
-    None (phase_of b) before
+    rw append_assoc (allowed-append (map form_of_token ms) (form_of_token m ∷ map form_of_token more)
+    None (phase_of b) (run_allowed ms Start b e)
     ∙ rw never refl) in
     let there = ap (λ l. allowed None l) forms in
     cc
 
--- a mark at which the machine stops is a misfit of that kind
-misfit_kind : (ms : List Mark) (b : At) (m : Mark) (kind : LineKind) (ok : Bool)
-    → run start ms ≡ Some b → can_come (phase_of b) (form_of_mark m) ≡ ok
-    → cond ok (count_fault (form_of_mark m) (missing_at b)) (Some Misplaced) ≡ Some kind
-    → MisfitKind ms m kind
-misfit_kind ms b m kind false e is w =
-    let same : Misplaced ≡ kind = cc in subst (λ k. MisfitKind ms m k) same (fits_not ms b m e is)
-misfit_kind ms b (heads t k) kind true e is w = early_kind (missing_at b) w
-  where
-    early_kind : (j : ℕ) → count_fault (head t) j ≡ Some kind → MisfitKind ms (heads t k) kind
-    early_kind zero f = absurd (cc)
-    early_kind (suc j) f =
-        let same : TooFew ≡ kind = cc in
-        subst (λ x. MisfitKind ms (heads t k) x) same (fits ms b (heads t k) e is)
-misfit_kind ms b (one i) kind true e is w = full_kind (missing_at b) w
-  where
-    full_kind : (j : ℕ) → count_fault (counted i) j ≡ Some kind → MisfitKind ms (one i) kind
-    full_kind zero f =
-        let same : TooMany ≡ kind = cc in
-        subst (λ x. MisfitKind ms (one i) x) same (fits ms b (one i) e is)
-    full_kind (suc j) f = absurd (cc)
+-- a token at which the machine stops is a misfit of that kind
+fault_kind : (m : Token) (j : ℕ) (kind : LineKind) → count_fault (form_of_token m) j ≡ Some kind → kind ≡ excess m
+fault_kind (opens t k) zero kind e = absurd (cc)
+fault_kind (opens t k) (suc j) kind e = cc
+fault_kind (adds i) zero kind e = cc
+fault_kind (adds i) (suc j) kind e = absurd (cc)
 
-pub machine_misfit : (ms : List Mark) (b : At) (m : Mark) (kind : LineKind)
-    → run start ms ≡ Some b → misfit_at b (form_of_mark m) ≡ Some kind
+misfit_kind : (ms : List Token) (b : Stage) (m : Token) (kind : LineKind) (ok : Bool)
+    → run Start ms ≡ Some b → can_come (phase_of b) (form_of_token m) ≡ ok
+    → cond ok (count_fault (form_of_token m) (missing_at b)) (Some Misplaced) ≡ Some kind
+    → MisfitKind ms m kind
+misfit_kind ms b m kind false e is w = let same : kind ≡ Misplaced = cc in inl (same, fits_not ms b m e is)
+misfit_kind ms b m kind true e is w = inr (fault_kind m (missing_at b) kind w, fits ms b m e is)
+
+pub machine_misfit : (ms : List Token) (b : Stage) (m : Token) (kind : LineKind)
+    → run Start ms ≡ Some b → misfit_at b (form_of_token m) ≡ Some kind
     → IsMisfit ms m kind
 unfolding IsMisfit
 machine_misfit ms b m kind e w =
-    (stuck ms b m kind e w, misfit_kind ms b m kind (can_come (phase_of b) (form_of_mark m)) e refl w)
+    (stuck ms b m kind e w, misfit_kind ms b m kind (can_come (phase_of b) (form_of_token m)) e refl w)

@@ -1,163 +1,280 @@
 -- What one more line does to what was read, and what is known at the end.
-use Rattle.std.proofs.Common.{◌≡◌, ℕ, zero, suc, ◌+◌, ◌<◌, List, [], ◌∷◌, ◌++◌, map}
-use Rattle.std.proofs.Common.{inl, inr, Option, Some, None, Ok, option_to_list, refl, sym}
-use Rattle.std.proofs.Common.{ap, ◌∙◌, append-nil, length-append, arith}
+use Rattle.std.proofs.Common.{◌≡◌, ℕ, zero, suc, ◌+◌, ◌-◌, ◌^◌, List, [], ◌∷◌, ◌++◌, map, ◌⊎◌, inl, inr, Option, Some}
+use Rattle.std.proofs.Common.{None, Ok, Err, option_to_list, refl, sym, ap, ap₂, subst, ◌∙◌, true, is_some, ◌≤◌}
+use Rattle.std.proofs.Common.{length, IfOk, IfErr, Result, append-nil, append_assoc, length-append, arith}
+use Rattle.std.proofs.lemmas.List.{map-append}
+use Rattle.std.proofs.lemmas.List.Elements.{filter_map-append}
+use Rattle.route_walks.specs.declared.graph.ArcRec.{ArcRec}
 use Rattle.route_walks.specs.declared.graph.TheConstants.{MAX_VERTICES}
 use Rattle.dimacs_text.specs.declared.draft.Draft.{Draft}
-use Rattle.dimacs_text.specs.declared.form.Section.{Section}
 use Rattle.dimacs_text.specs.declared.form.Section.TheVariants.{Problem, Sources}
-use Rattle.dimacs_text.specs.declared.fault.LineKind.TheVariants.{TooFew}
+use Rattle.dimacs_text.specs.declared.fault.LineKind.{LineKind}
 use Rattle.dimacs_text.specs.declared.fault.TextFault.{TextFault}
 use Rattle.dimacs_text.specs.declared.fault.TextFault.TheVariants.{Memory, Line}
 use Rattle.dimacs_text.specs.Lines.{lines}
-use Rattle.dimacs_text.specs.Forms.{Form, head, counted, Record, Reading, reading, readings, vertices_after}
-use Rattle.dimacs_text.specs.Shapes.{mark_of, form_of_mark, lack_of}
-use Rattle.dimacs_text.specs.Stages.{start, within, run, misfit_at}
-use Rattle.dimacs_text.specs.Jobs.{Content, records_of, records_among, IsJobText}
-use Rattle.dimacs_text.specs.Faults.{marks_among, unread, misfit, unfinished, IsFirstFault, IsFaultOf}
-use Rattle.dimacs_text.specs.Drafts.{at_of, at_by, records_in, records_by, mark_in}
-use Rattle.dimacs_text.specs.Drafts.{ReadsFirst, IsReadTo, IsFaultIn, IsLackOf}
+use Rattle.dimacs_text.specs.declared.form.Form.{Form}
+use Rattle.dimacs_text.specs.declared.form.Form.TheVariants.{Head, Counted}
+use Rattle.dimacs_text.specs.Forms.{Record, Reading, reading, readings, vertices_after}
+use Rattle.dimacs_text.specs.Grammar.{Token, token_of, form_of_token, lack_of, IsLegal}
+use Rattle.dimacs_text.specs.declared.stage.Stage.{Stage}
+use Rattle.dimacs_text.specs.declared.stage.Stage.TheVariants.{Start, Within}
+use Rattle.dimacs_text.specs.reader.Machine.{run, misfit_at}
+use Rattle.dimacs_text.specs.Jobs.{content_of, arc_record, problem_record, Content, records_of, records_among}
+use Rattle.dimacs_text.specs.Jobs.{IsJobText}
+use Rattle.dimacs_text.specs.Faults.{tokens_among, unread, misfit, unfinished, IsFirstAmong, IsFirstFault, IsFaultOf}
+use Rattle.dimacs_text.specs.reader.Drafts.{Progress, progress_of, records_by, token_in, after_line, progress_by}
+use Rattle.dimacs_text.specs.reader.Drafts.{ReadsArcs, Fits, ReadsLine, IsReadAmong, IsReadTo, ReadsTo, IsFaultAt}
+use Rattle.dimacs_text.specs.reader.Drafts.{IsLackAt, IsLackOf}
+use Rattle.dimacs_text.specs.reader.FastArc.{IsArcLine, HasNoFeed}
+use Rattle.dimacs_text.specs.declared.job.Job.{Job}
+use Rattle.dimacs_text.specs.declared.reader.LineReader.{LineReader}
+use Rattle.dimacs_text.specs.declared.reader.JobReader.{JobReader}
+use Rattle.dimacs_text.specs.Reading.{HasReadBy, HasRead, HasReadText, Keeps}
 use Rattle.dimacs_text.proofs.Machine.{run-append, run_begins, machine_misfit, legal_runs}
-
-pub started : (text : List ℕ) (draft : Draft)
-    → draft.stage ≡ None → draft.vertices ≡ MAX_VERTICES
-    → IsReadTo text text 1 draft
-started text draft stage vertices = record {
-  said = [];
-  split = ap (λ n. readings n (lines text)) (sym vertices);
-  records = sym (ap (λ s. records_by s draft.missing draft.vertices draft.arcs.items draft.sources.items) stage);
-  at = ap (λ s. Some (at_by s draft.missing)) (sym stage);
-  count = refl;
-}
 
 pub map_ok-push : (said : List (Option Record)) (s : Option Record) (more : List Reading)
     → map (λ x. Ok x) said ++ Ok s ∷ more ≡ map (λ x. Ok x) (said ++ s ∷ []) ++ more
-map_ok-push [] s more = refl
-map_ok-push (x ∷ said) s more = ap (λ l. Ok x ∷ l) (map_ok-push said s more)
+map_ok-push said s more =
+    sym
+    (ap (λ l. l ++ more) (map-append (λ x. Ok x) said (s ∷ []))
+    ∙ append_assoc (map (λ x. Ok x) said) (Ok s ∷ []) more)
 
 pub records-push : (said : List (Option Record)) (s : Option Record)
     → records_among (said ++ s ∷ []) ≡ records_among said ++ option_to_list s
-records-push [] None = refl
-records-push [] (Some r) = refl
-records-push (None ∷ said) s = records-push said s
-records-push (Some r ∷ said) s = ap (λ l. r ∷ l) (records-push said s)
+records-push said s =
+    filter_map-append (λ r. r) said (s ∷ []) ∙ ap (λ l. records_among said ++ l) (one_record s)
+  where
+    one_record : (o : Option Record) → records_among (o ∷ []) ≡ option_to_list o
+    one_record None = refl
+    one_record (Some r) = refl
 
-map_mark-append : (rs ss : List Record) → map mark_in (rs ++ ss) ≡ map mark_in rs ++ map mark_in ss
-map_mark-append [] ss = refl
-map_mark-append (r ∷ rs) ss = ap (λ l. mark_in r ∷ l) (map_mark-append rs ss)
+pub form-token : (form : Form) (numbers : List ℕ) → form_of_token (token_of form numbers) ≡ form
+form-token (Head s) numbers = refl
+form-token (Counted i) numbers = refl
 
-readings-first : (n : ℕ) (rest : List ℕ) (line : List ℕ) (more : List (List ℕ))
-    → lines rest ≡ line ∷ more
-    → readings n (lines rest) ≡ reading n line ∷ readings (vertices_after n (reading n line)) more
+-- what one line more does
+after-records : (old : Progress) (s : Option Record) → (after_line old s).records ≡ old.records ++ option_to_list s
+after-records old None = sym (append-nil old.records)
+after-records old (Some r) = refl
+
+after-vertices : (old : Progress) (s : Option Record) → (after_line old s).vertices ≡ vertices_after old.vertices (Ok s)
+after-vertices old None = refl
+after-vertices old (Some r) = refl
+
+after-at : (old : Progress) (s : Option Record)
+    → Fits old.stage s
+    → run old.stage (map token_in (option_to_list s)) ≡ Some (after_line old s).stage
+after-at old None fits = refl
+after-at old (Some r) fits =
+    rw (ap (λ f. misfit_at old.stage f) (form-token r.form r.numbers) ∙ fits) refl
+
+one_more : (old : Progress) (said : List (Option Record)) (s : Option Record)
+    → records_among said ≡ old.records → run Start (tokens_among said) ≡ Some old.stage → Fits old.stage s
+    → (records_among (said ++ s ∷ []) ≡ (after_line old s).records)
+    × (run Start (tokens_among (said ++ s ∷ [])) ≡ Some (after_line old s).stage)
+one_more old said s records at fits =
+    let more = records-push said s in (
+      more ∙ ap (λ l. l ++ option_to_list s) records ∙ sym (after-records old s),
+      ap (λ l. run Start (map token_in l)) more
+          ∙ ap (λ l. run Start l) (map-append token_in (records_among said) (option_to_list s))
+          ∙ run-append (tokens_among said) Start old.stage (map token_in (option_to_list s)) at
+          ∙ after-at old s fits,
+    )
+
+-- a line that is read leads on
+pub line_leads : (old : Progress) (all after : List (List ℕ)) (text : List ℕ) (s : Option Record) (line : ℕ)
+    → reading old.vertices text ≡ Ok s → Fits old.stage s → IsReadAmong all (text ∷ after) line old
+    → IsReadAmong all after (line + 1) (after_line old s)
 unfolding readings
-readings-first n rest line more e = ap (λ l. readings n l) e
-
-pub progress : (text rest after : List ℕ) (line : ℕ) (old new : Draft)
-    → IsReadTo text rest line old → ReadsFirst old new rest after
-    → IsReadTo text after (line + 1) new
-progress text rest after line old new p f =
-    let said = f.reads.said in
-    let here : readings old.vertices (lines rest) ≡ Ok said ∷ readings new.vertices (lines after) =
-    readings-first old.vertices rest f.line (lines after) f.split
-    ∙ ap (λ r. r ∷ readings (vertices_after old.vertices r) (lines after)) f.reads.reads
-    ∙ ap (λ n. Ok said ∷ readings n (lines after)) (sym f.reads.vertices) in
-    let records : records_among (p.said ++ said ∷ []) ≡ records_in old ++ option_to_list said =
-    records-push p.said said ∙ ap (λ l. l ++ option_to_list said) p.records in
-    let marks : marks_among (p.said ++ said ∷ []) ≡ marks_among p.said ++ map mark_in (option_to_list said) =
-    ap (λ l. map mark_in l) (records-push p.said said) ∙ map_mark-append (records_among p.said) (option_to_list said) in
+line_leads old all after text s line reads fits p =
+    let both = one_more old p.said s p.records p.stage fits in
     record {
-      said = p.said ++ said ∷ [];
+      said = p.said ++ s ∷ [];
       split =
           p.split
-          ∙ ap (λ l. map (λ x. Ok x) p.said ++ l) here
-          ∙ map_ok-push p.said said (readings new.vertices (lines after));
-      records = records ∙ sym f.reads.records;
-      at =
-          ap (λ ms. run start ms) marks
-          ∙ run-append (marks_among p.said) start (at_of old) (map mark_in (option_to_list said)) p.at
-          ∙ f.reads.at;
-      count = let len = length-append p.said (said ∷ []) in let c = p.count in omega arith;
+          ∙ ap (λ l. map (λ x. Ok x) p.said ++ l)
+          (ap (λ x. x ∷ readings (vertices_after old.vertices x) after) reads
+          ∙ ap (λ n. Ok s ∷ readings n after) (sym (after-vertices old s)))
+          ∙ map_ok-push p.said s (readings (after_line old s).vertices after);
+      records = both.0;
+      stage = both.1;
+      count = let len = length-append p.said (s ∷ []) in let c = p.count in omega arith;
     }
 
-pub form-mark : (form : Form) (numbers : List ℕ) → form_of_mark (mark_of form numbers) ≡ form
-form-mark (head s) numbers = refl
-form-mark (counted i) numbers = refl
+pub line_reads : (old new : Progress) (whole rest text after : List ℕ) (line : ℕ)
+    → lines rest ≡ text ∷ lines after → ReadsLine old new text → IsReadTo whole rest line old
+    → IsReadTo whole after (line + 1) new
+line_reads old new whole rest text after line split r p =
+    subst (λ (x : Progress). IsReadTo whole after (line + 1) x) (sym r.after)
+    (line_leads old (lines whole) (lines after) text r.said line r.reads r.fits
+    (subst (λ ls. IsReadAmong (lines whole) ls line old) split p))
 
-pub fault_found : (text rest : List ℕ) (line : ℕ) (draft : Draft) (fault : TextFault)
-    → IsReadTo text rest line draft → IsFaultIn draft rest line fault
-    → IsFaultOf text fault
-unfolding IsFirstFault
-fault_found text rest line draft Memory p f = tt
-fault_found text rest line draft (Line number kind) p (first, more, split, (same, inl e)) =
-    unread p.said (readings (vertices_after draft.vertices (reading draft.vertices first)) more)
-    (p.split
-    ∙ ap (λ l. map (λ x. Ok x) p.said ++ l)
-    (readings-first draft.vertices rest first more split
-    ∙ ap (λ r. r ∷ readings (vertices_after draft.vertices (reading draft.vertices first)) more) e))
-    (run_begins (marks_among p.said) (at_of draft) p.at) (same ∙ p.count)
-fault_found text rest line draft (Line number kind) p (first, more, split, (same, inr (r, e, w))) =
-    misfit p.said r (readings (vertices_after draft.vertices (reading draft.vertices first)) more)
-    (p.split
-    ∙ ap (λ l. map (λ x. Ok x) p.said ++ l)
-    (readings-first draft.vertices rest first more split
-    ∙ ap (λ r. r ∷ readings (vertices_after draft.vertices (reading draft.vertices first)) more) e))
-    (run_begins (marks_among p.said) (at_of draft) p.at)
-    (machine_misfit (marks_among p.said) (at_of draft) (mark_of r.form r.numbers) kind p.at
-    (ap (λ f. misfit_at (at_of draft) f) (form-mark r.form r.numbers) ∙ w)) (same ∙ p.count)
+-- arcs that are read lead on
+one_arc : (n j : ℕ) (arcs : List ArcRec) (sources : List ℕ) (arc : ArcRec) (rest after : List ℕ) (line : ℕ)
+    → IsArcLine n rest arc after
+    → ReadsTo (progress_by (Within Problem (suc j)) n arcs sources) line rest
+    (progress_by (Within Problem j) n (arcs ++ arc ∷ []) sources) (line + 1) after
+one_arc n j arcs sources arc rest after line r text more p =
+    line_reads (progress_by (Within Problem (suc j)) n arcs sources)
+    (progress_by (Within Problem j) n (arcs ++ arc ∷ []) sources) text (rest ++ more) r.line (after ++ more) line
+    (r.split more)
+    (record {
+      said = Some (arc_record arc);
+      reads = r.reads;
+      fits = refl;
+      after =
+          ap₂ (λ m l. record { records = problem_record n m ∷ l; stage = Within Problem j; vertices = n })
+          (let len = length-append arcs (arc ∷ []) in omega arith) (map-append arc_record arcs (arc ∷ []));
+    }) p
 
-at_end : (n : ℕ) → readings n (lines []) ≡ []
+pub one_arc_more : (n : ℕ) (rest : List ℕ) (old new : List ArcRec) (count : ℕ) (between after : List ℕ) (arc : ArcRec)
+    → ReadsArcs n rest old new count between → IsArcLine n between arc after
+    → ReadsArcs n rest old (new ++ arc ∷ []) (count + 1) after
+one_arc_more n rest old new count between after arc reads is missing line sources few text more p =
+    let here = reads missing line sources (omega arith) text more p in
+    let left : missing - count ≡ suc (missing - (count + 1)) = omega arith in
+    subst
+    (λ x. IsReadTo text (after ++ more) x
+    (progress_by (Within Problem (missing - (count + 1))) n (new ++ arc ∷ []) sources)) (omega arith)
+    (one_arc n (missing - (count + 1)) new sources arc between after (line + count) is text more
+    (subst (λ m. IsReadTo text (between ++ more) (line + count) (progress_by (Within Problem m) n new sources)) left
+    here))
+
+-- a line that is wrong is the first
+pub line_wrong : (old : Progress) (all after : List (List ℕ)) (text : List ℕ) (line : ℕ) (kind : LineKind)
+    → (reading old.vertices text ≡ Err kind)
+    ⊎ ((r : Record) × (reading old.vertices text ≡ Ok (Some r)) × (misfit_at old.stage r.form ≡ Some kind))
+    → IsReadAmong all (text ∷ after) line old
+    → IsFirstAmong (readings MAX_VERTICES all) line kind
 unfolding readings
-at_end n = refl
+line_wrong old all after text line kind (inl e) p =
+    let later = readings (vertices_after old.vertices (reading old.vertices text)) after in
+    unread p.said later (p.split ∙ ap (λ x. map (λ x. Ok x) p.said ++ x ∷ later) e)
+    (run_begins (tokens_among p.said) old.stage p.stage) p.count
+line_wrong old all after text line kind (inr (r, e, w)) p =
+    let later = readings (vertices_after old.vertices (reading old.vertices text)) after in
+    misfit p.said r later (p.split ∙ ap (λ x. map (λ x. Ok x) p.said ++ x ∷ later) e)
+    (run_begins (tokens_among p.said) old.stage p.stage)
+    (machine_misfit (tokens_among p.said) old.stage (token_in r) kind p.stage
+    (ap (λ f. misfit_at old.stage f) (form-token r.form r.numbers) ∙ w)) p.count
 
-all_said : (text : List ℕ) (line : ℕ) (draft : Draft)
-    → (p : IsReadTo text [] line draft)
-    → readings MAX_VERTICES (lines text) ≡ map (λ x. Ok x) p.said
-all_said text line draft p =
-    p.split
-    ∙ ap (λ l. map (λ x. Ok x) p.said ++ l) (at_end draft.vertices)
-    ∙ append-nil (map (λ x. Ok x) p.said)
+pub line_fails : (progress : Progress) (whole rest text after : List ℕ) (line : ℕ) (fault : TextFault)
+    → lines rest ≡ text ∷ lines after → IsFaultAt progress text line fault → IsReadTo whole rest line progress
+    → IsFaultOf whole fault
+unfolding IsFirstFault
+line_fails progress whole rest text after line Memory split f p = tt
+line_fails progress whole rest text after line (Line number kind) split (same, wrong) p =
+    subst (λ n. IsFirstAmong (readings MAX_VERTICES (lines whole)) n kind) (sym same)
+    (line_wrong progress (lines whole) (lines after) text line kind wrong
+    (subst (λ ls. IsReadAmong (lines whole) ls line progress) split p))
 
-pub finished : (text : List ℕ) (line : ℕ) (draft : Draft) (job : Content)
-    → IsReadTo text [] line draft → records_in draft ≡ records_of job
+-- at the end of the text
+pub all_said : (all : List (List ℕ)) (line : ℕ) (progress : Progress)
+    → (p : IsReadAmong all [] line progress)
+    → readings MAX_VERTICES all ≡ map (λ x. Ok x) p.said
+unfolding readings
+all_said all line progress p = p.split ∙ append-nil (map (λ x. Ok x) p.said)
+
+pub finished : (text : List ℕ) (line : ℕ) (progress : Progress) (job : Content)
+    → IsReadTo text [] line progress → progress.records ≡ records_of job
     → IsJobText text job
 unfolding IsJobText
-finished text line draft job p same = (p.said, all_said text line draft p, p.records ∙ same)
+finished text line progress job p same = (p.said, all_said (lines text) line progress p, p.records ∙ same)
 
-within_missing : (s t : Section) (j : ℕ) → 0 < j → Some (within s j) ≡ Some (within t 0) → ⊥
-within_missing s t zero small e = omega arith
-within_missing s t (suc j) small e = absurd (cc)
+pub incomplete : (ms : List Token) (a : Stage) (kind : LineKind) → run Start ms ≡ Some a → IsLackAt a kind → IsLegal ms → ⊥
+incomplete ms a kind e lack legal =
+    let runs = legal_runs ms legal in
+    let same : a ≡ Within runs.0 0 = let r = runs.1 in cc in
+    subst (λ (x : Stage). IsLackAt x kind) same lack
 
-lack_by : (section : Section) (missing n : ℕ) (draft : Draft)
-    → lack_of (map mark_in (records_by (Some section) missing n draft.arcs.items draft.sources.items))
-    ≡ TooFew
-lack_by Problem missing n draft = refl
-lack_by Sources missing n draft = refl
+lack_by : (stage : Stage) (n : ℕ) (arcs : List ArcRec) (sources : List ℕ) (kind : LineKind)
+    → IsLackAt stage kind
+    → kind ≡ lack_of (map token_in (records_by stage n arcs sources))
+lack_by Start n arcs sources kind e = e
+lack_by (Within s zero) n arcs sources kind bad = absurd bad
+lack_by (Within Problem (suc j)) n arcs sources kind e = e
+lack_by (Within Sources (suc j)) n arcs sources kind e = e
 
 pub lacking : (text : List ℕ) (line : ℕ) (draft : Draft) (fault : TextFault)
-    → IsReadTo text [] line draft → IsLackOf draft line fault
+    → IsReadTo text [] line (progress_of draft) → IsLackOf draft line fault
     → IsFaultOf text fault
 unfolding IsFirstFault
 lacking text line draft Memory p lack = absurd lack
-lacking text line draft (Line number kind) p (same, inl (stage, is)) =
-    let at : run start (marks_among p.said) ≡ Some start = p.at ∙ ap (λ s. Some (at_by s draft.missing)) stage in
-    let marks : marks_among p.said ≡ [] =
-    ap (λ l. map mark_in l)
-    (p.records
-    ∙ ap (λ s. records_by s draft.missing draft.vertices draft.arcs.items draft.sources.items) stage) in
-    unfinished p.said (all_said text line draft p) (run_begins (marks_among p.said) (at_of draft) p.at)
-    (λ legal. let runs = legal_runs (marks_among p.said) legal in let r1 = runs.1 in cc)
-    (is ∙ sym (ap (λ ms. lack_of ms) marks)) (same ∙ p.count)
-lacking text line draft (Line number kind) p (same, inr (section, stage, more, is)) =
-    let at : run start (marks_among p.said) ≡ Some (within section draft.missing) =
-    p.at ∙ ap (λ s. Some (at_by s draft.missing)) stage in
-    let marks : marks_among p.said
-    ≡ map mark_in (records_by (Some section) draft.missing draft.vertices draft.arcs.items
-    draft.sources.items) =
-    ap (λ l. map mark_in l)
-    (p.records
-    ∙ ap (λ s. records_by s draft.missing draft.vertices draft.arcs.items draft.sources.items) stage) in
-    unfinished p.said (all_said text line draft p) (run_begins (marks_among p.said) (at_of draft) p.at)
-    (λ legal.
-    let runs = legal_runs (marks_among p.said) legal in
-    within_missing section runs.0 draft.missing more (sym at ∙ runs.1))
-    (is ∙ sym (ap (λ ms. lack_of ms) marks ∙ lack_by section draft.missing draft.vertices draft)) (same ∙ p.count)
+lacking text line draft (Line number kind) p (same, lack) =
+    unfinished p.said (all_said (lines text) line (progress_of draft) p)
+    (run_begins (tokens_among p.said) draft.stage p.stage)
+    (incomplete (tokens_among p.said) draft.stage kind p.stage lack)
+    (lack_by draft.stage draft.vertices draft.arcs.items draft.sources.items kind lack
+    ∙ sym (ap (λ l. lack_of (map token_in l)) p.records)) (same ∙ p.count)
+
+-- what a reader of lines has read
+pub text_read : (reader : LineReader) (kept text : List ℕ)
+    → reader.fault ≡ None → HasReadText reader kept text
+    → (reader.line ≤ length text + 1)
+    × IsReadTo text kept reader.line (progress_of reader.draft)
+    × HasNoFeed kept 0 (length kept)
+text_read reader kept text right r =
+    let reads = subst (λ o. HasReadBy o reader.draft reader.line r.whole) right r.lines in
+    let keeps = subst (λ o. Keeps o r.whole kept text) right r.keeps in
+    let len = ap (λ l. length l) keeps.0 ∙ length-append r.whole kept in (
+      omega (arith, len, reads.0),
+      subst (λ t. IsReadTo t kept reader.line (progress_of reader.draft)) (sym keeps.0) (reads.1 kept),
+      keeps.1,
+    )
+
+pub text_fails : (reader : LineReader) (kept text : List ℕ) (kind : LineKind)
+    → reader.fault ≡ Some kind → HasReadText reader kept text
+    → IsFirstFault text reader.line kind
+text_fails reader kept text kind wrong r =
+    let is = subst (λ o. Keeps o r.whole kept text) wrong r.keeps in
+    subst (λ t. IsFirstFault t reader.line kind) (append-nil r.whole ∙ sym is)
+    (subst (λ o. HasReadBy o reader.draft reader.line r.whole) wrong r.lines [])
+
+-- what is kept of a line is read with the rest of it
+pub nothing_kept : (o : Option LineKind) (whole text : List ℕ) → text ≡ whole → Keeps o whole [] text
+nothing_kept None whole text e = (e ∙ sym (append-nil whole), λ k from to. absurd (omega arith))
+nothing_kept (Some kind) whole text e = e
+
+pub regrouped : (whole kept end rest : List ℕ)
+    → (whole ++ kept) ++ (end ++ rest) ≡ (whole ++ (kept ++ end)) ++ rest
+regrouped whole kept end rest = simp append_assoc refl
+
+pub kept_whole : (o : Option LineKind) (whole kept text : List ℕ) → o ≡ None → Keeps o whole kept text → text ≡ whole ++ kept
+kept_whole o whole kept text e k = (subst (λ x. Keeps x whole kept text) e k).0
+
+-- the job and the fault at the end of the text
+pub job_at_end : (text : List ℕ) (line : ℕ) (draft : Draft) (result : Result Job TextFault)
+    → IsReadTo text [] line (progress_of draft)
+    → IfOk result (λ job. (progress_of draft).records ≡ records_of (content_of job))
+    → IfOk result (λ job. IsJobText text (content_of job))
+job_at_end text line draft (Ok job) p same = finished text line (progress_of draft) (content_of job) p same
+job_at_end text line draft (Err fault) p same = tt
+
+pub fault_at_end : (text : List ℕ) (line : ℕ) (draft : Draft) (result : Result Job TextFault)
+    → IsReadTo text [] line (progress_of draft) → IfErr result (IsLackOf draft line)
+    → IfErr result (IsFaultOf text)
+fault_at_end text line draft (Ok job) p lack = tt
+fault_at_end text line draft (Err fault) p lack = lacking text line draft fault p lack
+
+-- after a fault the reader stays as it is
+pub fault_stays : (reader : JobReader) (text bytes : List ℕ)
+    → is_some reader.lines.fault ≡ true → HasRead reader text → length text + length bytes ≤ 2 ^ 36
+    → HasRead reader (text ++ bytes)
+fault_stays reader text bytes some r few =
+    let both = stays reader.lines.fault some r.lines r.keeps in
+    let len = length-append text bytes in
+    record { short = omega (arith, len, few); whole = text ++ bytes; lines = both.0; keeps = both.1 }
+  where
+    stays : (o : Option LineKind)
+        → is_some o ≡ true
+        → HasReadBy o reader.lines.draft reader.lines.line r.whole
+        → Keeps o r.whole reader.unfinished.items text
+        → HasReadBy o reader.lines.draft reader.lines.line (text ++ bytes)
+        × Keeps o (text ++ bytes) reader.unfinished.items (text ++ bytes)
+    stays None some reads is = absurd (cc)
+    stays (Some kind) some reads is = (
+      λ more.
+          subst (λ t. IsFirstFault t reader.lines.line kind)
+          (ap (λ t. t ++ (bytes ++ more)) (sym is) ∙ sym (append_assoc text bytes more)) (reads (bytes ++ more)),
+      refl,
+    )

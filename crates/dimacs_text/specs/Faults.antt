@@ -6,35 +6,35 @@ use Rattle.dimacs_text.specs.declared.fault.TextFault.{TextFault}
 use Rattle.dimacs_text.specs.declared.fault.TextFault.TheVariants.{Memory, Line}
 use Rattle.dimacs_text.specs.Lines.{lines}
 use Rattle.dimacs_text.specs.Forms.{Record, Reading, readings}
-use Rattle.dimacs_text.specs.Shapes.{Mark, mark_of, IsLegal, BeginsLegal, IsMisfit, lack_of}
+use Rattle.dimacs_text.specs.Grammar.{Token, token_of, IsLegal, BeginsLegal, IsMisfit, lack_of}
 use Rattle.dimacs_text.specs.Jobs.{records_among}
 
 -- the shape of what lines said
-abbrev pub marks_among : List (Option Record) → List Mark
-marks_among said = map (λ (r : Record). mark_of r.form r.numbers) (records_among said)
+abbrev pub tokens_among : List (Option Record) → List Token
+tokens_among said = map (λ (r : Record). token_of r.form r.numbers) (records_among said)
 
--- The lines before say nothing or records with which a legal list begins. The line behind them is the
+-- The lines before say nothing or records with which a legal list begins. The line after them is the
 -- first that is wrong:
 pub data IsFirstAmong (rs : List Reading) (line : ℕ) (kind : LineKind) : Type 0 where
   -- it is no record within its limits,
   unread : (said : List (Option Record)) (after : List Reading)
       → rs ≡ map (λ s. Ok s) said ++ Err kind ∷ after
-      → BeginsLegal (marks_among said)
+      → BeginsLegal (tokens_among said)
       → line ≡ length said + 1
       → IsFirstAmong rs line kind
   -- or a record with which no legal list begins,
   misfit : (said : List (Option Record)) (r : Record) (after : List Reading)
       → rs ≡ map (λ s. Ok s) said ++ Ok (Some r) ∷ after
-      → BeginsLegal (marks_among said)
-      → IsMisfit (marks_among said) (mark_of r.form r.numbers) kind
+      → BeginsLegal (tokens_among said)
+      → IsMisfit (tokens_among said) (token_of r.form r.numbers) kind
       → line ≡ length said + 1
       → IsFirstAmong rs line kind
   -- or the text ends there, and more had to come.
   unfinished : (said : List (Option Record))
       → rs ≡ map (λ s. Ok s) said
-      → BeginsLegal (marks_among said)
-      → (IsLegal (marks_among said) → ⊥)
-      → kind ≡ lack_of (marks_among said)
+      → BeginsLegal (tokens_among said)
+      → (IsLegal (tokens_among said) → ⊥)
+      → kind ≡ lack_of (tokens_among said)
       → line ≡ length said + 1
       → IsFirstAmong rs line kind
 

@@ -3,30 +3,26 @@ use Rattle.std.specs.Prelude.{ℕ, ◌-◌, ◌^◌, ◌==◌, ◌&&◌, nat_le,
 use Rattle.std.specs.Prelude.{length, drop, Option, Some, None, Result, Ok, Err, option_map}
 use Rattle.std.specs.Prelude.{option_and_then, find, codes, bytes_eq, if◌then◌else◌, slice_index}
 use Rattle.route_walks.specs.declared.graph.TheConstants.{MAX_VERTICES}
-use Rattle.dimacs_text.specs.declared.form.Section.{Section}
 use Rattle.dimacs_text.specs.declared.form.Section.TheVariants.{Problem, Sources}
-use Rattle.dimacs_text.specs.declared.form.Item.{Item}
 use Rattle.dimacs_text.specs.declared.form.Item.TheVariants.{Arc, Source}
+use Rattle.dimacs_text.specs.declared.form.Form.{Form}
+use Rattle.dimacs_text.specs.declared.form.Form.TheVariants.{Head, Counted}
 use Rattle.dimacs_text.specs.declared.form.Limit.{Limit}
 use Rattle.dimacs_text.specs.declared.fault.LineKind.{LineKind}
 use Rattle.dimacs_text.specs.declared.fault.LineKind.TheVariants.{Unknown, Fields, Number, Range}
-use Rattle.dimacs_text.specs.Lines.{fields, number, without_cr}
+use Rattle.dimacs_text.specs.declared.form.TheConstants.{MAX_TEXT_ARCS, MAX_SOURCES}
+use Rattle.dimacs_text.specs.Lines.{letter_c, fields, number, without_cr}
 
--- a line is the head of a section, or an item that a head counts
-pub data Form : Type 0 where
-  head : Section → Form
-  counted : Item → Form
-
--- the forms
+-- the forms, in the order in which a line is compared with them
 abbrev pub forms : List Form
-forms = head Problem ∷ head Sources ∷ counted Arc ∷ counted Source ∷ []
+forms = Head Problem ∷ Head Sources ∷ Counted Arc ∷ Counted Source ∷ []
 
 -- the fields by which a form is known
-abbrev pub words : Form → List (List ℕ)
-words (head Problem) = codes "p" ∷ codes "sp" ∷ []
-words (head Sources) = codes "p" ∷ codes "aux" ∷ codes "sp" ∷ codes "ss" ∷ []
-words (counted Arc) = codes "a" ∷ []
-words (counted Source) = codes "s" ∷ []
+abbrev pub leading : Form → List (List ℕ)
+leading (Head Problem) = codes "p" ∷ codes "sp" ∷ []
+leading (Head Sources) = codes "p" ∷ codes "aux" ∷ codes "sp" ∷ codes "ss" ∷ []
+leading (Counted Arc) = codes "a" ∷ []
+leading (Counted Source) = codes "s" ∷ []
 
 -- a vertex is a number from 1 to the number of vertices
 abbrev pub vertex_limit : ℕ → Limit
@@ -35,27 +31,27 @@ vertex_limit vertices = record { least = 1; most = vertices }
 abbrev pub up_to : ℕ → Limit
 up_to most = record { least = 0; most = most }
 
--- the limits of the numbers behind the words, where vertices are counted to the number given
+-- the limits of the numbers after them, where vertices are counted to the number given
 abbrev pub limits : ℕ → Form → List Limit
-limits vertices (head Problem) = up_to MAX_VERTICES ∷ up_to (2 ^ 30) ∷ []
-limits vertices (head Sources) = up_to (2 ^ 20) ∷ []
-limits vertices (counted Arc) = vertex_limit vertices ∷ vertex_limit vertices ∷ up_to (2 ^ 32 - 1) ∷ []
-limits vertices (counted Source) = vertex_limit vertices ∷ []
+limits vertices (Head Problem) = up_to MAX_VERTICES ∷ up_to MAX_TEXT_ARCS ∷ []
+limits vertices (Head Sources) = up_to MAX_SOURCES ∷ []
+limits vertices (Counted Arc) = vertex_limit vertices ∷ vertex_limit vertices ∷ up_to (2 ^ 32 - 1) ∷ []
+limits vertices (Counted Source) = vertex_limit vertices ∷ []
 
 -- a line of a form, with its numbers as they stand in the text
 pub record Record : Type 0 where
   pub form : Form
   pub numbers : List ℕ
 
--- the fields begin with the words
+-- the fields begin with those that lead a form
 abbrev pub begins_with : List (List ℕ) → List (List ℕ) → Bool
 begins_with [] fs = true
 begins_with (w ∷ ws) [] = false
 begins_with (w ∷ ws) (f ∷ fs) = bytes_eq f w && begins_with ws fs
 
--- the form whose words the fields begin with
+-- the first form whose leading fields the fields begin with
 abbrev pub form_of : List (List ℕ) → Option Form
-form_of fs = find (λ form. begins_with (words form) fs) forms
+form_of fs = find (λ form. begins_with (leading form) fs) forms
 
 -- the numbers of the fields, where each is one
 abbrev pub numbers : List (List ℕ) → Option (List ℕ)
@@ -89,13 +85,13 @@ in_form form (Err kind) = Err kind
 abbrev pub record_reading : ℕ → Option Form → List (List ℕ) → Reading
 record_reading vertices None fs = Err Unknown
 record_reading vertices (Some form) fs =
-    in_form form (numbers_within (limits vertices form) (drop (length (words form)) fs))
+    in_form form (numbers_within (limits vertices form) (drop (length (leading form)) fs))
 
 -- no field is a blank line, and a first field that begins with 'c' a comment
 unfoldable pub fields_reading : ℕ → List (List ℕ) → Reading
 fields_reading vertices [] = Ok None
 fields_reading vertices (f ∷ fs) =
-    if slice_index f 0 == 99
+    if slice_index f 0 == letter_c
     then Ok None
     else record_reading vertices (form_of (f ∷ fs)) (f ∷ fs)
 
@@ -103,15 +99,15 @@ fields_reading vertices (f ∷ fs) =
 unfoldable pub reading : ℕ → List ℕ → Reading
 reading vertices line = fields_reading vertices (fields (without_cr line))
 
--- N behind a problem line
-abbrev pub vertices_behind : ℕ → Form → ℕ → ℕ
-vertices_behind vertices (head Problem) first = first
-vertices_behind vertices (head Sources) first = vertices
-vertices_behind vertices (counted item) first = vertices
+-- N after a problem line
+abbrev pub vertices_next : ℕ → Form → ℕ → ℕ
+vertices_next vertices (Head Problem) first = first
+vertices_next vertices (Head Sources) first = vertices
+vertices_next vertices (Counted item) first = vertices
 
--- vertices are counted to N behind the problem line
+-- vertices are counted to N after the problem line
 abbrev pub vertices_after : ℕ → Reading → ℕ
-vertices_after vertices (Ok (Some r)) = vertices_behind vertices r.form (slice_index r.numbers 0)
+vertices_after vertices (Ok (Some r)) = vertices_next vertices r.form (slice_index r.numbers 0)
 vertices_after vertices (Ok None) = vertices
 vertices_after vertices (Err kind) = vertices
 

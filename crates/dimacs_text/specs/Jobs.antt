@@ -5,11 +5,13 @@ use Rattle.route_walks.specs.declared.graph.ArcRec.{ArcRec}
 use Rattle.route_walks.specs.declared.graph.TheConstants.{MAX_VERTICES}
 use Rattle.dimacs_text.specs.declared.form.Section.TheVariants.{Problem, Sources}
 use Rattle.dimacs_text.specs.declared.form.Item.TheVariants.{Arc, Source}
+use Rattle.dimacs_text.specs.declared.form.TheConstants.{MAX_TEXT_ARCS, MAX_SOURCES}
 use Rattle.dimacs_text.specs.declared.job.Job.{Job}
 use Rattle.dimacs_text.specs.declared.job.Ask as rust
 use Rattle.dimacs_text.specs.declared.job.Ask.TheVariants as ask
 use Rattle.dimacs_text.specs.Lines.{lines}
-use Rattle.dimacs_text.specs.Forms.{head, counted, Record, readings}
+use Rattle.dimacs_text.specs.declared.form.Form.TheVariants.{Head, Counted}
+use Rattle.dimacs_text.specs.Forms.{Record, readings}
 
 -- what is asked, without where it lies in memory
 pub data Question : Type 0 where
@@ -33,18 +35,18 @@ content_of job = record { n = job.n; arcs = job.arcs.items; question = question_
 abbrev pub arc_record : ArcRec → Record
 arc_record arc =
     record {
-      form = counted Arc;
+      form = Counted Arc;
       numbers = (arc.tail + 1) ∷ (arc.head + 1) ∷ arc.weight ∷ [];
     }
 
 abbrev pub source_record : ℕ → Record
-source_record vertex = record { form = counted Source; numbers = (vertex + 1) ∷ [] }
+source_record vertex = record { form = Counted Source; numbers = (vertex + 1) ∷ [] }
 
 abbrev pub problem_record : ℕ → ℕ → Record
-problem_record n m = record { form = head Problem; numbers = n ∷ m ∷ [] }
+problem_record n m = record { form = Head Problem; numbers = n ∷ m ∷ [] }
 
 abbrev pub sources_record : ℕ → Record
-sources_record k = record { form = head Sources; numbers = k ∷ [] }
+sources_record k = record { form = Head Sources; numbers = k ∷ [] }
 
 abbrev pub records_of_question : Question → List Record
 records_of_question absent = []
@@ -78,12 +80,12 @@ pub record IsArcWithin (n : ℕ) (arc : ArcRec) : Type 0 where
 abbrev pub IsQuestionWithin : ℕ → Question → Type 0
 IsQuestionWithin n absent = Unit {0}
 IsQuestionWithin n (from_sources vertices) =
-    (length vertices ≤ 2 ^ 20)
+    (length vertices ≤ MAX_SOURCES)
     × All (λ v. v < n) vertices
 
 -- the limits of a job
 pub record IsWithinLimits (job : Content) : Type 0 where
   pub vertices : job.n ≤ MAX_VERTICES
-  pub arc_count : length job.arcs ≤ 2 ^ 30
+  pub arc_count : length job.arcs ≤ MAX_TEXT_ARCS
   pub arcs : All (IsArcWithin job.n) job.arcs
   pub question : IsQuestionWithin job.n job.question

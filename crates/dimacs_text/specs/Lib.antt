@@ -1,12 +1,9 @@
 pub mod Lines
 pub mod Forms
-pub mod Shapes
+pub mod Grammar
 pub mod Jobs
 pub mod Faults
-pub mod Entries
-pub mod Stages
-pub mod Peeling
-pub mod Plain
 pub mod Laws
-pub mod Drafts
-pub mod Answers
+pub mod AnswerLines
+pub mod Reading
+pub mod reader

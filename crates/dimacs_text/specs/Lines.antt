@@ -6,18 +6,38 @@ use Rattle.std.specs.List.{onto_first, slice_split}
 use Rattle.std.specs.Str.{all_ascii_digits}
 use Rattle.std.specs.Str.Parse.{digits_value}
 
--- a text, cut behind each line feed; behind a last line feed no line follows
+-- the bytes that have a meaning of their own
+abbrev pub line_feed : ℕ
+line_feed = 10
+
+abbrev pub carriage_return : ℕ
+carriage_return = 13
+
+abbrev pub space : ℕ
+space = 32
+
+abbrev pub tab : ℕ
+tab = 9
+
+-- what a comment begins with
+abbrev pub letter_c : ℕ
+letter_c = 99
+
+-- a text, cut after each line feed; after a last line feed no line follows
 abbrev pub lines : List ℕ → List (List ℕ)
 lines [] = []
-lines (b ∷ bs) = if b == 10 then [] ∷ lines bs else onto_first b (lines bs)
+lines (b ∷ bs) = if b == line_feed then [] ∷ lines bs else onto_first b (lines bs)
 
 -- a line without the one carriage return at its end
 abbrev pub without_cr : List ℕ → List ℕ
-without_cr line = if slice_index line (length line - 1) == 13 then take (length line - 1) line else line
+without_cr line =
+    if slice_index line (length line - 1) == carriage_return
+    then take (length line - 1) line
+    else line
 
 -- a space or a tab
 abbrev pub is_blank : ℕ → Bool
-is_blank b = (b == 32) || (b == 9)
+is_blank b = (b == space) || (b == tab)
 
 abbrev pub is_empty : List ℕ → Bool
 is_empty [] = true

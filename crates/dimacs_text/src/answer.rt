@@ -5,9 +5,9 @@
 
 ghost use Rattle.std.specs.Prelude.{◌≡◌, ℕ, ◌+◌, ◌<◌, ◌≤◌, ◌++◌, ◌∷◌, [], length, take};
 ghost use Rattle.std.specs.Prelude.{drop, decimal, codes, All, OnOk, OnErr, vec_len, slice_index};
-ghost use Rattle.dimacs_text.specs.Answers.{source_text, label_text, cost_text};
-ghost use Rattle.dimacs_text.specs.Answers.{distances_text, components_text, component_text};
-ghost use Rattle.dimacs_text.specs.Answers.{vertices_text, walk_text};
+ghost use Rattle.dimacs_text.specs.AnswerLines.{source_text, label_text, cost_text};
+ghost use Rattle.dimacs_text.specs.AnswerLines.{distances_text, components_text, component_text};
+ghost use Rattle.dimacs_text.specs.AnswerLines.{vertices_text, walk_text};
 
 use itoa::write_digits;
 use route_walks::{INF, MAX_VERTICES, Memory};

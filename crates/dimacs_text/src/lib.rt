@@ -12,18 +12,20 @@
 
 mod answer;
 mod draft;
+mod fast_arc;
 mod fault;
 mod form;
 mod job;
 pub mod laws;
 mod line;
-mod plain;
 mod reader;
+mod stage;
 
 pub use answer::{put_component, put_components, put_distances, put_label, put_source, put_walk};
 pub use fault::{LineKind, TextFault};
+pub use form::{MAX_SOURCES, MAX_TEXT_ARCS};
 pub use job::{Ask, Job};
-pub use reader::read_job;
+pub use reader::{JobReader, read_job};
 
 #[cfg(test)]
 mod tests;

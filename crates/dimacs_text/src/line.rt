@@ -1,22 +1,37 @@
 //! Lines, fields and numbers.
 
-ghost use Rattle.std.specs.Prelude.{◌≡◌, ℕ, ◌+◌, ◌<◌, ◌++◌, ◌∷◌, [], length};
-ghost use Rattle.std.specs.Prelude.{MatchOption, option_map, slice_index, true, false};
-ghost use Rattle.dimacs_text.specs.Lines.{lines, without_cr, is_blank, fields, number};
-ghost use Rattle.dimacs_text.specs.Peeling.{SkipsBlanks, SplitsRun, capped};
+ghost use Rattle.std.specs.Prelude.{◌≡◌, ◌<◌, ◌≤◌, ◌∷◌, [], length, take};
+ghost use Rattle.std.specs.Prelude.{MatchOption, option_map, slice_index};
+ghost use Rattle.dimacs_text.specs.Lines.{without_cr, is_blank, fields, number};
+ghost use Rattle.dimacs_text.specs.reader.FastArc.{EndsWithFeed, HasNoFeed};
+ghost use Rattle.dimacs_text.specs.reader.Pieces.{SkipsBlanks, SplitsRun, capped};
 
-/// The first line of a text that has one, without its line feed, and the text behind it.
-pub fn split_line(bytes: &[u8]) -> (&[u8], &[u8])
-    requires { 0 < length bytes.now }
-    ensures first { lines bytes.now ≡ result.0.now ∷ lines result.1.now }
-    ensures shorter { length result.1.now < length bytes.now }
+/// The place of the line feed that ends the line which begins at a place.
+pub fn line_end(bytes: &[u8], start: usize) -> usize
+    requires ended { EndsWithFeed bytes.now }
+    requires inside { start < length bytes.now }
+    ensures place { (start ≤ result) × (result < length bytes.now) }
+    ensures feed { slice_index bytes.now result ≡ 10 }
+    ensures first { HasNoFeed bytes.now start result }
 {
-    for (i, byte) in bytes.iter().enumerate() {
-        if *byte == b'\n' {
-            return (&bytes[..i], &bytes[i + 1..]);
-        }
+    let mut end = start;
+    while bytes[end] != b'\n' {
+        end += 1;
     }
-    (bytes, &bytes[bytes.len()..])
+    end
+}
+
+/// The place after the last line feed, or 0 where there is none.
+pub fn after_last_feed(bytes: &[u8]) -> usize
+    ensures place { result ≤ length bytes.now }
+    ensures ended { EndsWithFeed (take result bytes.now) }
+    ensures last { HasNoFeed bytes.now result (length bytes.now) }
+{
+    let mut end = bytes.len();
+    while end > 0 && bytes[end - 1] != b'\n' {
+        end -= 1;
+    }
+    end
 }
 
 /// A line without the carriage return at its end.
@@ -36,7 +51,7 @@ pub fn is_blank_byte(byte: u8) -> bool
     byte == b' ' || byte == b'\t'
 }
 
-/// What stands behind the blanks at the front.
+/// What comes after the blanks at the start.
 pub fn skip_blanks(bytes: &[u8]) -> &[u8]
     ensures { SkipsBlanks bytes.now result.now }
 {
@@ -48,7 +63,7 @@ pub fn skip_blanks(bytes: &[u8]) -> &[u8]
     &bytes[bytes.len()..]
 }
 
-/// The bytes in front of the first blank, and the rest from there on.
+/// The bytes before the first blank, and the rest from there on.
 fn split_run(bytes: &[u8]) -> (&[u8], &[u8])
     ensures { SplitsRun bytes.now result.0.now result.1.now }
 {
@@ -60,7 +75,7 @@ fn split_run(bytes: &[u8]) -> (&[u8], &[u8])
     (bytes, &bytes[bytes.len()..])
 }
 
-/// The first field of a line, and what stands behind it.
+/// The first field of a line, and what comes after it.
 pub fn next_field(line: &[u8]) -> Option<(&[u8], &[u8])>
     ensures fields { MatchOption result (fields line.now ≡ [])
         (λ found. fields line.now ≡ found.0.now ∷ fields found.1.now) }

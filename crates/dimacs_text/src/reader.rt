@@ -1,20 +1,178 @@
 //! From a text to its job.
+//!
+//! A text comes whole, or in pieces of any size. Each whole line is read at once, and its bytes are let go:
+//! only those of the last line are kept until the rest of it comes.
 
-ghost use Rattle.std.specs.Prelude.{◌≡◌, ◌^◌, ◌≤◌, length, IfOk, IfErr};
+ghost use Rattle.std.specs.Prelude.{◌≡◌, ◌^◌, ◌≤◌, ◌+◌, ◌++◌, ℕ, List, [], length, take, ◌<◌, None, IfOk, IfErr, OnOk};
 ghost use Rattle.dimacs_text.specs.Jobs.{content_of, IsJobText, IsWithinLimits};
 ghost use Rattle.dimacs_text.specs.Faults.{IsFaultOf};
+ghost use Rattle.dimacs_text.specs.reader.FastArc.{EndsWithFeed, HasNoFeed};
+ghost use Rattle.dimacs_text.specs.Reading.{Reads};
+ghost use Rattle.dimacs_text.specs.Reading.{HasRead, HasReadLines, HasReadText};
 
 use crate::draft::Draft;
-use crate::fault::TextFault;
+use crate::fault::{LineKind, TextFault};
 use crate::job::Job;
+use crate::line::{after_last_feed, line_end};
+use route_walks::Memory;
 use std::alloc::Global;
+
+/// The lines that were read, all of them whole.
+#[derive(Drop)]
+struct LineReader {
+    draft: Draft,
+    /// The number of the next line, or of the first that is wrong.
+    line: u64,
+    /// What is wrong with that line, where something is.
+    fault: Option<LineKind>,
+}
+
+impl LineReader {
+    /// Reads lines that each end with a line feed. After a line that is wrong none is read.
+    fn read(&mut self, bytes: &[u8]) -> Result<(), Memory>
+        requires ended { EndsWithFeed bytes.now }
+        ensures reads { OnOk result ((text : List ℕ) → HasReadLines self.old text
+            → length text + length bytes.now ≤ 2 ^ 36 → HasReadLines self.new (text ++ bytes.now)) }
+    {
+        if self.fault.is_some() {
+            return Ok(());
+        }
+        match self.draft.read_lines(bytes, self.line) {
+            Ok(next) => self.line = next,
+            Err(TextFault::Memory) => return Err(Memory),
+            Err(TextFault::Line { line, kind }) => {
+                self.line = line;
+                self.fault = Some(kind);
+            }
+        }
+        Ok(())
+    }
+}
+
+impl LineReader {
+    /// The job of the lines and of a last line with no line feed, which is empty where there is none.
+    fn finish(self, last: &[u8]) -> Result<Job, TextFault>
+        ensures job { (text : List ℕ) → HasReadText self last.now text
+            → IfOk result (λ job. IsJobText text (content_of job)) }
+        ensures fault { (text : List ℕ) → HasReadText self last.now text
+            → IfErr result (IsFaultOf text) }
+    {
+        let LineReader {
+            mut draft,
+            line,
+            fault,
+        } = self;
+        if let Some(kind) = fault {
+            return Err(TextFault::Line { line, kind });
+        }
+        if last.is_empty() {
+            return draft.finish(line);
+        }
+        match draft.read(last, line) {
+            Ok(()) => draft.finish(line.saturating_add(1)),
+            Err(fault) => Err(fault),
+        }
+    }
+}
+
+/// A reader of a job's text that comes in pieces.
+#[derive(Drop)]
+pub struct JobReader {
+    lines: LineReader,
+    /// The bytes of the last line, whose line feed hasn't come.
+    unfinished: Vec<u8>,
+}
+
+impl JobReader {
+    /// Nothing is read yet.
+    pub fn new(alloc: Global) -> JobReader
+        ensures { HasRead result [] }
+    {
+        JobReader {
+            lines: LineReader {
+                draft: Draft::new(alloc),
+                line: 1,
+                fault: None,
+            },
+            unfinished: Vec::new(alloc),
+        }
+    }
+
+    /// Reads the next bytes of the text. After a line that is wrong nothing is kept of them. After
+    /// `Memory` nothing is known of the reader.
+    pub fn feed(&mut self, bytes: &[u8]) -> Result<(), Memory>
+        ensures reads { OnOk result (Reads self.old self.new bytes.now) }
+    {
+        if self.lines.fault.is_some() {
+            return Ok(());
+        }
+        let (lines, tail) = bytes.split_at(after_last_feed(bytes));
+        self.read_lines(lines)?;
+        self.keep(tail)
+    }
+
+    /// Reads lines that each end with a line feed, the first of them with what is kept of it.
+    fn read_lines(&mut self, lines: &[u8]) -> Result<(), Memory>
+        requires right { self.old.lines.fault ≡ None }
+        requires ended { EndsWithFeed lines.now }
+        ensures reads { OnOk result (Reads self.old self.new lines.now) }
+    {
+        if lines.is_empty() {
+            return Ok(());
+        }
+        let (end, rest) = lines.split_at(self.left_of_line(lines));
+        self.unfinished.extend_from_slice(end)?;
+        self.lines.read(&self.unfinished)?;
+        self.unfinished.clear();
+        self.lines.read(rest)
+    }
+
+    /// Keeps bytes of an unfinished line.
+    fn keep(&mut self, bytes: &[u8]) -> Result<(), Memory>
+        requires open { HasNoFeed bytes.now 0 (length bytes.now) }
+        ensures reads { OnOk result (Reads self.old self.new bytes.now) }
+    {
+        if self.lines.fault.is_some() {
+            return Ok(());
+        }
+        self.unfinished.extend_from_slice(bytes)?;
+        Ok(())
+    }
+
+    /// How many bytes end the unfinished line, where there is one.
+    fn left_of_line(&self, lines: &[u8]) -> usize
+        requires filled { 0 < length lines.now }
+        requires ended { EndsWithFeed lines.now }
+        ensures place { result ≤ length lines.now }
+        ensures ends { EndsWithFeed (self.now.unfinished.items ++ take result lines.now) }
+    {
+        if self.unfinished.is_empty() {
+            0
+        } else {
+            line_end(lines, 0) + 1
+        }
+    }
+
+    /// The job of the text. A text that is no job's is refused with the number of its first wrong line and
+    /// what is wrong there.
+    pub fn finish(self) -> Result<Job, TextFault>
+        ensures job { (text : List ℕ) → HasRead self text
+            → IfOk result (λ job. IsJobText text (content_of job)) }
+        ensures within { (text : List ℕ) → HasRead self text
+            → IfOk result (λ job. IsWithinLimits (content_of job)) }
+        ensures fault { (text : List ℕ) → HasRead self text → IfErr result (IsFaultOf text) }
+    {
+        let JobReader { lines, unfinished } = self;
+        lines.finish(&unfinished)
+    }
+}
 
 /// The job of a text: the text of a graph file (`.gr`) followed by that of a file of sources (`.ss`), in
 /// the formats of the 9th DIMACS Implementation Challenge on shortest paths.
 ///
 /// A text that is no job's is refused with the number of its first wrong line and what is wrong there.
 /// `Memory` comes only where the system refused to let the job grow. The text is gone through once, and
-/// room is made for no more arcs than the bytes behind the problem line can hold, whatever it counts.
+/// memory grows with the lines that are there, whatever the heads count.
 pub fn read_job(alloc: Global, bytes: &[u8]) -> Result<Job, TextFault>
     requires { length bytes.now ≤ 2 ^ 36 }
     // It is the job of the text, and keeps the limits.
@@ -23,15 +181,9 @@ pub fn read_job(alloc: Global, bytes: &[u8]) -> Result<Job, TextFault>
     // Otherwise it is the first fault of the text, unless memory was refused.
     ensures fault { IfErr result (IsFaultOf bytes.now) }
 {
-    let mut draft = Draft::new(alloc);
-    let mut rest = bytes;
-    let mut line: u64 = 1;
-    while !rest.is_empty() {
-        match draft.read_first(rest, line) {
-            Ok(after) => rest = after,
-            Err(fault) => return Err(fault),
-        }
-        line += 1;
+    let mut reader = JobReader::new(alloc);
+    match reader.feed(bytes) {
+        Ok(()) => reader.finish(),
+        Err(_) => Err(TextFault::Memory),
     }
-    draft.finish(line)
 }

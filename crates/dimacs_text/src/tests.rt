@@ -1,8 +1,8 @@
 //! Texts with the job or the fault that they must give, and the lines of answers.
 
 use crate::{
-    Ask, Job, LineKind, TextFault, put_components, put_distances, put_label, put_source, put_walk,
-    read_job,
+    Ask, Job, JobReader, LineKind, TextFault, put_components, put_distances, put_label, put_source,
+    put_walk, read_job,
 };
 use route_walks::{ArcRec, INF};
 use std::alloc::Global;
@@ -13,21 +13,49 @@ use std::test::Fail;
 const GRAPH: &str =
     "p sp 6 8\na 1 2 17\na 1 3 10\na 2 4 2\na 3 5 0\na 4 3 0\na 4 6 3\na 5 2 0\na 5 6 20\n";
 
-/// What a text in two pieces gives.
-fn read(alloc: Global, front: &str, tail: &[u8]) -> Result<Job, TextFault> {
+/// A text in two pieces.
+fn joined(alloc: Global, front: &str, tail: &[u8]) -> Result<Vec<u8>, TextFault> {
     let mut text = Vec::from_slice(alloc, front.as_bytes())?;
     text.extend_from_slice(tail)?;
+    Ok(text)
+}
+
+/// What a text gives.
+fn read(alloc: Global, front: &str, tail: &[u8]) -> Result<Job, TextFault> {
+    let text = joined(alloc, front, tail)?;
     if text.len() > 1000 {
         return Err(TextFault::Memory);
     }
     read_job(alloc, &text)
 }
 
-/// Whether a text has that first fault.
+/// What a text gives that comes in pieces of so many bytes.
+fn read_pieces(alloc: Global, text: &[u8], size: usize) -> Result<Job, TextFault> {
+    let mut reader = JobReader::new(alloc);
+    for piece in text.chunks(size.max(1)) {
+        if reader.feed(piece).is_err() {
+            return Err(TextFault::Memory);
+        }
+    }
+    reader.finish()
+}
+
+/// Whether a text has that first fault, whole and in pieces.
 fn fails(alloc: Global, front: &str, tail: &[u8], line: u64, kind: LineKind) -> bool {
+    let want = TextFault::Line { line, kind };
+    for size in [1, 2, 5, 64] {
+        let text = match joined(alloc, front, tail) {
+            Ok(text) => text,
+            Err(_) => return false,
+        };
+        match read_pieces(alloc, &text, size) {
+            Err(fault) if fault == want => {}
+            _ => return false,
+        }
+    }
     match read(alloc, front, tail) {
         Ok(_) => false,
-        Err(fault) => fault == TextFault::Line { line, kind },
+        Err(fault) => fault == want,
     }
 }
 
@@ -81,7 +109,7 @@ fn faults_of_whole_texts(rt: HostRuntime) {
 }
 
 #[test]
-fn faults_behind_a_graph(rt: HostRuntime) {
+fn faults_after_a_graph(rt: HostRuntime) {
     let rows = [
         ("p", 10, LineKind::Unknown),
         ("p aux sp", 10, LineKind::Unknown),
@@ -144,6 +172,10 @@ fn jobs(rt: HostRuntime) -> Result<(), Fail> {
     let spaced = b"c \xff\xfe\r\n\tp  sp 2 1 \r\n\r\na\t1 2 007\r\np aux sp ss 1\r\ns 1";
     let arc = ArcRec::new(0, 1, 7);
     assert_job(&rt, &read(rt.alloc(), "", spaced.as_slice())?, 2, arc, &[0]);
+    for size in 1..=spaced.len() {
+        let pieces = read_pieces(rt.alloc(), spaced.as_slice(), size)?;
+        assert_job(&rt, &pieces, 2, arc, &[0]);
+    }
     let most = read(rt.alloc(), "", b"p sp 268435456 0\n\n")?;
     assert_eq!(rt; most.n, 268435456);
     Ok(())

@@ -1,5 +1,5 @@
 use Rattle.std.proofs.Common.{◌≡◌, ◌≤◌, ◌++◌, length, drop}
-use Rattle.dimacs_text.specs.Answers.{component_lines, components_text}
+use Rattle.dimacs_text.specs.AnswerLines.{component_lines, components_text}
 use Rattle.dimacs_text.proofs.answer.put_components.Given as goal
 
 abbrev pub invariant-loop-v : goal.invariant-loop-v

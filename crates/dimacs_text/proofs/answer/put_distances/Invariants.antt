@@ -1,5 +1,5 @@
 use Rattle.std.proofs.Common.{◌≡◌, ◌≤◌, ◌++◌, length, drop}
-use Rattle.dimacs_text.specs.Answers.{label_lines, distances_text}
+use Rattle.dimacs_text.specs.AnswerLines.{label_lines, distances_text}
 use Rattle.dimacs_text.proofs.answer.put_distances.Given as goal
 
 abbrev pub invariant-loop-v : goal.invariant-loop-v

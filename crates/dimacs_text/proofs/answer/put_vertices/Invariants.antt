@@ -1,5 +1,5 @@
 use Rattle.std.proofs.Common.{◌≡◌, ◌≤◌, ◌++◌, length, drop}
-use Rattle.dimacs_text.specs.Answers.{vertices_text}
+use Rattle.dimacs_text.specs.AnswerLines.{vertices_text}
 use Rattle.dimacs_text.proofs.answer.put_vertices.Given as goal
 
 abbrev pub invariant-loop-vertex : goal.invariant-loop-vertex

@@ -1,38 +1,39 @@
-use Rattle.std.proofs.Common.{get_or, sym, ap, ◌∙◌, eq-eqb}
-use Rattle.std.proofs.lemmas.Bool.{ne_eqb}
-use Rattle.dimacs_text.specs.Lines.{fields, without_cr}
-use Rattle.dimacs_text.specs.Forms.{reading}
-use Rattle.dimacs_text.proofs.WordLemmas.{says_nothing, says_comment, says_record}
+use Rattle.std.proofs.Common.{None, Some, get_or, refl, ap, ◌∙◌, eq-eqb}
+use Rattle.dimacs_text.specs.Lines.{letter_c}
+use Rattle.dimacs_text.specs.Forms.{limits, numbers_within, in_form, fields_reading, reading}
+use Rattle.dimacs_text.proofs.WordLemmas.{says_form}
 use Rattle.dimacs_text.proofs.form.read_line.Goals as goal
 
-pub returns-in_default-clause-says : goal.returns-in_default-clause-says
-unfolding reading
-returns-in_default-clause-says c =
-    says_nothing c.args.vertices (fields (without_cr c.args.line.now))
-    (ap (λ l. fields l) (sym c.trim_cr.ensures) ∙ c.in_default.ensures.fields)
+pub returns-in_default : goal.returns-in_default
+unfolding reading fields_reading
+returns-in_default c = rw (← c.trim_cr-line.ensures, c.in_default.ensures.fields) refl
 
-pub returns-then-word-eq99-clause-says : goal.returns-then-word-eq99-clause-says
-unfolding reading
-returns-then-word-eq99-clause-says c =
-    says_comment c.args.vertices c.in-Some.word.now (fields c.in-Some.args.now)
-    (fields (without_cr c.args.line.now))
-    (ap (λ l. fields l) (sym c.trim_cr.ensures) ∙ c.in-Some.ensures.fields)
-    (eq-eqb (get_or c.in-Some.word.now 0 0) 99 c.if-word-eq99.true)
+pub returns-then-first-eq99 : goal.returns-then-first-eq99
+unfolding reading fields_reading
+returns-then-first-eq99 c =
+    rw (
+      ← c.trim_cr-line.ensures,
+      c.in-Some.ensures.fields,
+      eq-eqb (get_or c.in-Some.first.now 0 0) letter_c c.if-first-eq99.true,
+    ) refl
 
-pub returns-in-Ok-clause-says : goal.returns-in-Ok-clause-says
-unfolding reading
-returns-in-Ok-clause-says c =
-    c.in-Ok.ensures.says
-    ∙ says_record c.args.vertices c.in-Some.word.now (fields c.in-Some.args.now)
-    (fields (without_cr c.args.line.now))
-    (ap (λ l. fields l) (sym c.trim_cr.ensures) ∙ c.in-Some.ensures.fields)
-    (ne_eqb (get_or c.in-Some.word.now 0 0) 99 c.if-word-eq99.false)
+pub returns-in_default-find_form : goal.returns-in_default-find_form
+returns-in_default-find_form c =
+    says_form c.args.vertices c.args.line.now _ _ _ None c.trim_cr-line.ensures c.in-Some.ensures.fields
+    c.if-first-eq99.false c.in_default-find_form.ensures
 
-pub returns-in-Err-clause-says : goal.returns-in-Err-clause-says
-unfolding reading
-returns-in-Err-clause-says c =
-    c.in-Err.ensures.says
-    ∙ says_record c.args.vertices c.in-Some.word.now (fields c.in-Some.args.now)
-    (fields (without_cr c.args.line.now))
-    (ap (λ l. fields l) (sym c.trim_cr.ensures) ∙ c.in-Some.ensures.fields)
-    (ne_eqb (get_or c.in-Some.word.now 0 0) 99 c.if-word-eq99.false)
+pub returns-in-Ok : goal.returns-in-Ok
+returns-in-Ok c =
+    let form = c.in-Some-find_form.form in
+    c.in-Ok.ensures
+    ∙ ap (λ args. in_form form (numbers_within (limits c.args.vertices form) args)) c.in-Some-find_form.ensures.1
+    ∙ says_form c.args.vertices c.args.line.now _ _ _ (Some form) c.trim_cr-line.ensures c.in-Some.ensures.fields
+    c.if-first-eq99.false c.in-Some-find_form.ensures.0
+
+pub returns-in-Err : goal.returns-in-Err
+returns-in-Err c =
+    let form = c.in-Some-find_form.form in
+    c.in-Err.ensures
+    ∙ ap (λ args. in_form form (numbers_within (limits c.args.vertices form) args)) c.in-Some-find_form.ensures.1
+    ∙ says_form c.args.vertices c.args.line.now _ _ _ (Some form) c.trim_cr-line.ensures c.in-Some.ensures.fields
+    c.if-first-eq99.false c.in-Some-find_form.ensures.0

@@ -1,0 +1,40 @@
+-- What a reader of jobs has read, of a text that came in pieces.
+use Rattle.std.specs.Prelude.{◌≡◌, ℕ, ◌+◌, ◌^◌, ◌≤◌, List, ◌++◌, length, Option, Some, None}
+use Rattle.dimacs_text.specs.declared.fault.LineKind.{LineKind}
+use Rattle.dimacs_text.specs.declared.draft.Draft.{Draft}
+use Rattle.dimacs_text.specs.declared.reader.LineReader.{LineReader}
+use Rattle.dimacs_text.specs.declared.reader.JobReader.{JobReader}
+use Rattle.dimacs_text.specs.Faults.{IsFirstFault}
+use Rattle.dimacs_text.specs.reader.FastArc.{HasNoFeed}
+use Rattle.dimacs_text.specs.reader.Drafts.{IsReadTo, progress_of}
+
+-- the whole lines of the text were read; or one of them is the first fault, whatever comes after
+abbrev pub HasReadBy : Option LineKind → Draft → ℕ → List ℕ → Type 0
+HasReadBy None draft line text =
+    (line ≤ length text + 1)
+    × ((more : List ℕ) → IsReadTo (text ++ more) more line (progress_of draft))
+HasReadBy (Some kind) draft line text = (more : List ℕ) → IsFirstFault (text ++ more) line kind
+
+abbrev pub HasReadLines : LineReader → List ℕ → Type 0
+HasReadLines reader text = HasReadBy reader.fault reader.draft reader.line text
+
+-- of the text the bytes of the last, unfinished line are kept; after a fault nothing need be
+abbrev pub Keeps : Option LineKind → List ℕ → List ℕ → List ℕ → Type 0
+Keeps None whole kept text = (text ≡ whole ++ kept) × HasNoFeed kept 0 (length kept)
+Keeps (Some kind) whole kept text = text ≡ whole
+
+-- the text, of 2^36 bytes at most, was read: its whole lines, and the bytes of an unfinished one
+pub record HasReadText (reader : LineReader) (kept text : List ℕ) : Type 0 where
+  pub short : length text ≤ 2 ^ 36
+  pub whole : List ℕ
+  pub lines : HasReadLines reader whole
+  pub keeps : Keeps reader.fault whole kept text
+
+-- this is the text that was read so far
+abbrev pub HasRead : JobReader → List ℕ → Type 0
+HasRead reader text = HasReadText reader.lines reader.unfinished.items text
+
+-- new has read what old had, and then the bytes, if they are not too many
+abbrev pub Reads : JobReader → JobReader → List ℕ → Type 0
+Reads old new bytes =
+    (text : List ℕ) → HasRead old text → length text + length bytes ≤ 2 ^ 36 → HasRead new (text ++ bytes)

@@ -1,0 +1,6 @@
+-- The reader from inside. Not part of what a caller is promised.
+pub mod Machine
+pub mod Entries
+pub mod Pieces
+pub mod FastArc
+pub mod Drafts

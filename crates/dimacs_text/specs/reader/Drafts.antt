@@ -1,0 +1,119 @@
+-- What the reader keeps, as the records that were read. Not part of what a caller is promised.
+use Rattle.std.specs.Prelude.{◌≡◌, ℕ, zero, suc, ◌+◌, ◌-◌, ◌≤◌, List, [], ◌∷◌, ◌++◌, length, map}
+use Rattle.std.specs.Prelude.{Option, Some, None, Ok, Err, ◌⊎◌, slice_index}
+use Rattle.route_walks.specs.declared.graph.ArcRec.{ArcRec}
+use Rattle.route_walks.specs.declared.graph.TheConstants.{MAX_VERTICES}
+use Rattle.dimacs_text.specs.declared.draft.Draft.{Draft}
+use Rattle.dimacs_text.specs.declared.form.Section.TheVariants.{Problem, Sources}
+use Rattle.dimacs_text.specs.declared.fault.LineKind.{LineKind}
+use Rattle.dimacs_text.specs.declared.fault.LineKind.TheVariants.{TooFew, NoProblem}
+use Rattle.dimacs_text.specs.declared.fault.TextFault.{TextFault}
+use Rattle.dimacs_text.specs.declared.fault.TextFault.TheVariants.{Memory, Line}
+use Rattle.dimacs_text.specs.Forms.{Record, reading, readings, vertices_next}
+use Rattle.dimacs_text.specs.Lines.{lines}
+use Rattle.dimacs_text.specs.Grammar.{Token, token_of}
+use Rattle.dimacs_text.specs.Faults.{IsFaultOf, tokens_among}
+use Rattle.dimacs_text.specs.Jobs.{arc_record, source_record, problem_record}
+use Rattle.dimacs_text.specs.Jobs.{sources_record, records_among}
+use Rattle.dimacs_text.specs.reader.Machine.{next_at, run, misfit_at}
+use Rattle.dimacs_text.specs.declared.stage.Stage.{Stage}
+use Rattle.dimacs_text.specs.declared.stage.Stage.TheVariants.{Start, Within}
+
+-- what lines have said: their records, where the reader stands after them, and to what vertices count
+pub record Progress : Type 0 where
+  pub records : List Record
+  pub stage : Stage
+  pub vertices : ℕ
+
+-- the records that were read
+abbrev pub records_by : Stage → ℕ → List ArcRec → List ℕ → List Record
+records_by Start n arcs sources = []
+records_by (Within Problem missing) n arcs sources =
+    problem_record n (length arcs + missing) ∷ map arc_record arcs
+records_by (Within Sources missing) n arcs sources =
+    (problem_record n (length arcs) ∷ map arc_record arcs)
+    ++ sources_record (length sources + missing) ∷ map source_record sources
+
+abbrev pub progress_by : Stage → ℕ → List ArcRec → List ℕ → Progress
+progress_by stage n arcs sources =
+    record { records = records_by stage n arcs sources; stage = stage; vertices = n }
+
+abbrev pub progress_of : Draft → Progress
+progress_of draft = progress_by draft.stage draft.vertices draft.arcs.items draft.sources.items
+
+abbrev pub token_in : Record → Token
+token_in r = token_of r.form r.numbers
+
+-- one line more, which says nothing or a record
+abbrev pub after_line : Progress → Option Record → Progress
+after_line old None = old
+after_line old (Some r) =
+    record {
+      records = old.records ++ r ∷ [];
+      stage = next_at old.stage (token_in r);
+      vertices = vertices_next old.vertices r.form (slice_index r.numbers 0);
+    }
+
+abbrev pub Fits : Stage → Option Record → Type 0
+Fits stage None = Unit {0}
+Fits stage (Some r) = misfit_at stage r.form ≡ None
+
+-- the line says what leads from old to new
+pub record ReadsLine (old new : Progress) (line : List ℕ) : Type 0 where
+  pub said : Option Record
+  pub reads : reading old.vertices line ≡ Ok said
+  pub fits : Fits old.stage said
+  pub after : new ≡ after_line old said
+
+-- the lines, as far as the rest, have said this, and the first of the rest has this number
+pub record IsReadAmong (all rest : List (List ℕ)) (line : ℕ) (progress : Progress) : Type 0 where
+  pub said : List (Option Record)
+  pub split : readings MAX_VERTICES all
+      ≡ map (λ s. Ok s) said ++ readings progress.vertices rest
+  pub records : records_among said ≡ progress.records
+  pub stage : run Start (tokens_among said) ≡ Some progress.stage
+  pub count : line ≡ length said + 1
+
+abbrev pub IsReadTo : List ℕ → List ℕ → ℕ → Progress → Type 0
+IsReadTo text rest line progress = IsReadAmong (lines text) (lines rest) line progress
+
+-- from the rest to what comes after, whatever the text is in which they stand
+abbrev pub ReadsTo : Progress → ℕ → List ℕ → Progress → ℕ → List ℕ → Type 0
+ReadsTo old line rest new next after =
+    (text more : List ℕ)
+    → IsReadTo text (rest ++ more) line old
+    → IsReadTo text (after ++ more) next new
+
+-- arcs that were added to the old ones, a line each
+abbrev pub ReadsArcs : ℕ → List ℕ → List ArcRec → List ArcRec → ℕ → List ℕ → Type 0
+ReadsArcs n rest old new count after =
+    (missing line : ℕ) (sources : List ℕ)
+    → count ≤ missing
+    → ReadsTo (progress_by (Within Problem missing) n old sources) line rest
+    (progress_by (Within Problem (missing - count)) n new sources) (line + count) after
+
+-- the first line that is wrong is one of the rest, whatever the text is in which it stands
+abbrev pub IsFaultIn : Progress → ℕ → List ℕ → TextFault → Type 0
+IsFaultIn old line rest fault =
+    (text more : List ℕ)
+    → IsReadTo text (rest ++ more) line old
+    → IsFaultOf text fault
+
+-- a line that is wrong after what was read
+abbrev pub IsFaultAt : Progress → List ℕ → ℕ → TextFault → Type 0
+IsFaultAt progress text number Memory = Unit {0}
+IsFaultAt progress text number (Line line kind) =
+    (line ≡ number)
+    × ((reading progress.vertices text ≡ Err kind)
+    ⊎ ((r : Record) × (reading progress.vertices text ≡ Ok (Some r))
+    × (misfit_at progress.stage r.form ≡ Some kind)))
+
+-- what a text lacks that ends where the reader stands
+abbrev pub IsLackAt : Stage → LineKind → Type 0
+IsLackAt Start kind = kind ≡ NoProblem
+IsLackAt (Within section zero) kind = ⊥
+IsLackAt (Within section (suc missing)) kind = kind ≡ TooFew
+
+abbrev pub IsLackOf : Draft → ℕ → TextFault → Type 0
+IsLackOf draft number Memory = ⊥
+IsLackOf draft number (Line line kind) = (line ≡ number) × IsLackAt draft.stage kind

@@ -1,0 +1,74 @@
+//! Where the reader stands, and which lines can come there.
+
+ghost use Rattle.std.specs.Prelude.{◌≡◌, IfSome};
+
+use crate::fault::LineKind;
+use crate::form::{Form, Section};
+
+/// Where the reader stands after the lines so far.
+#[derive(Clone, Copy, Debug, PartialEq, Eq)]
+pub enum Stage {
+    /// Before the problem line.
+    Start,
+    /// In a section of which so many items are still to come.
+    Within { section: Section, missing: u32 },
+}
+
+impl Stage {
+    ghost use Rattle.dimacs_text.specs.reader.Machine.{can_come, misfit_at, one_less, phase_of};
+
+    /// Whether a line of the form can come here with some counts.
+    pub fn can_come(self, form: Form) -> bool
+        ensures { result ≡ can_come (phase_of self) form }
+    {
+        match (self, form) {
+            (Stage::Start, Form::Head(next)) => next.place() == 0,
+            (Stage::Start, Form::Counted(_)) => false,
+            (Stage::Within { section, .. }, Form::Head(next)) => section.may_be_followed(next),
+            (Stage::Within { section, .. }, Form::Counted(item)) => section.item() == item,
+        }
+    }
+
+    /// What is wrong with a line of the form here, if something is.
+    pub fn misfit(self, form: Form) -> Option<LineKind>
+        ensures { result ≡ misfit_at self form }
+    {
+        if !self.can_come(form) {
+            return Some(LineKind::Misplaced);
+        }
+        match (self, form) {
+            (Stage::Within { missing: 0, .. }, Form::Counted(_)) => Some(LineKind::TooMany),
+            (Stage::Within { missing: 0, .. }, Form::Head(_)) => None,
+            (Stage::Within { .. }, Form::Counted(_)) => None,
+            (Stage::Within { .. }, Form::Head(_)) => Some(LineKind::TooFew),
+            (Stage::Start, Form::Counted(_)) => Some(LineKind::TooMany),
+            (Stage::Start, Form::Head(_)) => None,
+        }
+    }
+
+    /// How many arcs are missing, where arcs come next.
+    pub fn missing_arcs(self) -> Option<u32>
+        ensures { IfSome result (λ missing. self ≡ Stage.Within Section.Problem missing) }
+    {
+        match self {
+            Stage::Within {
+                section: Section::Problem,
+                missing,
+            } => Some(missing),
+            _ => None,
+        }
+    }
+
+    /// The stage after an item.
+    pub fn one_less(self) -> Stage
+        ensures { result ≡ one_less self }
+    {
+        match self {
+            Stage::Start => Stage::Start,
+            Stage::Within { section, missing } => Stage::Within {
+                section,
+                missing: missing.saturating_sub(1),
+            },
+        }
+    }
+}
