@@ -14,7 +14,7 @@ use Rattle.route_walks.specs.Walk.{IsArcBelow, IsGraph, cost}
 use Rattle.route_walks.specs.Label.{AreLeastLabels, InfMeansNoWalk}
 use Rattle.route_walks.specs.Operators.{seeds_from, unit_weight, unit_weights}
 use Rattle.route_walks.proofs.Facts.{attained-by_walk, walk-of_attained}
-use Rattle.dimacs_text.specs.Answers.{cost_text, label_text, label_lines, walk_text}
+use Rattle.dimacs_text.specs.AnswerLines.{cost_text, label_text, label_lines, walk_text}
 use Rattle.dimacs_text.specs.Jobs.{Content, Question, from_sources, IsArcWithin, IsQuestionWithin, IsWithinLimits}
 use Rattle.walk_report.specs.Printed.{printed_walk}
 use Rattle.obim_query.specs.declared.asked.Answer.TheVariants.{Distances, Levels, Components}

@@ -20,7 +20,7 @@ appends-then None second third some more one two = tt
 appends-then (Some xs) None third some more one two = absurd one
 appends-then (Some xs) (Some ys) None some more one two = absurd two
 appends-then (Some xs) (Some ys) (Some zs) some more one two =
-    two ∙ ap (λ (front : List ℕ). front ++ more) one ∙ append_assoc xs some more
+    two ∙ ap (λ (xs : List ℕ). xs ++ more) one ∙ append_assoc xs some more
 
 -- what is put waits after what waits already
 pub waits-put : (before after : Option (List ℕ)) (waiting text more : List ℕ)

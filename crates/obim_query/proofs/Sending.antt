@@ -1,10 +1,10 @@
--- Blocks of sources, put one behind the other and written as they fill up.
+-- Blocks of sources, one after another, written as they fill up.
 use Rattle.std.proofs.Common.{◌≡◌, Bool, ℕ, ◌+◌, ◌<◌, ◌≤◌, List, [], ◌∷◌, ◌++◌, length, get_or, drop}
 use Rattle.std.proofs.Common.{suc, take, drop-cons, Option, refl, sym, subst, ap, ◌∙◌, append_assoc, arith}
 use Rattle.std.specs.Io.KnownBytes.{Appends}
 use Rattle.std.proofs.lemmas.List.{append-nil, take_all, take_more}
 use Rattle.route_walks.specs.declared.graph.ArcRec.{ArcRec}
-use Rattle.dimacs_text.specs.Answers.{label_text, label_lines, component_text, component_lines}
+use Rattle.dimacs_text.specs.AnswerLines.{label_text, label_lines, component_text, component_lines}
 use Rattle.obim_query.specs.AnswerText.{IsBlock, AreSourceBlocks, vertex_text, vertex_lines}
 use Rattle.obim_query.specs.Bytes.{Waits, Writes, Puts}
 use Rattle.obim_query.proofs.Known.{appends-then, waits-put, waits-sent}
@@ -13,13 +13,13 @@ pub blocks-push : (walks : Bool) (n : ℕ) (arcs : List ArcRec) (sources : List 
     → AreSourceBlocks walks n arcs sources text → IsBlock walks n arcs source block
     → AreSourceBlocks walks n arcs (sources ++ source ∷ []) (text ++ block)
 blocks-push walks n arcs [] source text block blocks is_block =
-    (block, [], is_block, refl, ap (λ (front : List ℕ). front ++ block) blocks ∙ sym (append-nil block))
+    (block, [], is_block, refl, ap (λ (xs : List ℕ). xs ++ block) blocks ∙ sym (append-nil block))
 blocks-push walks n arcs (first ∷ sources) source text block blocks is_block = (
   blocks.0,
   blocks.1 ++ block,
   blocks.2,
   blocks-push walks n arcs sources source blocks.1 block blocks.3 is_block,
-  ap (λ (front : List ℕ). front ++ block) blocks.4 ∙ append_assoc blocks.0 blocks.1 block,
+  ap (λ (xs : List ℕ). xs ++ block) blocks.4 ∙ append_assoc blocks.0 blocks.1 block,
 )
 
 -- of the whole all is given but what waits and the lines that are not yet put

@@ -7,12 +7,11 @@ use Rattle.route_walks.specs.Label.{AreLeastLabels, LeastLabelsAreUnique}
 use Rattle.route_walks.specs.Operators.{seeds_from, seeds_all, unit_weights, both_ways}
 use Rattle.walk_report.specs.Hop.{AreHops}
 use Rattle.walk_report.specs.Parent.{AreParents, HopsAndParentsAreUnique}
-use Rattle.dimacs_text.specs.Answers.{distances_text, components_text}
-use Rattle.dimacs_text.specs.Jobs.{Content, Question, absent, from_sources}
-use Rattle.obim_query.specs.declared.asked.Answer.{Answer}
+use Rattle.dimacs_text.specs.AnswerLines.{distances_text, components_text}
+use Rattle.dimacs_text.specs.Jobs.{Question, absent, from_sources}
 use Rattle.obim_query.specs.declared.asked.Answer.TheVariants.{Distances, Levels, Components}
-use Rattle.obim_query.specs.AnswerText.{IsBlock, AreSourceBlocks, walks_text}
-use Rattle.obim_query.specs.AnswerText.{AreAskedBlocks, IsAnswerText}
+use Rattle.obim_query.specs.AnswerText.{AnswerTextsAreUnique, BlocksAreUnique, AreSourceBlocks, walks_text}
+use Rattle.obim_query.specs.AnswerText.{AreAskedBlocks}
 
 labels-same : LeastLabelsAreUnique
     → (n : ℕ) (arcs : List ArcRec) (seeds : List Seed) (xs ys : List ℕ) → AreLeastLabels n arcs seeds xs
@@ -24,10 +23,7 @@ labels-same law n arcs seeds xs ys first second =
     let inside : v < n = omega (arith, first.count) in
     law arcs seeds v (get_or xs v 0) (get_or ys v 0) (first.least v inside) (second.least v inside))
 
-block-same : LeastLabelsAreUnique → HopsAndParentsAreUnique
-    → (walks : Bool) (n : ℕ) (arcs : List ArcRec) (source : ℕ) (first second : List ℕ)
-    → IsBlock walks n arcs source first → IsBlock walks n arcs source second
-    → first ≡ second
+pub block-same : LeastLabelsAreUnique → HopsAndParentsAreUnique → BlocksAreUnique
 block-same law walked false n arcs source first second one two =
     one.written
     ∙ ap (distances_text source)
@@ -45,36 +41,31 @@ block-same law walked true n arcs source first second one two =
     ∙ ap (λ (parents : List ℕ). walks_text source (slice_index two.hops) (slice_index parents) two.labels) same.1
     ∙ sym two.written
 
-blocks-same : LeastLabelsAreUnique → HopsAndParentsAreUnique
+pub blocks-same : BlocksAreUnique
     → (walks : Bool) (n : ℕ) (arcs : List ArcRec) (sources : List ℕ) (first second : List ℕ)
     → AreSourceBlocks walks n arcs sources first → AreSourceBlocks walks n arcs sources second
     → first ≡ second
-blocks-same law walked walks n arcs [] first second one two = one ∙ sym two
-blocks-same law walked walks n arcs (source ∷ sources) first second one two =
-    let block = block-same law walked walks n arcs source one.0 two.0 one.2 two.2 in
-    let rest = blocks-same law walked walks n arcs sources one.1 two.1 one.3 two.3 in
+blocks-same law walks n arcs [] first second one two = one ∙ sym two
+blocks-same law walks n arcs (source ∷ sources) first second one two =
     one.4
-    ∙ ap (λ (front : List ℕ). front ++ one.1) block
-    ∙ ap (λ (after : List ℕ). two.0 ++ after) rest
+    ∙ ap (λ (block : List ℕ). block ++ one.1) (law walks n arcs source one.0 two.0 one.2 two.2)
+    ∙ ap (λ (rest : List ℕ). two.0 ++ rest) (blocks-same law walks n arcs sources one.1 two.1 one.3 two.3)
     ∙ sym two.4
 
-asked-same : LeastLabelsAreUnique → HopsAndParentsAreUnique
+asked-same : BlocksAreUnique
     → (walks : Bool) (n : ℕ) (arcs : List ArcRec) (question : Question) (first second : List ℕ)
     → AreAskedBlocks walks n arcs question first → AreAskedBlocks walks n arcs question second
     → first ≡ second
-asked-same law walked walks n arcs absent first second one two = absurd one
-asked-same law walked walks n arcs (from_sources sources) first second one two =
-    blocks-same law walked walks n arcs sources first second one two
+asked-same law walks n arcs absent first second one two = absurd one
+asked-same law walks n arcs (from_sources sources) first second one two =
+    blocks-same law walks n arcs sources first second one two
 
-pub answer_texts_are_unique : LeastLabelsAreUnique → HopsAndParentsAreUnique
-    → (kind : Answer) (walks : Bool) (job : Content) (first second : List ℕ) → IsAnswerText kind walks job first
-    → IsAnswerText kind walks job second
-    → first ≡ second
-answer_texts_are_unique law walked Distances walks job first second one two =
-    asked-same law walked walks job.n job.arcs job.question first second one two
-answer_texts_are_unique law walked Levels walks job first second one two =
-    asked-same law walked walks job.n (unit_weights job.arcs) job.question first second one two
-answer_texts_are_unique law walked Components walks job first second one two =
+pub answer_texts_are_unique : LeastLabelsAreUnique → BlocksAreUnique → AnswerTextsAreUnique
+answer_texts_are_unique law blocks Distances walks job first second one two =
+    asked-same blocks walks job.n job.arcs job.question first second one two
+answer_texts_are_unique law blocks Levels walks job first second one two =
+    asked-same blocks walks job.n (unit_weights job.arcs) job.question first second one two
+answer_texts_are_unique law blocks Components walks job first second one two =
     one.written
     ∙ ap components_text
     (labels-same law job.n (both_ways job.arcs) (seeds_all job.n) one.labels two.labels one.least

@@ -6,8 +6,8 @@ use Rattle.route_walks.specs.declared.graph.TheConstants.{INF}
 use Rattle.route_walks.specs.Label.{AreLeastLabels}
 use Rattle.route_walks.specs.Operators.{seeds_from, seeds_all, unit_weights, both_ways}
 use Rattle.dimacs_text.specs.Jobs.{Content, Question, absent, from_sources}
-use Rattle.dimacs_text.specs.Answers.{source_text, label_text, walk_text}
-use Rattle.dimacs_text.specs.Answers.{distances_text, components_text}
+use Rattle.dimacs_text.specs.AnswerLines.{source_text, label_text, walk_text}
+use Rattle.dimacs_text.specs.AnswerLines.{distances_text, components_text}
 use Rattle.walk_report.specs.declared.hop.TheConstants.{NONE}
 use Rattle.walk_report.specs.Hop.{AreHops}
 use Rattle.walk_report.specs.Parent.{AreParents}
@@ -95,6 +95,14 @@ IsAnswerText answer.Distances walks job text = AreAskedBlocks walks job.n job.ar
 IsAnswerText answer.Levels walks job text =
     AreAskedBlocks walks job.n (unit_weights job.arcs) job.question text
 IsAnswerText answer.Components walks job text = IsComponentsBlock job.n job.arcs text
+
+-- a source has only one block of a kind
+abbrev pub BlocksAreUnique : Type 0
+BlocksAreUnique =
+    (walks : Bool) (n : ℕ) (arcs : List ArcRec) (source : ℕ) (first second : List ℕ)
+    → IsBlock walks n arcs source first
+    → IsBlock walks n arcs source second
+    → first ≡ second
 
 -- a job has only one answer text of a kind
 abbrev pub AnswerTextsAreUnique : Type 0

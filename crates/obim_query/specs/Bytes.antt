@@ -1,5 +1,5 @@
 -- The bytes that were taken from a reader and given to a writer, where the type of each tells them.
-use Rattle.std.specs.Prelude.{◌≡◌, ℕ, ◌+◌, ◌≤◌, List, ◌++◌, length, Option}
+use Rattle.std.specs.Prelude.{◌≡◌, ℕ, ◌+◌, ◌≤◌, List, [], ◌++◌, length, Option}
 use Rattle.std.specs.Io.KnownBytes.{Consumes, Appends, IsAtEnd}
 
 -- at most so many bytes were taken
@@ -14,16 +14,19 @@ pub record TakesOneMore (limit : ℕ) (before after : Option (List ℕ)) : Type 
   pub taken : Consumes before after bytes
   pub count : length bytes ≡ limit + 1
 
--- the text was taken, and nothing was left behind it
+-- the text was taken, and nothing was left after it
 pub record TakesWhole (before after : Option (List ℕ)) (text : List ℕ) : Type 0 where
   pub taken : Consumes before after text
   pub ended : IsAtEnd after
 
--- a front of the bytes was given
-pub record GivesFront (before after : Option (List ℕ)) (bytes : List ℕ) : Type 0 where
+-- some bytes begin a text: it is those bytes and what is left of it
+abbrev pub IsPrefix : List ℕ → List ℕ → Type 0
+IsPrefix bytes text = (left : List ℕ) × (text ≡ bytes ++ left)
+
+-- a prefix of the bytes was given
+pub record GivesPrefix (before after : Option (List ℕ)) (bytes : List ℕ) : Type 0 where
   pub given : List ℕ
-  pub left : List ℕ
-  pub is_front : bytes ≡ given ++ left
+  pub is_prefix : IsPrefix given bytes
   pub appended : Appends before after given
 
 -- of the bytes all were given but those that wait
@@ -44,3 +47,14 @@ pub record Puts (IsText : List ℕ → Type 0) (before after : Option (List ℕ)
   pub text : List ℕ
   pub is_text : IsText text
   pub waits : Waits before after new (old ++ text)
+
+-- whatever text of this kind comes after what waits, a prefix of both was given
+pub record PutsPrefix (IsText : List ℕ → Type 0) (before after : Option (List ℕ)) (waiting : List ℕ)
+    : Type 0 where
+  pub given : List ℕ
+  pub is_prefix : (text : List ℕ) → IsText text → IsPrefix given (waiting ++ text)
+  pub appended : Appends before after given
+
+-- a prefix of any text of this kind was given, and nothing else
+abbrev pub WritesPrefix : (List ℕ → Type 0) → Option (List ℕ) → Option (List ℕ) → Type 0
+WritesPrefix IsText before after = PutsPrefix IsText before after []

@@ -3,7 +3,7 @@ use Rattle.std.specs.Prelude.{◌≡◌, ◌≢◌, ℕ, zero, suc, ◌+◌, ◌
 use Rattle.std.specs.Prelude.{codes, decimal}
 use Rattle.route_walks.specs.declared.graph.ArcRec.{ArcRec}
 use Rattle.route_walks.specs.Walk.{IsWalk, cost}
-use Rattle.dimacs_text.specs.Answers.{source_text, cost_line}
+use Rattle.dimacs_text.specs.AnswerLines.{source_text, cost_line}
 use Rattle.dimacs_text.specs.Jobs.{Content, from_sources, IsWithinLimits}
 use Rattle.obim_query.specs.AnswerText.{AreBlocks, IsAnswerText, arcs_for}
 use Rattle.obim_query.specs.declared.asked.Answer.{Answer}

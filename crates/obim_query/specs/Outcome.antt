@@ -1,5 +1,5 @@
 -- What a run of the program has read and written, for each outcome.
-use Rattle.std.specs.Prelude.{◌≡◌, ◌≢◌, ◌≤◌, ℕ, Bool, List, length, Option, ⊤}
+use Rattle.std.specs.Prelude.{◌≡◌, ◌≢◌, ◌<◌, ◌≤◌, ◌⊎◌, ℕ, Bool, List, length, Option, ⊤}
 use Rattle.std.specs.Io.KnownBytes.{Keeps}
 use Rattle.dimacs_text.specs.declared.fault.LineKind.{LineKind}
 use Rattle.dimacs_text.specs.Jobs.{Content, absent, IsJobText, IsWithinLimits}
@@ -8,7 +8,7 @@ use Rattle.obim_query.specs.declared.asked.Answer.{Answer}
 use Rattle.obim_query.specs.declared.asked.Answer.TheVariants as answer
 use Rattle.obim_query.specs.declared.fault.Fault.{Fault}
 use Rattle.obim_query.specs.declared.fault.Fault.TheVariants as fault
-use Rattle.obim_query.specs.Bytes.{TakesAtMost, TakesOneMore, TakesWhole, Writes}
+use Rattle.obim_query.specs.Bytes.{TakesAtMost, TakesOneMore, TakesWhole, Writes, WritesPrefix}
 use Rattle.obim_query.specs.AnswerText.{IsAnswerText}
 
 -- the whole text was taken, within the limit, and it is the job's
@@ -25,6 +25,13 @@ pub record IsAnswered (limit : ℕ) (kind : Answer) (walks : Bool)
   pub job : Content
   pub request : IsRequest limit taken_from taken_to job
   pub reply : Writes (IsAnswerText kind walks job) given_from given_to
+
+-- the whole text was taken, it is a job's, and a prefix of the job's answer was written and nothing else
+pub record IsBegun (limit : ℕ) (kind : Answer) (walks : Bool)
+    (taken_from taken_to given_from given_to : Option (List ℕ)) : Type 0 where
+  pub job : Content
+  pub request : IsRequest limit taken_from taken_to job
+  pub reply : WritesPrefix (IsAnswerText kind walks job) given_from given_to
 
 -- the text is a job's, and the bytes are the job's answer
 pub record IsAnswerOf (kind : Answer) (walks : Bool) (text bytes : List ℕ) : Type 0 where
@@ -49,6 +56,12 @@ pub record IsRequestUnasked (limit : ℕ) (kind : Answer) (before after : Option
   pub request : IsRequest limit before after job
   pub unasked : IsUnasked kind job
 
+-- the text is a job's without a section of queries
+pub record IsTextUnasked (kind : Answer) (text : List ℕ) : Type 0 where
+  pub job : Content
+  pub is_job : IsJobText text job
+  pub unasked : IsUnasked kind job
+
 -- how much was taken before a fault
 abbrev pub HasTaken : ℕ → Option (List ℕ) → Option (List ℕ) → Fault → Type 0
 HasTaken limit before after fault.Read = TakesAtMost limit before after
@@ -69,25 +82,32 @@ IsTrueOfText limit kind before after fault.Memory = ⊤
 IsTrueOfText limit kind before after fault.Spawn = ⊤
 IsTrueOfText limit kind before after fault.Write = ⊤
 
--- nothing is written where the text is refused
-abbrev pub WritesNothing : Option (List ℕ) → Option (List ℕ) → Fault → Type 0
-WritesNothing before after fault.Read = Keeps before after
-WritesNothing before after fault.TooLong = Keeps before after
-WritesNothing before after (fault.Text line kind) = Keeps before after
-WritesNothing before after fault.NoAsk = Keeps before after
-WritesNothing before after fault.Memory = ⊤
-WritesNothing before after fault.Spawn = ⊤
-WritesNothing before after fault.Write = ⊤
+-- what a fault says of a text in memory, and of the limit
+abbrev pub IsTrueOfBytes : ℕ → Answer → List ℕ → Fault → Type 0
+IsTrueOfBytes limit kind text fault.Read = ⊤
+IsTrueOfBytes limit kind text fault.TooLong = limit < length text
+IsTrueOfBytes limit kind text (fault.Text line what) = IsFirstFault text line what
+IsTrueOfBytes limit kind text fault.NoAsk = IsTextUnasked kind text
+IsTrueOfBytes limit kind text fault.Memory = ⊤
+IsTrueOfBytes limit kind text fault.Spawn = ⊤
+IsTrueOfBytes limit kind text fault.Write = ⊤
 
--- the faults of reading bytes
-abbrev pub IsReadingFault : Fault → Type 0
-IsReadingFault fault.Read = ⊤
-IsReadingFault fault.TooLong = ⊤
-IsReadingFault (fault.Text line kind) = ⊥
-IsReadingFault fault.NoAsk = ⊥
-IsReadingFault fault.Memory = ⊤
-IsReadingFault fault.Spawn = ⊥
-IsReadingFault fault.Write = ⊥
+-- what was written before a fault: nothing where the text is refused, and else a prefix of the answer;
+-- memory may be refused while the text is read too
+abbrev pub HasWritten : ℕ → Answer → Bool → Option (List ℕ) → Option (List ℕ)
+    → Option (List ℕ) → Option (List ℕ) → Fault → Type 0
+HasWritten limit kind walks taken_from taken_to given_from given_to fault.Read = Keeps given_from given_to
+HasWritten limit kind walks taken_from taken_to given_from given_to fault.TooLong = Keeps given_from given_to
+HasWritten limit kind walks taken_from taken_to given_from given_to (fault.Text line what) =
+    Keeps given_from given_to
+HasWritten limit kind walks taken_from taken_to given_from given_to fault.NoAsk = Keeps given_from given_to
+HasWritten limit kind walks taken_from taken_to given_from given_to fault.Memory =
+    Keeps given_from given_to
+    ⊎ IsBegun limit kind walks taken_from taken_to given_from given_to
+HasWritten limit kind walks taken_from taken_to given_from given_to fault.Spawn =
+    IsBegun limit kind walks taken_from taken_to given_from given_to
+HasWritten limit kind walks taken_from taken_to given_from given_to fault.Write =
+    IsBegun limit kind walks taken_from taken_to given_from given_to
 
 -- the faults of reading a job: a fault of its text is the first one
 abbrev pub IsRequestFault : Option (List ℕ) → Option (List ℕ) → Fault → Type 0
@@ -99,15 +119,18 @@ IsRequestFault before after fault.Memory = ⊤
 IsRequestFault before after fault.Spawn = ⊥
 IsRequestFault before after fault.Write = ⊥
 
--- the faults of answering a job: nothing is written where nothing was asked
-abbrev pub IsReplyFault : Answer → Content → Option (List ℕ) → Option (List ℕ) → Fault → Type 0
-IsReplyFault kind job before after fault.Read = ⊥
-IsReplyFault kind job before after fault.TooLong = ⊥
-IsReplyFault kind job before after (fault.Text line what) = ⊥
-IsReplyFault kind job before after fault.NoAsk = IsUnasked kind job × Keeps before after
-IsReplyFault kind job before after fault.Memory = ⊤
-IsReplyFault kind job before after fault.Spawn = ⊤
-IsReplyFault kind job before after fault.Write = ⊤
+-- the faults of answering a job: nothing is written where nothing was asked, and else a prefix
+abbrev pub IsReplyFault : Answer → Bool → Content → Option (List ℕ) → Option (List ℕ) → Fault → Type 0
+IsReplyFault kind walks job before after fault.Read = ⊥
+IsReplyFault kind walks job before after fault.TooLong = ⊥
+IsReplyFault kind walks job before after (fault.Text line what) = ⊥
+IsReplyFault kind walks job before after fault.NoAsk = IsUnasked kind job × Keeps before after
+IsReplyFault kind walks job before after fault.Memory =
+    WritesPrefix (IsAnswerText kind walks job) before after
+IsReplyFault kind walks job before after fault.Spawn =
+    WritesPrefix (IsAnswerText kind walks job) before after
+IsReplyFault kind walks job before after fault.Write =
+    WritesPrefix (IsAnswerText kind walks job) before after
 
 -- the faults of working out blocks and writing them
 abbrev pub IsWritingFault : Fault → Type 0

@@ -1,4 +1,4 @@
-//! What a command line asks for.
+//! What may be asked of a job text?
 
 ghost use Rattle.std.specs.Prelude.{◌≡◌, ◌↔◌, IsSome, IfSome};
 ghost use Rattle.obim_query.specs.Choices.{IsAsked};

@@ -1,20 +1,21 @@
-//! The blocks of an answer, written in pieces as they grow.
+//! Which lines make the blocks of an answer?
 
 ghost use Rattle.std.specs.Prelude.{◌≡◌, ◌<◌, ◌≤◌, ◌++◌, ◌↔◌, length, slice_index};
-ghost use Rattle.std.specs.Prelude.{All, IfErr, OnOk};
+ghost use Rattle.std.specs.Prelude.{All, IfErr, OnErr, OnOk};
 ghost use Rattle.std.specs.Io.KnownBytes.{Appends};
-ghost use Rattle.dimacs_text.specs.Answers.{distances_text, components_text};
+ghost use Rattle.dimacs_text.specs.AnswerLines.{distances_text, components_text};
 ghost use Rattle.route_walks.specs.Label.{AreLeastLabels};
 ghost use Rattle.route_walks.specs.Operators.{seeds_from};
 ghost use Rattle.walk_report.specs.Parent.{LeadBack};
 ghost use Rattle.obim_query.specs.AnswerText.{AreSourceBlocks, IsBlock, vertex_text, walks_text};
 ghost use Rattle.obim_query.specs.AnswerText.{AreReached};
-ghost use Rattle.obim_query.specs.Bytes.{Waits, Writes, Puts};
+ghost use Rattle.obim_query.specs.Bytes.{GivesPrefix, Puts, PutsPrefix, Waits, Writes, WritesPrefix};
 ghost use Rattle.obim_query.specs.Outcome.{IsWritingFault};
 
 use crate::asked::Asked;
 use crate::fault::Fault;
-use crate::outlet::write_bytes;
+use crate::laws::blocks_are_unique;
+use crate::outlet::Waiting;
 use csr_graph::Csr;
 use dimacs_text::{put_component, put_label, put_source, put_walk};
 use obim_engine::{Gate, distances};
@@ -24,9 +25,6 @@ use std::io::Write;
 use std::sync::Wait;
 use std::thread::Threads;
 use walk_report::{NONE, hops, parents, walk_to};
-
-/// So many bytes wait before they are written.
-const FULL: usize = 1 << 16;
 
 /// Writes the block of each source in turn: the least labels from it along the rows, with their walks
 /// where they are asked for.
@@ -44,9 +42,14 @@ pub fn write_sources<H: Threads + Wait + Sync, W: Write, G: Gate + Sync>(
     ensures blocks { OnOk result (Writes
         (AreSourceBlocks asked.now.walks csr.now.n csr.now.arcs sources.now)
         (W.contents writer.old) (W.contents writer.new)) }
+    ensures prefix { OnErr result (WritesPrefix
+        (AreSourceBlocks asked.now.walks csr.now.n csr.now.arcs sources.now)
+        (W.contents writer.old) (W.contents writer.new)) }
     ensures kinds { IfErr result IsWritingFault }
 {
-    let mut waiting = Vec::new(alloc);
+    // So what is a prefix of these blocks is one of the blocks that another run would write.
+    blocks_are_unique();
+    let mut waiting = Waiting::new(alloc);
     for source in sources {
         let labels = distances(rt, alloc, csr, *source, &asked.settings, gate)?;
         put_block(
@@ -59,7 +62,7 @@ pub fn write_sources<H: Threads + Wait + Sync, W: Write, G: Gate + Sync>(
             &labels,
         )?;
     }
-    finish(writer, &waiting)
+    waiting.finish(writer)
 }
 
 /// Writes the block of the components.
@@ -72,21 +75,23 @@ pub fn write_components<W: Write>(
     requires finite { All (λ label. label < INF) labels.now }
     ensures block { OnOk result (Appends
         (W.contents writer.old) (W.contents writer.new) (components_text labels.now)) }
+    ensures prefix { OnErr result (GivesPrefix
+        (W.contents writer.old) (W.contents writer.new) (components_text labels.now)) }
     ensures kinds { IfErr result IsWritingFault }
 {
-    let mut waiting = Vec::new(alloc);
+    let mut waiting = Waiting::new(alloc);
     for (v, label) in labels.iter().enumerate() {
-        put_component(&mut waiting, v as u32, *label)?;
-        send_if_full(writer, &mut waiting)?;
+        put_component(&mut waiting.bytes, v as u32, *label)?;
+        waiting.send_if_full(writer)?;
     }
-    finish(writer, &waiting)
+    waiting.finish(writer)
 }
 
 /// Puts the block of a source after what waits, and writes what is full of it.
 fn put_block<W: Write>(
     alloc: Global,
     writer: &mut W,
-    waiting: &mut Vec<u8>,
+    waiting: &mut Waiting,
     csr: &Csr,
     walks: bool,
     source: u32,
@@ -96,9 +101,12 @@ fn put_block<W: Write>(
     requires source { source < csr.now.n }
     requires least { AreLeastLabels csr.now.n csr.now.arcs (seeds_from source) labels.now }
     ensures block { OnOk result (Puts (IsBlock walks csr.now.n csr.now.arcs source)
-        (W.contents writer.old) (W.contents writer.new) waiting.old.items waiting.new.items) }
+        (W.contents writer.old) (W.contents writer.new) waiting.old.bytes.items waiting.new.bytes.items) }
+    ensures prefix { OnErr result (PutsPrefix (IsBlock walks csr.now.n csr.now.arcs source)
+        (W.contents writer.old) (W.contents writer.new) waiting.old.bytes.items) }
     ensures kinds { IfErr result IsWritingFault }
 {
+    blocks_are_unique();
     if walks {
         let hops = hops(alloc, csr, labels, source)?;
         let parents = parents(alloc, csr, labels, &hops)?;
@@ -111,20 +119,22 @@ fn put_block<W: Write>(
 /// Puts the line of a source and those of the labels from it.
 fn put_labels<W: Write>(
     writer: &mut W,
-    waiting: &mut Vec<u8>,
+    waiting: &mut Waiting,
     source: u32,
     labels: &[u64],
 ) -> Result<(), Fault>
     requires source { source < MAX_VERTICES }
     requires vertices { length labels.now ≤ MAX_VERTICES }
     ensures sent { OnOk result (Waits (W.contents writer.old) (W.contents writer.new)
-        waiting.new.items (waiting.old.items ++ distances_text source labels.now)) }
+        waiting.new.bytes.items (waiting.old.bytes.items ++ distances_text source labels.now)) }
+    ensures prefix { OnErr result (GivesPrefix (W.contents writer.old) (W.contents writer.new)
+        (waiting.old.bytes.items ++ distances_text source labels.now)) }
     ensures kinds { IfErr result IsWritingFault }
 {
-    put_source(waiting, source)?;
+    put_source(&mut waiting.bytes, source)?;
     for (v, label) in labels.iter().enumerate() {
-        put_label(waiting, v as u32, *label)?;
-        send_if_full(writer, waiting)?;
+        put_label(&mut waiting.bytes, v as u32, *label)?;
+        waiting.send_if_full(writer)?;
     }
     Ok(())
 }
@@ -133,7 +143,7 @@ fn put_labels<W: Write>(
 fn put_walks<W: Write>(
     alloc: Global,
     writer: &mut W,
-    waiting: &mut Vec<u8>,
+    waiting: &mut Waiting,
     source: u32,
     labels: &[u64],
     hops: &[u32],
@@ -145,14 +155,17 @@ fn put_walks<W: Write>(
     requires back { LeadBack hops.now parents.now }
     requires reached { AreReached labels.now hops.now }
     ensures sent { OnOk result (Waits (W.contents writer.old) (W.contents writer.new)
-        waiting.new.items (waiting.old.items
+        waiting.new.bytes.items (waiting.old.bytes.items
+        ++ walks_text source (slice_index hops.now) (slice_index parents.now) labels.now)) }
+    ensures prefix { OnErr result (GivesPrefix (W.contents writer.old) (W.contents writer.new)
+        (waiting.old.bytes.items
         ++ walks_text source (slice_index hops.now) (slice_index parents.now) labels.now)) }
     ensures kinds { IfErr result IsWritingFault }
 {
-    put_source(waiting, source)?;
+    put_source(&mut waiting.bytes, source)?;
     for (v, label) in labels.iter().enumerate() {
-        put_vertex(alloc, waiting, v as u32, *label, hops, parents)?;
-        send_if_full(writer, waiting)?;
+        put_vertex(alloc, &mut waiting.bytes, v as u32, *label, hops, parents)?;
+        waiting.send_if_full(writer)?;
     }
     Ok(())
 }
@@ -160,7 +173,7 @@ fn put_walks<W: Write>(
 /// Puts the line of a vertex and, where a walk leads to it, the line of the walk.
 fn put_vertex(
     alloc: Global,
-    waiting: &mut Vec<u8>,
+    out: &mut Vec<u8>,
     v: u32,
     label: u64,
     hops: &[u32],
@@ -170,38 +183,12 @@ fn put_vertex(
     requires vertices { length hops.now ≤ MAX_VERTICES }
     requires back { LeadBack hops.now parents.now }
     requires reached { (label ≡ INF) ↔ (slice_index hops.now v ≡ NONE) }
-    ensures put { OnOk result (waiting.new.items ≡ waiting.old.items
+    ensures put { OnOk result (out.new.items ≡ out.old.items
         ++ vertex_text (slice_index hops.now) (slice_index parents.now) v label) }
 {
-    put_label(waiting, v, label)?;
+    put_label(out, v, label)?;
     match walk_to(alloc, hops, parents, v)? {
         None => Ok(()),
-        Some(walk) => put_walk(waiting, label, &walk),
-    }
-}
-
-/// Writes what waits where it is much.
-fn send_if_full<W: Write>(writer: &mut W, waiting: &mut Vec<u8>) -> Result<(), Fault>
-    ensures sent { OnOk result (Waits
-        (W.contents writer.old) (W.contents writer.new) waiting.new.items waiting.old.items) }
-    ensures kinds { IfErr result IsWritingFault }
-{
-    if waiting.len() >= FULL {
-        write_bytes(writer, waiting)?;
-        waiting.clear();
-    }
-    Ok(())
-}
-
-/// Writes what still waits, and flushes.
-fn finish<W: Write>(writer: &mut W, waiting: &[u8]) -> Result<(), Fault>
-    ensures sent { OnOk result (Appends
-        (W.contents writer.old) (W.contents writer.new) waiting.now) }
-    ensures kinds { IfErr result IsWritingFault }
-{
-    write_bytes(writer, waiting)?;
-    match writer.flush() {
-        Ok(()) => Ok(()),
-        Err(_) => Err(Fault::Write),
+        Some(walk) => put_walk(out, label, &walk),
     }
 }

@@ -1,17 +1,25 @@
-//! What the command line asks for.
+//! What does the command line ask for?
 
 use crate::asked::{Answer, Asked, MAX_BYTES};
 use clap::{Arg, ArgAction, ArgMatches, Command, Error, value_parser};
 use obim_engine::{MAX_CHUNK, MAX_SHIFT, MAX_WORKERS, Settings};
 use std::alloc::Global;
+use std::convert::AsStr;
 
 const KINDS: [&str; 3] = ["distances", "levels", "components"];
 
+/// What `--version` prints after the program's name.
+const VERSION: &str = "0.1.0";
+
+const USAGE: &str = "obim_query [OPTIONS] < JOB";
+
 const ABOUT: &str = "Answers a job: a directed graph with whole-number weights, and queries.";
 
-const JOBS: &str = "\
+const AFTER: &str = "\
+Workers, shift and chunk change how long an answer takes, and no byte of it.
+
 A job is one text on standard input: a graph in the .gr format of the 9th DIMACS
-Implementation Challenge, and behind it its sources in the .ss format. Vertices
+Implementation Challenge, and after it its sources in the .ss format. Vertices
 count from 1.
 
   c a comment
@@ -21,15 +29,19 @@ count from 1.
   s V                the source V
 
 For each source the answer has the line `s V`, and for each vertex a line
-`d V COST`, with `inf` where no walk leads. With --walks a line `w V COST U .. V`
-follows where one leads: its vertices in order. For components it has for each vertex
-`k V LABEL`: the least vertex that arcs join to V, whichever way they point.
+`d V COST`: the least cost of a walk, or its arcs for levels, and `inf` where no
+walk leads. With --walks a line `w V COST U .. V` follows where one leads: its
+vertices in order. For components it has for each vertex `k V LABEL`: the least
+vertex that arcs join to V, whichever way they point.
 
 Example:
   $ printf 'p sp 2 1\\na 1 2 7\\np aux sp ss 1\\ns 1\\n' | obim_query
   s 1
   d 1 0
-  d 2 7";
+  d 2 7
+
+Status: 0 answered, 1 the command line is refused, 2 the text is refused,
+3 memory, 4 reading or writing, 5 a thread, 70 the program could not be built.";
 
 /// Why a command line is refused.
 #[derive(Drop)]
@@ -48,10 +60,11 @@ impl From<Error> for Refusal {
     }
 }
 
-/// Judges the words of the command line: what they ask for, or why they are refused.
-pub fn asked_by<'a>(alloc: Global, words: &'a [String]) -> Result<Asked, Refusal> {
+/// Judges the command line: what its arguments ask for, or why they are refused. The first is the
+/// program's name.
+pub fn asked_by<'a, S: AsStr>(alloc: Global, arguments: &'a [S]) -> Result<Asked, Refusal> {
     let limits = Limits::new(alloc)?;
-    let matches = command(alloc, &limits)?.try_get_matches_from(words)?;
+    let matches = command(alloc, &limits)?.try_get_matches_from(arguments)?;
     let Some(settings) = settings_in(&matches) else {
         return Err(Refusal::Limits);
     };
@@ -74,12 +87,8 @@ impl Limits {
     fn new(alloc: Global) -> Result<Limits, Error> {
         Ok(Limits {
             workers: format!(in alloc; "How many workers, 1 to {MAX_WORKERS}")?,
-            shift: format!(in alloc;
-                "A label shifted right so far is its priority, 0 to {MAX_SHIFT}"
-            )?,
-            chunk: format!(in alloc;
-                "How many vertices are handed on at a time, 1 to {MAX_CHUNK}"
-            )?,
+            shift: format!(in alloc; "Bits that a priority leaves out, 0 to {MAX_SHIFT}")?,
+            chunk: format!(in alloc; "Vertices handed on at a time, 1 to {MAX_CHUNK}")?,
         })
     }
 }
@@ -90,7 +99,8 @@ fn command<'a>(alloc: Global, limits: &'a Limits) -> Result<Command<'a>, Error> 
         .value_name("KIND")
         .value_parser(KINDS.as_slice())
         .default_value("distances")
-        .help("Which labels: costs, hops, or least connected vertices");
+        .hide_possible_values(true)
+        .help("distances, levels or components");
     let workers = Arg::new(alloc, "workers")
         .long("workers")
         .value_name("COUNT")
@@ -112,10 +122,12 @@ fn command<'a>(alloc: Global, limits: &'a Limits) -> Result<Command<'a>, Error> 
     let walks = Arg::new(alloc, "walks")
         .long("walks")
         .action(ArgAction::SetTrue)
-        .help("Print a walk for each cost: of fewest arcs, along least tails");
+        .help("Print a walk of fewest arcs for each cost");
     let command = Command::new(alloc, "obim_query")
+        .version(VERSION)
+        .override_usage(USAGE)
         .about(ABOUT)
-        .after_help(JOBS)
+        .after_help(AFTER)
         .arg(answer)?
         .arg(walks)?
         .arg(workers)?

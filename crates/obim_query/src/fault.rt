@@ -1,4 +1,4 @@
-//! Why the program gives no answer, and the status that it ends with.
+//! Why is there no answer, and with which status does the program end?
 
 ghost use Rattle.std.specs.Prelude.{◌≡◌};
 ghost use Rattle.obim_query.specs.declared.fault.Fault.TheVariants as fault;
@@ -24,13 +24,13 @@ pub enum Fault {
     /// Distances or levels were asked for, and the text has no section of queries. Nothing was written.
     #[error("no sources or pairs")]
     NoAsk,
-    /// The system refused memory. A front of the answer may have been written.
+    /// The system refused memory. A prefix of the answer may have been written.
     #[error("out of memory")]
     Memory,
-    /// The system refused a thread. A front of the answer may have been written.
+    /// The system refused a thread. A prefix of the answer may have been written.
     #[error("cannot start a thread")]
     Spawn,
-    /// The writer failed. A front of the answer may have been written.
+    /// The writer failed. A prefix of the answer may have been written.
     #[error("write failed")]
     Write,
 }

@@ -1,39 +1,41 @@
-//! Reading to the end, up to a limit.
+//! From what a reader gives to the job in it: what is read, and up to where?
 
 ghost use Rattle.std.specs.Prelude.{◌≡◌, ◌^◌, ◌≤◌, IfOk, IfErr, length};
 ghost use Rattle.std.specs.Io.KnownBytes.{ReadConsumes};
-ghost use Rattle.obim_query.specs.Bytes.{TakesAtMost, TakesWhole};
-ghost use Rattle.obim_query.specs.Outcome.{HasTaken, IsReadingFault};
+ghost use Rattle.dimacs_text.specs.Jobs.{content_of};
+ghost use Rattle.obim_query.specs.Outcome.{HasTaken, IsRequest, IsRequestFault};
 
 use crate::fault::Fault;
+use dimacs_text::{Job, JobReader};
 use std::alloc::Global;
 use std::io::Read;
 
 const BLOCK: usize = 1 << 16;
 
-/// Reads all that the reader gives, up to its end, and one byte past the limit at most.
-pub fn read_text<R: Read>(alloc: Global, reader: &mut R, limit: u64) -> Result<Vec<u8>, Fault>
+/// Reads the job in all that the reader gives, up to its end, and one byte past the limit at most. After
+/// a fault of the text the rest is read all the same.
+pub fn read_request<R: Read>(alloc: Global, reader: &mut R, limit: u64) -> Result<Job, Fault>
     requires { limit ≤ 2 ^ 36 }
-    ensures whole { IfOk result (λ text. TakesWhole
-        (R.remaining reader.old) (R.remaining reader.new) text.items) }
-    ensures within { IfOk result (λ text. length text.items ≤ limit) }
+    ensures job { IfOk result (λ job. IsRequest limit
+        (R.remaining reader.old) (R.remaining reader.new) (content_of job)) }
     ensures taken { IfErr result (HasTaken limit
         (R.remaining reader.old) (R.remaining reader.new)) }
-    ensures kinds { IfErr result IsReadingFault }
+    ensures says { IfErr result (IsRequestFault (R.remaining reader.old) (R.remaining reader.new)) }
 {
-    let mut text = Vec::new(alloc);
+    let mut job = JobReader::new(alloc);
     let mut buffer = [0; BLOCK];
+    let mut left = limit as usize;
     loop {
-        let left = limit as usize - text.len();
         let room = BLOCK.min(left + 1);
         let count = read_some(reader, &mut buffer[..room])?;
         if count == 0 {
-            return Ok(text);
+            return Ok(job.finish()?);
         }
         if count > left {
             return Err(Fault::TooLong);
         }
-        text.extend_from_slice(&buffer[..count])?;
+        job.feed(&buffer[..count])?;
+        left -= count;
     }
 }
 

@@ -1,10 +1,18 @@
-//! Laws of answers: each is the contract of a function that does nothing.
+//! Which laws hold of answers? Each is the contract of a function that does nothing.
 
-ghost use Rattle.obim_query.specs.AnswerText.{AnswerTextsAreUnique};
+ghost use Rattle.obim_query.specs.AnswerText.{AnswerTextsAreUnique, BlocksAreUnique};
 ghost use Rattle.obim_query.specs.Costs.{AnswersSayCosts};
 
 use route_walks::laws::{inf_means_no_walk, least_labels_are_unique};
 use walk_report::laws::hops_and_parents_are_unique;
+
+/// A source has only one block of a kind.
+pub fn blocks_are_unique()
+    ensures { BlocksAreUnique }
+{
+    least_labels_are_unique();
+    hops_and_parents_are_unique();
+}
 
 /// A job has only one answer text of a kind. So what `answer` writes does not depend on how the labels
 /// were worked out.
@@ -12,7 +20,7 @@ pub fn answer_texts_are_unique()
     ensures { AnswerTextsAreUnique }
 {
     least_labels_are_unique();
-    hops_and_parents_are_unique();
+    blocks_are_unique();
 }
 
 /// In an answer of distances or levels the line of a vertex says `inf` where no walk at all leads there

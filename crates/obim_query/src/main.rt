@@ -46,8 +46,8 @@ fn main(rt: HostRuntime) -> ExitCode {
 
 /// What the command line asks for; or the status to end with, after the text that says why is printed.
 fn judged<H: AllocGlobal + Env + Print + Eprint>(rt: &H) -> Result<Asked, u8> {
-    let words: Vec<String> = match env::args(rt) {
-        Ok(words) => words
+    let arguments: Vec<String> = match env::args(rt) {
+        Ok(arguments) => arguments
             .collect(rt.alloc())
             .map_err(|_| fail(rt, Fault::Memory))?,
         Err(error) if error.kind() == ErrorKind::InvalidData => {
@@ -55,7 +55,7 @@ fn judged<H: AllocGlobal + Env + Print + Eprint>(rt: &H) -> Result<Asked, u8> {
         }
         Err(_) => return Err(fail(rt, Fault::Memory)),
     };
-    match asked_by(rt.alloc(), &words) {
+    match asked_by(rt.alloc(), &arguments) {
         Ok(asked) => Ok(asked),
         Err(Refusal::Clap(error)) => Err(shown(rt, &error)),
         Err(Refusal::Limits) => Err(complain(rt, "a setting is outside its limits", USAGE)),
@@ -91,7 +91,7 @@ fn fail<H: Eprint>(rt: &H, fault: Fault) -> u8 {
     complain(rt, fault, status(&fault))
 }
 
-/// Prints the text on standard error, behind the program's name, and gives the status back.
+/// Prints the text on standard error, after the program's name, and gives the status back.
 fn complain<H: Eprint, T: fmt::Display + Drop>(rt: &H, text: T, status: u8) -> u8 {
     // Where standard error is closed too, the status has to say it.
     let _ = eprintln!(rt; "obim_query: {text}");

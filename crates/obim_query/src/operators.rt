@@ -1,4 +1,4 @@
-//! The operators: which rows, seeds and labels an answer kind makes of a job's arcs.
+//! Which rows, seeds and labels does an answer kind make of a job's arcs?
 
 ghost use Rattle.std.specs.Prelude.{◌≡◌, ℕ, ◌≤◌, ◌^◌, length, IfOk};
 ghost use Rattle.route_walks.specs.Label.{AreLeastLabels};

@@ -1,17 +1,69 @@
-//! Writing to the end, and in blocks.
+//! Which bytes wait to be written, and when do they go out?
 
-ghost use Rattle.std.specs.Prelude.{◌≡◌, ◌<◌, ◌≤◌, length, IfOk, IfErr, OnOk, OnErr};
+ghost use Rattle.std.specs.Prelude.{◌≡◌, ◌<◌, ◌≤◌, [], length, IfOk, IfErr, OnOk, OnErr};
 ghost use Rattle.std.specs.Io.KnownBytes.{Appends, WriteAppends};
-ghost use Rattle.obim_query.specs.Bytes.{GivesFront};
+ghost use Rattle.obim_query.specs.Bytes.{GivesPrefix, Waits};
 
 use crate::fault::Fault;
+use std::alloc::Global;
 use std::io::Write;
 
-/// Writes all of the bytes. Each error, and a write of no byte, is `Write`, and then a front of the
+/// So many bytes make a piece.
+const PIECE: usize = 1 << 16;
+
+/// The bytes of an answer that wait to be written. They go out in pieces of 64 KiB as the answer grows.
+#[derive(Drop)]
+pub struct Waiting {
+    /// What waits, in order: more is put at the end.
+    pub bytes: Vec<u8>,
+}
+
+impl Waiting {
+    /// Nothing waits.
+    pub fn new(alloc: Global) -> Waiting
+        ensures { result.bytes.items ≡ [] }
+    {
+        Waiting {
+            bytes: Vec::new(alloc),
+        }
+    }
+
+    /// Writes what waits where it makes a piece.
+    pub fn send_if_full<W: Write>(&mut self, writer: &mut W) -> Result<(), Fault>
+        ensures sent { OnOk result (Waits (W.contents writer.old) (W.contents writer.new)
+            self.new.bytes.items self.old.bytes.items) }
+        ensures prefix { OnErr result (GivesPrefix
+            (W.contents writer.old) (W.contents writer.new) self.old.bytes.items) }
+        ensures only { IfErr result (λ fault. fault ≡ Fault.Write) }
+    {
+        if self.bytes.len() >= PIECE {
+            write_bytes(writer, &self.bytes)?;
+            self.bytes.clear();
+        }
+        Ok(())
+    }
+
+    /// Writes what still waits, and flushes the writer once.
+    pub fn finish<W: Write>(self, writer: &mut W) -> Result<(), Fault>
+        ensures sent { OnOk result (Appends
+            (W.contents writer.old) (W.contents writer.new) self.bytes.items) }
+        ensures prefix { OnErr result (GivesPrefix
+            (W.contents writer.old) (W.contents writer.new) self.bytes.items) }
+        ensures only { IfErr result (λ fault. fault ≡ Fault.Write) }
+    {
+        write_bytes(writer, &self.bytes)?;
+        match writer.flush() {
+            Ok(()) => Ok(()),
+            Err(_) => Err(Fault::Write),
+        }
+    }
+}
+
+/// Writes all of the bytes. Each error, and a write of no byte, is `Write`, and then a prefix of the
 /// bytes was written.
-pub fn write_bytes<W: Write>(writer: &mut W, bytes: &[u8]) -> Result<(), Fault>
+fn write_bytes<W: Write>(writer: &mut W, bytes: &[u8]) -> Result<(), Fault>
     ensures whole { OnOk result (Appends (W.contents writer.old) (W.contents writer.new) bytes.now) }
-    ensures front { OnErr result (GivesFront (W.contents writer.old) (W.contents writer.new) bytes.now) }
+    ensures prefix { OnErr result (GivesPrefix (W.contents writer.old) (W.contents writer.new) bytes.now) }
     ensures only { IfErr result (λ fault. fault ≡ Fault.Write) }
 {
     let mut rest = bytes;

@@ -1,18 +1,19 @@
-//! From the bytes of a job text to the bytes of its answer.
+//! How do the bytes of a job text become the bytes of its answer?
 
 ghost use Rattle.std.specs.Prelude.{◌≤◌, ◌^◌, IfOk, IfErr, OnOk};
 ghost use Rattle.dimacs_text.specs.Jobs.{content_of, IsWithinLimits};
 ghost use Rattle.obim_query.specs.AnswerText.{IsAnswerText};
 ghost use Rattle.obim_query.specs.Bytes.{Writes};
-ghost use Rattle.obim_query.specs.Outcome.{HasTaken, IsAnswerOf, IsAnswered, IsReplyFault, IsRequest};
-ghost use Rattle.obim_query.specs.Outcome.{IsRequestFault, IsTrueOfText, WritesNothing};
+ghost use Rattle.obim_query.specs.Outcome.{HasTaken, HasWritten, IsAnswerOf, IsAnswered, IsReplyFault};
+ghost use Rattle.obim_query.specs.Outcome.{IsRequest, IsRequestFault, IsTrueOfBytes, IsTrueOfText};
 
 use crate::asked::{Answer, Asked};
 use crate::blocks::{write_components, write_sources};
 use crate::fault::Fault;
-use crate::intake::read_text;
+use crate::intake::read_request;
+use crate::laws::answer_texts_are_unique;
 use crate::operators::{component_labels, rows_for};
-use dimacs_text::{Ask, Job, read_job};
+use dimacs_text::{Ask, Job};
 use obim_engine::Gate;
 use route_walks::laws::{least_labels_are_components, least_labels_follow_the_arcs};
 use std::alloc::Global;
@@ -42,8 +43,9 @@ pub fn answer<H: Threads + Wait + Sync, R: Read, W: Write, G: Gate + Sync>(
     // A fault of the text is its first one; where nothing was asked, the job is legal all the same.
     ensures says { IfErr result (IsTrueOfText asked.now.limit asked.now.answer
         (R.remaining reader.old) (R.remaining reader.new)) }
-    // Where the text is refused nothing was written.
-    ensures unwritten { IfErr result (WritesNothing
+    // Where the text is refused nothing was written, and else a prefix of the answer.
+    ensures written { IfErr result (HasWritten asked.now.limit asked.now.answer asked.now.walks
+        (R.remaining reader.old) (R.remaining reader.new)
         (W.contents writer.old) (W.contents writer.new)) }
 {
     let job = read_request(alloc, reader, asked.limit)?;
@@ -58,26 +60,14 @@ pub fn answer_bytes<H: Threads + Wait + Sync, G: Gate + Sync>(
     asked: &Asked,
     gate: &G,
 ) -> Result<Vec<u8>, Fault>
-    ensures { IfOk result (λ bytes. IsAnswerOf asked.now.answer asked.now.walks text.now bytes.items) }
+    ensures answered { IfOk result
+        (λ bytes. IsAnswerOf asked.now.answer asked.now.walks text.now bytes.items) }
+    ensures says { IfErr result (IsTrueOfBytes asked.now.limit asked.now.answer text.now) }
 {
     let mut reader = text;
     let mut bytes = Vec::new(alloc);
     answer(rt, alloc, &mut reader, &mut bytes, asked, gate)?;
     Ok(bytes)
-}
-
-/// Reads the text and the job in it, and lets the text go.
-fn read_request<R: Read>(alloc: Global, reader: &mut R, limit: u64) -> Result<Job, Fault>
-    requires { limit ≤ 2 ^ 36 }
-    ensures job { IfOk result (λ job. IsRequest limit
-        (R.remaining reader.old) (R.remaining reader.new) (content_of job)) }
-    ensures taken { IfErr result (HasTaken limit
-        (R.remaining reader.old) (R.remaining reader.new)) }
-    ensures says { IfErr result (IsRequestFault (R.remaining reader.old) (R.remaining reader.new)) }
-{
-    let text = read_text(alloc, reader, limit)?;
-    let job = read_job(alloc, &text)?;
-    Ok(job)
 }
 
 /// Writes the answer of the job.
@@ -92,13 +82,14 @@ fn respond<H: Threads + Wait + Sync, W: Write, G: Gate + Sync>(
     requires { IsWithinLimits (content_of job) }
     ensures reply { OnOk result (Writes (IsAnswerText asked.now.answer asked.now.walks (content_of job))
         (W.contents writer.old) (W.contents writer.new)) }
-    ensures says { IfErr result (IsReplyFault asked.now.answer (content_of job)
+    ensures says { IfErr result (IsReplyFault asked.now.answer asked.now.walks (content_of job)
         (W.contents writer.old) (W.contents writer.new)) }
 {
     let Job { n, arcs, ask } = job;
     // What is least in the rows is least for the arcs that they were built of, and so are its walks.
     least_labels_follow_the_arcs();
     hops_and_parents_follow_the_arcs();
+    answer_texts_are_unique();
     match (asked.answer, ask) {
         (Answer::Components, _) => {
             let csr = rows_for(alloc, Answer::Components, n, arcs)?;

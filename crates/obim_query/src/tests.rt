@@ -1,73 +1,29 @@
-//! Worked jobs with their answers and faults, gates that watch workers, and readers and writers that fail.
+//! Worked jobs with their answers and faults, over readers and writers that fail too.
 
+mod callers;
+mod command_lines;
 mod gates;
+mod streams;
 
 use crate::asked::{Answer, Asked};
 use crate::fault::{Fault, status};
 use crate::reply::{answer, answer_bytes};
+use callers::{append_answer, left_after_fault};
 use dimacs_text::LineKind;
 use gates::{Meeting, Recorder};
 use obim_engine::{MAX_CHUNK, MAX_SHIFT, MAX_WORKERS, OpenGate, Settings};
-use std::io::{self, ErrorKind, Read, Write};
 use std::process::Abort;
 use std::test::Fail;
+use streams::{Sink, Source};
 
 const SIX: &[u8] =
     b"p sp 6 8\na 1 2 17\na 1 3 10\na 2 4 2\na 3 5 0\na 4 3 0\na 4 6 3\na 5 2 0\na 5 6 20\n\
       p aux sp ss 1\ns 1\n";
 
+/// So many bytes of it are the graph.
+const SIX_GRAPH: usize = 76;
+
 const SIX_ANSWER: &[u8] = b"s 1\nd 1 0\nd 2 10\nd 3 10\nd 4 12\nd 5 10\nd 6 15\n";
-
-/// Gives its bytes in reads of at most `step`, and then fails or is at its end.
-#[derive(Drop)]
-struct Source<'a> {
-    rest: &'a [u8],
-    step: usize,
-    fails: bool,
-}
-
-impl Read for Source<'_> {
-    fn read(&mut self, buffer: &mut [u8]) -> io::Result<usize> {
-        if self.rest.is_empty() && self.fails {
-            return Err(io::Error::from(ErrorKind::Other));
-        }
-        let count = self.step.min(self.rest.len()).min(buffer.len());
-        let (given, rest) = self.rest.split_at(count);
-        buffer[..count].copy_from_slice(given);
-        self.rest = rest;
-        Ok(count)
-    }
-}
-
-/// Takes bytes in writes of at most `step`, and once it has `room` of them fails, or takes none.
-#[derive(Drop)]
-struct Sink {
-    taken: Vec<u8>,
-    step: usize,
-    room: usize,
-    fails: bool,
-    flushes: bool,
-}
-
-impl Write for Sink {
-    fn write(&mut self, bytes: &[u8]) -> io::Result<usize> {
-        let left = self.room.saturating_sub(self.taken.len());
-        let count = self.step.min(left).min(bytes.len());
-        if count == 0 && self.fails {
-            return Err(io::Error::from(ErrorKind::Other));
-        }
-        self.taken.extend_from_slice(&bytes[..count])?;
-        Ok(count)
-    }
-
-    fn flush(&mut self) -> io::Result<()> {
-        if self.flushes {
-            Ok(())
-        } else {
-            Err(io::Error::from(ErrorKind::Other))
-        }
-    }
-}
 
 fn asked(rt: &impl Abort, answer: Answer, limit: u64) -> Asked {
     asked_with(rt, answer, limit, (2, 4, 16))
@@ -84,31 +40,29 @@ fn asked_with(
     Asked::new(answer, settings, false, limit).expect(rt, "a limit of at most 2^36")
 }
 
+fn fault(line: u64, kind: LineKind) -> Fault {
+    Fault::Text { line, kind }
+}
+
 #[test]
 fn answers_of_worked_jobs(rt: HostRuntime) -> Result<(), Fail> {
-    let levels: &[u8] = b"s 1\nd 1 0\nd 2 1\nd 3 1\nd 4 2\nd 5 2\nd 6 3\n";
-    let components: &[u8] = b"k 1 1\nk 2 1\nk 3 1\nk 4 1\nk 5 1\nk 6 1\n";
-    let alone: &[u8] = b"p sp 1 0\np aux sp ss 1\ns 1\n";
-    let heavy: &[u8] = b"p sp 3 2\na 1 2 4294967295\na 2 3 4294967295\np aux sp ss 1\ns 1\n";
-    let parallel: &[u8] = b"p sp 2 3\na 1 2 7\na 1 2 3\na 1 1 0\np aux sp ss 1\ns 1\n";
-    let against: &[u8] = b"p sp 2 1\na 2 1 5\n";
+    let distances = Answer::Distances;
+    let levels = b"s 1\nd 1 0\nd 2 1\nd 3 1\nd 4 2\nd 5 2\nd 6 3\n".as_slice();
+    let components = b"k 1 1\nk 2 1\nk 3 1\nk 4 1\nk 5 1\nk 6 1\n".as_slice();
+    let alone = b"p sp 1 0\np aux sp ss 1\ns 1\n".as_slice();
+    let heavy = b"p sp 3 2\na 1 2 4294967295\na 2 3 4294967295\np aux sp ss 1\ns 1\n".as_slice();
+    let heavy_answer = b"s 1\nd 1 0\nd 2 4294967295\nd 3 8589934590\n".as_slice();
+    let parallel = b"p sp 2 3\na 1 2 7\na 1 2 3\na 1 1 0\np aux sp ss 1\ns 1\n".as_slice();
+    let against = b"p sp 2 1\na 2 1 5\n".as_slice();
     let table = [
-        (Answer::Distances, SIX, SIX_ANSWER),
+        (distances, SIX, SIX_ANSWER),
         (Answer::Levels, SIX, levels),
         (Answer::Components, SIX, components),
         (Answer::Components, against, b"k 1 1\nk 2 1\n".as_slice()),
         (Answer::Components, b"p sp 0 0\n".as_slice(), b"".as_slice()),
-        (Answer::Distances, alone, b"s 1\nd 1 0\n".as_slice()),
-        (
-            Answer::Distances,
-            heavy,
-            b"s 1\nd 1 0\nd 2 4294967295\nd 3 8589934590\n".as_slice(),
-        ),
-        (
-            Answer::Distances,
-            parallel,
-            b"s 1\nd 1 0\nd 2 3\n".as_slice(),
-        ),
+        (distances, alone, b"s 1\nd 1 0\n".as_slice()),
+        (distances, heavy, heavy_answer),
+        (distances, parallel, b"s 1\nd 1 0\nd 2 3\n".as_slice()),
     ];
     for (kind, text, want) in table {
         let bytes = answer_bytes(&rt, rt.alloc(), text, &asked(&rt, kind, 1000), &OpenGate)?;
@@ -170,56 +124,32 @@ fn two_workers_meet(rt: HostRuntime) -> Result<(), Fail> {
     Ok(())
 }
 
+// Where the text is refused, what stands in the vector stays as it is, and of the text so much is left.
 #[test]
 fn refusals_of_texts(rt: HostRuntime) -> Result<(), Fail> {
     let alloc = rt.alloc();
-    let graph = &SIX[..SIX.len() - 18];
     let table = [
-        (graph, 94, Fault::NoAsk),
-        (SIX, 93, Fault::TooLong),
-        (SIX, 10, Fault::TooLong),
-        (
-            b"".as_slice(),
-            0,
-            Fault::Text {
-                line: 1,
-                kind: LineKind::NoProblem,
-            },
-        ),
-        (
-            &SIX[..73],
-            94,
-            Fault::Text {
-                line: 9,
-                kind: LineKind::Fields,
-            },
-        ),
-        (
-            &SIX[..91],
-            94,
-            Fault::Text {
-                line: 11,
-                kind: LineKind::Fields,
-            },
-        ),
+        (&SIX[..SIX_GRAPH], 94, Fault::NoAsk, 0),
+        (SIX, 93, Fault::TooLong, 0),
+        (SIX, 10, Fault::TooLong, 83),
+        (b"".as_slice(), 0, fault(1, LineKind::NoProblem), 0),
+        (&SIX[..73], 94, fault(9, LineKind::Fields), 0),
+        (&SIX[..91], 94, fault(11, LineKind::Fields), 0),
     ];
-    for (text, limit, want) in table {
-        let refused = answer_bytes(
-            &rt,
-            alloc,
-            text,
-            &asked(&rt, Answer::Distances, limit),
-            &OpenGate,
-        );
+    for (text, limit, want, left) in table {
+        let asked = asked(&rt, Answer::Distances, limit);
+        let refused = answer_bytes(&rt, alloc, text, &asked, &OpenGate);
         assert_eq!(rt; refused.err(), Some(want));
+        let mut bytes = b"as it was".to_vec(alloc)?;
+        let refused = append_answer(&rt, alloc, text, &mut bytes, &asked, &OpenGate);
+        assert_eq!(rt; refused, Err(want));
+        assert_eq!(rt; bytes.as_slice(), b"as it was".as_slice());
+        let (refused, rest) = left_after_fault(&rt, alloc, text, &asked, &OpenGate);
+        assert_eq!(rt; refused, Err(want));
+        assert_eq!(rt; rest, left);
     }
-    let whole = answer_bytes(
-        &rt,
-        alloc,
-        SIX,
-        &asked(&rt, Answer::Distances, 94),
-        &OpenGate,
-    )?;
+    let asked = asked(&rt, Answer::Distances, 94);
+    let whole = answer_bytes(&rt, alloc, SIX, &asked, &OpenGate)?;
     assert_eq!(rt; whole.as_slice(), SIX_ANSWER);
     Ok(())
 }
@@ -256,31 +186,44 @@ fn writers_that_fail_or_take_little(rt: HostRuntime) -> Result<(), Fail> {
     let asked = asked(&rt, Answer::Distances, 1000);
     for room in 0..SIX_ANSWER.len() {
         for fails in [false, true] {
-            let mut sink = Sink {
-                taken: Vec::new(alloc),
-                step: 4,
-                room,
-                fails,
-                flushes: true,
-            };
+            let mut sink = Sink::with_room(alloc, 4, room, fails);
             let mut reader = SIX;
             let outcome = answer(&rt, alloc, &mut reader, &mut sink, &asked, &OpenGate);
             assert_eq!(rt; outcome, Err(Fault::Write), "after {room}");
             assert_eq!(rt; sink.taken.as_slice(), &SIX_ANSWER[..room]);
         }
     }
-    for (flushes, want) in [(true, Ok(())), (false, Err(Fault::Write))] {
-        let mut sink = Sink {
-            taken: Vec::new(alloc),
-            step: 1,
-            room: 1000,
-            fails: true,
-            flushes,
-        };
-        let mut reader = SIX;
+    let mut sink = Sink::never_flushed(alloc, 1);
+    let mut reader = SIX;
+    let outcome = answer(&rt, alloc, &mut reader, &mut sink, &asked, &OpenGate);
+    assert_eq!(rt; outcome, Err(Fault::Write));
+    assert_eq!(rt; sink.taken.as_slice(), SIX_ANSWER);
+    Ok(())
+}
+
+// A writer is flushed once, after an empty answer too, and never where the text is refused.
+#[test]
+fn flushes_of_answers(rt: HostRuntime) -> Result<(), Fail> {
+    let alloc = rt.alloc();
+    let (distances, components) = (Answer::Distances, Answer::Components);
+    let graph = &SIX[..SIX_GRAPH];
+    let no_vertex = b"p sp 0 0\n".as_slice();
+    let no_source = b"p sp 1 0\np aux sp ss 0\n".as_slice();
+    let table = [
+        (distances, SIX, Ok(()), 1),
+        (components, SIX, Ok(()), 1),
+        (components, no_vertex, Ok(()), 1),
+        (distances, no_source, Ok(()), 1),
+        (distances, graph, Err(Fault::NoAsk), 0),
+        (distances, &SIX[..73], Err(fault(9, LineKind::Fields)), 0),
+    ];
+    for (kind, text, want, flushes) in table {
+        let mut sink = Sink::new(alloc, 1000);
+        let mut reader = text;
+        let asked = asked(&rt, kind, 1000);
         let outcome = answer(&rt, alloc, &mut reader, &mut sink, &asked, &OpenGate);
         assert_eq!(rt; outcome, want);
-        assert_eq!(rt; sink.taken.as_slice(), SIX_ANSWER);
+        assert_eq!(rt; sink.flushes, flushes);
     }
     Ok(())
 }
@@ -293,12 +236,8 @@ fn limits_and_statuses(rt: HostRuntime) {
     assert!(rt; Asked::new(Answer::Components, settings, false, 0).is_some());
     assert!(rt; Asked::new(Answer::Levels, settings, false, 1 << 36).is_some());
     assert!(rt; Asked::new(Answer::Levels, settings, false, (1 << 36) + 1).is_none());
-    let text = Fault::Text {
-        line: 4,
-        kind: LineKind::TooFew,
-    };
     let table = [
-        (text, 2, "line 4: too few lines"),
+        (fault(4, LineKind::TooFew), 2, "line 4: too few lines"),
         (Fault::TooLong, 2, "input too long"),
         (Fault::NoAsk, 2, "no sources or pairs"),
         (Fault::Memory, 3, "out of memory"),
@@ -306,11 +245,9 @@ fn limits_and_statuses(rt: HostRuntime) {
         (Fault::Write, 4, "write failed"),
         (Fault::Spawn, 5, "cannot start a thread"),
     ];
-    for (fault, want, words) in table {
+    for (fault, want, message) in table {
         assert_eq!(rt; status(&fault), want);
-        assert_eq!(rt;
-            fault.to_string(rt.alloc()).expect(&rt, "memory").as_str(),
-            words
-        );
+        let printed = fault.to_string(rt.alloc()).expect(&rt, "memory");
+        assert_eq!(rt; printed.as_str(), message);
     }
 }

@@ -5,6 +5,6 @@ use Rattle.obim_query.proofs.blocks.put_walks.Given as goal
 
 abbrev pub invariant-loop-v : goal.invariant-loop-v
 invariant-loop-v g l =
-    IsPut (g.W.Write.contents l.fn.writer) (g.W.Write.contents l.writer) l.waiting.items
+    IsPut (g.W.Write.contents l.fn.writer) (g.W.Write.contents l.writer) l.waiting.bytes.items
     (vertex_lines (slice_index l.hops) (slice_index l.parents) l.v (drop l.v l.labels))
-    (l.fn.waiting.items ++ walks_text l.source (slice_index l.hops) (slice_index l.parents) l.labels)
+    (l.fn.waiting.bytes.items ++ walks_text l.source (slice_index l.hops) (slice_index l.parents) l.labels)

@@ -1,15 +1,15 @@
-use Rattle.std.proofs.Common.{◌<◌, ℕ, List, ap, refl, subst, sym, arith}
+use Rattle.std.proofs.Common.{◌<◌, [], ap, subst, sym, arith}
 use Rattle.std.specs.List.{All}
 use Rattle.std.proofs.lemmas.List.Elements.{All-weaker}
-use Rattle.std.proofs.lemmas.Result.{on_ok_weaker}
+use Rattle.std.proofs.lemmas.Result.{on_err_weaker, on_ok_weaker}
 use Rattle.route_walks.specs.declared.graph.TheConstants.{INF}
 use Rattle.route_walks.specs.Walk.{IsArcBelow, IsGraph}
 use Rattle.dimacs_text.specs.Jobs.{IsArcWithin, content_of, question_of}
-use Rattle.dimacs_text.specs.Answers.{components_text}
-use Rattle.std.specs.Io.KnownBytes.{Appends}
-use Rattle.obim_query.specs.declared.asked.Answer.{Answer}
-use Rattle.obim_query.specs.AnswerText.{AreSourceBlocks, IsAnswerText}
-use Rattle.obim_query.proofs.Replies.{sources_answered, components_least, components_found}
+use Rattle.dimacs_text.specs.AnswerLines.{components_text}
+use Rattle.obim_query.specs.AnswerText.{IsAnswerText}
+use Rattle.obim_query.proofs.Prefixes.{only-text}
+use Rattle.obim_query.proofs.Replies.{components_answered, components_found, components_least}
+use Rattle.obim_query.proofs.Replies.{reply-says, sources_answered, sources_begun}
 use Rattle.obim_query.proofs.reply.respond.Goals as goal
 
 pub write_components-requires-clause-finite : goal.write_components-requires-clause-finite
@@ -31,25 +31,37 @@ write_components-requires-clause-finite g c =
 pub returns-in_ok-labels-in-Components-default-clause-reply :
     goal.returns-in_ok-labels-in-Components-default-clause-reply
 returns-in_ok-labels-in-Components-default-clause-reply g c =
-    let job = c.args.job in
     let csr = c.in_ok-csr-in-Components-default.csr in
     let labels = c.in_ok-labels-in-Components-default.labels.items in
-    let least =
-    components_least c.least_labels_follow_the_arcs.ensures job.n csr.n csr.arcs job.arcs.items labels
-    c.in_ok-csr-in-Components-default.ensures.vertices c.in_ok-csr-in-Components-default.ensures.arcs
-    c.in_ok-labels-in-Components-default.ensures in
     on_ok_weaker c.write_components.result
     (λ written. record {
       text = components_text labels;
       is_text =
-          subst (λ (kind : Answer). IsAnswerText kind c.args.asked.now.walks (content_of job) (components_text labels))
-          (sym c.in-Components-default.is-0)
-          (record { labels = labels; least = least; written = refl });
-      appended =
-          subst (λ (given : List ℕ). Appends (g.W.Write.contents c.args.writer.now)
-          (g.W.Write.contents c.write_components.new.writer) (components_text given)) c.deref.ensures.value written;
+          components_answered c.least_labels_follow_the_arcs.ensures c.args.asked.now.answer c.args.asked.now.walks
+          (content_of c.args.job) csr.n csr.arcs labels c.in-Components-default.is-0
+          c.in_ok-csr-in-Components-default.ensures.vertices c.in_ok-csr-in-Components-default.ensures.arcs
+          c.in_ok-labels-in-Components-default.ensures;
+      appended = written;
     })
-    c.write_components.ensures.block
+    (rw c.deref.ensures.value at c.write_components.ensures.block)
+
+pub returns-in_ok-labels-in-Components-default-clause-says :
+    goal.returns-in_ok-labels-in-Components-default-clause-says
+returns-in_ok-labels-in-Components-default-clause-says g c =
+    let kind = c.args.asked.now.answer in
+    let walks = c.args.asked.now.walks in
+    let job = content_of c.args.job in
+    let csr = c.in_ok-csr-in-Components-default.csr in
+    let labels = c.in_ok-labels-in-Components-default.labels.items in
+    let answered =
+    components_answered c.least_labels_follow_the_arcs.ensures kind walks job csr.n csr.arcs labels
+    c.in-Components-default.is-0 c.in_ok-csr-in-Components-default.ensures.vertices
+    c.in_ok-csr-in-Components-default.ensures.arcs c.in_ok-labels-in-Components-default.ensures in
+    reply-says kind walks job _ _ c.write_components.result c.write_components.ensures.kinds
+    (on_err_weaker c.write_components.result
+    (only-text (IsAnswerText kind walks job) _ _ [] (components_text labels)
+    (λ other. c.answer_texts_are_unique.ensures kind walks job (components_text labels) other answered))
+    (rw c.deref.ensures.value at c.write_components.ensures.prefix))
 
 pub returns-in_ok-csr-in_default-Sources-clause-reply : goal.returns-in_ok-csr-in_default-Sources-clause-reply
 returns-in_ok-csr-in_default-Sources-clause-reply g c =
@@ -58,12 +70,25 @@ returns-in_ok-csr-in_default-Sources-clause-reply g c =
     (λ written. record {
       text = written.text;
       is_text =
-          sources_answered c.least_labels_follow_the_arcs.ensures c.hops_and_parents_follow_the_arcs.ensures
-          c.args.asked.now.answer c.args.asked.now.walks (content_of c.args.job) csr.n csr.arcs c.in_default-Sources.sources.items written.text c.in_default-Sources.not-Components-0
-          (ap question_of c.in_default-Sources.is-1)
-          c.in_ok-csr-in_default-Sources.ensures.vertices c.in_ok-csr-in_default-Sources.ensures.arcs
-          (subst (λ (sources : List ℕ). AreSourceBlocks c.args.asked.now.walks csr.n csr.arcs sources written.text)
-          c.deref-in_default-Sources.ensures.value written.is_text);
+          (sources_answered c.least_labels_follow_the_arcs.ensures c.hops_and_parents_follow_the_arcs.ensures
+          c.args.asked.now.answer c.args.asked.now.walks (content_of c.args.job) csr.n csr.arcs
+          c.in_default-Sources.sources.items written.text c.in_default-Sources.not-Components-0
+          (ap question_of c.in_default-Sources.is-1) c.in_ok-csr-in_default-Sources.ensures.vertices
+          c.in_ok-csr-in_default-Sources.ensures.arcs).0 written.is_text;
       appended = written.appended;
     })
-    c.write_sources.ensures.blocks
+    (rw c.deref-in_default-Sources.ensures.value at c.write_sources.ensures.blocks)
+
+pub returns-in_ok-csr-in_default-Sources-clause-says : goal.returns-in_ok-csr-in_default-Sources-clause-says
+returns-in_ok-csr-in_default-Sources-clause-says g c =
+    let kind = c.args.asked.now.answer in
+    let walks = c.args.asked.now.walks in
+    let job = content_of c.args.job in
+    let csr = c.in_ok-csr-in_default-Sources.csr in
+    reply-says kind walks job _ _ c.write_sources.result c.write_sources.ensures.kinds
+    (on_err_weaker c.write_sources.result
+    (sources_begun c.least_labels_follow_the_arcs.ensures c.hops_and_parents_follow_the_arcs.ensures kind walks job
+    csr.n csr.arcs c.in_default-Sources.sources.items _ _ c.in_default-Sources.not-Components-0
+    (ap question_of c.in_default-Sources.is-1) c.in_ok-csr-in_default-Sources.ensures.vertices
+    c.in_ok-csr-in_default-Sources.ensures.arcs)
+    (rw c.deref-in_default-Sources.ensures.value at c.write_sources.ensures.prefix))

@@ -1,0 +1,48 @@
+use Rattle.std.proofs.Common.{◌≡◌, Bool, ℕ, List, ◌++◌, Some, append_assoc, inl, inr, ap, subst, sym, ◌∙◌}
+use Rattle.std.proofs.lemmas.List.{append-nil}
+use Rattle.std.proofs.lemmas.Result.{IfErr-weaker}
+use Rattle.dimacs_text.specs.Jobs.{Content, IsJobText}
+use Rattle.dimacs_text.specs.Laws.{ATextHasOneJob}
+use Rattle.obim_query.specs.declared.asked.Answer.{Answer}
+use Rattle.obim_query.specs.declared.fault.Fault.{Fault}
+use Rattle.obim_query.specs.declared.fault.Fault.TheVariants.{Read, TooLong, Text, NoAsk, Memory, Spawn, Write}
+use Rattle.obim_query.specs.AnswerText.{IsAnswerText}
+use Rattle.obim_query.specs.Bytes.{IsPrefix}
+use Rattle.obim_query.specs.Outcome.{HasWritten, IsBegun}
+use Rattle.obim_query.proofs.tests.callers.append_answer.Goals as goal
+
+module _ (law : ATextHasOneJob) (limit : ℕ) (kind : Answer) (walks : Bool) (text rest old new : List ℕ)
+    (job : Content) (reply : List ℕ) (is_job : IsJobText text job) (answered : IsAnswerText kind walks job reply) where
+  kept : new ≡ old → IsPrefix new (old ++ reply)
+  kept same = (reply, ap (λ (xs : List ℕ). xs ++ reply) (sym same))
+
+  begun : IsBegun limit kind walks (Some text) (Some rest) (Some old) (Some new) → IsPrefix new (old ++ reply)
+  begun run =
+      let taken = run.request.whole in
+      let whole : text ≡ run.request.text =
+      taken.taken ∙ ap (λ (xs : List ℕ). run.request.text ++ xs) taken.ended ∙ append-nil run.request.text in
+      let same = law text job run.job is_job (subst (λ (xs : List ℕ). IsJobText xs run.job) (sym whole) run.request.is_job) in
+      let prefix = run.reply.is_prefix reply (subst (λ (j : Content). IsAnswerText kind walks j reply) same answered) in (
+        prefix.0,
+        ap (λ (xs : List ℕ). old ++ xs) prefix.1
+            ∙ sym (append_assoc old run.reply.given prefix.0)
+            ∙ ap (λ (xs : List ℕ). xs ++ prefix.0) (sym run.reply.appended),
+      )
+
+  at-fault : (fault : Fault) → HasWritten limit kind walks (Some text) (Some rest) (Some old) (Some new) fault
+      → IsPrefix new (old ++ reply)
+  at-fault Read same = kept same
+  at-fault TooLong same = kept same
+  at-fault (Text line what) same = kept same
+  at-fault NoAsk same = kept same
+  at-fault Memory written = elim written [ inl same ↦ kept same | inr run ↦ begun run ]
+  at-fault Spawn run = begun run
+  at-fault Write run = begun run
+
+pub returns-clause-prefix : goal.returns-clause-prefix
+returns-clause-prefix g c =
+    IfErr-weaker c.answer.result _ _
+    (λ fault written job reply is_job answered.
+    at-fault c.a_text_has_one_job.ensures c.args.asked.now.limit c.args.asked.now.answer c.args.asked.now.walks
+    c.args.text.now _ c.args.bytes.now.items c.answer.new.writer.items job reply is_job answered fault written)
+    c.answer.ensures.written

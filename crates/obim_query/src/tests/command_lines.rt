@@ -1,0 +1,92 @@
+//! Which arguments ask for what, and which are refused?
+
+use crate::asked::{Answer, Asked, MAX_BYTES};
+use crate::command_line::{Refusal, asked_by};
+use clap::error::ErrorKind;
+use obim_engine::Settings;
+use std::alloc::Global;
+use std::process::Abort;
+use std::test::Fail;
+
+fn asked_of(line: &str, alloc: Global) -> Result<Asked, Refusal> {
+    match line.split(' ').collect::<Vec<&str>>(alloc) {
+        Ok(arguments) => asked_by(alloc, &arguments),
+        Err(refused) => Err(Refusal::from(clap::Error::from(refused))),
+    }
+}
+
+fn ask(
+    rt: &impl Abort,
+    answer: Answer,
+    walks: bool,
+    (workers, shift, chunk): (u32, u32, usize),
+) -> Option<Asked> {
+    let settings = Settings::new(workers, shift, chunk).expect(rt, "settings within their limits");
+    Asked::new(answer, settings, walks, MAX_BYTES)
+}
+
+#[test]
+fn lines_beside_what_they_ask_for(rt: HostRuntime) {
+    let table = [
+        ("it", Answer::Distances, false, (2, 4, 16)),
+        (
+            "it --answer distances",
+            Answer::Distances,
+            false,
+            (2, 4, 16),
+        ),
+        ("it --answer levels", Answer::Levels, false, (2, 4, 16)),
+        (
+            "it --answer=components",
+            Answer::Components,
+            false,
+            (2, 4, 16),
+        ),
+        ("it --walks", Answer::Distances, true, (2, 4, 16)),
+        (
+            "it --walks --answer levels",
+            Answer::Levels,
+            true,
+            (2, 4, 16),
+        ),
+        ("it --workers 1", Answer::Distances, false, (1, 4, 16)),
+        ("it --workers 64", Answer::Distances, false, (64, 4, 16)),
+        ("it --shift 0", Answer::Distances, false, (2, 0, 16)),
+        ("it --shift 63", Answer::Distances, false, (2, 63, 16)),
+        ("it --chunk 1", Answer::Distances, false, (2, 4, 1)),
+        ("it --chunk 256", Answer::Distances, false, (2, 4, 256)),
+    ];
+    for (line, answer, walks, settings) in table {
+        let asked = asked_of(line, rt.alloc());
+        assert_eq!(rt; asked.ok(), ask(&rt, answer, walks, settings), "{line}");
+    }
+}
+
+#[test]
+fn lines_beside_their_refusals(rt: HostRuntime) -> Result<(), Fail> {
+    let table = [
+        ("it --workers 0", ErrorKind::ValueValidation),
+        ("it --workers 65", ErrorKind::ValueValidation),
+        ("it --workers two", ErrorKind::ValueValidation),
+        ("it --shift 64", ErrorKind::ValueValidation),
+        ("it --shift -1", ErrorKind::UnknownArgument),
+        ("it --shift", ErrorKind::InvalidValue),
+        ("it --chunk 0", ErrorKind::ValueValidation),
+        ("it --chunk 257", ErrorKind::ValueValidation),
+        ("it --answer routes", ErrorKind::InvalidValue),
+        ("it --workers 2 --workers 2", ErrorKind::ArgumentConflict),
+        ("it --speed", ErrorKind::UnknownArgument),
+        ("it job.gr", ErrorKind::UnknownArgument),
+        ("it --help", ErrorKind::DisplayHelp),
+        ("it --version", ErrorKind::DisplayVersion),
+    ];
+    for (line, want) in table {
+        match asked_of(line, rt.alloc()) {
+            Err(Refusal::Clap(error)) => assert_eq!(rt; error.kind(), want, "{line}"),
+            _ => assert!(rt; false, "{line}"),
+        }
+    }
+    let walks = asked_of("it --answer components --walks", rt.alloc());
+    assert!(rt; matches!(walks, Err(Refusal::Walks)));
+    Ok(())
+}

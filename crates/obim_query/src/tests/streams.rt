@@ -1,0 +1,86 @@
+//! A reader and a writer that fail, or give and take little at a time.
+
+use std::alloc::Global;
+use std::io::{self, ErrorKind, Read, Write};
+
+/// Gives its bytes in reads of at most `step`, and then fails or is at its end.
+#[derive(Drop)]
+pub(crate) struct Source<'a> {
+    pub rest: &'a [u8],
+    pub step: usize,
+    pub fails: bool,
+}
+
+impl Read for Source<'_> {
+    fn read(&mut self, buffer: &mut [u8]) -> io::Result<usize> {
+        if self.rest.is_empty() && self.fails {
+            return Err(io::Error::from(ErrorKind::Other));
+        }
+        let count = self.step.min(self.rest.len()).min(buffer.len());
+        let (given, rest) = self.rest.split_at(count);
+        buffer[..count].copy_from_slice(given);
+        self.rest = rest;
+        Ok(count)
+    }
+}
+
+/// Takes bytes in writes of at most `step`, and once it has `room` of them fails, or takes none. Counts
+/// its flushes, of which each fails where it is told so.
+#[derive(Drop)]
+pub(crate) struct Sink {
+    pub taken: Vec<u8>,
+    pub flushes: u32,
+    step: usize,
+    room: usize,
+    fails: bool,
+    flush_fails: bool,
+}
+
+impl Sink {
+    /// A writer that takes all in writes of at most `step`.
+    pub fn new(alloc: Global, step: usize) -> Sink {
+        Sink {
+            taken: Vec::new(alloc),
+            flushes: 0,
+            step,
+            room: usize::MAX,
+            fails: false,
+            flush_fails: false,
+        }
+    }
+
+    /// The same with room for so many bytes, after which it fails or takes none.
+    pub fn with_room(alloc: Global, step: usize, room: usize, fails: bool) -> Sink {
+        let mut sink = Sink::new(alloc, step);
+        sink.room = room;
+        sink.fails = fails;
+        sink
+    }
+
+    /// The same, but each flush fails.
+    pub fn never_flushed(alloc: Global, step: usize) -> Sink {
+        let mut sink = Sink::new(alloc, step);
+        sink.flush_fails = true;
+        sink
+    }
+}
+
+impl Write for Sink {
+    fn write(&mut self, bytes: &[u8]) -> io::Result<usize> {
+        let left = self.room.saturating_sub(self.taken.len());
+        let count = self.step.min(left).min(bytes.len());
+        if count == 0 && self.fails {
+            return Err(io::Error::from(ErrorKind::Other));
+        }
+        self.taken.extend_from_slice(&bytes[..count])?;
+        Ok(count)
+    }
+
+    fn flush(&mut self) -> io::Result<()> {
+        self.flushes = self.flushes.saturating_add(1);
+        if self.flush_fails {
+            return Err(io::Error::from(ErrorKind::Other));
+        }
+        Ok(())
+    }
+}
