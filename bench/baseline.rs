@@ -1,16 +1,14 @@
-//! The same job in plain Rust, to compare with: reads all, parses by bytes, builds rows by counting
-//! sort, finds distances by Dijkstra with a binary heap, and formats into one buffer. With --walks it
-//! prints walks of fewest arcs along least tails too, in pieces. It stops at the first line that is wrong, with less care for which fault it is.
+//! The same job in plain Rust, to compare with: reads all, parses by bytes, builds rows by counting sort,
+//! finds distances by Dijkstra with a binary heap, and formats into one buffer. With --walks it prints walks
+//! of fewest arcs along least tails too, in pieces. It stops at the first line that is wrong, and says no
+//! more of it.
 
+mod shared;
+
+use shared::{Arc, Rows};
 use std::cmp::Reverse;
 use std::collections::BinaryHeap;
 use std::io::{self, Read, Write};
-
-struct Arc {
-    tail: u32,
-    head: u32,
-    weight: u32,
-}
 
 struct Job {
     n: usize,
@@ -50,11 +48,70 @@ fn end_of_line(bytes: &[u8], at: &mut usize) -> Option<()> {
     }
 }
 
+/// How many bytes of a text the fast way looks at for one line.
+const WINDOW: usize = 64;
+
+/// The number whose digits begin at a place, and the place after them. Places wrap within the window, so no
+/// bound is tested; a byte that is no digit ends it.
+#[inline(never)]
+fn digits_at(window: &[u8; WINDOW], start: usize) -> (u64, usize) {
+    let mut value = 0u64;
+    let mut end = start;
+    let mut digit = u64::from(window[end % WINDOW]).wrapping_sub(48);
+    while digit < 10 {
+        value = value.wrapping_mul(10).wrapping_add(digit);
+        end += 1;
+        digit = u64::from(window[end % WINDOW]).wrapping_sub(48);
+    }
+    (value, end)
+}
+
+/// The number after one blank, of 12 digits at most, and the place after it.
+#[inline(always)]
+fn spaced_at(window: &[u8; WINDOW], start: usize) -> Option<(u64, usize)> {
+    let (value, end) = digits_at(window, start + 1);
+    let few = (start + 2..=start + 13).contains(&end);
+    (window[start % WINDOW] == b' ' && few).then_some((value, end))
+}
+
+/// The arc of a line that has single blanks and nothing odd, and how many bytes the line has. Anything else
+/// is left to the slow way.
+#[inline(always)]
+fn fast_arc(bytes: &[u8], n: usize) -> Option<(Arc, usize)> {
+    let window = bytes.first_chunk()?;
+    // The letter is no digit: so a loop over digits ends.
+    if window[0] != b'a' {
+        return None;
+    }
+    let (tail, end) = spaced_at(window, 1)?;
+    let (head, end) = spaced_at(window, end)?;
+    let (weight, end) = spaced_at(window, end)?;
+    let vertices = 1..=n as u64;
+    let good = vertices.contains(&tail) && vertices.contains(&head) && weight <= u64::from(u32::MAX);
+    let arc =
+        Arc { tail: tail.wrapping_sub(1) as u32, head: head.wrapping_sub(1) as u32, weight: weight as u32 };
+    (good && window[end % WINDOW] == b'\n').then_some((arc, end + 1))
+}
+
+/// Reads arcs from a place on while their lines are plain: the place of the first other line.
+#[inline(never)]
+fn fast_arcs(bytes: &[u8], mut at: usize, job: &mut Job) -> usize {
+    while let Some((arc, size)) = bytes.get(at..).and_then(|rest| fast_arc(rest, job.n)) {
+        job.arcs.push(arc);
+        at += size;
+    }
+    at
+}
+
 fn parse(bytes: &[u8]) -> Option<Job> {
     let mut job = Job { n: 0, arcs: Vec::new(), sources: Vec::new() };
     let (mut m, mut k) = (0, 0);
     let mut at = 0;
-    while at < bytes.len() {
+    loop {
+        at = fast_arcs(bytes, at, &mut job);
+        if at >= bytes.len() {
+            break;
+        }
         match bytes[at] {
             b'a' => {
                 at += 1;
@@ -94,30 +151,6 @@ fn parse(bytes: &[u8]) -> Option<Job> {
     (job.arcs.len() == m && job.sources.len() == k).then_some(job)
 }
 
-/// Rows of arcs: those of `u` are at `firsts[u]..firsts[u + 1]`.
-pub struct Rows {
-    firsts: Vec<usize>,
-    targets: Vec<(u32, u32)>,
-}
-
-fn rows(n: usize, arcs: &[Arc]) -> Rows {
-    let mut firsts = vec![0usize; n + 1];
-    for arc in arcs {
-        firsts[arc.tail as usize + 1] += 1;
-    }
-    for u in 0..n {
-        firsts[u + 1] += firsts[u];
-    }
-    let mut next = firsts.clone();
-    let mut targets = vec![(0, 0); arcs.len()];
-    for arc in arcs {
-        let place = &mut next[arc.tail as usize];
-        targets[*place] = (arc.head, arc.weight);
-        *place += 1;
-    }
-    Rows { firsts, targets }
-}
-
 fn distances(rows: &Rows, source: u32) -> Vec<u64> {
     let mut labels = vec![u64::MAX; rows.firsts.len() - 1];
     let mut heap = BinaryHeap::new();
@@ -127,12 +160,11 @@ fn distances(rows: &Rows, source: u32) -> Vec<u64> {
         if label > labels[u as usize] {
             continue;
         }
-        let row = rows.firsts[u as usize]..rows.firsts[u as usize + 1];
-        for &(head, weight) in &rows.targets[row] {
-            let reached = label + u64::from(weight);
-            if reached < labels[head as usize] {
-                labels[head as usize] = reached;
-                heap.push(Reverse((reached, head)));
+        for target in rows.row(u as usize) {
+            let reached = label + u64::from(target.weight);
+            if reached < labels[target.head as usize] {
+                labels[target.head as usize] = reached;
+                heap.push(Reverse((reached, target.head)));
             }
         }
     }
@@ -181,11 +213,11 @@ fn hops(rows: &Rows, labels: &[u64], source: u32) -> Vec<u32> {
     while next < queue.len() {
         let u = queue[next] as usize;
         next += 1;
-        for &(head, weight) in &rows.targets[rows.firsts[u]..rows.firsts[u + 1]] {
-            let v = head as usize;
-            if hops[v] == NONE && labels[u] + u64::from(weight) == labels[v] {
+        for target in rows.row(u) {
+            let v = target.head as usize;
+            if hops[v] == NONE && labels[u] + u64::from(target.weight) == labels[v] {
                 hops[v] = hops[u] + 1;
-                queue.push(head);
+                queue.push(target.head);
             }
         }
     }
@@ -196,9 +228,9 @@ fn hops(rows: &Rows, labels: &[u64], source: u32) -> Vec<u32> {
 fn parents(rows: &Rows, labels: &[u64], hops: &[u32]) -> Vec<u32> {
     let mut parents = vec![NONE; labels.len()];
     for u in (0..labels.len()).filter(|u| hops[*u] != NONE) {
-        for &(head, weight) in &rows.targets[rows.firsts[u]..rows.firsts[u + 1]] {
-            let v = head as usize;
-            let nearer = hops[v] == hops[u] + 1 && labels[u] + u64::from(weight) == labels[v];
+        for target in rows.row(u) {
+            let v = target.head as usize;
+            let nearer = hops[v] == hops[u] + 1 && labels[u] + u64::from(target.weight) == labels[v];
             if nearer && parents[v] == NONE {
                 parents[v] = u as u32;
             }
@@ -258,7 +290,7 @@ fn main() -> io::Result<()> {
     drop(bytes);
     let mut out = Vec::new();
     if !job.sources.is_empty() {
-        let rows = rows(job.n, &job.arcs);
+        let rows = Rows::build(job.n, &job.arcs);
         for source in &job.sources {
             let labels = distances(&rows, *source);
             if walks {
