@@ -2,12 +2,12 @@
 //!
 //! A job is a graph file (`.gr`) followed by an auxiliary file of sources (`.ss`), both in the formats
 //! of the 9th DIMACS Implementation Challenge on shortest paths. `read_job` gives the job of a text, or
-//! the number of the first line that is wrong and what is wrong with it. The `put_` calls append the
-//! lines of an answer: each appends exactly its bytes, or leaves the vector as it was and returns
-//! `Memory`.
+//! the number of the first line that is wrong and what is wrong with it, and `JobReader` the same of a
+//! text that comes in pieces. The `put_` calls append the lines of an answer: each appends exactly its
+//! bytes, or leaves the vector as it was and returns `Memory`.
 //!
-//! It stands on `route_walks`, whose arcs a job holds. In the interfaces vertices are counted from 0; in
-//! the texts they are counted from 1.
+//! It stands on `route_walks`, whose arcs a job holds, and on `itoa` for digits. In the interfaces
+//! vertices are counted from 0; in the texts they are counted from 1.
 #![tactic(auto)]
 
 mod answer;
