@@ -1,0 +1,10 @@
+mod Accounting
+mod Cuts
+mod Distinct
+mod Indexing
+mod Listed
+mod LogRule
+mod PlaceSteps
+mod Prefixes
+mod Ties
+mod Totals

@@ -1,0 +1,10 @@
+use Rattle.std.proofs.Common.{◌≡◌}
+use Rattle.crossbeam_queue.specs.SegTies.{IsSegPassOf}
+use Rattle.obim_bags.specs.Accounts.{new_tally}
+use Rattle.obim_bags.proofs.passes.grow.Given as goal
+
+abbrev pub invariant-loop : goal.invariant-loop
+invariant-loop l = record {
+  pass : IsSegPassOf l.queue l.first;
+  shares : l.first.me.view.client ≡ new_tally l.counter l.counter;
+}

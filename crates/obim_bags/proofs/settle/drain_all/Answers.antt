@@ -1,0 +1,84 @@
+-- One bag more is drained.
+use Rattle.std.proofs.Common.{◌≡◌, ◌∙◌, ap, refl, sym, subst, ℕ, zero, suc, ◌+◌, ◌-◌, ◌≤◌, List, [], ◌∷◌, ◌++◌, map, reverse, take, drop, get_or, length, length-append, arith}
+use Rattle.std.specs.Prelude.{All}
+use Rattle.std.specs.declared.vec.Vec.{Vec}
+use Rattle.std.specs.declared.alloc.Global.{Global}
+use Rattle.std.proofs.lemmas.List.{length-map, length-take, map-append, reverse-append, take-append-drop}
+use Rattle.std.proofs.lemmas.List.Elements.{All-map, All-weaker}
+use mathlib.Core.List.{IsPrefix}
+use Rattle.obim_bags.specs.Chunks.{ChunkSeen}
+use Rattle.obim_bags.specs.Bags.{AreSettled, BagSeen, PassSeen}
+use Rattle.obim_bags.specs.Logs.{PlaceSeen, bags_in}
+use Rattle.obim_bags.specs.Entries.{EntriesSeen, EntrySeen, bags_of}
+use Rattle.obim_bags.specs.Settling.{AreDrainedFrom, AreOf, lists_of, passes_in}
+use Rattle.obim_bags.proofs.Prefixes.{prefix_length, prefix_map, prefix_trans}
+use Rattle.obim_bags.proofs.Cuts.{passes_kept}
+use Rattle.obim_bags.proofs.settle.drain_all.Goals as goal
+
+count_of : (entries : EntriesSeen) → length (bags_of entries) ≡ length entries.list
+count_of entries = length-map entries.list (λ (e : EntrySeen). e.bag)
+
+-- lists of places of these bags are no longer than the bags
+of_short : (bags : List BagSeen) (n : ℕ) (held : List (List PlaceSeen)) → length bags ≡ n → AreOf bags held
+    → All (λ (places : List PlaceSeen). length places ≤ n) held
+of_short bags n held count of =
+    All-weaker (λ (places : List PlaceSeen). IsPrefix (bags_in places) bags) (λ (places : List PlaceSeen). length places ≤ n)
+    (λ places begins. omega (arith, prefix_length (bags_in places) bags begins, length-map places (λ (p : PlaceSeen). p.bag))) held of
+
+-- lists that are cut are of these bags still
+cut_of : (bags : List BagSeen) (n : ℕ) (held : List (List PlaceSeen)) → AreOf bags held → AreOf bags (map (take n) held)
+cut_of bags n held of =
+    let P = λ (places : List PlaceSeen). IsPrefix (bags_in places) bags in
+    All-map P (take n) held
+    (All-weaker P (λ (places : List PlaceSeen). P (take n places))
+    (λ places begins.
+    prefix_trans (bags_in (take n places)) (bags_in places) bags
+    (prefix_map (λ (p : PlaceSeen). p.bag) (take n places) places (drop n places, take-append-drop n places)) begins) held of)
+
+cut_short : (n : ℕ) (held : List (List PlaceSeen)) → All (λ (places : List PlaceSeen). length places ≤ n) (map (take n) held)
+cut_short n held =
+    All-map (λ (places : List PlaceSeen). length places ≤ n) (take n) held (λ k d within. omega (arith, length-take n (get_or held k d)))
+
+drained_more : (n : ℕ) (held : List (List PlaceSeen)) (parts : List (List ChunkSeen)) (part : List ChunkSeen) → AreDrainedFrom (n + 1) held parts
+    → AreSettled (passes_in n held) part → AreDrainedFrom n held (part ∷ parts)
+drained_more n held parts part was this zero p at =
+    let same : part ≡ p = cc at in let here : n + 0 ≡ n = omega arith in rw (here, ← same) this
+drained_more n held parts part was this (suc k) p at =
+    let there : n + suc k ≡ n + 1 + k = omega arith in rw there (was k p at)
+
+-- the part put last comes first
+first_part : (parts new : List (Vec ChunkSeen Global)) (part : Vec ChunkSeen Global) → new ≡ parts ++ part ∷ []
+    → reverse (lists_of new) ≡ part.items ∷ reverse (lists_of parts)
+first_part parts new part is =
+    rw (is, map-append (λ (v : Vec ChunkSeen Global). v.items) parts (part ∷ []), reverse-append (lists_of parts) (part.items ∷ [])) refl
+
+pub loop-place-init : goal.loop-place-init
+loop-place-init g c = record {
+  bags = refl;
+  held = c.requires;
+  short = of_short (bags_of c.args.entries.now) c.len-place.result (lists_of c.args.held.items) (count_of c.args.entries.now ∙ sym c.len-place.ensures.len) c.requires;
+  passes = λ place below. refl;
+  count = rw c.new-parts.ensures.items (omega (arith, c.len-place.ensures.len, count_of c.args.entries.now));
+  drained = rw c.new-parts.ensures.items (λ place part at. absurd cc);
+}
+
+pub loop-place-preserved : goal.loop-place-preserved
+loop-place-preserved g c =
+    let was = c.loop-place.invariant in
+    let n = c.loop-place.place - 1 in
+    let next : c.loop-place.place ≡ c.loop-place.place - 1 + 1 = omega (arith, c.loop-place-test.true) in
+    let held = lists_of c.loop-place.held.items in
+    let parts = first_part c.loop-place.parts.items c.push.new.self.items c.in_ok-drain_at.field-0 c.in_ok-push.ensures.items in
+    let here = c.in_ok-passes.ensures.passes ∙ was.passes n (omega arith) in
+    record {
+      bags = c.drain_at.ensures.bags ∙ was.bags;
+      held = rw (c.drain_at.ensures.bags, c.in_ok-passes.ensures.held) (cut_of (bags_of c.loop-place.entries) n held was.held);
+      short = rw c.in_ok-passes.ensures.held (cut_short n held);
+      passes = λ place below.
+          ap (passes_in place) c.in_ok-passes.ensures.held ∙ passes_kept place n held below ∙ was.passes place (omega arith);
+      count = rw (c.in_ok-push.ensures.items, length-append, c.drain_at.ensures.bags) (omega (arith, was.count));
+      drained =
+          rw parts
+          (drained_more n (lists_of c.args.held.items) (reverse (lists_of c.loop-place.parts.items)) c.in_ok-drain_at.field-0.items (rw next at was.drained)
+          (subst (λ (passes : List PassSeen). AreSettled passes c.in_ok-drain_at.field-0.items) here c.in_ok-drain_at.ensures.settled));
+    }

@@ -1,0 +1,5 @@
+use Rattle.obim_bags.specs.Bags.{IsPassOf}
+use Rattle.obim_bags.proofs.tests.threads.work.Given as goal
+
+abbrev pub invariant-loop-serial : goal.invariant-loop-serial
+invariant-loop-serial g l = IsPassOf l.bag l.pass

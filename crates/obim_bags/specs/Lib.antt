@@ -1,0 +1,10 @@
+pub mod Chunks
+pub mod Accounts
+pub mod Bags
+pub mod Indexes
+pub mod Logs
+pub mod Rolls
+pub mod Entries
+pub mod Places
+pub mod Mirrors
+pub mod Settling

@@ -1,0 +1,106 @@
+-- The log of bags and its mirrors, as contracts see them.
+use Rattle.std.specs.Prelude.{◌≡◌, ℕ, List, [], ◌∷◌, ◌++◌, map, length, drop, slice_set, Option, Some, None, slice_get, All}
+use mathlib.Core.List.{IsPrefix}
+use Rattle.atomic_table.specs.Seated.{TableId}
+use Rattle.obim_bags.specs.Chunks.{ChunkSeen}
+use Rattle.obim_bags.specs.Accounts.{WasEmpty}
+use Rattle.obim_bags.specs.Bags.{BagSeen, PassSeen, AreSettled, after_put, after_get, after_empty_find, new_pass}
+use Rattle.obim_bags.specs.Indexes.{AreDistinct}
+
+-- a bag of the log, and a pass of it
+pub record PlaceSeen : Type 0 where
+  pub bag : BagSeen
+  pub pass : PassSeen
+
+-- a mirror: of which log, and its places
+pub record MirrorSeen : Type 0 where
+  pub log : TableId
+  pub places : List PlaceSeen
+
+abbrev pub bags_in : List PlaceSeen → List BagSeen
+bags_in places = map (λ (place : PlaceSeen). place.bag) places
+
+abbrev pub metrics_of : List BagSeen → List ℕ
+metrics_of bags = map (λ (bag : BagSeen). bag.metric) bags
+
+abbrev pub metrics_in : List PlaceSeen → List ℕ
+metrics_in places = metrics_of (bags_in places)
+
+abbrev pub IsMirrorOf : TableId → MirrorSeen → Type 0
+IsMirrorOf log mirror = mirror.log ≡ log
+
+abbrev pub new_mirror : TableId → MirrorSeen
+new_mirror log = record { log = log; places = [] }
+
+-- a place whose pass has put and got nothing and found nothing
+abbrev pub IsNew : PlaceSeen → Type 0
+IsNew place = place.pass ≡ new_pass place.bag
+
+-- The mirror is longer by new places, or as it was: the places that it had are as before, passes
+-- included, and no metric stands twice.
+pub record Gains (old new : MirrorSeen) : Type 0 where
+  pub log : new.log ≡ old.log
+  pub kept : IsPrefix old.places new.places
+  pub gained : All IsNew (drop (length old.places) new.places)
+  pub distinct : AreDistinct (metrics_in new.places)
+
+-- ---- what put_at and get_at make of a place
+
+abbrev pub place_after_put : ChunkSeen → PlaceSeen → PlaceSeen
+place_after_put chunk place = record place { pass = after_put chunk place.pass }
+
+abbrev pub place_after_get : ChunkSeen → PlaceSeen → PlaceSeen
+place_after_get chunk place = record place { pass = after_get chunk place.pass }
+
+abbrev pub place_after_empty_find : PlaceSeen → PlaceSeen
+place_after_empty_find place = record place { pass = after_empty_find place.pass }
+
+-- one place is changed by this, and no other
+abbrev pub ChangesPlace : ℕ → (PlaceSeen → PlaceSeen) → List PlaceSeen → List PlaceSeen → Type 0
+ChangesPlace place change old new =
+    (was : PlaceSeen) × (slice_get old place ≡ Some was) × (new ≡ slice_set old place (change was))
+
+-- one place is changed by this, and nothing else of the mirror
+abbrev pub ChangesAt : ℕ → (PlaceSeen → PlaceSeen) → MirrorSeen → MirrorSeen → Type 0
+ChangesAt place change old new =
+    (was : PlaceSeen) × (slice_get old.places place ≡ Some was)
+    × (new ≡ record old { places = slice_set old.places place (change was) })
+
+-- the bag at this place was empty at a moment when its pass knew this
+abbrev pub WasEmptyIn : ℕ → List PlaceSeen → Type 0
+WasEmptyIn place places = (was : PlaceSeen) × (slice_get places place ≡ Some was) × WasEmpty was.pass.tally
+
+-- the same of a mirror
+abbrev pub WasEmptyAt : ℕ → MirrorSeen → Type 0
+WasEmptyAt place mirror = WasEmptyIn place mirror.places
+
+-- ---- draining
+
+abbrev pub pass_in : Option PlaceSeen → List PassSeen
+pass_in None = []
+pass_in (Some here) = here.pass ∷ []
+
+-- the pass that a mirror has at a place, if it has one
+abbrev pub pass_at : ℕ → MirrorSeen → List PassSeen
+pass_at place mirror = pass_in (slice_get mirror.places place)
+
+-- the passes that these mirrors have at a place
+abbrev pub passes_at : ℕ → List MirrorSeen → List PassSeen
+passes_at place [] = []
+passes_at place (mirror ∷ mirrors) = pass_at place mirror ++ passes_at place mirrors
+
+abbrev pub all_of : List (List ChunkSeen) → List ChunkSeen
+all_of [] = []
+all_of (part ∷ parts) = part ++ all_of parts
+
+-- There is one list of bags with distinct metrics, of which each mirror has a prefix. What is left is the
+-- chunks of each of them in the order of their places; and in each bag the chunks put are those got and
+-- those left, each as often.
+pub record IsLogSettled (mirrors : List MirrorSeen) (left : List ChunkSeen) : Type 0 where
+  pub bags : List BagSeen
+  pub distinct : AreDistinct (metrics_of bags)
+  pub prefixes : All (λ (mirror : MirrorSeen). IsPrefix (bags_in mirror.places) bags) mirrors
+  pub parts : List (List ChunkSeen)
+  pub left_is : left ≡ all_of parts
+  pub whole : length parts ≡ length bags
+  pub settled : (place : ℕ) (part : List ChunkSeen) → slice_get parts place ≡ Some part → AreSettled (passes_at place mirrors) part

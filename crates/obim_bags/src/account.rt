@@ -1,0 +1,90 @@
+//! What the passes of a bag know, and the rule of its queue.
+
+use crate::chunk::Chunk;
+use crossbeam_queue::protocol::{Join, Lesson, Outcome, Protocol, Split};
+use crossbeam_queue::{RuledSegQueue, SegPass};
+use std::alloc::Global;
+use std::collections::LinkedList;
+
+/// What a pass of a bag knows: the chunks that it put, those that it got, its share of the workers, and
+/// how many workers there are. No value of it is made.
+pub struct Tally {
+    pub share: u32,
+    pub workers: u32,
+    pub put: LinkedList<Chunk>,
+    pub got: LinkedList<Chunk>,
+}
+
+pub(crate) type Boxed = Box<Chunk, Global>;
+
+pub(crate) struct Account;
+
+impl Protocol<Boxed, Tally> for Account {
+    ghost use Rattle.std.specs.Prelude.{map};
+    ghost use Rattle.obim_bags.specs.Accounts.{AreLawful, first_tally};
+
+    ghost holds = { λ boxes tallies. AreLawful (map (λ b. b.value) boxes) tallies };
+
+    ghost first = { first_tally };
+}
+
+pub(crate) type ChunkQueue = RuledSegQueue<Boxed, Tally, Account>;
+
+pub(crate) type QueuePass = SegPass<Boxed, Tally>;
+
+pub(crate) struct Puts;
+
+impl Outcome<Boxed, Tally> for Puts {
+    ghost use Rattle.std.specs.Prelude.{◌≡◌};
+    ghost use Rattle.obim_bags.specs.Accounts.{with_put};
+
+    ghost then = { λ tally chunk new. new ≡ with_put chunk.value tally };
+}
+
+pub(crate) struct Gets;
+
+impl Outcome<Boxed, Tally> for Gets {
+    ghost use Rattle.std.specs.Prelude.{◌≡◌, ◌≢◌, []};
+    ghost use Rattle.obim_bags.specs.Accounts.{with_got};
+
+    ghost then = { λ tally chunk new. (new ≡ with_got chunk.value tally) × (chunk.value.vertices ≢ []) };
+}
+
+impl Lesson<Boxed, Tally> for Gets {
+    ghost use Rattle.std.specs.Prelude.{map};
+    ghost use Rattle.obim_bags.specs.Accounts.{IsSeenIn};
+
+    ghost fact = { λ tally boxes. IsSeenIn (map (λ b. b.value) boxes) tally };
+}
+
+// One worker more, while the first pass is alone: the new pass is spent.
+pub(crate) struct Grows;
+
+impl Split<Tally> for Grows {
+    ghost use Rattle.obim_bags.specs.Accounts.{grown, spent_tally};
+
+    ghost left = { grown };
+
+    ghost right = { λ _. spent_tally };
+}
+
+// A share of 1 is cut off.
+pub(crate) struct Deals;
+
+impl Split<Tally> for Deals {
+    ghost use Rattle.obim_bags.specs.Accounts.{dealt_rest, dealt};
+
+    ghost left = { dealt_rest };
+
+    ghost right = { dealt };
+}
+
+pub(crate) struct Joins;
+
+impl Join<Tally> for Joins {
+    ghost use Rattle.obim_bags.specs.Accounts.{joined, spent_tally};
+
+    ghost both = { joined };
+
+    ghost spent = { spent_tally };
+}

@@ -1,0 +1,103 @@
+//! Chunks of vertices, which a worker fills and hands on whole.
+
+ghost use Rattle.std.specs.Prelude.{◌≡◌, ◌≢◌, ◌≤◌, ◌<◌, ◌++◌, ◌∷◌, [], length};
+ghost use Rattle.std.specs.Prelude.{IfNone, IfSome, OnErr, OnOk};
+ghost use Rattle.obim_bags.specs.Chunks.{with_vertices};
+
+use arrayvec::ArrayVec;
+use std::error::Error;
+use std::fmt;
+use std::marker::Model;
+
+/// The most vertices that a chunk takes.
+pub const MAX_SIZE: usize = 256;
+
+/// Who opened a chunk, and as which of its chunks, counted from 0.
+#[derive(Clone, Copy, Debug, PartialEq, Eq)]
+pub struct ChunkId {
+    pub worker: u32,
+    pub serial: u64,
+}
+
+/// A chunk of vertices, counted from 0: a stack of at most `size`, with its name. It lies in one piece
+/// of some 1,050 bytes and never takes memory.
+#[derive(Drop)]
+pub struct Chunk {
+    id: ChunkId,
+    size: usize,
+    vertices: ArrayVec<u32, MAX_SIZE>,
+}
+
+impl Model for Chunk {
+    ghost use Rattle.std.specs.Prelude.{◌≡◌, ◌≤◌, length};
+    ghost use Rattle.obim_bags.specs.declared.chunk.TheConstants.{MAX_SIZE};
+    ghost use Rattle.obim_bags.specs.Chunks.{ChunkSeen};
+
+    ghost Value = { ChunkSeen };
+
+    ghost view = { λ c. record { id = c.id; size = c.size; vertices = c.vertices.items } };
+
+    ghost invariant = { λ c. (1 ≤ c.size) × (c.size ≤ MAX_SIZE) × (length c.vertices.items ≤ c.size) };
+}
+
+/// The chunk has as many vertices as its size.
+#[derive(Clone, Copy, Debug, PartialEq, Eq)]
+pub struct Full;
+
+impl fmt::Display for Full {
+    fn fmt<W: fmt::Write>(&self, f: &mut fmt::Formatter<W>) -> fmt::Result {
+        f.write_str("chunk is full")
+    }
+}
+
+impl Error for Full {}
+
+impl Chunk {
+    /// An empty chunk for `size` vertices, 1 to 256.
+    pub fn new(id: ChunkId, size: usize) -> Chunk
+        requires { (1 ≤ size) × (size ≤ MAX_SIZE) }
+        ensures { result ≡ record { id = id; size = size; vertices = [] } }
+    {
+        Chunk {
+            id,
+            size,
+            vertices: ArrayVec::new(),
+        }
+    }
+
+    /// The name that it was opened with.
+    pub fn id(&self) -> ChunkId
+        ensures { result ≡ self.now.id }
+    {
+        self.id
+    }
+
+    /// The number of its vertices.
+    pub fn len(&self) -> usize
+        ensures { result ≡ length self.now.vertices }
+    {
+        self.vertices.len()
+    }
+
+    /// Puts `v` last. `Full` only at the chunk's size.
+    pub fn push(&mut self, v: u32) -> Result<(), Full>
+        ensures last { OnOk result (self.new ≡ with_vertices (self.old.vertices ++ v ∷ []) self.old) }
+        ensures full { OnErr result (length self.old.vertices ≡ self.old.size) }
+        ensures unchanged { OnErr result (self.new ≡ self.old) }
+    {
+        if self.len() == self.size {
+            return Err(Full);
+        }
+        self.vertices.push(v);
+        Ok(())
+    }
+
+    /// Takes the last vertex, or returns `None` where there is none.
+    pub fn pop(&mut self) -> Option<u32>
+        ensures last { IfSome result (λ v. self.old ≡ with_vertices (self.new.vertices ++ v ∷ []) self.new) }
+        ensures empty { IfNone result (self.old.vertices ≡ []) }
+        ensures unchanged { IfNone result (self.new ≡ self.old) }
+    {
+        self.vertices.pop()
+    }
+}

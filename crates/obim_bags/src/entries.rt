@@ -1,0 +1,210 @@
+//! What stands in the slot of a log: its list of entries.
+
+ghost use Rattle.std.specs.Prelude.{◌≡◌, ◌≢◌, ◌≤◌, ◌<◌, ◌++◌, ◌∷◌, ℕ, [], Some, length, map, slice_get};
+ghost use Rattle.std.specs.Prelude.{All, IsTrue, IfNone, IfOk, IfSome, OnErr, OnOk};
+ghost use mathlib.Core.List.{IsPrefix};
+ghost use Rattle.obim_bags.specs.Bags.{BagSeen};
+ghost use Rattle.obim_bags.specs.Indexes.{AreDistinct, Lacks};
+ghost use Rattle.obim_bags.specs.Logs.{IsNew, metrics_of};
+ghost use Rattle.obim_bags.specs.Entries.{bags_of, AreAdded, IsUnclaimed, HasPlaceOf, HasPlaceAt, HasPlacesFrom};
+
+use crate::bag::Bag;
+use crate::passes::BagPass;
+use crate::place::Place;
+use route_walks::Memory;
+use std::alloc::Global;
+use std::marker::Model;
+use std::sync::{Arc, Wait};
+
+/// A bag of the log, and by worker its place for a mirror that hasn't claimed it yet.
+#[derive(Drop)]
+pub(crate) struct Entry {
+    bag: Arc<Bag>,
+    unclaimed: Vec<Option<Place>>,
+}
+
+impl Model for Entry {
+    ghost use Rattle.std.specs.Prelude.{All};
+    ghost use Rattle.obim_bags.specs.Entries.{EntrySeen, IsUnclaimed};
+
+    ghost Value = { EntrySeen };
+
+    ghost view = { λ e. record { bag = e.bag.value; unclaimed = e.unclaimed.items } };
+
+    ghost invariant = { λ e. All (IsUnclaimed e.bag.value) e.unclaimed.items };
+}
+
+impl Entry {
+    /// A new bag with a place for each worker. All room is made before the bag is opened or shared.
+    pub(crate) fn open<R: Wait>(
+        rt: &R,
+        alloc: Global,
+        metric: u64,
+        workers: u32,
+    ) -> Result<Entry, Memory>
+        requires { 1 ≤ workers }
+        ensures { IfOk result (λ entry. entry.bag.metric ≡ metric) }
+    {
+        let mut unclaimed = Vec::with_capacity(alloc, workers as usize)?;
+        let (bag, mut passes) = Bag::open(rt, alloc, metric, workers)?;
+        let bag = Arc::new(alloc, bag)?;
+        while let Some(pass) = passes.pop() {
+            let bag = Arc::try_clone(&bag)?;
+            unclaimed.push(Some(Place::new(bag, pass)))?;
+        }
+        Ok(Entry { bag, unclaimed })
+    }
+
+    pub(crate) fn bag(&self) -> &Bag
+        ensures { result.now ≡ self.now.bag }
+    {
+        &self.bag
+    }
+
+    pub(crate) fn metric(&self) -> u64
+        ensures { result ≡ self.now.bag.metric }
+    {
+        self.bag.metric()
+    }
+
+    /// Whether the worker's place is still here.
+    pub(crate) fn has(&self, worker: u32) -> bool
+        ensures { IsTrue result → HasPlaceOf worker self.now }
+    {
+        match self.unclaimed.get(worker as usize) {
+            Some(place) => place.is_some(),
+            None => false,
+        }
+    }
+
+    /// The worker's place, if it is still here.
+    pub(crate) fn claim(&mut self, worker: u32) -> Option<Place>
+        ensures bag { self.new.bag ≡ self.old.bag }
+        ensures place { IfSome result (λ place. (place.bag ≡ self.old.bag) × IsNew place) }
+        ensures none { IfNone result (HasPlaceOf worker self.old → ⊥) }
+    {
+        match self.unclaimed.get_mut(worker as usize) {
+            Some(place) => place.take(),
+            None => None,
+        }
+    }
+
+    /// All passes that are still here, put last.
+    pub(crate) fn claim_all(&mut self, passes: &mut Vec<BagPass>) -> Result<(), Memory>
+        ensures bag { self.new.bag ≡ self.old.bag }
+        ensures added { OnOk result (AreAdded self.old.bag passes.old.items passes.new.items) }
+    {
+        keep_all(&mut self.unclaimed, passes)
+    }
+}
+
+// The passes of all places, put last.
+fn keep_all(unclaimed: &mut Vec<Option<Place>>, passes: &mut Vec<BagPass>) -> Result<(), Memory>
+    ensures rest { (bag : BagSeen) → All (IsUnclaimed bag) unclaimed.old.items → All (IsUnclaimed bag) unclaimed.new.items }
+    ensures added { OnOk result
+        ((bag : BagSeen) → All (IsUnclaimed bag) unclaimed.old.items → AreAdded bag passes.old.items passes.new.items) }
+{
+    while let Some(place) = unclaimed.pop() {
+        keep(place, passes)?;
+    }
+    Ok(())
+}
+
+// The pass of a place, if there is one, put last.
+fn keep(place: Option<Place>, passes: &mut Vec<BagPass>) -> Result<(), Memory>
+    ensures { OnOk result ((bag : BagSeen) → IsUnclaimed bag place → AreAdded bag passes.old.items passes.new.items) }
+{
+    if let Some(place) = place {
+        passes.push(place.into_pass())?;
+    }
+    Ok(())
+}
+
+/// The entries of a log, by place. No metric stands twice.
+#[derive(Drop)]
+pub(crate) struct Entries {
+    pub(crate) list: Vec<Entry>,
+}
+
+impl Model for Entries {
+    ghost use Rattle.obim_bags.specs.Entries.{EntriesSeen, AreEntries};
+
+    ghost Value = { EntriesSeen };
+
+    ghost view = { λ e. record { list = e.list.items } };
+
+    ghost invariant = { λ e. AreEntries e.list.items };
+}
+
+impl Entries {
+    /// No entry. Takes no memory.
+    pub(crate) fn none(alloc: Global) -> Entries
+        ensures { result ≡ record { list = [] } }
+    {
+        Entries {
+            list: Vec::new(alloc),
+        }
+    }
+
+    pub(crate) fn len(&self) -> usize
+        ensures len { result ≡ length self.now.list }
+        ensures distinct { AreDistinct (metrics_of (bags_of self.now)) }
+    {
+        self.list.len()
+    }
+
+    pub(crate) fn metric_at(&self, place: usize) -> u64
+        requires { place < length self.now.list }
+        ensures metric { slice_get (metrics_of (bags_of self.now)) place ≡ Some result }
+        ensures distinct { AreDistinct (metrics_of (bags_of self.now)) }
+    {
+        self.list[place].metric()
+    }
+
+    /// Opens a bag of a metric that no entry has, and puts its entry last.
+    pub(crate) fn append<R: Wait>(
+        &mut self,
+        rt: &R,
+        alloc: Global,
+        metric: u64,
+        workers: u32,
+    ) -> Result<(), Memory>
+        requires workers { 1 ≤ workers }
+        requires new { Lacks metric (metrics_of (bags_of self.old)) }
+        ensures longer { IsPrefix (bags_of self.old) (bags_of self.new) }
+        ensures last { OnOk result (metrics_of (bags_of self.new) ≡ metrics_of (bags_of self.old) ++ metric ∷ []) }
+        ensures refused { OnErr result (self.new ≡ self.old) }
+        ensures distinct { AreDistinct (metrics_of (bags_of self.new)) }
+    {
+        self.list.reserve(1)?;
+        self.list
+            .push_reserved(Entry::open(rt, alloc, metric, workers)?);
+        Ok(())
+    }
+
+    /// Whether the worker's place is still here in each entry from this one on.
+    pub(crate) fn has_from(&self, worker: u32, first: usize) -> bool
+        ensures { IsTrue result → HasPlacesFrom worker first self.now }
+    {
+        let mut place = first;
+        while place < self.list.len() {
+            if !self.list[place].has(worker) {
+                return false;
+            }
+            place += 1;
+        }
+        true
+    }
+
+    /// The worker's place of one entry, if it is still there.
+    pub(crate) fn claim_at(&mut self, worker: u32, place: usize) -> Option<Place>
+        requires { place < length self.old.list }
+        ensures bags { bags_of self.new ≡ bags_of self.old }
+        ensures others { (other : ℕ) → other ≢ place → slice_get self.new.list other ≡ slice_get self.old.list other }
+        ensures found { IfSome result (λ found. slice_get (bags_of self.old) place ≡ Some found.bag) }
+        ensures new { IfSome result (λ found. IsNew found) }
+        ensures none { IfNone result (HasPlaceAt worker place self.old → ⊥) }
+    {
+        self.list[place].claim(worker)
+    }
+}

@@ -1,0 +1,50 @@
+//! Where are the chunks? Nothing lost, nothing twice, one bag a metric.
+//!
+//! What waits for workers lies in chunks of vertices, the chunks in bags, and there is one bag for each metric.
+//! A `Bag` is a queue without a lock, of which each worker has a `BagPass`. A `BagLog` is the list of all bags,
+//! which only grows; each worker has a `Mirror` of it with a pass of each bag, so it waits for others only
+//! where it looks for a metric that it doesn't know.
+//!
+//! Between any two steps of any threads the chunks that all passes of a bag put are those that they got and
+//! those in the bag, each as often. So `drain`, which takes all passes, gives what is left and nothing else.
+//! A metric has one bag, at one place for good. Whether a put succeeds and which chunk a get finds is not said.
+//!
+//! ```text
+//! let (log, mut mirrors) = BagLog::open(alloc, 2)?;
+//! let place = log.find_or_append(&rt, alloc, &mut mirrors[0], 5)?;
+//! let mut chunk = Chunk::new(ChunkId { worker: 0, serial: 0 }, 16);
+//! chunk.push(7); // and more, until it is `Full`
+//! log.put_at(&rt, &mut mirrors[0], place, chunk);
+//! log.catch_up(&rt, alloc, &mut mirrors[1])?;
+//! log.get_at(&rt, &mut mirrors[1], place) // the chunk, unless another worker got it
+//! ```
+//!
+//! Stands on `crossbeam_queue` for the queue, on `atomic_table` for the log's word and slot, on `arrayvec` for
+//! the chunks, on `crossbeam_utils` for the pause between two tries, and on `route_walks` for `Memory`.
+#![tactic(auto)]
+
+mod account;
+mod bag;
+mod chunk;
+mod entries;
+mod fault;
+mod index;
+mod log;
+mod mirror;
+mod passes;
+mod place;
+mod places;
+mod roll;
+mod settle;
+
+pub use account::Tally;
+pub use bag::Bag;
+pub use chunk::{Chunk, ChunkId, Full, MAX_SIZE};
+pub use fault::{LogFault, SettleFault};
+pub use log::BagLog;
+pub use mirror::Mirror;
+pub use passes::BagPass;
+pub use roll::Roll;
+
+#[cfg(test)]
+mod tests;

@@ -1,0 +1,242 @@
+//! The log of bags: one list, which only grows, and a mirror of it for each worker.
+
+ghost use Rattle.std.specs.Prelude.{◌≡◌, ◌≢◌, ◌≤◌, ◌<◌, [], ◌∷◌, Some, length, replicate, slice_get};
+ghost use Rattle.std.specs.Prelude.{IfErr, IfNone, IfOk, IfSome, OnErr, OnOk};
+ghost use Rattle.std.specs.Prelude.{true};
+ghost use mathlib.Core.List.{IsPrefix};
+ghost use Rattle.obim_bags.specs.Bags.{after_put};
+ghost use Rattle.obim_bags.specs.Entries.{bags_of};
+ghost use Rattle.obim_bags.specs.Rolls.{IsWithin, HoldsSlot, with_slot, without_slot};
+ghost use Rattle.obim_bags.specs.Logs.{Gains, ChangesAt, WasEmptyAt, metrics_in, new_mirror};
+ghost use Rattle.obim_bags.specs.Logs.{place_after_put, place_after_get, place_after_empty_find};
+
+use crate::chunk::Chunk;
+use crate::entries::Entries;
+use crate::fault::LogFault;
+use crate::mirror::Mirror;
+use crate::places::Places;
+use crate::roll::{Acquires, LogSeat, LogTable, Releases, Seats};
+use crossbeam_utils::Backoff;
+use route_walks::Memory;
+use std::alloc::Global;
+use std::marker::Model;
+use std::sync::Wait;
+
+// The one word of the table is 1 while a seat holds its one slot.
+const WORD: usize = 0;
+
+const SLOT: usize = 0;
+
+/// A log of bags, one for each metric that was asked for. Any number of threads share it through a `&`,
+/// each with its mirror.
+#[derive(Drop)]
+pub struct BagLog {
+    pub(crate) workers: u32,
+    pub(crate) alloc: Global,
+    pub(crate) table: LogTable,
+}
+
+impl Model for BagLog {
+    ghost use Rattle.std.specs.Prelude.{◌≡◌, ◌≤◌};
+    ghost use Rattle.atomic_table.specs.Seated.{TableId};
+
+    ghost Value = { TableId };
+
+    ghost view = { λ l. l.table.shared.table_id };
+
+    ghost invariant = { λ l. (1 ≤ l.workers) × (l.table.shared.table_id.words ≡ 1)
+        × (l.table.shared.table_id.slots ≡ 1) };
+}
+
+impl BagLog {
+    /// A log without bags, and an empty mirror for each of the workers.
+    pub fn open(alloc: Global, workers: u32) -> Result<(BagLog, Vec<Mirror>), Memory>
+        requires { 1 ≤ workers }
+        ensures { IfOk result (λ opened. opened.1.items ≡ replicate workers (new_mirror opened.0)) }
+    {
+        let mut mirrors = Vec::with_capacity(alloc, workers as usize)?;
+        let slots = vec![in alloc; Entries::none(alloc)]?;
+        let Ok((table, seat)) = LogTable::new(alloc, &[0], slots, &()) else {
+            return Err(Memory);
+        };
+        mirrors.push_reserved(Mirror {
+            seat,
+            places: Places::new(alloc, 0),
+        });
+        for worker in 1..workers {
+            let (_, seat) = table.shared.load_new_seat::<Seats>(WORD);
+            mirrors.push_reserved(Mirror {
+                seat,
+                places: Places::new(alloc, worker),
+            });
+        }
+        let log = BagLog {
+            workers,
+            alloc,
+            table,
+        };
+        Ok((log, mirrors))
+    }
+
+    /// The place of the metric's bag. A metric that the mirror has is answered without a wait; otherwise
+    /// the mirror catches up with the log and, where no bag has the metric, a new one is appended.
+    #[inline(always)]
+    pub fn find_or_append<R: Wait>(
+        &self,
+        rt: &R,
+        alloc: Global,
+        mirror: &mut Mirror,
+        metric: u64,
+    ) -> Result<usize, LogFault>
+        requires { mirror.old.log ≡ self.now }
+        ensures gains { OnOk result (Gains mirror.old mirror.new) }
+        ensures place { IfOk result (λ place. slice_get (metrics_in mirror.new.places) place ≡ Some metric) }
+        ensures refused { OnErr result (mirror.new ≡ mirror.old) }
+    {
+        match mirror.place_of(metric) {
+            Some(place) => Ok(place),
+            None => self.find_in_log(rt, alloc, mirror, metric),
+        }
+    }
+
+    // The place of the metric's bag, under the slot.
+    #[inline(never)]
+    fn find_in_log<R: Wait>(
+        &self,
+        rt: &R,
+        alloc: Global,
+        mirror: &mut Mirror,
+        metric: u64,
+    ) -> Result<usize, LogFault>
+        requires { mirror.old.log ≡ self.now }
+        ensures gains { OnOk result (Gains mirror.old mirror.new) }
+        ensures place { IfOk result (λ place. slice_get (metrics_in mirror.new.places) place ≡ Some metric) }
+        ensures refused { OnErr result (mirror.new ≡ mirror.old) }
+    {
+        let mut entries = self.take(rt, &mut mirror.seat);
+        let found = mirror
+            .places
+            .find_or_append(rt, alloc, &mut entries, metric, self.workers);
+        self.give(&mut mirror.seat, entries);
+        found
+    }
+
+    /// Gains what others appended, and gives the number of bags that the mirror then has.
+    pub fn catch_up<R: Wait>(
+        &self,
+        rt: &R,
+        _alloc: Global,
+        mirror: &mut Mirror,
+    ) -> Result<usize, LogFault>
+        requires { mirror.old.log ≡ self.now }
+        ensures gains { OnOk result (Gains mirror.old mirror.new) }
+        ensures len { IfOk result (λ len. len ≡ length mirror.new.places) }
+        ensures refused { OnErr result (mirror.new ≡ mirror.old) }
+    {
+        let mut entries = self.take(rt, &mut mirror.seat);
+        let caught = mirror.places.catch_up(&mut entries);
+        self.give(&mut mirror.seat, entries);
+        caught
+    }
+
+    /// `Bag::put` on the bag at a place, through the mirror's pass.
+    pub fn put_at<R: Wait>(
+        &self,
+        rt: &R,
+        mirror: &mut Mirror,
+        place: usize,
+        chunk: Chunk,
+    ) -> Result<(), Chunk>
+        requires log { mirror.old.log ≡ self.now }
+        requires place { place < length mirror.old.places }
+        requires filled { chunk.vertices ≢ [] }
+        ensures put { OnOk result (ChangesAt place (place_after_put chunk) mirror.old mirror.new) }
+        ensures returned { IfErr result (λ back. back ≡ chunk) }
+        ensures refused { OnErr result (mirror.new ≡ mirror.old) }
+    {
+        mirror.places.put(rt, place, chunk)
+    }
+
+    /// `Bag::put_boxed` on the bag at a place, through the mirror's pass.
+    #[inline(always)]
+    pub fn put_boxed_at<R: Wait>(
+        &self,
+        rt: &R,
+        mirror: &mut Mirror,
+        place: usize,
+        chunk: Box<Chunk>,
+    ) -> Result<(), Box<Chunk>>
+        requires log { mirror.old.log ≡ self.now }
+        requires place { place < length mirror.old.places }
+        requires filled { chunk.value.vertices ≢ [] }
+        ensures put { OnOk result (ChangesAt place (place_after_put chunk.value) mirror.old mirror.new) }
+        ensures returned { IfErr result (λ back. back ≡ chunk) }
+        ensures refused { OnErr result (mirror.new ≡ mirror.old) }
+    {
+        mirror.places.put_boxed(rt, place, chunk)
+    }
+
+    /// `Bag::get` on the bag at a place, through the mirror's pass.
+    pub fn get_at<R: Wait>(&self, rt: &R, mirror: &mut Mirror, place: usize) -> Option<Chunk>
+        requires log { mirror.old.log ≡ self.now }
+        requires place { place < length mirror.old.places }
+        ensures got { IfSome result (λ chunk. ChangesAt place (place_after_get chunk) mirror.old mirror.new) }
+        ensures filled { IfSome result (λ chunk. chunk.vertices ≢ []) }
+        ensures found_empty { IfNone result (ChangesAt place place_after_empty_find mirror.old mirror.new) }
+        ensures empty { IfNone result (WasEmptyAt place mirror.old) }
+    {
+        mirror.places.get(rt, place)
+    }
+
+    /// `Bag::get_boxed` on the bag at a place, through the mirror's pass.
+    #[inline(always)]
+    pub fn get_boxed_at<R: Wait>(
+        &self,
+        rt: &R,
+        mirror: &mut Mirror,
+        place: usize,
+    ) -> Option<Box<Chunk>>
+        requires log { mirror.old.log ≡ self.now }
+        requires place { place < length mirror.old.places }
+        ensures got { IfSome result (λ chunk. ChangesAt place (place_after_get chunk.value) mirror.old mirror.new) }
+        ensures filled { IfSome result (λ chunk. chunk.value.vertices ≢ []) }
+        ensures found_empty { IfNone result (ChangesAt place place_after_empty_find mirror.old mirror.new) }
+        ensures empty { IfNone result (WasEmptyAt place mirror.old) }
+    {
+        mirror.places.get_boxed(rt, place)
+    }
+
+    // Swaps the word to 1 until it was 0; then the seat holds the slot, and the entries are taken out of it.
+    pub(crate) fn take<R: Wait>(&self, rt: &R, seat: &mut LogSeat) -> Entries
+        requires table { seat.old.table_id ≡ self.now }
+        requires slots { seat.old.me.1 ≡ [] }
+        ensures table { seat.new.table_id ≡ seat.old.table_id }
+        ensures roll { seat.new.me.0 ≡ with_slot (bags_of result) seat.old.me.0 }
+        ensures within { IsWithin (bags_of result) seat.old.me.0 }
+        ensures slot { HoldsSlot seat.new.me }
+    {
+        let backoff = Backoff::new();
+        for _ in rt.forever() {
+            if self.table.shared.swap::<Acquires>(seat, WORD, 1) == 0 {
+                break;
+            }
+            backoff.snooze();
+        }
+        self.table
+            .shared
+            .exchange(seat, SLOT, Entries::none(self.alloc))
+    }
+
+    // Puts the entries back into the slot and gives it back.
+    pub(crate) fn give(&self, seat: &mut LogSeat, entries: Entries)
+        requires table { seat.old.table_id ≡ self.now }
+        requires slot { HoldsSlot seat.old.me }
+        requires holds { seat.old.me.0.holds ≡ true }
+        requires longer { IsPrefix seat.old.me.0.list (bags_of entries) }
+        ensures table { seat.new.table_id ≡ seat.old.table_id }
+        ensures me { seat.new.me ≡ (without_slot (bags_of entries) seat.old.me.0, []) }
+    {
+        drop(self.table.shared.exchange(seat, SLOT, entries));
+        self.table.shared.swap::<Releases>(seat, WORD, 0);
+    }
+}

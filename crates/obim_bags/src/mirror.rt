@@ -1,0 +1,69 @@
+//! A worker's mirror of the log.
+
+ghost use Rattle.std.specs.Prelude.{◌≡◌, ◌<◌, false, [], Some, length, slice_get, IfNone, IfSome};
+ghost use mathlib.Core.List.{IsPrefix};
+ghost use Rattle.obim_bags.specs.Indexes.{AreDistinct, IsAlone, Lacks};
+ghost use Rattle.obim_bags.specs.Logs.{bags_in, metrics_in};
+
+use crate::place::Place;
+use crate::places::Places;
+use crate::roll::LogSeat;
+use std::marker::Model;
+
+/// A worker's copy of the log, as far as it has caught up: of each bag in it, by place, its metric and
+/// this worker's pass. A place is one bag for good.
+#[derive(Drop)]
+pub struct Mirror {
+    pub(crate) seat: LogSeat,
+    pub(crate) places: Places,
+}
+
+impl Model for Mirror {
+    ghost use Rattle.obim_bags.specs.Logs.{MirrorSeen};
+    ghost use Rattle.obim_bags.specs.Mirrors.{IsTied};
+
+    ghost Value = { MirrorSeen };
+
+    ghost view = { λ m. record { log = m.seat.table_id; places = m.places.list } };
+
+    ghost invariant = { λ m. IsTied m.seat.me m.places };
+}
+
+impl Mirror {
+    /// The number of bags that it has.
+    #[inline(always)]
+    pub fn len(&self) -> usize
+        ensures { result ≡ length self.now.places }
+    {
+        self.places.len()
+    }
+
+    /// The place of a metric's bag, or `None` where the mirror doesn't have it.
+    #[inline(always)]
+    pub fn place_of(&self, metric: u64) -> Option<usize>
+        ensures at { IfSome result (λ place. IsAlone metric place (metrics_in self.now.places)) }
+        ensures none { IfNone result (Lacks metric (metrics_in self.now.places)) }
+        ensures distinct { AreDistinct (metrics_in self.now.places) }
+    {
+        self.places.place_of(metric)
+    }
+
+    /// The metric of the bag at a place.
+    pub fn metric_at(&self, place: usize) -> u64
+        requires { place < length self.now.places }
+        ensures { slice_get (metrics_in self.now.places) place ≡ Some result }
+    {
+        self.places.metric_at(place)
+    }
+
+    pub(crate) fn into_parts(self) -> (LogSeat, Vec<Place>)
+        ensures log { result.0.table_id ≡ self.log }
+        ensures places { result.1.items ≡ self.places }
+        ensures slots { result.0.me.1 ≡ [] }
+        ensures holds { result.0.me.0.holds ≡ false }
+        ensures list { IsPrefix (bags_in self.places) result.0.me.0.list }
+    {
+        let Mirror { seat, places } = self;
+        (seat, places.list)
+    }
+}

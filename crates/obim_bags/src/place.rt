@@ -1,0 +1,89 @@
+//! A bag of the log together with one worker's pass of it.
+
+ghost use Rattle.std.specs.Prelude.{◌≡◌, ◌≢◌, []};
+ghost use Rattle.std.specs.Prelude.{IfErr, IfNone, IfSome, OnErr, OnOk};
+ghost use Rattle.obim_bags.specs.Accounts.{WasEmpty};
+ghost use Rattle.obim_bags.specs.Bags.{IsPassOf};
+ghost use Rattle.obim_bags.specs.Logs.{PlaceSeen, place_after_put, place_after_get, place_after_empty_find};
+
+use crate::bag::Bag;
+use crate::chunk::Chunk;
+use crate::passes::BagPass;
+use std::marker::Model;
+use std::sync::{Arc, Wait};
+
+/// A bag of the log and a worker's pass of it.
+#[derive(Drop)]
+pub(crate) struct Place {
+    bag: Arc<Bag>,
+    pass: BagPass,
+}
+
+impl Model for Place {
+    ghost use Rattle.obim_bags.specs.Bags.{IsPassOf};
+    ghost use Rattle.obim_bags.specs.Logs.{PlaceSeen};
+
+    ghost Value = { PlaceSeen };
+
+    ghost view = { λ p. record { bag = p.bag.value; pass = p.pass } };
+
+    ghost invariant = { λ p. IsPassOf p.bag.value p.pass };
+}
+
+impl Place {
+    pub(crate) fn new(bag: Arc<Bag>, pass: BagPass) -> Place
+        requires { IsPassOf bag.value pass }
+        ensures { result ≡ record { bag = bag.value; pass = pass } }
+    {
+        Place { bag, pass }
+    }
+
+    pub(crate) fn into_pass(self) -> BagPass
+        ensures pass { result ≡ self.pass }
+        ensures of_bag { IsPassOf self.bag result }
+    {
+        self.pass
+    }
+
+    pub(crate) fn put<R: Wait>(&mut self, rt: &R, chunk: Chunk) -> Result<(), Chunk>
+        requires { chunk.vertices ≢ [] }
+        ensures put { OnOk result (self.new ≡ place_after_put chunk self.old) }
+        ensures returned { IfErr result (λ back. back ≡ chunk) }
+        ensures refused { OnErr result (self.new ≡ self.old) }
+        ensures bag { self.new.bag ≡ self.old.bag }
+    {
+        self.bag.put(rt, &mut self.pass, chunk)
+    }
+
+    #[inline(always)]
+    pub(crate) fn put_boxed<R: Wait>(&mut self, rt: &R, chunk: Box<Chunk>) -> Result<(), Box<Chunk>>
+        requires { chunk.value.vertices ≢ [] }
+        ensures put { OnOk result (self.new ≡ place_after_put chunk.value self.old) }
+        ensures returned { IfErr result (λ back. back ≡ chunk) }
+        ensures refused { OnErr result (self.new ≡ self.old) }
+        ensures bag { self.new.bag ≡ self.old.bag }
+    {
+        self.bag.put_boxed(rt, &mut self.pass, chunk)
+    }
+
+    pub(crate) fn get<R: Wait>(&mut self, rt: &R) -> Option<Chunk>
+        ensures got { IfSome result (λ chunk. self.new ≡ place_after_get chunk self.old) }
+        ensures filled { IfSome result (λ chunk. chunk.vertices ≢ []) }
+        ensures found_empty { IfNone result (self.new ≡ place_after_empty_find self.old) }
+        ensures empty { IfNone result (WasEmpty self.old.pass.tally) }
+        ensures bag { self.new.bag ≡ self.old.bag }
+    {
+        self.bag.get(rt, &mut self.pass)
+    }
+
+    #[inline(always)]
+    pub(crate) fn get_boxed<R: Wait>(&mut self, rt: &R) -> Option<Box<Chunk>>
+        ensures got { IfSome result (λ chunk. self.new ≡ place_after_get chunk.value self.old) }
+        ensures filled { IfSome result (λ chunk. chunk.value.vertices ≢ []) }
+        ensures found_empty { IfNone result (self.new ≡ place_after_empty_find self.old) }
+        ensures empty { IfNone result (WasEmpty self.old.pass.tally) }
+        ensures bag { self.new.bag ≡ self.old.bag }
+    {
+        self.bag.get_boxed(rt, &mut self.pass)
+    }
+}

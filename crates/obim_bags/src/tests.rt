@@ -1,0 +1,7 @@
+mod bags;
+mod chunks;
+mod faults;
+mod helpers;
+mod logs;
+mod refusals;
+mod threads;
