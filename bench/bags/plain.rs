@@ -68,7 +68,7 @@ impl Bag {
     }
 
     fn get(&self) -> Option<Box<Chunk>> {
-        if self.chunks.is_empty() { None } else { self.chunks.pop() }
+        self.chunks.pop()
     }
 }
 
@@ -84,12 +84,16 @@ struct Place {
 }
 
 impl Place {
-    fn get(&mut self) -> Option<Box<Chunk>> {
-        let chunk = self.bag.get();
-        if chunk.is_none() {
+    fn finds_empty(&mut self) -> bool {
+        let empty = self.bag.chunks.is_empty();
+        if empty {
             self.empties = self.empties.wrapping_add(1);
         }
-        chunk
+        empty
+    }
+
+    fn get(&mut self) -> Option<Box<Chunk>> {
+        if self.finds_empty() { None } else { self.bag.get() }
     }
 }
 
@@ -160,7 +164,7 @@ fn put_boxes(mirror: &mut Mirror, worker: u32) -> u64 {
 }
 
 fn look(mirror: &mut Mirror) -> u64 {
-    (0..LOOKS).map(|i| u64::from(mirror.list[(i % EMPTY) as usize].get().is_none())).sum()
+    (0..LOOKS).map(|i| u64::from(mirror.list[(i % EMPTY) as usize].finds_empty())).sum()
 }
 
 fn open(log: &Log, mirror: &mut Mirror, worker: u32) -> u64 {

@@ -1,6 +1,7 @@
 -- What stands at a place of a list.
 use Rattle.std.proofs.Common.{◌≡◌, ◌≢◌, ◌∙◌, ap, refl, subst, sym, ℕ, zero, suc, ◌<◌, List, [], ◌∷◌, ◌++◌, map, reverse, set, length, get_or, Some, None, inl, inr, ⊎_elim, ◌⊎◌}
-use Rattle.std.specs.Prelude.{slice_get, option_map, Option, IfNone, All}
+use Rattle.std.specs.Prelude.{slice_get, option_map, Option, IfNone, All, Bool, true, false}
+use Rattle.std.specs.Bool.{OnTrue}
 use Rattle.std.proofs.lemmas.Option.{slice_get-map, slice_get-get_or, slice_get_within, get_or_from_slice_get}
 use Rattle.std.proofs.lemmas.List.Elements.{All-cons, All-get_or, All-head, All-nil, All-tail}
 use Rattle.std.proofs.lemmas.Grind.{reverse_onto}
@@ -32,6 +33,11 @@ at_last (x ∷ xs) y = at_last xs y
 pub none_then : {A : Type 0} (P Q : Type 0) (found : Option A) → (P → Q) → IfNone found P → IfNone found Q
 none_then P Q None then' was = then' was
 none_then P Q (Some x) then' was = tt
+
+-- what follows from what is so where the answer is true
+pub true_then : (P Q : Type 0) (b : Bool) → (P → Q) → OnTrue b P → OnTrue b Q
+true_then P Q true then' was = then' was
+true_then P Q false then' was = tt
 
 -- what stands in a list with one element more stood there before or is that element
 pub at_snoc : {A : Type 0} (xs : List A) (y x : A) (i : ℕ) → slice_get (xs ++ y ∷ []) i ≡ Some x

@@ -2,6 +2,7 @@
 
 ghost use Rattle.std.specs.Prelude.{◌≡◌, ◌≢◌, ◌≤◌, [], replicate, All};
 ghost use Rattle.std.specs.Prelude.{IfErr, IfNone, IfOk, IfSome, OnErr, OnOk};
+ghost use Rattle.std.specs.Bool.{OnFalse, OnTrue};
 ghost use Rattle.obim_bags.specs.declared.fault.SettleFault.TheVariants.{Missing};
 ghost use Rattle.obim_bags.specs.Accounts.{WasEmpty};
 ghost use Rattle.obim_bags.specs.Bags.{IsPassOf, new_pass, after_put, after_get, after_empty_find};
@@ -113,7 +114,7 @@ impl Bag {
         Some(Box::into_inner(self.get_boxed(rt, pass)?))
     }
 
-    /// `get` of a chunk in its box. A look into an empty bag is two loads.
+    /// `get` of a chunk in its box.
     #[inline(always)]
     pub fn get_boxed<R: Wait>(&self, rt: &R, pass: &mut BagPass) -> Option<Box<Chunk>>
         requires { IsPassOf self.now pass.old }
@@ -122,11 +123,26 @@ impl Bag {
         ensures found_empty { IfNone result (pass.new ≡ after_empty_find pass.old) }
         ensures empty { IfNone result (WasEmpty pass.old.tally) }
     {
-        if self.queue.is_empty_as::<Gets>(&mut pass.pass) {
-            pass.empties = pass.empties.wrapping_add(1);
+        if self.finds_empty(pass) {
             return None;
         }
         self.take_front(rt, pass)
+    }
+
+    /// A look by two loads, which doesn't wait. True only where the bag was empty at a moment of the call,
+    /// and then the pass has one empty find more.
+    #[inline(always)]
+    pub fn finds_empty(&self, pass: &mut BagPass) -> bool
+        requires { IsPassOf self.now pass.old }
+        ensures found_empty { OnTrue result (pass.new ≡ after_empty_find pass.old) }
+        ensures empty { OnTrue result (WasEmpty pass.old.tally) }
+        ensures unchanged { OnFalse result (pass.new ≡ pass.old) }
+    {
+        let empty = self.queue.is_empty_as::<Gets>(&mut pass.pass);
+        if empty {
+            pass.empties = pass.empties.wrapping_add(1);
+        }
+        empty
     }
 
     // Takes the chunk at the front, where the bag doesn't look empty.

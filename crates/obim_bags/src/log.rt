@@ -3,6 +3,7 @@
 ghost use Rattle.std.specs.Prelude.{◌≡◌, ◌≢◌, ◌≤◌, ◌<◌, [], ◌∷◌, Some, length, replicate, slice_get};
 ghost use Rattle.std.specs.Prelude.{IfErr, IfNone, IfOk, IfSome, OnErr, OnOk};
 ghost use Rattle.std.specs.Prelude.{true};
+ghost use Rattle.std.specs.Bool.{OnFalse, OnTrue};
 ghost use mathlib.Core.List.{IsPrefix};
 ghost use Rattle.obim_bags.specs.Bags.{after_put};
 ghost use Rattle.obim_bags.specs.Entries.{bags_of};
@@ -204,6 +205,18 @@ impl BagLog {
         ensures empty { IfNone result (WasEmptyAt place mirror.old) }
     {
         mirror.places.get_boxed(rt, place)
+    }
+
+    /// `Bag::finds_empty` on the bag at a place, through the mirror's pass: the cheapest look.
+    #[inline(always)]
+    pub fn finds_empty_at(&self, mirror: &mut Mirror, place: usize) -> bool
+        requires log { mirror.old.log ≡ self.now }
+        requires place { place < length mirror.old.places }
+        ensures found_empty { OnTrue result (ChangesAt place place_after_empty_find mirror.old mirror.new) }
+        ensures empty { OnTrue result (WasEmptyAt place mirror.old) }
+        ensures unchanged { OnFalse result (mirror.new ≡ mirror.old) }
+    {
+        mirror.places.finds_empty(place)
     }
 
     // Swaps the word to 1 until it was 0; then the seat holds the slot, and the entries are taken out of it.

@@ -2,6 +2,7 @@
 
 ghost use Rattle.std.specs.Prelude.{◌≡◌, ◌≢◌, []};
 ghost use Rattle.std.specs.Prelude.{IfErr, IfNone, IfSome, OnErr, OnOk};
+ghost use Rattle.std.specs.Bool.{OnFalse, OnTrue};
 ghost use Rattle.obim_bags.specs.Accounts.{WasEmpty};
 ghost use Rattle.obim_bags.specs.Bags.{IsPassOf};
 ghost use Rattle.obim_bags.specs.Logs.{PlaceSeen, place_after_put, place_after_get, place_after_empty_find};
@@ -85,5 +86,15 @@ impl Place {
         ensures bag { self.new.bag ≡ self.old.bag }
     {
         self.bag.get_boxed(rt, &mut self.pass)
+    }
+
+    #[inline(always)]
+    pub(crate) fn finds_empty(&mut self) -> bool
+        ensures found_empty { OnTrue result (self.new ≡ place_after_empty_find self.old) }
+        ensures empty { OnTrue result (WasEmpty self.old.pass.tally) }
+        ensures unchanged { OnFalse result (self.new ≡ self.old) }
+        ensures bag { self.new.bag ≡ self.old.bag }
+    {
+        self.bag.finds_empty(&mut self.pass)
     }
 }

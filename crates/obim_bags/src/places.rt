@@ -2,6 +2,7 @@
 
 ghost use Rattle.std.specs.Prelude.{◌≡◌, ◌≢◌, ◌≤◌, ◌<◌, [], Some, length, slice_get};
 ghost use Rattle.std.specs.Prelude.{IfErr, IfNone, IfOk, IfSome, OnErr, OnOk};
+ghost use Rattle.std.specs.Bool.{OnFalse, OnTrue};
 ghost use mathlib.Core.List.{IsPrefix};
 ghost use Rattle.obim_bags.specs.Indexes.{AreDistinct, IsAlone, Lacks};
 ghost use Rattle.obim_bags.specs.Logs.{ChangesPlace, WasEmptyIn, bags_in, metrics_in, metrics_of};
@@ -173,6 +174,19 @@ impl Places {
         ensures index { self.new.index ≡ self.old.index }
     {
         self.list[place].get_boxed(rt)
+    }
+
+    /// `Place::finds_empty` at a place.
+    #[inline(always)]
+    pub(crate) fn finds_empty(&mut self, place: usize) -> bool
+        requires { place < length self.old.list }
+        ensures found_empty { OnTrue result (ChangesPlace place place_after_empty_find self.old.list self.new.list) }
+        ensures empty { OnTrue result (WasEmptyIn place self.old.list) }
+        ensures unchanged { OnFalse result (self.new ≡ self.old) }
+        ensures index { self.new.index ≡ self.old.index }
+        ensures bags { bags_in self.new.list ≡ bags_in self.old.list }
+    {
+        self.list[place].finds_empty()
     }
 }
 

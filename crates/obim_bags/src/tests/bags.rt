@@ -76,6 +76,7 @@ fn handed_over(rt: HostRuntime) -> Result<(), Fail> {
 fn a_new_bag_is_empty(rt: HostRuntime) -> Result<(), Fail> {
     let (bag, mut passes) = open_bag(&rt, rt.alloc(), 2)?;
     let mut pass = take_pass(&rt, &bag, &mut passes);
+    assert!(rt; bag.finds_empty(&mut pass));
     assert!(rt; bag.get(&rt, &mut pass).is_none());
     assert!(rt; bag.get_boxed(&rt, &mut pass).is_none());
     let missing = drain_ids(&rt, rt.alloc(), &bag, Vec::new(rt.alloc()));
@@ -102,6 +103,7 @@ fn a_box_comes_back(rt: HostRuntime) -> Result<(), Fail> {
     let mut pass = take_pass(&rt, &bag, &mut passes);
     let boxed = Box::new(rt.alloc(), chunk_of(&rt, 0, 1, &[7]))?;
     assert!(rt; bag.put_boxed(&rt, &mut pass, boxed).is_ok());
+    assert!(rt; !bag.finds_empty(&mut pass));
     let mut boxed = bag.get_boxed(&rt, &mut pass).expect(&rt, "the box");
     assert_eq!(rt; (boxed.id(), boxed.pop()), (SECOND, Some(7)));
     Ok(())

@@ -67,6 +67,7 @@ fn pass_a_chunk_on<R: Wait + Abort>(
         log.put_boxed_at(rt, first, 1, Box::new(alloc, chunk_of(rt, 0, 1, &[8]))?)
             .is_ok()
     );
+    assert!(rt; log.finds_empty_at(second, 0) && !log.finds_empty_at(second, 1));
     let got = log.get_boxed_at(rt, second, 1).map(|chunk| chunk.id());
     assert_eq!(rt;
         got,
