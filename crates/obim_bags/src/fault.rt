@@ -76,12 +76,19 @@ impl From<Memory> for LogFault {
 }
 
 impl From<AllocError> for LogFault {
+    ghost use Rattle.std.specs.Prelude.{◌≡◌};
+    ghost use Rattle.obim_bags.specs.declared.fault.LogFault.TheVariants.{Memory};
+
+    ghost from_gives = { λ _ fault. fault ≡ Memory };
+
     fn from(_refused: AllocError) -> LogFault {
         LogFault::Memory
     }
 }
 
 impl From<Memory> for SettleFault {
+    ghost from_gives = { λ _ fault. fault ≡ Memory };
+
     fn from(_refused: Memory) -> SettleFault {
         SettleFault::Memory
     }
