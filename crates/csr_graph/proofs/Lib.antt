@@ -1,5 +1,6 @@
 pub mod Facts
 mod Filters
+mod Blocks
 mod Sorting
 mod Placing
 mod Layouts

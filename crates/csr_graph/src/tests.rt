@@ -1,10 +1,11 @@
 //! A graph of six vertices, whose places were worked out by hand.
 
-ghost use Rattle.std.specs.Prelude.{◌<◌, ◌↔◌, IsTrue};
+ghost use Rattle.std.specs.Prelude.{◌<◌, ◌↔◌, ℕ, IsTrue};
 ghost use Rattle.route_walks.specs.Walk.{IsGraph};
 
-use crate::{Csr, Target};
-use route_walks::ArcRec;
+use crate::{Csr, MAX_ARCS, Target};
+use route_walks::{ArcRec, Memory};
+use std::alloc::Global;
 use std::test::Fail;
 
 // The arcs as given, not by tail: two leave 3 and come last here.
@@ -89,5 +90,44 @@ fn a_graph_without_vertices(rt: HostRuntime) -> Result<(), Fail> {
     assert_eq!(rt; csr.n(), 0);
     assert_eq!(rt; csr.arc_count(), 0);
     assert_eq!(rt; csr.arcs(rt.alloc())?.len(), 0);
+    Ok(())
+}
+
+/// A number below `bound`, drawn by Knuth's multiplier and increment for numbers of 64 bits.
+fn draw(state: &mut u64, bound: u32) -> u32
+    requires { 0 < bound }
+{
+    *state = state
+        .wrapping_mul(6364136223846793005)
+        .wrapping_add(1442695040888963407);
+    (*state >> 33) as u32 % bound
+}
+
+/// Arcs among n vertices, in no order.
+fn drawn(alloc: Global, n: u32, count: usize) -> Result<Vec<ArcRec>, Memory>
+    requires { 0 < n }
+{
+    let mut state = 1;
+    let mut arcs = Vec::with_capacity(alloc, count)?;
+    for _ in 0..count {
+        let (tail, head) = (draw(&mut state, n), draw(&mut state, n));
+        arcs.push(ArcRec::new(tail, head, draw(&mut state, 256)))?;
+    }
+    Ok(arcs)
+}
+
+// 64 arcs are few, and sorted as they stand; 300000 among 50000 vertices are grouped by blocks first.
+#[test]
+fn built_from_a_list_that_is_given_up(rt: HostRuntime) -> Result<(), Fail> {
+    let alloc = rt.alloc();
+    for (n, count) in [(10, 64), (50_000, 300_000)] {
+        let arcs = drawn(alloc, n, count)?;
+        assert!(rt; is_graph(n, &arcs) && arcs.len() <= MAX_ARCS);
+        let kept = Csr::build(alloc, n, &arcs)?;
+        let given_up = Csr::build_from(alloc, n, arcs)?;
+        assert_eq!(rt; given_up.n(), n);
+        assert_eq!(rt; given_up.arc_count(), count);
+        assert!(rt; given_up.arcs(alloc)?.as_slice() == kept.arcs(alloc)?.as_slice());
+    }
     Ok(())
 }
