@@ -25,6 +25,9 @@ use std::alloc::Global;
 use std::marker::Model;
 use std::snapshot::Snapshot;
 
+/// So many heads of a row are looked at before its arcs are relaxed.
+const WARMED: usize = 16;
+
 /// What `relax` did.
 #[derive(Clone, Copy, Debug, PartialEq, Eq)]
 pub enum Step {
@@ -116,7 +119,33 @@ impl Words {
         let shared = &self.table.shared;
         let d = shared.load::<Reads>(&mut seat.place, label_word(u));
         seat.view.read(d, csr.first(u));
+        self.warm(seat, csr, u);
         d
+    }
+
+    /// Looks at the labels of the first heads of a row, which takes no step: they come from memory side
+    /// by side here, and one after the other where each is first asked for as its arc is relaxed.
+    #[inline(always)]
+    fn warm(&self, seat: &WorkSeat, csr: &Csr, u: u32)
+        requires words { seat.now.words ≡ self.now }
+        requires graph { csr.now ≡ seat.now.known.graph }
+        requires vertex { u < csr.now.n }
+    {
+        let first = csr.first(u);
+        for k in first..csr.end(u).min(first + WARMED) {
+            self.look(seat, csr.target(k).head);
+        }
+    }
+
+    /// Looks at the label of a head.
+    #[inline(always)]
+    fn look(&self, seat: &WorkSeat, head: u32)
+        requires words { seat.now.words ≡ self.now }
+        requires vertex { head < seat.now.known.graph.n }
+    {
+        // Only the contract asks for the seat: what is read of it brings in how many vertices it knows.
+        let _share = seat.view.share;
+        let _label = self.table.shared.peek(label_word(head));
     }
 
     /// Relaxes the next arc of the seat's row by one `fetch_min` of its head's label; at the row's end
