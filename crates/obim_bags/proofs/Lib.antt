@@ -1,6 +1,7 @@
 mod Accounting
 mod Cuts
 mod Distinct
+pub mod Facts
 mod Indexing
 mod Listed
 mod LogRule

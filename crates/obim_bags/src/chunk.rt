@@ -65,6 +65,16 @@ impl Chunk {
         }
     }
 
+    /// Takes all its vertices out and gives it another name and size, 1 to 256: a new chunk in the same room.
+    pub fn renew(&mut self, id: ChunkId, size: usize)
+        requires { (1 ≤ size) × (size ≤ MAX_SIZE) }
+        ensures { self.new ≡ record { id = id; size = size; vertices = [] } }
+    {
+        self.id = id;
+        self.size = size;
+        self.vertices.clear();
+    }
+
     /// The name that it was opened with.
     pub fn id(&self) -> ChunkId
         ensures { result ≡ self.now.id }
