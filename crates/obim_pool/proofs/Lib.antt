@@ -1,1 +1,9 @@
 mod Changes
+mod Drawing
+mod Growing
+mod Lifting
+mod Looking
+mod Ordering
+mod Popping
+mod Putting
+mod Standing

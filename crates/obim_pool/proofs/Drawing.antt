@@ -1,0 +1,98 @@
+-- What a look into one bag and a vertex taken out of it do.
+use Rattle.std.proofs.Common.{◌≡◌, ◌≢◌, ◌∙◌, ap, refl, subst, sym, ℕ, ◌<◌, List, [], ◌∷◌, ◌++◌, length, length-append, Some, None, arith}
+use Rattle.std.specs.Prelude.{Option, Box, IfNone, IfSome, sum_by}
+use Rattle.std.specs.declared.alloc.Global.{Global}
+use Rattle.std.proofs.lemmas.List.{append-nil, nil_from_length}
+use Rattle.std.proofs.lemmas.List.Sums.{sum_by-cons}
+use Rattle.obim_bags.specs.Accounts.{WasEmpty}
+use Rattle.obim_bags.specs.Chunks.{ChunkSeen}
+use Rattle.obim_bags.specs.Logs.{MirrorSeen, PlaceSeen, ChangesAt, WasEmptyAt, place_after_empty_find}
+use Rattle.obim_pool.specs.declared.kept.Kept.{Kept}
+use Rattle.obim_pool.proofs.Lifting.{at_set, one_of_kept}
+use Rattle.obim_pool.specs.Accounts.{AreSame, Gets}
+use Rattle.obim_pool.specs.Kept.{held_of, vertices_in}
+use Rattle.obim_pool.specs.Steps.{FindsEmpty, OneBag}
+
+-- where there is no vertex, the same vertices are none
+pub same_none : (xs : List ℕ) → AreSame [] xs → xs ≡ []
+same_none [] same = refl
+same_none (x ∷ xs) same = absurd (omega (arith, same (λ _. 1), sum_by-cons (λ _. 1) x xs))
+
+-- what two finds of one thing found is one
+pub some_same : {A : Type 0} {x y : A} → Some x ≡ Some y → x ≡ y
+some_same same = cc same
+
+-- an empty find at a place of which nothing is held, before and after
+pub finds_bare : (place : ℕ) (old new : MirrorSeen) (old_kept new_kept : Kept)
+    → ChangesAt place place_after_empty_find old new → WasEmptyAt place old
+    → held_of old_kept ≡ [] → held_of new_kept ≡ []
+    → FindsEmpty place old old_kept new new_kept
+finds_bare place old new old_kept new_kept changes empty none none' =
+    let same : empty.0 ≡ changes.0 = some_same (sym empty.1 ∙ changes.1) in
+    record {
+      here = record {
+        was = changes.0;
+        is = place_after_empty_find changes.0;
+        was_there = changes.1;
+        is_there = changes.2;
+        bag = refl;
+        change = record {
+          looks = record { put = refl; got = refl; held = none' ∙ sym none };
+          finds = refl;
+          bare = none';
+        };
+      };
+      empty = (
+        place_after_empty_find changes.0,
+        rw changes.2 (at_set old.places place changes.0 (place_after_empty_find changes.0) changes.1),
+        subst (λ (p : PlaceSeen). WasEmpty p.pass.tally) same empty.2,
+      );
+    }
+
+-- a vertex that was taken out of what was held, and no chunk was got
+pub takes_held : (place : ℕ) (mirror : MirrorSeen) (old new : Kept) (v : ℕ)
+    → place < length mirror.places → AreSame (v ∷ held_of new) (held_of old)
+    → OneBag (Gets v) place mirror old mirror new
+takes_held place mirror old new v within same =
+    one_of_kept (Gets v) place mirror old new within (λ p. record {
+      chunks = [];
+      put = refl;
+      got = sym (append-nil p.pass.tally.got);
+      account = λ w. same w ∙ ap (sum_by w) (sym (append-nil (held_of old)));
+    })
+
+-- where a chunk that has a vertex drains, one is taken out
+pub drains_some : (P : Type 0) (old new : Kept) (chunk : Box ChunkSeen Global) (found : Option ℕ)
+    → old.draining ≡ Some chunk → chunk.value.vertices ≢ [] → new.filling ≡ old.filling
+    → IfNone found (held_of new ≡ held_of old) → IfNone found (vertices_in new.draining ≡ []) → IfNone found P
+drains_some P old new chunk (Some v) drains some filling held none = tt
+drains_some P old new chunk None drains some filling held none =
+    let before = length-append (vertices_in old.filling) (vertices_in old.draining) in
+    let after = length-append (vertices_in new.filling) (vertices_in new.draining) in
+    let same = ap length held in
+    let fills = ap (λ f. length (vertices_in f)) filling in
+    let empty = ap length none in
+    let drained = ap (λ d. length (vertices_in d)) drains in
+    absurd (some (nil_from_length chunk.value.vertices (omega arith)))
+
+-- where nothing is taken out though the filling chunk was turned, nothing was held
+pub turned_finds : (place : ℕ) (m m' : MirrorSeen) (old mid new : Kept) (found : Option ℕ)
+    → ChangesAt place place_after_empty_find m m' → WasEmptyAt place m
+    → AreSame (held_of mid) (held_of old) → mid.filling ≡ None → new.filling ≡ mid.filling
+    → IfNone found (held_of new ≡ held_of mid) → IfNone found (vertices_in new.draining ≡ [])
+    → IfNone found (FindsEmpty place m old m' new)
+turned_finds place m m' old mid new (Some v) changes empty same turned filling held none = tt
+turned_finds place m m' old mid new None changes empty same turned filling held none =
+    let bare : held_of new ≡ [] = ap (λ f. vertices_in f ++ vertices_in new.draining) (filling ∙ turned) ∙ none in
+    let was = same_none (held_of old) (λ w. ap (sum_by w) (sym bare ∙ held) ∙ same w) in
+    finds_bare place m m' old new changes empty was bare
+
+-- what follows from what is so where there is none
+pub none_then : {A : Type 0} (P Q : Type 0) (found : Option A) → (P → Q) → IfNone found P → IfNone found Q
+none_then P Q None then' p = then' p
+none_then P Q (Some x) then' p = tt
+
+-- what follows from what is so where there is one
+pub some_then : {A : Type 0} (P Q : A → Type 0) (found : Option A) → ((x : A) → P x → Q x) → IfSome found P → IfSome found Q
+some_then P Q None then' p = tt
+some_then P Q (Some x) then' p = then' x p

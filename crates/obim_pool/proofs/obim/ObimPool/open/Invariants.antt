@@ -1,0 +1,7 @@
+-- A new side over each mirror so far, in their order.
+use Rattle.std.proofs.Common.{◌≡◌, map}
+use Rattle.obim_pool.proofs.Popping.{side_over}
+use Rattle.obim_pool.proofs.obim.ObimPool.open.Given as goal
+
+abbrev pub invariant-loop-mirror : goal.invariant-loop-mirror
+invariant-loop-mirror l = l.sides.items ≡ map side_over l.yielded

@@ -1,0 +1,68 @@
+//! Opens chunks by name, in boxes that were used before where there are some.
+
+ghost use Rattle.std.specs.Prelude.{◌≡◌, ◌≤◌, [], IfSome};
+ghost use Rattle.obim_bags.specs.declared.chunk.TheConstants.{MAX_SIZE};
+ghost use Rattle.obim_pool.specs.declared.maker.TheConstants.{MAX_SERIAL};
+
+use obim_bags::{Chunk, ChunkId, MAX_SIZE};
+use std::alloc::Global;
+
+/// A side opens at most this many chunks.
+const MAX_SERIAL: u64 = 1 << 62;
+
+/// Opens the chunks of one worker. It keeps one box whose chunk ran empty for the next one, since most
+/// chunks are opened soon after another was used up.
+#[derive(Drop)]
+pub(crate) struct Maker {
+    alloc: Global,
+    size: usize,
+    next: ChunkId,
+    spare: Option<Box<Chunk>>,
+    ghost size_is: { (1 ≤ size) × (size ≤ MAX_SIZE) },
+    ghost serial_is: { next.serial ≤ MAX_SERIAL },
+}
+
+impl Maker {
+    /// Opens chunks of this size for a worker, with serials from 0.
+    pub(crate) fn new(alloc: Global, worker: u32, size: usize) -> Maker
+        requires { (1 ≤ size) × (size ≤ MAX_SIZE) }
+    {
+        Maker {
+            alloc,
+            size,
+            next: ChunkId { worker, serial: 0 },
+            spare: None,
+        }
+    }
+
+    /// The most vertices that its chunks take.
+    #[inline(always)]
+    pub(crate) fn size(&self) -> usize {
+        self.size
+    }
+
+    /// An empty chunk with the next serial. `None` where memory is refused or the serials ran out.
+    pub(crate) fn open(&mut self) -> Option<Box<Chunk>>
+        ensures { IfSome result (λ chunk. chunk.value.vertices ≡ []) }
+    {
+        if self.next.serial == MAX_SERIAL {
+            return None;
+        }
+        let chunk = match self.spare.take() {
+            Some(mut chunk) => {
+                chunk.renew(self.next, self.size);
+                chunk
+            }
+            None => Box::new(self.alloc, Chunk::new(self.next, self.size)).ok()?,
+        };
+        self.next.serial += 1;
+        Some(chunk)
+    }
+
+    /// Keeps the box of a chunk for the next one, unless there is one already.
+    pub(crate) fn take_back(&mut self, chunk: Box<Chunk>) {
+        if self.spare.is_none() {
+            self.spare = Some(chunk);
+        }
+    }
+}

@@ -1,0 +1,122 @@
+//! A pool of bags, which are drawn from by rising metric.
+
+ghost use Rattle.std.specs.Prelude.{◌≡◌, ◌≤◌, replicate, All};
+ghost use Rattle.std.specs.Prelude.{IfNone, IfOk, IfSome};
+ghost use Rattle.std.specs.Bool.{OnFalse, OnTrue};
+ghost use Rattle.obim_bags.specs.declared.chunk.TheConstants.{MAX_SIZE};
+ghost use Rattle.obim_bags.specs.Logs.{IsLogSettled};
+ghost use Rattle.obim_pool.specs.Sides.{IsSideOf, Keeps, PushesTo, PushesNone, Pops, PopsNone, HasLowered, HasLookedBelow};
+ghost use Rattle.obim_pool.specs.Sides.{mirrors_of, new_side};
+
+use crate::maker::Maker;
+use crate::pool::WorkPool;
+use crate::side::ObimSide;
+use obim_bags::{BagLog, Chunk, SettleFault};
+use route_walks::Memory;
+use std::alloc::Global;
+use std::marker::Model;
+use std::sync::Wait;
+
+/// A pool in the manner of OBIM, the worklist of the Galois system ordered by integer metric: vertices of
+/// one metric share a bag, which is a queue of chunks, and each worker draws from the lowest bag that it
+/// knows, softly.
+///
+/// A side belongs to the pool that opened it, and to no other.
+#[derive(Drop)]
+pub struct ObimPool {
+    log: BagLog,
+    alloc: Global,
+}
+
+impl Model for ObimPool {
+    ghost use Rattle.atomic_table.specs.Seated.{TableId};
+
+    ghost Value = { TableId };
+
+    ghost view = { λ p. p.log };
+}
+
+impl ObimPool {
+    /// A pool without bags, and a side of it for each worker. A chunk takes `chunk` vertices, 1 to 256. It is
+    /// handed on when it is full: smaller ones are shared sooner, larger ones cost less a vertex.
+    pub fn open(
+        alloc: Global,
+        workers: u32,
+        chunk: usize,
+    ) -> Result<(ObimPool, Vec<ObimSide>), Memory>
+        requires { (1 ≤ workers) × (1 ≤ chunk) × (chunk ≤ MAX_SIZE) }
+        ensures { IfOk result (λ opened. opened.1.items ≡ replicate workers (new_side opened.0)) }
+    {
+        let (log, mirrors) = BagLog::open(alloc, workers)?;
+        let mut sides = Vec::with_capacity(alloc, workers as usize)?;
+        let mut worker = 0;
+        for mirror in mirrors {
+            let maker = Maker::new(alloc, worker, chunk);
+            sides.push(ObimSide::new(alloc, mirror, maker))?;
+            worker = worker.wrapping_add(1);
+        }
+        Ok((ObimPool { log, alloc }, sides))
+    }
+
+    /// Puts `v` into the bag of its metric, which is current then if it is lower than the current one. False,
+    /// and `v` is not kept, where memory is refused or this side opened 2^62 chunks.
+    #[inline(always)]
+    pub fn push<R: Wait>(&self, rt: &R, side: &mut ObimSide, v: u32, metric: u64) -> bool
+        requires { IsSideOf self.now side.old }
+        ensures keeps { Keeps side.old side.new }
+        ensures pushed { OnTrue result (PushesTo metric v side.old side.new) }
+        ensures refused { OnFalse result (PushesNone side.old side.new) }
+        ensures current { OnTrue result (HasLowered metric side.old.current side.new.current) }
+        ensures unchanged { OnFalse result (side.new.current ≡ side.old.current) }
+    {
+        side.push(rt, &self.log, self.alloc, v, metric)
+    }
+
+    /// Takes a vertex out of the current bag, and where that gives none, out of the lowest bag of this
+    /// side that gives one, which is current then. `None` where no bag does; another side may still hold
+    /// vertices.
+    #[inline(always)]
+    pub fn pop<R: Wait>(&self, rt: &R, side: &mut ObimSide) -> Option<u32>
+        requires { IsSideOf self.now side.old }
+        ensures keeps { Keeps side.old side.new }
+        ensures popped { IfSome result (λ v. Pops v side.old side.new) }
+        ensures below { IfSome result (λ v. HasLookedBelow side.old side.new) }
+        ensures none { IfNone result (PopsNone side.old side.new) }
+    {
+        side.pop(rt, &self.log, self.alloc)
+    }
+
+    /// Ends the pool: the chunks left in its bags, by their place in the log and then in the order of the
+    /// bag. `Missing` where the sides aren't all. What sides still held in chunks of their own is dropped.
+    pub fn settle<R: Wait>(
+        self,
+        rt: &R,
+        alloc: Global,
+        sides: Vec<ObimSide>,
+    ) -> Result<Vec<Chunk>, SettleFault>
+        requires { All (IsSideOf self) sides.items }
+        ensures { IfOk result (λ left. IsLogSettled (mirrors_of sides.items) left.items) }
+    {
+        let mut mirrors = Vec::with_capacity(alloc, sides.len())?;
+        for side in sides {
+            mirrors.push(side.into_mirror())?;
+        }
+        self.log.drain(rt, alloc, mirrors)
+    }
+}
+
+impl WorkPool for ObimPool {
+    type Side = ObimSide;
+
+    ghost is_side = { IsSideOf };
+
+    #[inline(always)]
+    fn push<R: Wait>(&self, rt: &R, side: &mut ObimSide, v: u32, metric: u64) -> bool {
+        ObimPool::push(self, rt, side, v, metric)
+    }
+
+    #[inline(always)]
+    fn pop<R: Wait>(&self, rt: &R, side: &mut ObimSide) -> Option<u32> {
+        ObimPool::pop(self, rt, side)
+    }
+}

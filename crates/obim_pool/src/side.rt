@@ -1,0 +1,196 @@
+//! A worker's side of a pool of bags.
+
+ghost use Rattle.std.specs.Prelude.{◌≡◌, ◌≤◌, ◌<◌, [], ◌∷◌, None, Some, length, IfNone, IfSome};
+ghost use Rattle.std.specs.Bool.{OnFalse, OnTrue};
+ghost use Rattle.obim_bags.specs.Logs.{metrics_in};
+ghost use Rattle.obim_pool.specs.Orders.{IsAt};
+ghost use Rattle.obim_pool.specs.Sides.{IsSideOf, Keeps, PushesTo, PushesNone, Pops, PopsNone, HasLowered, HasLookedBelow};
+ghost use Rattle.obim_pool.specs.Sides.{new_side};
+ghost use Rattle.obim_pool.specs.Steps.{FindsAllEmpty, PopsLowest, TriesCurrent};
+
+use crate::draw::{pop_at, scan};
+use crate::feed::push_at;
+use crate::kept::Kept;
+use crate::maker::Maker;
+use crate::order::At;
+use crate::own::{catch_up, place_for};
+use obim_bags::{BagLog, Mirror};
+use std::alloc::Global;
+use std::marker::Model;
+use std::sync::Wait;
+
+/// What a worker has of an `ObimPool`: its mirror of the log of bags, of each bag the chunk that it fills
+/// and the chunk that it drains, and the metric that it draws from.
+#[derive(Drop)]
+pub struct ObimSide {
+    mirror: Mirror,
+    kept: Vec<Kept>,
+    order: Vec<At>,
+    current: Option<At>,
+    maker: Maker,
+}
+
+impl Model for ObimSide {
+    ghost use Rattle.obim_pool.specs.Sides.{SideSeen, current_of, IsSide};
+    ghost use Rattle.obim_pool.specs.Kept.{all_held};
+
+    ghost Value = { SideSeen };
+
+    ghost view = { λ s. record { mirror = s.mirror; held = all_held s.kept.items; current = current_of s.current } };
+
+    ghost invariant = { λ s. IsSide s.mirror s.kept.items s.order.items s.current };
+}
+
+impl ObimSide {
+    /// A side that knows no bag, over a mirror of none.
+    pub(crate) fn new(alloc: Global, mirror: Mirror, maker: Maker) -> ObimSide
+        requires { mirror.places ≡ [] }
+        ensures { result ≡ new_side mirror.log }
+    {
+        ObimSide {
+            mirror,
+            kept: Vec::new(alloc),
+            order: Vec::new(alloc),
+            current: None,
+            maker,
+        }
+    }
+
+    pub(crate) fn into_mirror(self) -> Mirror
+        ensures { result ≡ self.mirror }
+    {
+        self.mirror
+    }
+
+    /// `ObimPool::push`.
+    #[inline(always)]
+    pub(crate) fn push<R: Wait>(
+        &mut self,
+        rt: &R,
+        log: &BagLog,
+        alloc: Global,
+        v: u32,
+        metric: u64,
+    ) -> bool
+        requires { IsSideOf log.now self.old }
+        ensures keeps { Keeps self.old self.new }
+        ensures pushed { OnTrue result (PushesTo metric v self.old self.new) }
+        ensures refused { OnFalse result (PushesNone self.old self.new) }
+        ensures current { OnTrue result (HasLowered metric self.old.current self.new.current) }
+        ensures unchanged { OnFalse result (self.new.current ≡ self.old.current) }
+    {
+        let Some(place) = place_for(
+            rt,
+            log,
+            alloc,
+            &mut self.mirror,
+            &mut self.kept,
+            &mut self.order,
+            self.current,
+            metric,
+        ) else {
+            return false;
+        };
+        let pushed = push_at(
+            rt,
+            log,
+            &mut self.maker,
+            &mut self.mirror,
+            place,
+            &mut self.kept[place],
+            v,
+        );
+        if !pushed {
+            return false;
+        }
+        self.lower(At { metric, place });
+        true
+    }
+
+    /// Makes this bag the current one where none is, or where the current one has a larger metric.
+    #[inline(always)]
+    fn lower(&mut self, at: At)
+        requires { IsAt (metrics_in self.old.mirror.places) (length self.old.held) at }
+        ensures mirror { self.new.mirror ≡ self.old.mirror }
+        ensures held { self.new.held ≡ self.old.held }
+        ensures current { HasLowered at.metric self.old.current self.new.current }
+    {
+        match self.current {
+            Some(current) if current.metric <= at.metric => {}
+            _ => self.current = Some(at),
+        }
+    }
+
+    /// `ObimPool::pop`.
+    #[inline(always)]
+    pub(crate) fn pop<R: Wait>(&mut self, rt: &R, log: &BagLog, alloc: Global) -> Option<u32>
+        requires { IsSideOf log.now self.old }
+        ensures keeps { Keeps self.old self.new }
+        ensures popped { IfSome result (λ v. Pops v self.old self.new) }
+        ensures below { IfSome result (λ v. HasLookedBelow self.old self.new) }
+        ensures none { IfNone result (PopsNone self.old self.new) }
+    {
+        match self.pop_current(rt, log) {
+            Some(v) => Some(v),
+            None => self.pop_lowest(rt, log, alloc),
+        }
+    }
+
+    /// Takes a vertex out of the current bag.
+    #[inline(always)]
+    fn pop_current<R: Wait>(&mut self, rt: &R, log: &BagLog) -> Option<u32>
+        requires { IsSideOf log.now self.old }
+        ensures keeps { Keeps self.old self.new }
+        ensures current { self.new.current ≡ self.old.current }
+        ensures popped { IfSome result (λ v. Pops v self.old self.new) }
+        ensures none { IfNone result (TriesCurrent self.old self.new) }
+    {
+        match self.current {
+            Some(at) => pop_at(
+                rt,
+                log,
+                &mut self.maker,
+                &mut self.mirror,
+                at.place,
+                &mut self.kept[at.place],
+            ),
+            None => None,
+        }
+    }
+
+    /// Takes a vertex out of the lowest bag that gives one, which is current from then on.
+    #[inline(never)]
+    fn pop_lowest<R: Wait>(&mut self, rt: &R, log: &BagLog, alloc: Global) -> Option<u32>
+        requires { IsSideOf log.now self.old }
+        ensures keeps { Keeps self.old self.new }
+        ensures popped { IfSome result (λ v. PopsLowest v self.old self.new) }
+        ensures none { IfNone result (FindsAllEmpty self.old self.new) }
+    {
+        catch_up(
+            rt,
+            log,
+            alloc,
+            &mut self.mirror,
+            &mut self.kept,
+            &mut self.order,
+        );
+        let drawn = scan(
+            rt,
+            log,
+            &mut self.maker,
+            &mut self.mirror,
+            &mut self.kept,
+            &self.order,
+        );
+        match drawn {
+            Some((at, v)) => {
+                self.current = Some(at);
+                Some(v)
+            }
+            None => {
+                self.current = None;
+                None
+            }
+        }
+    }
+}
