@@ -10,15 +10,15 @@ use crate::runs::{RunFault, solve};
 use crate::settings::Settings;
 use csr_graph::Csr;
 use label_words::Words;
-use obim_pool::LockedPool;
+use obim_pool::ObimPool;
 use route_walks::laws::least_labels_follow_the_arcs;
 use route_walks::{Memory, Seed, both_ways, seeds_all, seeds_from, unit_weights};
 use std::alloc::Global;
 use std::sync::Wait;
 use std::thread::Threads;
 
-/// The least label of each vertex from any seeds, by workers over a pool of their own. The seeds are
-/// given back before the workers start.
+/// The least label of each vertex from any seeds, by workers over an `ObimPool` of their own. The seeds
+/// are given back before the workers start.
 pub fn least_labels<H: Threads + Wait + Sync, G: Gate + Sync>(
     rt: &H,
     alloc: Global,
@@ -31,7 +31,7 @@ pub fn least_labels<H: Threads + Wait + Sync, G: Gate + Sync>(
     ensures { IfOk result
         (λ labels. AreLeastLabels csr.now.n csr.now.arcs seeds.items labels.items) }
 {
-    let (pool, mut sides) = LockedPool::open(alloc, settings.workers)?;
+    let (pool, mut sides) = ObimPool::open(alloc, settings.workers, settings.chunk)?;
     let (words, seat) = Words::open(alloc, csr, &seeds)?;
     drop(seeds);
     solve(

@@ -13,8 +13,9 @@ use crate::{
     least_labels, levels, run,
 };
 use csr_graph::Csr;
-use gates::Recorder;
+use gates::{Recorder, Yielding};
 use graphs::{SIX_LABELS, WORKED, arcs_of, are_seeds, is_graph, random_arcs, six};
+use obim_pool::{LockedPool, ObimPool};
 use pools::{FirstIn, Misleading, Useless};
 use route_walks::{ArcRec, Seed, both_ways, plain_labels, seeds_all, seeds_from, unit_weights};
 use std::alloc::Global;
@@ -212,6 +213,49 @@ fn two_workers_beside_one(rt: HostRuntime) -> Result<(), Fail> {
         let shift = round % 12;
         let two = distances(&rt, alloc, &csr, 0, &settings(&rt, 2, shift), &OpenGate)?;
         assert!(rt; two.as_slice() == one.as_slice(), "round {round}");
+    }
+    Ok(())
+}
+
+// Both pools that come with the engine, handed to `run` by four workers.
+#[test]
+fn either_pool_of_four_workers(rt: HostRuntime) -> Result<(), Fail> {
+    let alloc = rt.alloc();
+    let csr = six(alloc)?;
+    let seeds = seeds_from(alloc, 0)?;
+    let settings = settings(&rt, 4, 4);
+    let (pool, mut sides) = LockedPool::open(alloc, 4)?;
+    let labels = run(
+        &rt, alloc, &csr, &seeds, &settings, &pool, &mut sides, &OpenGate,
+    )?;
+    assert_eq!(rt; labels.as_slice(), SIX_LABELS.as_slice());
+    let (pool, mut sides) = ObimPool::open(alloc, 4, 16)?;
+    let labels = run(
+        &rt, alloc, &csr, &seeds, &settings, &pool, &mut sides, &OpenGate,
+    )?;
+    assert_eq!(rt; labels.as_slice(), SIX_LABELS.as_slice());
+    Ok(())
+}
+
+// Workers that are held back at random, on a graph that has many bags: the same labels each time.
+#[test]
+fn workers_that_yield_at_random(rt: HostRuntime) -> Result<(), Fail> {
+    let alloc = rt.alloc();
+    let arcs = random_arcs(alloc, 100_000, 400_000)?;
+    let within = is_graph(100_000, &arcs);
+    assert!(rt; within);
+    let csr = Csr::build(alloc, 100_000, &arcs)?;
+    let one = distances(&rt, alloc, &csr, 0, &settings(&rt, 1, 7), &OpenGate)?;
+    for round in 0..40_u32 {
+        for workers in [2, 4, 8] {
+            let gate = Yielding::new(u64::from(round * 8 + workers));
+            let settings = settings(&rt, workers, 3 + round % 8);
+            let labels = distances(&rt, alloc, &csr, 0, &settings, &gate)?;
+            assert!(rt;
+                labels.as_slice() == one.as_slice(),
+                "round {round}, workers {workers}"
+            );
+        }
     }
     Ok(())
 }
