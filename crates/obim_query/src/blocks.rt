@@ -14,8 +14,10 @@ ghost use Rattle.obim_query.specs.Outcome.{IsWritingFault};
 
 use crate::asked::Asked;
 use crate::fault::Fault;
+use crate::figures::Figures;
 use crate::laws::blocks_are_unique;
 use crate::outlet::Waiting;
+use crate::tune::{first_settings, next_settings};
 use csr_graph::Csr;
 use dimacs_text::{put_component, put_label, put_source, put_walk};
 use obim_engine::{Gate, distances};
@@ -36,6 +38,7 @@ pub fn write_sources<H: Threads + Wait + Sync, W: Write, G: Gate + Sync>(
     sources: &[u32],
     asked: &Asked,
     gate: &G,
+    figures: &mut Figures,
 ) -> Result<(), Fault>
     requires vertices { csr.now.n ≤ MAX_VERTICES }
     requires sources { All (λ source. source < csr.now.n) sources.now }
@@ -50,8 +53,11 @@ pub fn write_sources<H: Threads + Wait + Sync, W: Write, G: Gate + Sync>(
     // So what is a prefix of these blocks is one of the blocks that another run would write.
     blocks_are_unique();
     let mut waiting = Waiting::new(alloc);
+    let mut settings = first_settings(asked, csr);
     for source in sources {
-        let labels = distances(rt, alloc, csr, *source, &asked.settings, gate)?;
+        let labels = distances(rt, alloc, csr, *source, &settings, gate)?;
+        let greatest = figures.see_labels(&labels, settings.shift);
+        settings = next_settings(asked, settings, greatest);
         put_block(
             alloc,
             writer,

@@ -5,6 +5,7 @@ use clap::{Arg, ArgAction, ArgMatches, Command, Error, value_parser};
 use obim_engine::{MAX_CHUNK, MAX_SHIFT, MAX_WORKERS, Settings};
 use std::alloc::Global;
 use std::convert::AsStr;
+use std::str::FromStr;
 
 const KINDS: [&str; 3] = ["distances", "levels", "components"];
 
@@ -17,6 +18,7 @@ const ABOUT: &str = "Answers a job: a directed graph with whole-number weights, 
 
 const AFTER: &str = "\
 Workers, shift and chunk change how long an answer takes, and no byte of it.
+--shift auto fits the shift to the weights, and is right for most jobs.
 
 A job is one text on standard input: a graph in the .gr format of the 9th DIMACS
 Implementation Challenge, and after it its sources in the .ss format. Vertices
@@ -43,6 +45,14 @@ Example:
 Status: 0 answered, 1 the command line is refused, 2 the text is refused,
 3 memory, 4 reading or writing, 5 a thread, 70 the program could not be built.";
 
+/// What a command line asks for.
+#[derive(Clone, Copy, Debug, PartialEq, Eq)]
+pub struct Order {
+    pub asked: Asked,
+    /// Whether figures are printed after the answer.
+    pub stats: bool,
+}
+
 /// Why a command line is refused.
 #[derive(Drop)]
 pub enum Refusal {
@@ -50,6 +60,8 @@ pub enum Refusal {
     Clap(Error),
     /// A setting is outside its limits.
     Limits,
+    /// The shift is neither a number within its limits nor `auto`.
+    Shift,
     /// Walks are asked for with components, which have none.
     Walks,
 }
@@ -62,16 +74,60 @@ impl From<Error> for Refusal {
 
 /// Judges the command line: what its arguments ask for, or why they are refused. The first is the
 /// program's name.
-pub fn asked_by<'a, S: AsStr>(alloc: Global, arguments: &'a [S]) -> Result<Asked, Refusal> {
+pub fn asked_by<'a, S: AsStr>(alloc: Global, arguments: &'a [S]) -> Result<Order, Refusal> {
     let limits = Limits::new(alloc)?;
     let matches = command(alloc, &limits)?.try_get_matches_from(arguments)?;
-    let Some(settings) = settings_in(&matches) else {
+    let Some(shift) = matches.get_one::<Shift>("shift") else {
+        return Err(Refusal::Shift);
+    };
+    let Some(settings) = settings_in(&matches, shift.bits()) else {
         return Err(Refusal::Limits);
     };
     let walks = matches.get_flag("walks");
-    match Asked::new(answer_in(&matches), settings, walks, MAX_BYTES) {
-        Some(asked) => Ok(asked),
-        None => Err(Refusal::Walks),
+    let Some(asked) = Asked::new(answer_in(&matches), settings, walks, MAX_BYTES) else {
+        return Err(Refusal::Walks);
+    };
+    Ok(Order {
+        asked: match shift {
+            Shift::Bits(_) => asked,
+            Shift::Auto => asked.with_auto_shift(),
+        },
+        stats: matches.get_flag("stats"),
+    })
+}
+
+/// The value of `--shift`.
+#[derive(Clone, Copy, Debug, PartialEq, Eq)]
+enum Shift {
+    Bits(u32),
+    Auto,
+}
+
+/// The text is no shift.
+#[derive(Clone, Copy, Debug, PartialEq, Eq)]
+struct NoShift;
+
+impl FromStr for Shift {
+    type Err = NoShift;
+
+    fn from_str(text: &str) -> Result<Shift, NoShift> {
+        if text == "auto" {
+            return Ok(Shift::Auto);
+        }
+        match text.parse::<u32>() {
+            Ok(bits) if bits <= MAX_SHIFT => Ok(Shift::Bits(bits)),
+            _ => Err(NoShift),
+        }
+    }
+}
+
+impl Shift {
+    /// The bits; 0 where they are chosen later.
+    fn bits(self) -> u32 {
+        match self {
+            Shift::Bits(bits) => bits,
+            Shift::Auto => 0,
+        }
     }
 }
 
@@ -87,7 +143,7 @@ impl Limits {
     fn new(alloc: Global) -> Result<Limits, Error> {
         Ok(Limits {
             workers: format!(in alloc; "How many workers, 1 to {MAX_WORKERS}")?,
-            shift: format!(in alloc; "Bits that a priority leaves out, 0 to {MAX_SHIFT}")?,
+            shift: format!(in alloc; "Bits left off a priority, 0 to {MAX_SHIFT}, or auto")?,
             chunk: format!(in alloc; "Vertices handed on at a time, 1 to {MAX_CHUNK}")?,
         })
     }
@@ -110,7 +166,6 @@ fn command<'a>(alloc: Global, limits: &'a Limits) -> Result<Command<'a>, Error> 
     let shift = Arg::new(alloc, "shift")
         .long("shift")
         .value_name("BITS")
-        .value_parser(value_parser!(u32).range(0..=i64::from(MAX_SHIFT)))
         .default_value("4")
         .help(&limits.shift);
     let chunk = Arg::new(alloc, "chunk")
@@ -123,6 +178,10 @@ fn command<'a>(alloc: Global, limits: &'a Limits) -> Result<Command<'a>, Error> 
         .long("walks")
         .action(ArgAction::SetTrue)
         .help("Print a walk of fewest arcs for each cost");
+    let stats = Arg::new(alloc, "stats")
+        .long("stats")
+        .action(ArgAction::SetTrue)
+        .help("Print figures on standard error after the answer");
     let command = Command::new(alloc, "obim_query")
         .version(VERSION)
         .override_usage(USAGE)
@@ -132,13 +191,13 @@ fn command<'a>(alloc: Global, limits: &'a Limits) -> Result<Command<'a>, Error> 
         .arg(walks)?
         .arg(workers)?
         .arg(shift)?
-        .arg(chunk)?;
+        .arg(chunk)?
+        .arg(stats)?;
     Ok(command)
 }
 
-fn settings_in(matches: &ArgMatches) -> Option<Settings> {
+fn settings_in(matches: &ArgMatches, shift: u32) -> Option<Settings> {
     let workers = matches.get_one::<u32>("workers")?;
-    let shift = matches.get_one::<u32>("shift")?;
     let chunk = matches.get_one::<usize>("chunk")?;
     Settings::new(workers, shift, chunk)
 }

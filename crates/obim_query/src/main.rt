@@ -13,19 +13,24 @@ mod asked;
 mod blocks;
 mod command_line;
 mod fault;
+mod figures;
 mod intake;
 pub mod laws;
 mod operators;
 mod outlet;
 mod reply;
+mod stats;
 #[cfg(test)]
 mod tests;
+mod tune;
 
 use asked::Asked;
-use command_line::{Refusal, asked_by};
+use command_line::{Order, Refusal, asked_by};
 use fault::{Fault, status};
+use figures::Figures;
 use obim_engine::OpenGate;
-use reply::answer;
+use reply::{answer, answer_counted};
+use stats::{Counter, print_stats};
 use std::env::Env;
 use std::io::{ErrorKind, Read, Write};
 use std::process::ExitCode;
@@ -38,14 +43,14 @@ const USAGE: u8 = 1;
 
 fn main(rt: HostRuntime) -> ExitCode {
     let code = match judged(&rt) {
-        Ok(asked) => reply_to(&rt, &mut rt.stdin(), &mut rt.stdout(), &asked),
+        Ok(order) => reply_to(&rt, &mut rt.stdin(), &mut rt.stdout(), &order),
         Err(status) => status,
     };
     ExitCode::from(code)
 }
 
 /// What the command line asks for; or the status to end with, after the text that says why is printed.
-fn judged<H: AllocGlobal + Env + Print + Eprint>(rt: &H) -> Result<Asked, u8> {
+fn judged<H: AllocGlobal + Env + Print + Eprint>(rt: &H) -> Result<Order, u8> {
     let arguments: Vec<String> = match env::args(rt) {
         Ok(arguments) => arguments
             .collect(rt.alloc())
@@ -56,9 +61,14 @@ fn judged<H: AllocGlobal + Env + Print + Eprint>(rt: &H) -> Result<Asked, u8> {
         Err(_) => return Err(fail(rt, Fault::Memory)),
     };
     match asked_by(rt.alloc(), &arguments) {
-        Ok(asked) => Ok(asked),
+        Ok(order) => Ok(order),
         Err(Refusal::Clap(error)) => Err(shown(rt, &error)),
         Err(Refusal::Limits) => Err(complain(rt, "a setting is outside its limits", USAGE)),
+        Err(Refusal::Shift) => Err(complain(
+            rt,
+            "--shift wants a number from 0 to 63, or auto",
+            USAGE,
+        )),
         Err(Refusal::Walks) => Err(complain(rt, "--walks needs distances or levels", USAGE)),
     }
 }
@@ -78,12 +88,39 @@ fn reply_to<H: AllocGlobal + Eprint + Threads + Wait + Sync, R: Read, W: Write>(
     rt: &H,
     reader: &mut R,
     writer: &mut W,
-    asked: &Asked,
+    order: &Order,
 ) -> u8 {
-    match answer(rt, rt.alloc(), reader, writer, asked, &OpenGate) {
+    let replied = if order.stats {
+        reply_with_stats(rt, reader, writer, &order.asked)
+    } else {
+        answer(rt, rt.alloc(), reader, writer, &order.asked, &OpenGate)
+    };
+    match replied {
         Ok(()) => 0,
         Err(fault) => fail(rt, fault),
     }
+}
+
+/// Answers, and prints figures after the answer.
+fn reply_with_stats<H: AllocGlobal + Eprint + Threads + Wait + Sync, R: Read, W: Write>(
+    rt: &H,
+    reader: &mut R,
+    writer: &mut W,
+    asked: &Asked,
+) -> Result<(), Fault> {
+    let counter = Counter::open(rt.alloc(), asked.settings.workers)?;
+    let mut figures = Figures::new();
+    answer_counted(
+        rt,
+        rt.alloc(),
+        reader,
+        writer,
+        asked,
+        &counter,
+        &mut figures,
+    )?;
+    print_stats(rt, asked, &figures, &counter);
+    Ok(())
 }
 
 /// Prints the fault's text, and gives its status.

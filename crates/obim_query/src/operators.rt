@@ -24,7 +24,7 @@ pub fn rows_for(alloc: Global, answer: Answer, n: u32, arcs: Vec<ArcRec>) -> Res
     ensures arcs { IfOk result (λ csr. HaveSameArcs csr.arcs (arcs_for answer arcs.items)) }
 {
     let arcs = arcs_of(alloc, answer, arcs)?;
-    Csr::build(alloc, n, &arcs)
+    Csr::build_from(alloc, n, arcs)
 }
 
 /// The arcs of an answer: as they are for distances, with weight 1 for levels, both ways and free for

@@ -10,9 +10,11 @@ ghost use Rattle.obim_query.specs.Outcome.{IsRequest, IsRequestFault, IsTrueOfBy
 use crate::asked::{Answer, Asked};
 use crate::blocks::{write_components, write_sources};
 use crate::fault::Fault;
+use crate::figures::Figures;
 use crate::intake::read_request;
 use crate::laws::answer_texts_are_unique;
 use crate::operators::{component_labels, rows_for};
+use crate::tune::first_settings;
 use dimacs_text::{Ask, Job};
 use obim_engine::Gate;
 use route_walks::laws::{least_labels_are_components, least_labels_follow_the_arcs};
@@ -48,8 +50,33 @@ pub fn answer<H: Threads + Wait + Sync, R: Read, W: Write, G: Gate + Sync>(
         (R.remaining reader.old) (R.remaining reader.new)
         (W.contents writer.old) (W.contents writer.new)) }
 {
+    let mut figures = Figures::new();
+    answer_counted(rt, alloc, reader, writer, asked, gate, &mut figures)
+}
+
+/// The same, which gives the figures of the job and of its runs besides.
+pub fn answer_counted<H: Threads + Wait + Sync, R: Read, W: Write, G: Gate + Sync>(
+    rt: &H,
+    alloc: Global,
+    reader: &mut R,
+    writer: &mut W,
+    asked: &Asked,
+    gate: &G,
+    figures: &mut Figures,
+) -> Result<(), Fault>
+    ensures answered { OnOk result (IsAnswered asked.now.limit asked.now.answer asked.now.walks
+        (R.remaining reader.old) (R.remaining reader.new)
+        (W.contents writer.old) (W.contents writer.new)) }
+    ensures taken { IfErr result (HasTaken asked.now.limit
+        (R.remaining reader.old) (R.remaining reader.new)) }
+    ensures says { IfErr result (IsTrueOfText asked.now.limit asked.now.answer
+        (R.remaining reader.old) (R.remaining reader.new)) }
+    ensures written { IfErr result (HasWritten asked.now.limit asked.now.answer asked.now.walks
+        (R.remaining reader.old) (R.remaining reader.new)
+        (W.contents writer.old) (W.contents writer.new)) }
+{
     let job = read_request(alloc, reader, asked.limit)?;
-    respond(rt, alloc, writer, asked, job, gate)
+    respond(rt, alloc, writer, asked, job, gate, figures)
 }
 
 /// The same over memory: the bytes of the answer to the text.
@@ -78,6 +105,7 @@ fn respond<H: Threads + Wait + Sync, W: Write, G: Gate + Sync>(
     asked: &Asked,
     job: Job,
     gate: &G,
+    figures: &mut Figures,
 ) -> Result<(), Fault>
     requires { IsWithinLimits (content_of job) }
     ensures reply { OnOk result (Writes (IsAnswerText asked.now.answer asked.now.walks (content_of job))
@@ -93,8 +121,11 @@ fn respond<H: Threads + Wait + Sync, W: Write, G: Gate + Sync>(
     match (asked.answer, ask) {
         (Answer::Components, _) => {
             let csr = rows_for(alloc, Answer::Components, n, arcs)?;
-            let labels = component_labels(rt, alloc, &csr, &asked.settings, gate)?;
+            figures.see_rows(&csr);
+            let settings = first_settings(asked, &csr);
+            let labels = component_labels(rt, alloc, &csr, &settings, gate)?;
             drop(csr);
+            figures.see_labels(&labels, settings.shift);
             // So each label is the number of a vertex, and none is INF.
             least_labels_are_components();
             write_components(alloc, writer, &labels)
@@ -102,7 +133,8 @@ fn respond<H: Threads + Wait + Sync, W: Write, G: Gate + Sync>(
         (_, Ask::Absent) => Err(Fault::NoAsk),
         (answer, Ask::Sources(sources)) => {
             let csr = rows_for(alloc, answer, n, arcs)?;
-            write_sources(rt, alloc, writer, &csr, &sources, asked, gate)
+            figures.see_rows(&csr);
+            write_sources(rt, alloc, writer, &csr, &sources, asked, gate, figures)
         }
     }
 }

@@ -7,7 +7,8 @@ mod streams;
 
 use crate::asked::{Answer, Asked};
 use crate::fault::{Fault, status};
-use crate::reply::{answer, answer_bytes};
+use crate::figures::Figures;
+use crate::reply::{answer, answer_bytes, answer_counted};
 use callers::{append_answer, left_after_fault};
 use dimacs_text::LineKind;
 use gates::{Meeting, Recorder};
@@ -110,6 +111,55 @@ fn visits_of_one_worker(rt: HostRuntime) -> Result<(), Fail> {
     assert_eq!(rt; bytes.as_slice(), SIX_ANSWER);
     let passed = gate.into_passed();
     assert_eq!(rt; passed.as_slice(), [0, 2, 4, 1, 3, 5].as_slice());
+    Ok(())
+}
+
+// The first pushed is the first visited: chunks of one vertex come out of their bag in order.
+#[test]
+fn visits_of_one_worker_in_one_bag(rt: HostRuntime) -> Result<(), Fail> {
+    let gate = Recorder::new(rt.alloc());
+    let asked = asked_with(&rt, Answer::Components, 1000, (1, 4, 1));
+    let bytes = answer_bytes(&rt, rt.alloc(), b"p sp 3 0\n", &asked, &gate)?;
+    assert_eq!(rt; bytes.as_slice(), b"k 1 1\nk 2 2\nk 3 3\n".as_slice());
+    let passed = gate.into_passed();
+    assert_eq!(rt; passed.as_slice(), [0, 1, 2].as_slice());
+    Ok(())
+}
+
+// A shift that is chosen: by weights and degree, by the greatest label of the source before, by vertices.
+#[test]
+fn shifts_beside_jobs(rt: HostRuntime) -> Result<(), Fail> {
+    let long = b"p sp 3 2\na 1 2 40000\na 2 3 60000\np aux sp ss 1\ns 1\n".as_slice();
+    let again = b"p sp 3 2\na 1 2 40000\na 2 3 60000\np aux sp ss 2\ns 1\ns 1\n".as_slice();
+    let far = b"p sp 3 2\na 1 2 40000\na 2 3 60000\np aux sp ss 2\ns 3\ns 1\n".as_slice();
+    let table = [
+        // Mean weight 6, 8 arcs of 6 vertices: 4 * 6 * 6 / 8 is 18, which has 4 bits and one.
+        (Answer::Distances, SIX, 4, 15),
+        (Answer::Levels, SIX, 1, 3),
+        (Answer::Components, SIX, 4, 0),
+        (Answer::Components, b"p sp 300 0\n".as_slice(), 4, 299),
+        // 4 * 50000 * 3 / 2 is 300000; then 100000 / 200 is 500.
+        (Answer::Distances, long, 18, 100000),
+        (Answer::Distances, again, 8, 100000),
+        // The first source reaches nothing, which tells nothing.
+        (Answer::Distances, far, 18, 100000),
+    ];
+    for (answer, text, shift, greatest) in table {
+        let asked = asked(&rt, answer, 1000).with_auto_shift();
+        let mut figures = Figures::new();
+        let mut reader = text;
+        let mut bytes = Vec::new(rt.alloc());
+        answer_counted(
+            &rt,
+            rt.alloc(),
+            &mut reader,
+            &mut bytes,
+            &asked,
+            &OpenGate,
+            &mut figures,
+        )?;
+        assert_eq!(rt; (figures.shift, figures.greatest), (shift, greatest));
+    }
     Ok(())
 }
 

@@ -1,14 +1,14 @@
 //! Which arguments ask for what, and which are refused?
 
 use crate::asked::{Answer, Asked, MAX_BYTES};
-use crate::command_line::{Refusal, asked_by};
+use crate::command_line::{Order, Refusal, asked_by};
 use clap::error::ErrorKind;
 use obim_engine::Settings;
 use std::alloc::Global;
 use std::process::Abort;
 use std::test::Fail;
 
-fn asked_of(line: &str, alloc: Global) -> Result<Asked, Refusal> {
+fn asked_of(line: &str, alloc: Global) -> Result<Order, Refusal> {
     match line.split(' ').collect::<Vec<&str>>(alloc) {
         Ok(arguments) => asked_by(alloc, &arguments),
         Err(refused) => Err(Refusal::from(clap::Error::from(refused))),
@@ -57,8 +57,26 @@ fn lines_beside_what_they_ask_for(rt: HostRuntime) {
         ("it --chunk 256", Answer::Distances, false, (2, 4, 256)),
     ];
     for (line, answer, walks, settings) in table {
-        let asked = asked_of(line, rt.alloc());
-        assert_eq!(rt; asked.ok(), ask(&rt, answer, walks, settings), "{line}");
+        let asked = ask(&rt, answer, walks, settings);
+        let want = asked.map(|asked| Order {
+            asked,
+            stats: false,
+        });
+        assert_eq!(rt; asked_of(line, rt.alloc()).ok(), want, "{line}");
+    }
+}
+
+#[test]
+fn lines_beside_what_they_leave_to_the_program(rt: HostRuntime) {
+    for (line, auto_shift, stats) in [
+        ("it --shift auto", true, false),
+        ("it --stats", false, true),
+        ("it --stats --shift=auto", true, true),
+        ("it --shift 04", false, false),
+    ] {
+        let order = asked_of(line, rt.alloc()).ok();
+        let found = order.map(|order| (order.asked.auto_shift, order.stats));
+        assert_eq!(rt; found, Some((auto_shift, stats)), "{line}");
     }
 }
 
@@ -68,7 +86,6 @@ fn lines_beside_their_refusals(rt: HostRuntime) -> Result<(), Fail> {
         ("it --workers 0", ErrorKind::ValueValidation),
         ("it --workers 65", ErrorKind::ValueValidation),
         ("it --workers two", ErrorKind::ValueValidation),
-        ("it --shift 64", ErrorKind::ValueValidation),
         ("it --shift -1", ErrorKind::UnknownArgument),
         ("it --shift", ErrorKind::InvalidValue),
         ("it --chunk 0", ErrorKind::ValueValidation),
@@ -85,6 +102,12 @@ fn lines_beside_their_refusals(rt: HostRuntime) -> Result<(), Fail> {
             Err(Refusal::Clap(error)) => assert_eq!(rt; error.kind(), want, "{line}"),
             _ => assert!(rt; false, "{line}"),
         }
+    }
+    for line in ["it --shift 64", "it --shift any", "it --shift="] {
+        assert!(rt;
+            matches!(asked_of(line, rt.alloc()), Err(Refusal::Shift)),
+            "{line}"
+        );
     }
     let walks = asked_of("it --answer components --walks", rt.alloc());
     assert!(rt; matches!(walks, Err(Refusal::Walks)));
