@@ -7,6 +7,9 @@ trap 'rm -rf "$work"' EXIT
 mkdir "$work/bin"
 PATH=$work/bin:$PATH
 
+# As the launcher does, for both programs: see there.
+export GLIBC_TUNABLES=${GLIBC_TUNABLES:-glibc.malloc.hugetlb=1}
+
 # plain FILE NAME ARGUMENT..: builds a program in plain Rust.
 plain() { rustc -O --edition 2024 -A dead_code -o "$work/bin/$2" "${@:3}" "$here/$1"; }
 
