@@ -1,16 +1,35 @@
 //! Writes a large job to standard output: `generate KIND SIZE [SOURCES]`.
 //!
+//! Grids:
+//!
 //! - `grid SIDE`: a square of SIDE by SIDE crossings with streets both ways, as a road map has them;
+//! - `cut SIDE`: the same with a tenth of the vertices cut off, which no arc touches;
+//! - `zero SIDE`, `unit SIDE`, `greatest SIDE`: the same with all weights 0, 1 or 2^32 - 1;
+//! - `spike SIDE`: the same with weights from 1 to 9 and one arc more, of weight 2^32 - 1, from the first
+//!   vertex to the last;
+//! - `near SIDE`: a grid with weights from 1000 to 9000, and from its last vertex an arc to the first of a
+//!   grid with weights from 1 to 9;
+//! - `far SIDE`: the same, and the grid with the small weights is the first.
+//!
+//! Other graphs:
+//!
 //! - `random ARCS`: many arcs among ARCS / 8 vertices, with small weights;
 //! - `power SCALE`: 2^SCALE vertices and 16 arcs for each, most of them at few vertices, as in the
 //!   Graph500 and GAP benchmarks;
 //! - `path LENGTH`: LENGTH arcs one after another;
+//! - `mixed LENGTH`: the same path, with the vertices numbered in no order;
+//! - `star VERTICES`: arcs from the first vertex to all others;
+//! - `cliques COUNT`: so many times ten vertices with arcs from each to each other;
 //! - `lonely VERTICES`: vertices and no arc.
 //!
-//! Sources are drawn from all vertices; for `power` from those that arcs leave, as GAP draws them, and
-//! for `path` it is the first vertex. The numbers are drawn by a fixed rule, so each run writes the same
-//! job.
+//! Sources are drawn from all vertices; for `power` from those that arcs leave, as GAP draws them, and for
+//! `cut` from those that are not cut off. For `near`, `far` and `star` it is the first vertex, and for `path`
+//! and `mixed` the one where the path begins. The numbers are drawn by a fixed rule, so each run writes the
+//! same job.
 
+mod grids;
+
+use grids::{between, cut, grid, joined, lengths, spike};
 use std::io::{self, BufWriter, Write};
 
 /// Knuth's multiplier and increment for numbers of 64 bits.
@@ -28,28 +47,6 @@ type Vertices = Vec<u64>;
 
 fn all(vertices: u64) -> Vertices {
     (1..=vertices).collect()
-}
-
-fn grid(out: &mut impl Write, side: u64) -> io::Result<Vertices> {
-    let mut draw = Draw(1);
-    let vertices = side * side;
-    writeln!(out, "p sp {vertices} {}", 4 * side * (side - 1))?;
-    for row in 0..side {
-        for column in 0..side {
-            let here = row * side + column + 1;
-            let mut street = |there: u64| {
-                let length = 200 + draw.below(3000);
-                writeln!(out, "a {here} {there} {length}\na {there} {here} {length}")
-            };
-            if column + 1 < side {
-                street(here + 1)?;
-            }
-            if row + 1 < side {
-                street(here + side)?;
-            }
-        }
-    }
-    Ok(all(vertices))
 }
 
 fn random(out: &mut impl Write, arcs: u64) -> io::Result<Vertices> {
@@ -107,33 +104,77 @@ fn power(out: &mut impl Write, scale: u64) -> io::Result<Vertices> {
     Ok((1..=vertices).filter(|vertex| is_tail[*vertex as usize]).collect())
 }
 
-fn path(out: &mut impl Write, length: u64) -> io::Result<Vertices> {
+/// Arcs one after another, along vertices in this order.
+fn path(out: &mut impl Write, order: &[u64]) -> io::Result<Vertices> {
     let mut draw = Draw(5);
-    writeln!(out, "p sp {} {length}", length + 1)?;
-    for tail in 1..=length {
-        writeln!(out, "a {tail} {} {}", tail + 1, 1 + draw.below(999))?;
+    writeln!(out, "p sp {} {}", order.len(), order.len() - 1)?;
+    for pair in order.windows(2) {
+        writeln!(out, "a {} {} {}", pair[0], pair[1], 1 + draw.below(999))?;
+    }
+    Ok(vec![order[0]])
+}
+
+fn star(out: &mut impl Write, vertices: u64) -> io::Result<Vertices> {
+    let mut draw = Draw(9);
+    writeln!(out, "p sp {vertices} {}", vertices - 1)?;
+    for head in 2..=vertices {
+        writeln!(out, "a 1 {head} {}", 1 + draw.below(999))?;
     }
     Ok(vec![1])
+}
+
+fn cliques(out: &mut impl Write, count: u64) -> io::Result<Vertices> {
+    let mut draw = Draw(10);
+    writeln!(out, "p sp {} {}", 10 * count, 90 * count)?;
+    for tail in 1..=10 * count {
+        let first = tail - (tail - 1) % 10;
+        for head in (first..first + 10).filter(|head| *head != tail) {
+            writeln!(out, "a {tail} {head} {}", 1 + draw.below(999))?;
+        }
+    }
+    Ok(all(10 * count))
+}
+
+fn lonely(out: &mut impl Write, vertices: u64) -> io::Result<Vertices> {
+    writeln!(out, "p sp {vertices} 0")?;
+    Ok(all(vertices))
+}
+
+/// Writes the graph, and gives what sources are drawn from.
+fn graph(out: &mut impl Write, kind: &str, size: u64) -> io::Result<Vertices> {
+    let (small, large) = (between(7, 1, 9), between(8, 1000, 9000));
+    match kind {
+        "grid" => grid(out, size, lengths()),
+        "cut" => cut(out, size),
+        "zero" => grid(out, size, || 0),
+        "unit" => grid(out, size, || 1),
+        "greatest" => grid(out, size, || u64::from(u32::MAX)),
+        "spike" => spike(out, size),
+        "near" => joined(out, size, large, small),
+        "far" => joined(out, size, small, large),
+        "random" => random(out, size),
+        "power" => power(out, size),
+        "path" => path(out, &all(size + 1)),
+        "mixed" => path(out, &shuffled(&mut Draw(11), size + 1)),
+        "star" => star(out, size),
+        "cliques" => cliques(out, size),
+        "lonely" => lonely(out, size),
+        _ => usage(),
+    }
+}
+
+fn usage() -> ! {
+    eprintln!("usage: generate KIND SIZE [SOURCES], where KIND is one of");
+    eprintln!("grid cut zero unit greatest spike near far random power path mixed star cliques lonely");
+    std::process::exit(2);
 }
 
 fn main() -> io::Result<()> {
     let words: Vec<String> = std::env::args().skip(1).collect();
     let number = |at: usize| words.get(at).and_then(|word| word.parse::<u64>().ok());
-    let (Some(kind), Some(size)) = (words.first(), number(1)) else {
-        eprintln!("usage: generate grid|random|power|path|lonely SIZE [SOURCES]");
-        std::process::exit(2);
-    };
+    let (Some(kind), Some(size)) = (words.first(), number(1)) else { usage() };
     let mut out = BufWriter::with_capacity(1 << 20, io::stdout().lock());
-    let vertices = match kind.as_str() {
-        "grid" => grid(&mut out, size)?,
-        "random" => random(&mut out, size)?,
-        "power" => power(&mut out, size)?,
-        "path" => path(&mut out, size)?,
-        _ => {
-            writeln!(out, "p sp {size} 0")?;
-            all(size)
-        }
-    };
+    let vertices = graph(&mut out, kind, size)?;
     let sources = number(2).unwrap_or(0);
     let mut draw = Draw(3);
     writeln!(out, "p aux sp ss {sources}")?;
