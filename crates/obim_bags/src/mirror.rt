@@ -56,6 +56,14 @@ impl Mirror {
         self.places.metric_at(place)
     }
 
+    /// How often this worker found the bag at a place empty, modulo 2^64.
+    pub fn empty_finds_at(&self, place: usize) -> u64
+        requires { place < length self.now.places }
+        ensures { IfSome (slice_get self.now.places place) (λ seen. seen.pass.empties ≡ result) }
+    {
+        self.places.empty_finds_at(place)
+    }
+
     pub(crate) fn into_parts(self) -> (LogSeat, Vec<Place>)
         ensures log { result.0.table_id ≡ self.log }
         ensures places { result.1.items ≡ self.places }

@@ -46,6 +46,12 @@ impl Place {
         self.pass
     }
 
+    pub(crate) fn empty_finds(&self) -> u64
+        ensures { result ≡ self.now.pass.empties }
+    {
+        self.pass.empties
+    }
+
     pub(crate) fn put<R: Wait>(&mut self, rt: &R, chunk: Chunk) -> Result<(), Chunk>
         requires { chunk.vertices ≢ [] }
         ensures put { OnOk result (self.new ≡ place_after_put chunk self.old) }

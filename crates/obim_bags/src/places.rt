@@ -75,6 +75,13 @@ impl Places {
         self.index.metric_at(place)
     }
 
+    pub(crate) fn empty_finds_at(&self, place: usize) -> u64
+        requires { place < length self.now.list }
+        ensures { IfSome (slice_get self.now.list place) (λ seen. seen.pass.empties ≡ result) }
+    {
+        self.list[place].empty_finds()
+    }
+
     /// The place of the metric's bag, which is appended where no entry has it.
     pub(crate) fn find_or_append<R: Wait>(
         &mut self,

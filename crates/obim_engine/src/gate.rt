@@ -1,5 +1,6 @@
 //! A place to watch workers.
 
+use obim_pool::Worklist;
 use std::sync::Wait;
 
 /// Called by a worker each time that it has taken a vertex, before it reads the vertex's label: a place
@@ -7,6 +8,9 @@ use std::sync::Wait;
 pub trait Gate {
     /// `worker` counts from 0, and so does `vertex`.
     fn pass<H: Wait>(&self, rt: &H, worker: u32, vertex: u32);
+
+    /// Called by an operator when the workers of a run are done: what their worklist held.
+    fn end<H: Wait>(&self, _rt: &H, _worklist: Worklist) {}
 }
 
 /// The gate that lets every worker through at once.

@@ -17,11 +17,14 @@
 mod gate;
 mod group;
 mod operators;
+mod pace;
+mod pauses;
 mod runs;
 mod settings;
 mod worker;
 
 pub use gate::{Gate, OpenGate};
+pub use obim_pool::Worklist;
 pub use operators::{components, distances, least_labels, levels};
 pub use runs::{RunFault, run};
 pub use settings::{MAX_CHUNK, MAX_SHIFT, MAX_WORKERS, Settings};

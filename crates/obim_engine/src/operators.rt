@@ -10,16 +10,17 @@ use crate::runs::{RunFault, solve};
 use crate::settings::Settings;
 use csr_graph::Csr;
 use label_words::Words;
-use obim_pool::ObimPool;
+use obim_pool::{ObimPool, WideningPool, Worklist};
 use route_walks::laws::least_labels_follow_the_arcs;
 use route_walks::{Memory, Seed, both_ways, seeds_all, seeds_from, unit_weights};
 use std::alloc::Global;
 use std::sync::Wait;
 use std::thread::Threads;
+use std::time::Clock;
 
-/// The least label of each vertex from any seeds, by workers over an `ObimPool` of their own. The seeds
-/// are given back before the workers start.
-pub fn least_labels<H: Threads + Wait + Sync, G: Gate + Sync>(
+/// The least label of each vertex from any seeds, by workers over a pool of their own: an `ObimPool`, or
+/// a `WideningPool` where the settings say so. The seeds are given back before the workers start.
+pub fn least_labels<H: Threads + Wait + Clock + Sync, G: Gate + Sync>(
     rt: &H,
     alloc: Global,
     csr: &Csr,
@@ -31,16 +32,27 @@ pub fn least_labels<H: Threads + Wait + Sync, G: Gate + Sync>(
     ensures { IfOk result
         (λ labels. AreLeastLabels csr.now.n csr.now.arcs seeds.items labels.items) }
 {
-    let (pool, mut sides) = ObimPool::open(alloc, settings.workers, settings.chunk)?;
     let (words, seat) = Words::open(alloc, csr, &seeds)?;
     drop(seeds);
-    solve(
-        rt, alloc, csr, words, seat, settings, &pool, &mut sides, gate,
-    )
+    if settings.widening {
+        let (pool, mut sides) = WideningPool::open(alloc, settings.workers, settings.chunk)?;
+        let labels = solve(
+            rt, alloc, csr, words, seat, settings, &pool, &mut sides, gate,
+        )?;
+        gate.end(rt, Worklist::of(&sides));
+        Ok(labels)
+    } else {
+        let (pool, mut sides) = ObimPool::open(alloc, settings.workers, settings.chunk)?;
+        let labels = solve(
+            rt, alloc, csr, words, seat, settings, &pool, &mut sides, gate,
+        )?;
+        gate.end(rt, Worklist::of(&sides));
+        Ok(labels)
+    }
 }
 
 /// The least cost of a walk from the source to each vertex, `INF` where there is none.
-pub fn distances<H: Threads + Wait + Sync, G: Gate + Sync>(
+pub fn distances<H: Threads + Wait + Clock + Sync, G: Gate + Sync>(
     rt: &H,
     alloc: Global,
     csr: &Csr,
@@ -58,7 +70,7 @@ pub fn distances<H: Threads + Wait + Sync, G: Gate + Sync>(
 
 /// The fewest arcs of a walk from the source to each vertex, `INF` where there is none. Each call makes
 /// the graph with weights of 1 anew: for many sources make it once, and ask for `distances` in it.
-pub fn levels<H: Threads + Wait + Sync, G: Gate + Sync>(
+pub fn levels<H: Threads + Wait + Clock + Sync, G: Gate + Sync>(
     rt: &H,
     alloc: Global,
     csr: &Csr,
@@ -78,7 +90,7 @@ pub fn levels<H: Threads + Wait + Sync, G: Gate + Sync>(
 
 /// The least number, from 0, of a vertex that arcs join to each vertex, whichever way they point. The
 /// graph has at most 2^31 arcs, since each is taken both ways.
-pub fn components<H: Threads + Wait + Sync, G: Gate + Sync>(
+pub fn components<H: Threads + Wait + Clock + Sync, G: Gate + Sync>(
     rt: &H,
     alloc: Global,
     csr: &Csr,

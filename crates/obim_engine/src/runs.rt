@@ -8,7 +8,9 @@ ghost use Rattle.obim_engine.specs.declared.runs.RunFault.TheVariants as fault;
 
 use crate::gate::Gate;
 use crate::group::run_group;
+use crate::pace::Pace;
 use crate::settings::{MAX_WORKERS, Settings};
+use crate::worker::Shared;
 use csr_graph::Csr;
 use label_words::{Closed, Words, WorkSeat};
 use obim_pool::WorkPool;
@@ -18,6 +20,7 @@ use std::error::Error;
 use std::fmt;
 use std::sync::Wait;
 use std::thread::Threads;
+use std::time::Clock;
 
 /// Why a run gives no labels. The sides are still sides of the pool.
 #[derive(Clone, Copy, Debug, PartialEq, Eq)]
@@ -65,7 +68,7 @@ pub fn run<H, P, G>(
     gate: &G,
 ) -> Result<Vec<u64>, RunFault>
 where
-    H: Threads + Wait + Sync,
+    H: Threads + Wait + Clock + Sync,
     P: WorkPool + Sync,
     P::Side: Send,
     G: Gate + Sync,
@@ -93,7 +96,7 @@ pub(crate) fn solve<H, P, G>(
     gate: &G,
 ) -> Result<Vec<u64>, RunFault>
 where
-    H: Threads + Wait + Sync,
+    H: Threads + Wait + Clock + Sync,
     P: WorkPool + Sync,
     P::Side: Send,
     G: Gate + Sync,
@@ -105,8 +108,17 @@ where
         (λ labels. AreLeastLabels csr.now.n csr.now.arcs seat.known.seeds labels.items) }
     ensures sides { All (P.is_side pool.now) sides.new }
 {
-    push_marked(rt, &words, &seat, csr, settings, pool, &mut sides[0]);
-    run_group(rt, &words, csr, pool, gate, settings, 0, &mut seat, sides);
+    let pace = Pace::open(alloc, settings.workers)?;
+    let shared = Shared {
+        words: &words,
+        csr,
+        pool,
+        gate,
+        settings,
+        pace: &pace,
+    };
+    push_marked(rt, &shared, &seat, &mut sides[0]);
+    run_group(rt, &shared, 0, &mut seat, sides);
     match words.close(alloc, seat)? {
         Closed::Settled(labels) => Ok(labels),
         // The seat saw the total at 0.
@@ -115,24 +127,26 @@ where
 }
 
 /// Hands each marked vertex to the pool, in rising order.
-fn push_marked<H: Wait, P: WorkPool>(
+fn push_marked<H: Wait, P: WorkPool, G>(
     rt: &H,
-    words: &Words,
+    shared: &Shared<'_, P, G>,
     seat: &WorkSeat,
-    csr: &Csr,
-    settings: &Settings,
-    pool: &P,
     side: &mut P::Side,
 )
-    requires words { seat.now.words ≡ words.now }
-    requires graph { csr.now ≡ seat.now.known.graph }
-    requires side { P.is_side pool.now side.old }
-    ensures { P.is_side pool.now side.new }
+    requires words { seat.now.words ≡ shared.now.words.now }
+    requires graph { shared.now.csr.now ≡ seat.now.known.graph }
+    requires side { P.is_side shared.now.pool.now side.old }
+    ensures { P.is_side shared.now.pool.now side.new }
 {
-    for v in 0..csr.n() {
-        if let Some(label) = words.marked_label(seat, v) {
+    for v in 0..shared.csr.n() {
+        if let Some(label) = shared.words.marked_label(seat, v) {
             // Where the pool refuses the vertex, it stays marked all the same.
-            let _ = pool.push(rt, side, v, label >> settings.shift);
+            if !shared
+                .pool
+                .push(rt, side, v, label >> shared.settings.shift)
+            {
+                shared.pace.lose();
+            }
         }
     }
 }

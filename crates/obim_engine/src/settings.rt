@@ -1,6 +1,6 @@
 //! How a run is set up.
 
-ghost use Rattle.std.specs.Prelude.{◌≡◌, ◌↔◌, IsSome, IfSome};
+ghost use Rattle.std.specs.Prelude.{◌≡◌, ◌↔◌, false, true, IsSome, IfSome};
 ghost use Rattle.obim_engine.specs.Settings.{AreSettings};
 
 /// A run has at most this many workers.
@@ -21,6 +21,8 @@ pub struct Settings {
     pub shift: u32,
     /// How many vertices are handed on at a time, from 1 to `MAX_CHUNK`.
     pub chunk: usize,
+    /// Whether the operators round a metric to the bucket of a `WideningPool`.
+    pub widening: bool,
     ghost within: { AreSettings workers shift chunk },
 }
 
@@ -31,6 +33,7 @@ impl Settings {
         ensures workers { IfSome result (λ settings. settings.workers ≡ workers) }
         ensures shift { IfSome result (λ settings. settings.shift ≡ shift) }
         ensures chunk { IfSome result (λ settings. settings.chunk ≡ chunk) }
+        ensures narrow { IfSome result (λ settings. settings.widening ≡ false) }
     {
         if workers < 1 || workers > MAX_WORKERS || shift > MAX_SHIFT {
             return None;
@@ -42,6 +45,23 @@ impl Settings {
             workers,
             shift,
             chunk,
+            widening: false,
         })
+    }
+
+    /// The same with buckets that widen with the label in place of the shift, which is 0 then: they fit
+    /// every graph that was tried.
+    pub fn with_widening_buckets(self) -> Settings
+        ensures workers { result.workers ≡ self.workers }
+        ensures shift { result.shift ≡ 0 }
+        ensures chunk { result.chunk ≡ self.chunk }
+        ensures wide { result.widening ≡ true }
+    {
+        Settings {
+            workers: self.workers,
+            shift: 0,
+            chunk: self.chunk,
+            widening: true,
+        }
     }
 }

@@ -13,8 +13,8 @@ use crate::{
     least_labels, levels, run,
 };
 use csr_graph::Csr;
-use gates::{Recorder, Yielding};
-use graphs::{SIX_LABELS, WORKED, arcs_of, are_seeds, is_graph, random_arcs, six};
+use gates::{Holding, Recorder, Yielding};
+use graphs::{SIX_LABELS, WORKED, arcs_of, are_seeds, grid_arcs, is_graph, random_arcs, six};
 use obim_pool::{LockedPool, ObimPool};
 use pools::{FirstIn, Misleading, Useless};
 use route_walks::{ArcRec, Seed, both_ways, plain_labels, seeds_all, seeds_from, unit_weights};
@@ -23,6 +23,7 @@ use std::process::Abort;
 use std::sync::Wait;
 use std::test::Fail;
 use std::thread::Threads;
+use std::time::Clock;
 
 fn settings(rt: &impl Abort, workers: u32, shift: u32) -> Settings
     ensures { result.workers ≡ workers }
@@ -76,8 +77,11 @@ fn operators_beside_the_plain_way(rt: HostRuntime) -> Result<(), Fail> {
             &both_ways(alloc, &arcs)?,
             &seeds_all(alloc, n)?,
         )?;
-        for workers in [1, 2, 8] {
-            let settings = settings(&rt, workers, 2);
+        for (workers, widening) in [(1, false), (2, false), (8, false), (1, true), (8, true)] {
+            let mut settings = settings(&rt, workers, 2);
+            if widening {
+                settings = settings.with_widening_buckets();
+            }
             let labels = distances(&rt, alloc, &csr, graph.source, &settings, &OpenGate)?;
             assert_eq!(rt; labels.as_slice(), far.as_slice());
             let labels = levels(&rt, alloc, &csr, graph.source, &settings, &OpenGate)?;
@@ -105,7 +109,7 @@ fn labels_from_several_seeds(rt: HostRuntime) -> Result<(), Fail> {
 }
 
 /// The labels from vertex 0, over a pool that is known by the trait alone.
-fn misled_labels<H: Threads + Wait + Sync>(
+fn misled_labels<H: Threads + Wait + Clock + Sync>(
     rt: &H,
     alloc: Global,
     csr: &Csr,
@@ -255,6 +259,46 @@ fn workers_that_yield_at_random(rt: HostRuntime) -> Result<(), Fail> {
                 labels.as_slice() == one.as_slice(),
                 "round {round}, workers {workers}"
             );
+        }
+    }
+    Ok(())
+}
+
+/// A worker is held at this visit of its own.
+const HELD_AT: [u64; 4] = [1, 20, 200, 5000];
+
+// A worker that is held with much of the work: the others wait for it, and don't visit vertices in vain.
+#[test]
+fn a_worker_that_is_held(rt: HostRuntime) -> Result<(), Fail> {
+    let alloc = rt.alloc();
+    let arcs = grid_arcs(alloc, 500)?;
+    let within = is_graph(250_000, &arcs);
+    assert!(rt; within);
+    let csr = Csr::build(alloc, 250_000, &arcs)?;
+    let alone = Holding::new(&rt, 1, 1);
+    let settings_of = |workers| settings(&rt, workers, 0).with_widening_buckets();
+    let one = distances(&rt, alloc, &csr, 125_250, &settings_of(1), &alone)?;
+    for round in 0..5_u32 {
+        for workers in [2, 4] {
+            for at in HELD_AT {
+                let gate = Holding::new(&rt, round % workers, at);
+                let labels = distances(&rt, alloc, &csr, 125_250, &settings_of(workers), &gate)?;
+                assert!(rt;
+                    labels.as_slice() == one.as_slice(),
+                    "workers {workers}, at {at}"
+                );
+                assert!(rt;
+                    gate.visits() <= alone.visits().saturating_mul(13) / 10,
+                    "{} visits by {workers} workers, worker {} held at {at}",
+                    gate.visits(),
+                    round % workers
+                );
+                assert!(rt;
+                    gate.chunks() <= alone.chunks().saturating_mul(3) / 2,
+                    "{} chunks",
+                    gate.chunks()
+                );
+            }
         }
     }
     Ok(())

@@ -8,12 +8,15 @@ ghost use Rattle.relax_core.specs.Views.{place_of};
 ghost use Rattle.obim_engine.specs.Workers.{CanLead, AreDone};
 
 use crate::gate::Gate;
+use crate::pace::{Pace, Watch};
+use crate::pauses::Pauses;
 use crate::settings::Settings;
-use crossbeam_utils::Backoff;
 use csr_graph::Csr;
 use label_words::{Step, Words, WorkSeat};
 use obim_pool::WorkPool;
+use route_walks::INF;
 use std::sync::Wait;
+use std::time::Clock;
 
 /// After so many fruitless pops in a row a worker looks at every vertex itself: the pool may have lost
 /// some, as where it was refused memory.
@@ -27,10 +30,11 @@ pub(crate) struct Shared<'a, P, G> {
     pub pool: &'a P,
     pub gate: &'a G,
     pub settings: &'a Settings,
+    pub pace: &'a Pace,
 }
 
 /// Works until the seat sees the pending total at 0.
-pub(crate) fn work<H: Wait, P: WorkPool, G: Gate>(
+pub(crate) fn work<H: Wait + Clock, P: WorkPool, G: Gate>(
     rt: &H,
     shared: &Shared<'_, P, G>,
     worker: u32,
@@ -43,14 +47,16 @@ pub(crate) fn work<H: Wait, P: WorkPool, G: Gate>(
     ensures seat { AreDone seat.old seat.new }
     ensures side { P.is_side shared.now.pool.now side.new }
 {
-    let backoff = Backoff::new();
+    let mut pauses = Pauses::new();
+    let mut watch = Watch::new(worker);
     let mut left = FRUITLESS_POPS;
     for _ in rt.forever() {
         match shared.pool.pop(rt, side) {
             Some(u) if u < shared.csr.n() && shared.words.take(seat, u) => {
                 visit(rt, shared, worker, seat, side, u);
                 left = FRUITLESS_POPS;
-                backoff.reset();
+                pauses.reset();
+                watch.visited(rt, shared.pace);
             }
             popped => {
                 if shared.words.see(seat) {
@@ -61,22 +67,12 @@ pub(crate) fn work<H: Wait, P: WorkPool, G: Gate>(
                     sweep(rt, shared, worker, seat, side);
                     left = FRUITLESS_POPS;
                 }
-                pause(&backoff, popped);
+                shared.pace.show(worker, INF);
+                pauses.wait(rt, popped, shared.pace.has_lost());
             }
         }
     }
     unreachable!()
-}
-
-/// Waits a little after a fruitless pop. Where the pool gave a vertex, which another worker took, there
-/// may be more, so the processor is kept; where it gave none, the processor may go to others.
-fn pause(backoff: &Backoff, popped: Option<u32>) {
-    if popped.is_some() {
-        backoff.reset();
-        backoff.spin();
-    } else {
-        backoff.snooze();
-    }
 }
 
 /// Visits each vertex that is marked, in rising order: those too that the pool has lost.
@@ -95,6 +91,7 @@ fn sweep<H: Wait, P: WorkPool, G: Gate>(
     ensures idle { seat.new.known.view.hand ≡ Idle }
     ensures side { P.is_side shared.now.pool.now side.new }
 {
+    shared.pace.seek();
     for v in 0..shared.csr.n() {
         if shared.words.take(seat, v) {
             visit(rt, shared, worker, seat, side, v);
@@ -121,7 +118,8 @@ fn visit<H: Wait, P: WorkPool, G: Gate>(
     ensures side { P.is_side shared.now.pool.now side.new }
 {
     shared.gate.pass(rt, worker, u);
-    shared.words.read(seat, shared.csr);
+    let label = shared.words.read(seat, shared.csr);
+    shared.pace.show(worker, label);
     while relax_next(rt, shared, seat, side, u) {}
     shared.words.finish(seat, shared.csr);
 }
@@ -158,9 +156,12 @@ fn relax_next<H: Wait, P: WorkPool, G>(
             }
             shared.words.set_mark(seat);
             // Where the pool refuses the head, it stays marked all the same.
-            let _ = shared
+            if !shared
                 .pool
-                .push(rt, side, head, label >> shared.settings.shift);
+                .push(rt, side, head, label >> shared.settings.shift)
+            {
+                shared.pace.lose();
+            }
         }
     }
     true

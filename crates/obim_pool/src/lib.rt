@@ -24,6 +24,10 @@
 //! What a side holds in chunks of its own no other side can pop: a chunk that isn't full waits for
 //! its side. So each side pops until it has nothing, or what it holds is dropped with it.
 //!
+//! `WideningPool` is an `ObimPool` that makes a bucket of each metric that it is handed: narrow ones for
+//! small metrics and wider ones for larger metrics, so that there are a thousand or two of them
+//! whatever the labels of a graph are.
+//!
 //! `LockedPool` is the plain pool: one lock over one bag of vertices a metric. The bags under the
 //! lock keep a contract of their own: a push puts a vertex last into the bag of its metric, and a
 //! pop takes the last vertex of the lowest bag.
@@ -42,11 +46,15 @@ mod order;
 mod own;
 mod pool;
 mod side;
+mod widening;
+mod worklist;
 
 pub use locked::{LockedPool, LockedSide};
 pub use obim::ObimPool;
 pub use pool::WorkPool;
 pub use side::ObimSide;
+pub use widening::{BUCKETS, WideningPool, bucket_of};
+pub use worklist::Worklist;
 
 #[cfg(test)]
 mod tests;

@@ -41,6 +41,11 @@ impl Maker {
         self.size
     }
 
+    /// How many chunks it opened.
+    pub(crate) fn opened(&self) -> u64 {
+        self.next.serial
+    }
+
     /// An empty chunk with the next serial. `None` where memory is refused or the serials ran out.
     pub(crate) fn open(&mut self) -> Option<Box<Chunk>>
         ensures { IfSome result (λ chunk. chunk.value.vertices ≡ []) }

@@ -14,6 +14,7 @@ use crate::kept::Kept;
 use crate::maker::Maker;
 use crate::order::At;
 use crate::own::{catch_up, place_for};
+use crate::worklist::Worklist;
 use obim_bags::{BagLog, Mirror};
 use std::alloc::Global;
 use std::marker::Model;
@@ -60,6 +61,19 @@ impl ObimSide {
         ensures { result ≡ self.mirror }
     {
         self.mirror
+    }
+
+    /// The figures of this side alone.
+    pub(crate) fn worklist(&self) -> Worklist {
+        let mut looks = 0_u64;
+        for place in 0..self.mirror.len() {
+            looks = looks.saturating_add(self.mirror.empty_finds_at(place));
+        }
+        Worklist {
+            buckets: self.mirror.len() as u64,
+            looks,
+            chunks: self.maker.opened(),
+        }
     }
 
     /// `ObimPool::push`.

@@ -3,3 +3,4 @@ mod locked;
 mod obim;
 mod refusals;
 mod threads;
+mod widening;

@@ -1,6 +1,6 @@
 //! What may be asked of a job text?
 
-ghost use Rattle.std.specs.Prelude.{◌≡◌, ◌↔◌, true, false, IsSome, IfSome};
+ghost use Rattle.std.specs.Prelude.{◌≡◌, ◌↔◌, IsSome, IfSome};
 ghost use Rattle.obim_query.specs.Choices.{IsAsked};
 
 use obim_engine::Settings;
@@ -30,8 +30,6 @@ pub struct Asked {
     pub walks: bool,
     /// How many bytes of text are read at most. A longer text is refused.
     pub limit: u64,
-    /// Whether the shift is chosen anew for each run, in place of that of the settings.
-    pub auto_shift: bool,
     ghost within: { IsAsked answer walks limit },
 }
 
@@ -44,7 +42,6 @@ impl Asked {
         ensures settings { IfSome result (λ asked. asked.settings ≡ settings) }
         ensures walks { IfSome result (λ asked. asked.walks ≡ walks) }
         ensures limit { IfSome result (λ asked. asked.limit ≡ limit) }
-        ensures fixed { IfSome result (λ asked. asked.auto_shift ≡ false) }
     {
         if limit > MAX_BYTES {
             return None;
@@ -57,23 +54,6 @@ impl Asked {
             settings,
             walks,
             limit,
-            auto_shift: false,
         })
-    }
-
-    /// The same with a shift that is chosen anew for each run.
-    pub fn with_auto_shift(self) -> Asked
-        ensures answer { result.answer ≡ self.answer }
-        ensures walks { result.walks ≡ self.walks }
-        ensures limit { result.limit ≡ self.limit }
-        ensures chosen { result.auto_shift ≡ true }
-    {
-        Asked {
-            answer: self.answer,
-            settings: self.settings,
-            walks: self.walks,
-            limit: self.limit,
-            auto_shift: true,
-        }
     }
 }

@@ -14,10 +14,9 @@ ghost use Rattle.obim_query.specs.Outcome.{IsWritingFault};
 
 use crate::asked::Asked;
 use crate::fault::Fault;
-use crate::figures::Figures;
+use crate::figures::{Figures, Phase};
 use crate::laws::blocks_are_unique;
 use crate::outlet::Waiting;
-use crate::tune::{first_settings, next_settings};
 use csr_graph::Csr;
 use dimacs_text::{put_component, put_label, put_source, put_walk};
 use obim_engine::{Gate, distances};
@@ -26,11 +25,12 @@ use std::alloc::Global;
 use std::io::Write;
 use std::sync::Wait;
 use std::thread::Threads;
+use std::time::Clock;
 use walk_report::{NONE, hops, parents, walk_to};
 
 /// Writes the block of each source in turn: the least labels from it along the rows, with their walks
 /// where they are asked for.
-pub fn write_sources<H: Threads + Wait + Sync, W: Write, G: Gate + Sync>(
+pub fn write_sources<H: Threads + Wait + Clock + Sync, W: Write, G: Gate + Sync>(
     rt: &H,
     alloc: Global,
     writer: &mut W,
@@ -53,11 +53,10 @@ pub fn write_sources<H: Threads + Wait + Sync, W: Write, G: Gate + Sync>(
     // So what is a prefix of these blocks is one of the blocks that another run would write.
     blocks_are_unique();
     let mut waiting = Waiting::new(alloc);
-    let mut settings = first_settings(asked, csr);
     for source in sources {
-        let labels = distances(rt, alloc, csr, *source, &settings, gate)?;
-        let greatest = figures.see_labels(&labels, settings.shift);
-        settings = next_settings(asked, settings, greatest);
+        let labels = distances(rt, alloc, csr, *source, &asked.settings, gate)?;
+        figures.see_run();
+        figures.end(rt, Phase::Solving);
         put_block(
             alloc,
             writer,
@@ -67,6 +66,7 @@ pub fn write_sources<H: Threads + Wait + Sync, W: Write, G: Gate + Sync>(
             *source,
             &labels,
         )?;
+        figures.end(rt, Phase::Writing);
     }
     waiting.finish(writer)
 }

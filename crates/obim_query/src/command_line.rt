@@ -9,6 +9,9 @@ use std::str::FromStr;
 
 const KINDS: [&str; 3] = ["distances", "levels", "components"];
 
+/// How many vertices several workers hand on at a time, where nothing else is asked for.
+const SHARED_CHUNK: usize = 64;
+
 /// What `--version` prints after the program's name.
 const VERSION: &str = "0.1.0";
 
@@ -17,8 +20,9 @@ const USAGE: &str = "obim_query [OPTIONS] < JOB";
 const ABOUT: &str = "Answers a job: a directed graph with whole-number weights, and queries.";
 
 const AFTER: &str = "\
-Workers, shift and chunk change how long an answer takes, and no byte of it.
---shift auto fits the shift to the weights, and is right for most jobs.
+Workers, shift and chunk change how long an answer takes, and no byte of it. The
+defaults serve every kind of graph. With --shift auto buckets of vertices widen
+with their labels; with --shift BITS each is 2^BITS labels wide.
 
 A job is one text on standard input: a graph in the .gr format of the 9th DIMACS
 Implementation Challenge, and after it its sources in the .ss format. Vertices
@@ -80,7 +84,7 @@ pub fn asked_by<'a, S: AsStr>(alloc: Global, arguments: &'a [S]) -> Result<Order
     let Some(shift) = matches.get_one::<Shift>("shift") else {
         return Err(Refusal::Shift);
     };
-    let Some(settings) = settings_in(&matches, shift.bits()) else {
+    let Some(settings) = settings_in(&matches, shift) else {
         return Err(Refusal::Limits);
     };
     let walks = matches.get_flag("walks");
@@ -88,10 +92,7 @@ pub fn asked_by<'a, S: AsStr>(alloc: Global, arguments: &'a [S]) -> Result<Order
         return Err(Refusal::Walks);
     };
     Ok(Order {
-        asked: match shift {
-            Shift::Bits(_) => asked,
-            Shift::Auto => asked.with_auto_shift(),
-        },
+        asked,
         stats: matches.get_flag("stats"),
     })
 }
@@ -121,16 +122,6 @@ impl FromStr for Shift {
     }
 }
 
-impl Shift {
-    /// The bits; 0 where they are chosen later.
-    fn bits(self) -> u32 {
-        match self {
-            Shift::Bits(bits) => bits,
-            Shift::Auto => 0,
-        }
-    }
-}
-
 /// What the help says of each setting.
 #[derive(Drop)]
 struct Limits {
@@ -143,8 +134,10 @@ impl Limits {
     fn new(alloc: Global) -> Result<Limits, Error> {
         Ok(Limits {
             workers: format!(in alloc; "How many workers, 1 to {MAX_WORKERS}")?,
-            shift: format!(in alloc; "Bits left off a priority, 0 to {MAX_SHIFT}, or auto")?,
-            chunk: format!(in alloc; "Vertices handed on at a time, 1 to {MAX_CHUNK}")?,
+            shift: format!(in alloc;
+                "Width of a bucket, 2^BITS labels, 0 to {MAX_SHIFT}, or auto"
+            )?,
+            chunk: format!(in alloc; "Vertices handed on at a time, 1 to {MAX_CHUNK} [default: {MAX_CHUNK} for one worker, else {SHARED_CHUNK}]")?,
         })
     }
 }
@@ -166,13 +159,12 @@ fn command<'a>(alloc: Global, limits: &'a Limits) -> Result<Command<'a>, Error> 
     let shift = Arg::new(alloc, "shift")
         .long("shift")
         .value_name("BITS")
-        .default_value("4")
+        .default_value("auto")
         .help(&limits.shift);
     let chunk = Arg::new(alloc, "chunk")
         .long("chunk")
         .value_name("SIZE")
         .value_parser(value_parser!(usize).range(1..=MAX_CHUNK as i64))
-        .default_value("16")
         .help(&limits.chunk);
     let walks = Arg::new(alloc, "walks")
         .long("walks")
@@ -196,10 +188,22 @@ fn command<'a>(alloc: Global, limits: &'a Limits) -> Result<Command<'a>, Error> 
     Ok(command)
 }
 
-fn settings_in(matches: &ArgMatches, shift: u32) -> Option<Settings> {
+fn settings_in(matches: &ArgMatches, shift: Shift) -> Option<Settings> {
     let workers = matches.get_one::<u32>("workers")?;
-    let chunk = matches.get_one::<usize>("chunk")?;
-    Settings::new(workers, shift, chunk)
+    let chunk = match matches.get_one::<usize>("chunk") {
+        Some(chunk) => chunk,
+        None => usual_chunk(workers),
+    };
+    match shift {
+        Shift::Bits(bits) => Settings::new(workers, bits, chunk),
+        Shift::Auto => Some(Settings::new(workers, 0, chunk)?.with_widening_buckets()),
+    }
+}
+
+/// The chunk size where none is given. One worker shares nothing, so its chunks are as large as they can
+/// be: they take the same room whatever their size is.
+fn usual_chunk(workers: u32) -> usize {
+    if workers == 1 { MAX_CHUNK } else { SHARED_CHUNK }
 }
 
 fn answer_in(matches: &ArgMatches) -> Answer {

@@ -1,7 +1,17 @@
-//! What a job and the work on it come to: for people, for scripts, and for the choice of a shift.
+//! What a job is made of, and where the time of its answer went: for `--stats`.
 
 use csr_graph::Csr;
-use route_walks::INF;
+use std::time::{Clock, Duration};
+
+/// What the time is spent on, in turn.
+#[derive(Clone, Copy, Debug, PartialEq, Eq)]
+pub enum Phase {
+    Reading,
+    /// Making the rows.
+    Rows,
+    Solving,
+    Writing,
+}
 
 /// Figures of a job and of how it was answered. No byte of the answer depends on them.
 #[derive(Clone, Copy, Debug, PartialEq, Eq)]
@@ -11,24 +21,26 @@ pub struct Figures {
     pub arcs: usize,
     /// How often labels were worked out: once for each source, and once for components.
     pub runs: usize,
-    /// The greatest label that is a cost, of all runs.
-    pub greatest: u64,
-    /// The shift of the last run.
-    pub shift: u32,
-    /// The most priorities that a run had: the greatest label of it, shifted, and one for 0.
-    pub priorities: u64,
+    pub reading: Duration,
+    pub rows: Duration,
+    pub solving: Duration,
+    pub writing: Duration,
+    // When the last phase ended, by the clock.
+    last: Duration,
 }
 
 impl Figures {
-    /// Of nothing.
-    pub fn new() -> Figures {
+    /// Of nothing, from now on.
+    pub fn new<C: Clock>(clock: &C) -> Figures {
         Figures {
             vertices: 0,
             arcs: 0,
             runs: 0,
-            greatest: 0,
-            shift: 0,
-            priorities: 0,
+            reading: Duration::ZERO,
+            rows: Duration::ZERO,
+            solving: Duration::ZERO,
+            writing: Duration::ZERO,
+            last: clock.monotonic().unwrap_or(Duration::ZERO),
         }
     }
 
@@ -38,25 +50,22 @@ impl Figures {
         self.arcs = csr.arc_count();
     }
 
-    /// Takes in the labels of a run with this shift, and gives the greatest that is a cost.
-    pub fn see_labels(&mut self, labels: &[u64], shift: u32) -> u64 {
-        let greatest = greatest_cost(labels);
+    /// Takes in that labels were worked out once more.
+    pub fn see_run(&mut self) {
         self.runs = self.runs.saturating_add(1);
-        self.greatest = self.greatest.max(greatest);
-        self.shift = shift;
-        let priorities = greatest.checked_shr(shift).unwrap_or(0).saturating_add(1);
-        self.priorities = self.priorities.max(priorities);
-        greatest
     }
-}
 
-/// The greatest label that is not `INF`; 0 where there is none.
-fn greatest_cost(labels: &[u64]) -> u64 {
-    let mut greatest = 0;
-    for label in labels {
-        if *label != INF && *label > greatest {
-            greatest = *label;
-        }
+    /// The time since the last phase ended was spent on this one. A clock that fails counts nothing.
+    pub fn end<C: Clock>(&mut self, clock: &C, phase: Phase) {
+        let now = clock.monotonic().unwrap_or(self.last);
+        let spent = now.saturating_sub(self.last);
+        self.last = now;
+        let sum = match phase {
+            Phase::Reading => &mut self.reading,
+            Phase::Rows => &mut self.rows,
+            Phase::Solving => &mut self.solving,
+            Phase::Writing => &mut self.writing,
+        };
+        *sum = sum.saturating_add(spent);
     }
-    greatest
 }

@@ -22,12 +22,11 @@ mod reply;
 mod stats;
 #[cfg(test)]
 mod tests;
-mod tune;
 
 use asked::Asked;
 use command_line::{Order, Refusal, asked_by};
 use fault::{Fault, status};
-use figures::Figures;
+use figures::{Figures, Phase};
 use obim_engine::OpenGate;
 use reply::{answer, answer_counted};
 use stats::{Counter, print_stats};
@@ -36,6 +35,7 @@ use std::io::{ErrorKind, Read, Write};
 use std::process::ExitCode;
 use std::sync::Wait;
 use std::thread::Threads;
+use std::time::Clock;
 use std::{env, fmt};
 
 /// The status of a command line that is refused.
@@ -84,7 +84,7 @@ fn shown<H: Print + Eprint>(rt: &H, error: &clap::Error) -> u8 {
     }
 }
 
-fn reply_to<H: AllocGlobal + Eprint + Threads + Wait + Sync, R: Read, W: Write>(
+fn reply_to<H: AllocGlobal + Eprint + Threads + Wait + Clock + Sync, R: Read, W: Write>(
     rt: &H,
     reader: &mut R,
     writer: &mut W,
@@ -102,14 +102,14 @@ fn reply_to<H: AllocGlobal + Eprint + Threads + Wait + Sync, R: Read, W: Write>(
 }
 
 /// Answers, and prints figures after the answer.
-fn reply_with_stats<H: AllocGlobal + Eprint + Threads + Wait + Sync, R: Read, W: Write>(
+fn reply_with_stats<H: AllocGlobal + Eprint + Threads + Wait + Clock + Sync, R: Read, W: Write>(
     rt: &H,
     reader: &mut R,
     writer: &mut W,
     asked: &Asked,
 ) -> Result<(), Fault> {
     let counter = Counter::open(rt.alloc(), asked.settings.workers)?;
-    let mut figures = Figures::new();
+    let mut figures = Figures::new(rt);
     answer_counted(
         rt,
         rt.alloc(),
@@ -119,6 +119,7 @@ fn reply_with_stats<H: AllocGlobal + Eprint + Threads + Wait + Sync, R: Read, W:
         &counter,
         &mut figures,
     )?;
+    figures.end(rt, Phase::Writing);
     print_stats(rt, asked, &figures, &counter);
     Ok(())
 }

@@ -13,6 +13,7 @@ use route_walks::{ArcRec, MAX_VERTICES, Memory, both_ways, seeds_all, unit_weigh
 use std::alloc::Global;
 use std::sync::Wait;
 use std::thread::Threads;
+use std::time::Clock;
 
 /// The rows in which the labels of an answer are least, for all of its sources. The list of arcs is
 /// given back.
@@ -43,7 +44,7 @@ fn arcs_of(alloc: Global, answer: Answer, arcs: Vec<ArcRec>) -> Result<Vec<ArcRe
 }
 
 /// The component labels, from the rows of components.
-pub fn component_labels<H: Threads + Wait + Sync, G: Gate + Sync>(
+pub fn component_labels<H: Threads + Wait + Clock + Sync, G: Gate + Sync>(
     rt: &H,
     alloc: Global,
     csr: &Csr,

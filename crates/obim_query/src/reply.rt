@@ -10,11 +10,10 @@ ghost use Rattle.obim_query.specs.Outcome.{IsRequest, IsRequestFault, IsTrueOfBy
 use crate::asked::{Answer, Asked};
 use crate::blocks::{write_components, write_sources};
 use crate::fault::Fault;
-use crate::figures::Figures;
+use crate::figures::{Figures, Phase};
 use crate::intake::read_request;
 use crate::laws::answer_texts_are_unique;
 use crate::operators::{component_labels, rows_for};
-use crate::tune::first_settings;
 use dimacs_text::{Ask, Job};
 use obim_engine::Gate;
 use route_walks::laws::{least_labels_are_components, least_labels_follow_the_arcs};
@@ -22,12 +21,13 @@ use std::alloc::Global;
 use std::io::{Read, Write};
 use std::sync::Wait;
 use std::thread::Threads;
+use std::time::Clock;
 use walk_report::laws::hops_and_parents_follow_the_arcs;
 
 /// Reads a job text to its end and writes its answer: exactly the bytes that the least labels of the
 /// job make, whatever the settings and the gate are. A fault of the text is found before anything is
 /// written.
-pub fn answer<H: Threads + Wait + Sync, R: Read, W: Write, G: Gate + Sync>(
+pub fn answer<H: Threads + Wait + Clock + Sync, R: Read, W: Write, G: Gate + Sync>(
     rt: &H,
     alloc: Global,
     reader: &mut R,
@@ -50,12 +50,12 @@ pub fn answer<H: Threads + Wait + Sync, R: Read, W: Write, G: Gate + Sync>(
         (R.remaining reader.old) (R.remaining reader.new)
         (W.contents writer.old) (W.contents writer.new)) }
 {
-    let mut figures = Figures::new();
+    let mut figures = Figures::new(rt);
     answer_counted(rt, alloc, reader, writer, asked, gate, &mut figures)
 }
 
 /// The same, which gives the figures of the job and of its runs besides.
-pub fn answer_counted<H: Threads + Wait + Sync, R: Read, W: Write, G: Gate + Sync>(
+pub fn answer_counted<H: Threads + Wait + Clock + Sync, R: Read, W: Write, G: Gate + Sync>(
     rt: &H,
     alloc: Global,
     reader: &mut R,
@@ -76,11 +76,12 @@ pub fn answer_counted<H: Threads + Wait + Sync, R: Read, W: Write, G: Gate + Syn
         (W.contents writer.old) (W.contents writer.new)) }
 {
     let job = read_request(alloc, reader, asked.limit)?;
+    figures.end(rt, Phase::Reading);
     respond(rt, alloc, writer, asked, job, gate, figures)
 }
 
 /// The same over memory: the bytes of the answer to the text.
-pub fn answer_bytes<H: Threads + Wait + Sync, G: Gate + Sync>(
+pub fn answer_bytes<H: Threads + Wait + Clock + Sync, G: Gate + Sync>(
     rt: &H,
     alloc: Global,
     text: &[u8],
@@ -98,7 +99,7 @@ pub fn answer_bytes<H: Threads + Wait + Sync, G: Gate + Sync>(
 }
 
 /// Writes the answer of the job.
-fn respond<H: Threads + Wait + Sync, W: Write, G: Gate + Sync>(
+fn respond<H: Threads + Wait + Clock + Sync, W: Write, G: Gate + Sync>(
     rt: &H,
     alloc: Global,
     writer: &mut W,
@@ -122,10 +123,11 @@ fn respond<H: Threads + Wait + Sync, W: Write, G: Gate + Sync>(
         (Answer::Components, _) => {
             let csr = rows_for(alloc, Answer::Components, n, arcs)?;
             figures.see_rows(&csr);
-            let settings = first_settings(asked, &csr);
-            let labels = component_labels(rt, alloc, &csr, &settings, gate)?;
+            figures.end(rt, Phase::Rows);
+            let labels = component_labels(rt, alloc, &csr, &asked.settings, gate)?;
             drop(csr);
-            figures.see_labels(&labels, settings.shift);
+            figures.see_run();
+            figures.end(rt, Phase::Solving);
             // So each label is the number of a vertex, and none is INF.
             least_labels_are_components();
             write_components(alloc, writer, &labels)
@@ -134,6 +136,7 @@ fn respond<H: Threads + Wait + Sync, W: Write, G: Gate + Sync>(
         (answer, Ask::Sources(sources)) => {
             let csr = rows_for(alloc, answer, n, arcs)?;
             figures.see_rows(&csr);
+            figures.end(rt, Phase::Rows);
             write_sources(rt, alloc, writer, &csr, &sources, asked, gate, figures)
         }
     }

@@ -9,6 +9,7 @@ use crate::asked::{Answer, Asked};
 use crate::fault::{Fault, status};
 use crate::figures::Figures;
 use crate::reply::{answer, answer_bytes, answer_counted};
+use crate::stats::Counter;
 use callers::{append_answer, left_after_fault};
 use dimacs_text::LineKind;
 use gates::{Meeting, Recorder};
@@ -126,27 +127,26 @@ fn visits_of_one_worker_in_one_bag(rt: HostRuntime) -> Result<(), Fail> {
     Ok(())
 }
 
-// A shift that is chosen: by weights and degree, by the greatest label of the source before, by vertices.
 #[test]
-fn shifts_beside_jobs(rt: HostRuntime) -> Result<(), Fail> {
-    let long = b"p sp 3 2\na 1 2 40000\na 2 3 60000\np aux sp ss 1\ns 1\n".as_slice();
-    let again = b"p sp 3 2\na 1 2 40000\na 2 3 60000\np aux sp ss 2\ns 1\ns 1\n".as_slice();
-    let far = b"p sp 3 2\na 1 2 40000\na 2 3 60000\np aux sp ss 2\ns 3\ns 1\n".as_slice();
+fn figures_of_jobs(rt: HostRuntime) -> Result<(), Fail> {
+    let twice = b"p sp 3 2\na 1 2 40000\na 2 3 60000\np aux sp ss 2\ns 1\ns 3\n".as_slice();
+    // The answer, the job; its vertices, arcs, runs and the buckets of the largest run at a shift of 4.
     let table = [
-        // Mean weight 6, 8 arcs of 6 vertices: 4 * 6 * 6 / 8 is 18, which has 4 bits and one.
-        (Answer::Distances, SIX, 4, 15),
-        (Answer::Levels, SIX, 1, 3),
-        (Answer::Components, SIX, 4, 0),
-        (Answer::Components, b"p sp 300 0\n".as_slice(), 4, 299),
-        // 4 * 50000 * 3 / 2 is 300000; then 100000 / 200 is 500.
-        (Answer::Distances, long, 18, 100000),
-        (Answer::Distances, again, 8, 100000),
-        // The first source reaches nothing, which tells nothing.
-        (Answer::Distances, far, 18, 100000),
+        (Answer::Distances, SIX, (6, 8, 1), 2),
+        (Answer::Levels, SIX, (6, 8, 1), 1),
+        (Answer::Components, SIX, (6, 16, 1), 1),
+        (
+            Answer::Components,
+            b"p sp 300 0\n".as_slice(),
+            (300, 0, 1),
+            19,
+        ),
+        (Answer::Distances, twice, (3, 2, 2), 3),
     ];
-    for (answer, text, shift, greatest) in table {
-        let asked = asked(&rt, answer, 1000).with_auto_shift();
-        let mut figures = Figures::new();
+    for (answer, text, sizes, buckets) in table {
+        let asked = asked(&rt, answer, 1000);
+        let mut figures = Figures::new(&rt);
+        let counter = Counter::open(rt.alloc(), 2)?;
         let mut reader = text;
         let mut bytes = Vec::new(rt.alloc());
         answer_counted(
@@ -155,10 +155,11 @@ fn shifts_beside_jobs(rt: HostRuntime) -> Result<(), Fail> {
             &mut reader,
             &mut bytes,
             &asked,
-            &OpenGate,
+            &counter,
             &mut figures,
         )?;
-        assert_eq!(rt; (figures.shift, figures.greatest), (shift, greatest));
+        assert_eq!(rt; (figures.vertices, figures.arcs, figures.runs), sizes);
+        assert_eq!(rt; counter.worklist().buckets, buckets);
     }
     Ok(())
 }

@@ -13,10 +13,11 @@ use obim_engine::Gate;
 use std::alloc::Global;
 use std::sync::Wait;
 use std::thread::Threads;
+use std::time::Clock;
 
 /// Appends the answer to the vector: the vector is as it was where the text is refused, and has at most
 /// a prefix of the answer more at a fault after that.
-pub(crate) fn append_answer<H: Threads + Wait + Sync, G: Gate + Sync>(
+pub(crate) fn append_answer<H: Threads + Wait + Clock + Sync, G: Gate + Sync>(
     rt: &H,
     alloc: Global,
     text: &[u8],
@@ -40,7 +41,7 @@ pub(crate) fn append_answer<H: Threads + Wait + Sync, G: Gate + Sync>(
 
 /// How many bytes of the text are left after a fault: one more than the limit is gone where the text is
 /// too long, and at most the limit at any other.
-pub(crate) fn left_after_fault<H: Threads + Wait + Sync, G: Gate + Sync>(
+pub(crate) fn left_after_fault<H: Threads + Wait + Clock + Sync, G: Gate + Sync>(
     rt: &H,
     alloc: Global,
     text: &[u8],

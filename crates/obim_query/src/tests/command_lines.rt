@@ -19,42 +19,46 @@ fn ask(
     rt: &impl Abort,
     answer: Answer,
     walks: bool,
-    (workers, shift, chunk): (u32, u32, usize),
+    (workers, shift, chunk): (u32, Option<u32>, usize),
 ) -> Option<Asked> {
-    let settings = Settings::new(workers, shift, chunk).expect(rt, "settings within their limits");
+    let settings = Settings::new(workers, shift.unwrap_or(0), chunk);
+    let mut settings = settings.expect(rt, "settings within their limits");
+    if shift.is_none() {
+        settings = settings.with_widening_buckets();
+    }
     Asked::new(answer, settings, walks, MAX_BYTES)
 }
 
 #[test]
 fn lines_beside_what_they_ask_for(rt: HostRuntime) {
     let table = [
-        ("it", Answer::Distances, false, (2, 4, 16)),
+        ("it", Answer::Distances, false, (2, None, 64)),
         (
             "it --answer distances",
             Answer::Distances,
             false,
-            (2, 4, 16),
+            (2, None, 64),
         ),
-        ("it --answer levels", Answer::Levels, false, (2, 4, 16)),
+        ("it --answer levels", Answer::Levels, false, (2, None, 64)),
         (
             "it --answer=components",
             Answer::Components,
             false,
-            (2, 4, 16),
+            (2, None, 64),
         ),
-        ("it --walks", Answer::Distances, true, (2, 4, 16)),
+        ("it --walks", Answer::Distances, true, (2, None, 64)),
         (
             "it --walks --answer levels",
             Answer::Levels,
             true,
-            (2, 4, 16),
+            (2, None, 64),
         ),
-        ("it --workers 1", Answer::Distances, false, (1, 4, 16)),
-        ("it --workers 64", Answer::Distances, false, (64, 4, 16)),
-        ("it --shift 0", Answer::Distances, false, (2, 0, 16)),
-        ("it --shift 63", Answer::Distances, false, (2, 63, 16)),
-        ("it --chunk 1", Answer::Distances, false, (2, 4, 1)),
-        ("it --chunk 256", Answer::Distances, false, (2, 4, 256)),
+        ("it --workers 1", Answer::Distances, false, (1, None, 256)),
+        ("it --workers 64", Answer::Distances, false, (64, None, 64)),
+        ("it --shift 0", Answer::Distances, false, (2, Some(0), 64)),
+        ("it --shift 63", Answer::Distances, false, (2, Some(63), 64)),
+        ("it --chunk 1", Answer::Distances, false, (2, None, 1)),
+        ("it --chunk 256", Answer::Distances, false, (2, None, 256)),
     ];
     for (line, answer, walks, settings) in table {
         let asked = ask(&rt, answer, walks, settings);
@@ -68,15 +72,16 @@ fn lines_beside_what_they_ask_for(rt: HostRuntime) {
 
 #[test]
 fn lines_beside_what_they_leave_to_the_program(rt: HostRuntime) {
-    for (line, auto_shift, stats) in [
+    for (line, widening, stats) in [
         ("it --shift auto", true, false),
-        ("it --stats", false, true),
+        ("it", true, false),
+        ("it --stats --shift 4", false, true),
         ("it --stats --shift=auto", true, true),
         ("it --shift 04", false, false),
     ] {
         let order = asked_of(line, rt.alloc()).ok();
-        let found = order.map(|order| (order.asked.auto_shift, order.stats));
-        assert_eq!(rt; found, Some((auto_shift, stats)), "{line}");
+        let found = order.map(|order| (order.asked.settings.widening, order.stats));
+        assert_eq!(rt; found, Some((widening, stats)), "{line}");
     }
 }
 

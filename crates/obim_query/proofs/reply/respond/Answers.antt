@@ -24,7 +24,7 @@ write_components-requires-clause-finite g c =
     components_least c.least_labels_follow_the_arcs.ensures job.n csr.n csr.arcs job.arcs.items labels
     c.in_ok-csr-in-Components-default.ensures.vertices c.in_ok-csr-in-Components-default.ensures.arcs
     c.in_ok-labels-in-Components-default.ensures in
-    subst (All (λ label. label < INF)) (sym c.deref-in-Components-default.ensures.value)
+    subst (All (λ label. label < INF)) (sym c.deref.ensures.value)
     (components_found c.least_labels_are_components.ensures job.n job.arcs.items labels
     (omega (arith, c.requires.vertices)) graph least)
 
@@ -43,7 +43,7 @@ returns-in_ok-labels-in-Components-default-clause-reply g c =
           c.in_ok-labels-in-Components-default.ensures;
       appended = written;
     })
-    (rw c.deref-in-Components-default.ensures.value at c.write_components.ensures.block)
+    (rw c.deref.ensures.value at c.write_components.ensures.block)
 
 pub returns-in_ok-labels-in-Components-default-clause-says :
     goal.returns-in_ok-labels-in-Components-default-clause-says
@@ -61,7 +61,7 @@ returns-in_ok-labels-in-Components-default-clause-says g c =
     (on_err_weaker c.write_components.result
     (only-text (IsAnswerText kind walks job) _ _ [] (components_text labels)
     (λ other. c.answer_texts_are_unique.ensures kind walks job (components_text labels) other answered))
-    (rw c.deref-in-Components-default.ensures.value at c.write_components.ensures.prefix))
+    (rw c.deref.ensures.value at c.write_components.ensures.prefix))
 
 pub returns-in_ok-csr-in_default-Sources-clause-reply : goal.returns-in_ok-csr-in_default-Sources-clause-reply
 returns-in_ok-csr-in_default-Sources-clause-reply g c =

@@ -1,0 +1,133 @@
+//! Does a worker go far ahead of another one, and is a sweep due?
+//!
+//! Each worker has vertices in chunks of its own. Where the system takes the processor of one that has the
+//! lowest labels, the others go on with what is left, and all that they do falls again once the low labels
+//! come. So each worker shows the label that it visits, and one that is far ahead of another sleeps a
+//! little now and then. No label depends on it.
+
+use crossbeam_utils::CachePadded;
+use obim_pool::bucket_of;
+use route_walks::{INF, Memory};
+use std::alloc::Global;
+use std::sync::atomic::{AtomicBool, AtomicU64, Ordering};
+use std::thread::sleep;
+use std::time::{Clock, Duration};
+
+/// Visits between two looks at the others, for each worker of the run; where the worker was far ahead at
+/// the last look, for all together.
+const VISITS: u32 = 64;
+
+/// A worker is far ahead of another if its label is more than this many buckets of a `WideningPool` above
+/// the other's.
+const AHEAD: u64 = 8;
+
+/// A nap of a worker that is far ahead, in microseconds.
+const NAP: u64 = 100;
+
+/// The most naps between two visits. There is one at first, and twice as many each time that they don't
+/// help.
+const NAPS: u32 = 128;
+
+/// What all workers of a run show.
+#[derive(Drop)]
+pub(crate) struct Pace {
+    workers: u32,
+    /// By worker, the label of the vertex that it visits; `INF` while it has nothing to do.
+    labels: Vec<CachePadded<AtomicU64>>,
+    /// Whether the pool refused a vertex since the last sweep.
+    lost: AtomicBool,
+}
+
+impl Pace {
+    pub(crate) fn open(alloc: Global, workers: u32) -> Result<Pace, Memory> {
+        let mut labels = Vec::with_capacity(alloc, workers as usize)?;
+        for _ in 0..workers {
+            labels.push(CachePadded::new(AtomicU64::new(INF)))?;
+        }
+        Ok(Pace {
+            workers,
+            labels,
+            lost: AtomicBool::new(false),
+        })
+    }
+
+    /// The worker visits a vertex with this label, or rests where it is `INF`.
+    pub(crate) fn show(&self, worker: u32, label: u64) {
+        if let Some(shown) = self.labels.get(worker as usize) {
+            shown.store(label, Ordering::Relaxed);
+        }
+    }
+
+    /// The pool refused a vertex, so a sweep has to find it.
+    pub(crate) fn lose(&self) {
+        self.lost.store(true, Ordering::Relaxed);
+    }
+
+    /// A sweep begins.
+    pub(crate) fn seek(&self) {
+        self.lost.store(false, Ordering::Relaxed);
+    }
+
+    /// Whether the pool refused a vertex since the last sweep began.
+    pub(crate) fn has_lost(&self) -> bool {
+        self.lost.load(Ordering::Relaxed)
+    }
+
+    /// Whether the label that the worker shows is far above one that another shows.
+    fn is_far_ahead(&self, worker: u32) -> bool {
+        let mut least = INF;
+        for label in self.labels.iter() {
+            least = least.min(label.load(Ordering::Relaxed));
+        }
+        match self.labels.get(worker as usize) {
+            Some(own) => bucket_of(own.load(Ordering::Relaxed)) > bucket_of(least) + AHEAD,
+            None => false,
+        }
+    }
+}
+
+/// A worker's watch over its lead.
+#[derive(Drop)]
+pub(crate) struct Watch {
+    worker: u32,
+    /// Visits up to the next look.
+    left: u32,
+    /// How many naps to take where it is far ahead then.
+    naps: u32,
+}
+
+impl Watch {
+    pub(crate) fn new(worker: u32) -> Watch {
+        Watch {
+            worker,
+            left: VISITS,
+            naps: 1,
+        }
+    }
+
+    /// After a visit: every so often a look at the others, and naps while the worker is far ahead.
+    pub(crate) fn visited<C: Clock>(&mut self, clock: &C, pace: &Pace) {
+        self.left = self.left.saturating_sub(1);
+        if self.left > 0 {
+            return;
+        }
+        if self.nap(clock, pace) {
+            self.naps = self.naps.saturating_mul(2).min(NAPS);
+            self.left = VISITS;
+        } else {
+            self.naps = 1;
+            self.left = VISITS.saturating_mul(pace.workers);
+        }
+    }
+
+    /// Takes its naps, until the worker isn't far ahead any more. Whether it still is.
+    fn nap<C: Clock>(&self, clock: &C, pace: &Pace) -> bool {
+        for _ in 0..self.naps {
+            if !pace.is_far_ahead(self.worker) {
+                return false;
+            }
+            sleep(clock, Duration::from_micros(NAP));
+        }
+        pace.is_far_ahead(self.worker)
+    }
+}

@@ -1,0 +1,52 @@
+//! How long does a worker wait that has nothing to do?
+
+use crossbeam_utils::Backoff;
+use std::thread::sleep;
+use std::time::{Clock, Duration};
+
+/// The first sleep, in microseconds; by how much each next one is longer; and the longest. So a worker
+/// that draws nothing 1,024 times in a row has slept for some 0.3 seconds: a worker that the system
+/// holds back with all the work comes back before others look for vertices at random. And a worker wakes
+/// soon after there is work: it sleeps for no more than a small part of the time that it had none.
+const FIRST: u64 = 50;
+
+const LONGER: u64 = 1;
+
+const LONGEST: u64 = 400;
+
+/// The pauses after fruitless pops in a row: a few turns of a loop, then giving the processor to
+/// others, then sleeps that grow.
+#[derive(Drop)]
+pub(crate) struct Pauses {
+    backoff: Backoff,
+    micros: u64,
+}
+
+impl Pauses {
+    pub(crate) fn new() -> Pauses {
+        Pauses {
+            backoff: Backoff::new(),
+            micros: FIRST,
+        }
+    }
+
+    /// There was work: the next pause is short again.
+    pub(crate) fn reset(&mut self) {
+        self.backoff.reset();
+        self.micros = FIRST;
+    }
+
+    /// Waits after a fruitless pop. Where the pool gave a vertex, which another worker took, there may be
+    /// more, so the processor is kept. Where a sweep is due, there is no sleep. The clock only sleeps.
+    pub(crate) fn wait<C: Clock>(&mut self, clock: &C, popped: Option<u32>, due: bool) {
+        if popped.is_some() {
+            self.reset();
+            self.backoff.spin();
+        } else if self.backoff.is_completed() && !due {
+            sleep(clock, Duration::from_micros(self.micros));
+            self.micros = self.micros.saturating_add(LONGER).min(LONGEST);
+        } else {
+            self.backoff.snooze();
+        }
+    }
+}

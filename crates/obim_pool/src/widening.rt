@@ -1,0 +1,84 @@
+//! A pool whose buckets widen with the label.
+
+ghost use Rattle.std.specs.Prelude.{◌≡◌, ◌≤◌, ◌<◌, replicate, IfOk};
+ghost use Rattle.obim_bags.specs.declared.chunk.TheConstants.{MAX_SIZE};
+ghost use Rattle.obim_pool.specs.Sides.{IsSideOf, new_side};
+ghost use Rattle.obim_pool.specs.declared.widening.TheConstants.{BUCKETS};
+
+use crate::obim::ObimPool;
+use crate::pool::WorkPool;
+use crate::side::ObimSide;
+use obim_bags::MAX_SIZE;
+use route_walks::Memory;
+use std::alloc::Global;
+use std::marker::Model;
+use std::sync::Wait;
+
+/// Labels below this have a bucket each; of a larger one the bucket keeps as many leading bits as this has.
+const NARROW: u64 = 1 << 8;
+
+/// There are this many buckets for all labels of 64 bits.
+pub const BUCKETS: u64 = 7424;
+
+/// The bucket of a label: a label below 256 itself, and a larger one rounded down to its leading eight
+/// bits, so that it is wider than no 128th of its labels. Buckets rise with labels and leave no number
+/// out. There are 128 of them for each doubling of the label, so a thousand or two for most graphs.
+///
+/// It is the rounding of a floating-point number with seven bits of fraction, and of the buckets of
+/// [HdrHistogram](http://hdrhistogram.org).
+pub fn bucket_of(label: u64) -> u64
+    ensures narrow { label < 256 → result ≡ label }
+    ensures few { result < BUCKETS }
+{
+    if label < NARROW {
+        return label;
+    }
+    let bits = 56_u32.saturating_sub(label.leading_zeros());
+    u64::from(bits) * (NARROW / 2) + (label >> bits)
+}
+
+/// An `ObimPool` with a bag for each bucket of metrics: it needs no shift to be chosen, whatever the
+/// labels are. Handed metrics that are labels, it has at most `BUCKETS` bags.
+#[derive(Drop)]
+pub struct WideningPool {
+    pool: ObimPool,
+}
+
+impl Model for WideningPool {
+    ghost use Rattle.atomic_table.specs.Seated.{TableId};
+
+    ghost Value = { TableId };
+
+    ghost view = { λ p. p.pool };
+}
+
+impl WideningPool {
+    /// A pool without bags, and a side of it for each worker. A chunk takes `chunk` vertices, 1 to 256.
+    pub fn open(
+        alloc: Global,
+        workers: u32,
+        chunk: usize,
+    ) -> Result<(WideningPool, Vec<ObimSide>), Memory>
+        requires { (1 ≤ workers) × (1 ≤ chunk) × (chunk ≤ MAX_SIZE) }
+        ensures { IfOk result (λ opened. opened.1.items ≡ replicate workers (new_side opened.0)) }
+    {
+        let (pool, sides) = ObimPool::open(alloc, workers, chunk)?;
+        Ok((WideningPool { pool }, sides))
+    }
+}
+
+impl WorkPool for WideningPool {
+    type Side = ObimSide;
+
+    ghost is_side = { IsSideOf };
+
+    #[inline(always)]
+    fn push<R: Wait>(&self, rt: &R, side: &mut ObimSide, v: u32, metric: u64) -> bool {
+        self.pool.push(rt, side, v, bucket_of(metric))
+    }
+
+    #[inline(always)]
+    fn pop<R: Wait>(&self, rt: &R, side: &mut ObimSide) -> Option<u32> {
+        self.pool.pop(rt, side)
+    }
+}
