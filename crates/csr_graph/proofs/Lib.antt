@@ -1,5 +1,6 @@
 pub mod Facts
 mod Filters
+mod Items
 mod Blocks
 mod Sorting
 mod Placing

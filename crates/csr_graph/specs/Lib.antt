@@ -1,3 +1,4 @@
 pub mod Graph
 pub mod Layout
+pub mod Free
 pub mod Blocks

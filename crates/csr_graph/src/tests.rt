@@ -4,7 +4,7 @@ ghost use Rattle.std.specs.Prelude.{◌<◌, ◌↔◌, ℕ, IsTrue};
 ghost use Rattle.route_walks.specs.Walk.{IsGraph};
 
 use crate::{Csr, MAX_ARCS, Target};
-use route_walks::{ArcRec, Memory};
+use route_walks::{ArcRec, Memory, both_ways};
 use std::alloc::Global;
 use std::test::Fail;
 
@@ -128,6 +128,25 @@ fn built_from_a_list_that_is_given_up(rt: HostRuntime) -> Result<(), Fail> {
         assert_eq!(rt; given_up.n(), n);
         assert_eq!(rt; given_up.arc_count(), count);
         assert!(rt; given_up.arcs(alloc)?.as_slice() == kept.arcs(alloc)?.as_slice());
+    }
+    Ok(())
+}
+
+// The rows are those of the list of arcs both ways: of no arc, of a loop, of arcs that stand twice, of few
+// arcs, and of arcs that are grouped by blocks first.
+#[test]
+fn both_ways_in_rows(rt: HostRuntime) -> Result<(), Fail> {
+    let alloc = rt.alloc();
+    for (n, count) in [(1, 0), (1, 1), (2, 9), (10, 64), (50_000, 150_000)] {
+        let arcs = drawn(alloc, n, count)?;
+        assert!(rt; is_graph(n, &arcs) && arcs.len() <= 1 << 30);
+        let both = both_ways(alloc, &arcs)?;
+        assert!(rt; is_graph(n, &both) && both.len() <= MAX_ARCS);
+        let listed = Csr::build(alloc, n, &both)?;
+        let csr = Csr::build_both_ways(alloc, n, arcs)?;
+        assert_eq!(rt; csr.n(), n);
+        assert_eq!(rt; csr.arc_count(), both.len());
+        assert!(rt; csr.arcs(alloc)?.as_slice() == listed.arcs(alloc)?.as_slice());
     }
     Ok(())
 }
