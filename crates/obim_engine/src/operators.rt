@@ -12,7 +12,7 @@ use csr_graph::Csr;
 use label_words::Words;
 use obim_pool::{ObimPool, WideningPool, Worklist};
 use route_walks::laws::least_labels_follow_the_arcs;
-use route_walks::{Memory, Seed, both_ways, seeds_all, seeds_from, unit_weights};
+use route_walks::{Memory, Seed, seeds_all, seeds_from, unit_weights};
 use std::alloc::Global;
 use std::sync::Wait;
 use std::thread::Threads;
@@ -126,7 +126,5 @@ fn both_rows(alloc: Global, csr: &Csr) -> Result<Csr, Memory>
     ensures arcs { IfOk result (λ both. HaveSameArcs both.arcs (both_ways csr.now.arcs)) }
 {
     let arcs = csr.arcs(alloc)?;
-    let both = both_ways(alloc, &arcs)?;
-    drop(arcs);
-    Csr::build(alloc, csr.n(), &both)
+    Csr::build_both_ways(alloc, csr.n(), arcs)
 }
