@@ -1,6 +1,6 @@
 //! Which rows, seeds and labels does an answer kind make of a job's arcs?
 
-ghost use Rattle.std.specs.Prelude.{◌≡◌, ℕ, ◌≤◌, ◌^◌, length, IfOk};
+ghost use Rattle.std.specs.Prelude.{◌≡◌, ◌≤◌, ◌^◌, length, IfOk};
 ghost use Rattle.route_walks.specs.Label.{AreLeastLabels};
 ghost use Rattle.route_walks.specs.Operators.{seeds_all};
 ghost use Rattle.route_walks.specs.Walk.{IsGraph, HaveSameArcs};
@@ -9,14 +9,15 @@ ghost use Rattle.obim_query.specs.AnswerText.{arcs_for};
 use crate::asked::Answer;
 use csr_graph::Csr;
 use obim_engine::{Gate, RunFault, Settings, least_labels};
-use route_walks::{ArcRec, MAX_VERTICES, Memory, both_ways, seeds_all, unit_weights};
+use route_walks::{ArcRec, MAX_VERTICES, Memory, seeds_all, unit_weights};
 use std::alloc::Global;
 use std::sync::Wait;
 use std::thread::Threads;
 use std::time::Clock;
 
-/// The rows in which the labels of an answer are least, for all of its sources. The list of arcs is
-/// given back.
+/// The rows in which the labels of an answer are least, for all of its sources: of the arcs as they are
+/// for distances, with weight 1 for levels, both ways and free for components. The list of arcs is given
+/// back.
 pub fn rows_for(alloc: Global, answer: Answer, n: u32, arcs: Vec<ArcRec>) -> Result<Csr, Memory>
     requires vertices { n ≤ MAX_VERTICES }
     requires count { length arcs.items ≤ 2 ^ 30 }
@@ -24,22 +25,14 @@ pub fn rows_for(alloc: Global, answer: Answer, n: u32, arcs: Vec<ArcRec>) -> Res
     ensures vertices { IfOk result (λ csr. csr.n ≡ n) }
     ensures arcs { IfOk result (λ csr. HaveSameArcs csr.arcs (arcs_for answer arcs.items)) }
 {
-    let arcs = arcs_of(alloc, answer, arcs)?;
-    Csr::build_from(alloc, n, arcs)
-}
-
-/// The arcs of an answer: as they are for distances, with weight 1 for levels, both ways and free for
-/// components.
-fn arcs_of(alloc: Global, answer: Answer, arcs: Vec<ArcRec>) -> Result<Vec<ArcRec>, Memory>
-    requires { length arcs.items ≤ 2 ^ 30 }
-    ensures exact { IfOk result (λ taken. taken.items ≡ arcs_for answer arcs.items) }
-    ensures count { IfOk result (λ taken. length taken.items ≤ 2 ^ 31) }
-    ensures graph { (n : ℕ) → IsGraph n arcs.items → IfOk result (λ taken. IsGraph n taken.items) }
-{
     match answer {
-        Answer::Distances => Ok(arcs),
-        Answer::Levels => unit_weights(alloc, &arcs),
-        Answer::Components => both_ways(alloc, &arcs),
+        Answer::Distances => Csr::build_from(alloc, n, arcs),
+        Answer::Levels => {
+            let units = unit_weights(alloc, &arcs)?;
+            drop(arcs);
+            Csr::build_from(alloc, n, units)
+        }
+        Answer::Components => Csr::build_both_ways(alloc, n, arcs),
     }
 }
 
