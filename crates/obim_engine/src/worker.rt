@@ -51,14 +51,16 @@ pub(crate) fn work<H: Wait + Clock, P: WorkPool, G: Gate>(
     let mut watch = Watch::new(worker);
     let mut left = FRUITLESS_POPS;
     for _ in rt.forever() {
-        match shared.pool.pop(rt, side) {
+        let popped = shared.pool.pop(rt, side);
+        show(shared, worker, seat, popped);
+        match popped {
             Some(u) if u < shared.csr.n() && shared.words.take(seat, u) => {
                 visit(rt, shared, worker, seat, side, u);
                 left = FRUITLESS_POPS;
                 pauses.reset();
                 watch.visited(rt, shared.pace);
             }
-            popped => {
+            _ => {
                 if shared.words.see(seat) {
                     return;
                 }
@@ -67,12 +69,28 @@ pub(crate) fn work<H: Wait + Clock, P: WorkPool, G: Gate>(
                     sweep(rt, shared, worker, seat, side);
                     left = FRUITLESS_POPS;
                 }
-                shared.pace.show(worker, INF);
                 pauses.wait(rt, popped, shared.pace.has_lost());
             }
         }
     }
     unreachable!()
+}
+
+/// Shows the label of the vertex that the worker is about to take, if it is marked, and `INF` where there
+/// is no vertex.
+fn show<P, G>(shared: &Shared<'_, P, G>, worker: u32, seat: &WorkSeat, vertex: Option<u32>)
+    requires words { seat.now.words ≡ shared.now.words.now }
+    requires graph { shared.now.csr.now ≡ seat.now.known.graph }
+{
+    let Some(v) = vertex else {
+        shared.pace.show(worker, INF);
+        return;
+    };
+    if v < shared.csr.n() {
+        if let Some(label) = shared.words.marked_label(seat, v) {
+            shared.pace.show(worker, label);
+        }
+    }
 }
 
 /// Visits each vertex that is marked, in rising order: those too that the pool has lost.
@@ -93,6 +111,7 @@ fn sweep<H: Wait, P: WorkPool, G: Gate>(
 {
     shared.pace.seek();
     for v in 0..shared.csr.n() {
+        show(shared, worker, seat, Some(v));
         if shared.words.take(seat, v) {
             visit(rt, shared, worker, seat, side, v);
         }
@@ -118,8 +137,7 @@ fn visit<H: Wait, P: WorkPool, G: Gate>(
     ensures side { P.is_side shared.now.pool.now side.new }
 {
     shared.gate.pass(rt, worker, u);
-    let label = shared.words.read(seat, shared.csr);
-    shared.pace.show(worker, label);
+    shared.words.read(seat, shared.csr);
     while relax_next(rt, shared, seat, side, u) {}
     shared.words.finish(seat, shared.csr);
 }
