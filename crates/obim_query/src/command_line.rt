@@ -22,7 +22,8 @@ const ABOUT: &str = "Answers a job: a directed graph with whole-number weights, 
 const AFTER: &str = "\
 Workers, shift and chunk change how long an answer takes, and no byte of it. The
 defaults serve every kind of graph. With --shift auto buckets of vertices widen
-with their labels; with --shift BITS each is 2^BITS labels wide.
+with their labels; with --shift BITS each is 2^BITS labels wide. Without --chunk
+one worker hands on 256 vertices at a time, and several 64.
 
 A job is one text on standard input: a graph in the .gr format of the 9th DIMACS
 Implementation Challenge, and after it its sources in the .ss format. Vertices
@@ -134,10 +135,8 @@ impl Limits {
     fn new(alloc: Global) -> Result<Limits, Error> {
         Ok(Limits {
             workers: format!(in alloc; "How many workers, 1 to {MAX_WORKERS}")?,
-            shift: format!(in alloc;
-                "Width of a bucket, 2^BITS labels, 0 to {MAX_SHIFT}, or auto"
-            )?,
-            chunk: format!(in alloc; "Vertices handed on at a time, 1 to {MAX_CHUNK} [default: {MAX_CHUNK} for one worker, else {SHARED_CHUNK}]")?,
+            shift: format!(in alloc; "Bucket width 2^BITS, 0 to {MAX_SHIFT}, or auto")?,
+            chunk: format!(in alloc; "Vertices handed on at a time, 1 to {MAX_CHUNK}")?,
         })
     }
 }
@@ -203,7 +202,11 @@ fn settings_in(matches: &ArgMatches, shift: Shift) -> Option<Settings> {
 /// The chunk size where none is given. One worker shares nothing, so its chunks are as large as they can
 /// be: they take the same room whatever their size is.
 fn usual_chunk(workers: u32) -> usize {
-    if workers == 1 { MAX_CHUNK } else { SHARED_CHUNK }
+    if workers == 1 {
+        MAX_CHUNK
+    } else {
+        SHARED_CHUNK
+    }
 }
 
 fn answer_in(matches: &ArgMatches) -> Answer {
