@@ -89,21 +89,25 @@ no_holder {label} {views} {v} {k} s arc covers at idle share any =
 pub pause_closed : {words : List ℕ} {me : Known} (labels : List ℕ) (marks : List Bool) → Ended me words
     → length labels ≡ me.graph.n → AreLabelsOf words labels → length marks ≡ me.graph.n → AreMarksOf words marks
     → me.view.hand ≡ Idle → me.view.share ≡ SHARES → IsPause me.graph me.seeds record { labels = labels; marks = marks }
-pause_closed labels marks end all are all' are' idle share =
+pause_closed {me} labels marks end all are all' are' idle share =
     let was = end.lawful in
     let same : marks ≡ end.state.marks =
     same_said false all' end.holds.marks (λ v lt. sym (are' v (omega (arith, all')))) end.holds.laid.marks in
+    let capped : AreCapped me.graph.n (slice_index labels) = λ v lt. (are v (omega (arith, all))).1 in
     rw (labels_are end all are, same) record {
-      labels = was.labels;
-      marks = was.marks;
+      going = record {
+        labels = was.labels;
+        marks = was.marks;
+        waits = λ k arc is.
+            elim (was.covers.covered k arc is) [
+              | inl relaxed ↦ inl relaxed
+              | inr (inl marked) ↦ inr marked
+              | inr (inr held) ↦ absurd (no_holder _ arc was.covers end.holds.has.here idle share held)
+            ];
+      };
+      capped = rw (labels_are end all are) at capped;
       sound = was.covers.sound;
       met = was.covers.met;
-      waits = λ k arc is.
-          elim (was.covers.covered k arc is) [
-            | inl relaxed ↦ inl relaxed
-            | inr (inl marked) ↦ inr marked
-            | inr (inr held) ↦ absurd (no_holder _ arc was.covers end.holds.has.here idle share held)
-          ];
     }
 
 pub half_of : (w n : ℕ) → w ≡ word_count n → (w - 8) / 2 ≡ n
@@ -125,11 +129,11 @@ lawful_hold_a_core graph seeds words seats was = (
 )
 
 pub unmarked_least : UnmarkedPauseIsLeast
-unmarked_least graph seeds rest rows pause capped unmarked =
-    settled_and_sound_are_least graph.n graph.arcs seeds (slice_index rest.labels) capped record {
+unmarked_least graph seeds rest rows pause unmarked =
+    settled_and_sound_are_least graph.n graph.arcs seeds (slice_index rest.labels) pause.capped record {
       met = pause.met;
       relaxed = λ k d lt.
-          elim (pause.waits k (get_or graph.arcs k d) (slice_get-get_or graph.arcs k d lt)) [
+          elim (pause.going.waits k (get_or graph.arcs k d) (slice_get-get_or graph.arcs k d lt)) [
             | inl relaxed ↦ relaxed
             | inr marked ↦ let both = sym marked ∙ unmarked _ (rows.ends k d lt).0 in cc
           ];

@@ -4,3 +4,4 @@ pub mod Moves
 pub mod Ties
 pub mod Sowing
 pub mod Ends
+pub mod Resumes

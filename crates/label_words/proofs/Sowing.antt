@@ -23,7 +23,8 @@ use Rattle.label_words.specs.Known.{first_known}
 use Rattle.label_words.specs.Sown.{IsSown}
 use Rattle.label_words.proofs.Steps.{laid_mark, laid_label, laid_total}
 
-first_knows : (graph : Graph) (seeds : List Seed) (label : ℕ → ℕ) (s : ℕ) (seat : Known)
+-- the first seat knows the graph and the seeds
+pub first_knows : (graph : Graph) (seeds : List Seed) (label : ℕ → ℕ) (s : ℕ) (seat : Known)
     → get_elem? (first_known graph seeds ∷ []) s ≡ some seat → Knows graph seeds label seat
 first_knows graph seeds label zero seat at =
     rw (← some-injective (first_known graph seeds) seat at)

@@ -1,7 +1,9 @@
 -- What the words leave when they are closed.
 use Rattle.std.specs.Prelude.{◌≡◌, ℕ, ◌<◌, ◌≤◌, Bool, true, false, List, length, slice_index, All}
 use Rattle.route_walks.specs.declared.graph.TheConstants.{INF}
-use Rattle.route_walks.specs.Label.{AreLeast}
+use Rattle.route_walks.specs.declared.graph.Seed.{Seed}
+use Rattle.route_walks.specs.Label.{AreLeast, AreLeastLabels}
+use Rattle.csr_graph.specs.Graph.{Graph}
 use Rattle.label_words.specs.Layout.{label_of, mark_of as marks_of}
 use Rattle.relax_core.specs.State.{mark_of}
 use Rattle.label_words.specs.declared.known.Known.{Known}
@@ -24,6 +26,20 @@ closed_labels (Paused rest) = rest.labels
 -- no label is above what the seat knew of it
 abbrev pub IsBelowKnown : Known → Closed → Type 0
 IsBelowKnown known closed = All (λ entry. slice_index (closed_labels closed) entry.0 ≤ entry.1) known.labels
+
+-- a run over a graph and seeds ended with their least labels, or with a pause of them
+abbrev pub IsEnd : Graph → List Seed → Closed → Type 0
+IsEnd graph seeds (Settled labels) = AreLeastLabels graph.n graph.arcs seeds labels.items
+IsEnd graph seeds (Paused rest) = IsPause graph seeds rest
+
+-- it ended with least labels
+abbrev pub HasSettled : Closed → Type 0
+HasSettled (Settled labels) = Unit {0}
+HasSettled (Paused rest) = ⊥
+
+-- no label is above the old one
+abbrev pub AreNoHigher : List ℕ → List ℕ → Type 0
+AreNoHigher new old = (v : ℕ) → v < length old → slice_index new v ≤ slice_index old v
 
 -- ---- what the loops that read the words leave; not part of what a caller is promised
 

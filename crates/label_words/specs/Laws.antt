@@ -4,7 +4,9 @@
 use Rattle.std.specs.Prelude.{◌≡◌, ◌≢◌, ℕ, ◌+◌, ◌-◌, ◌<◌, ◌≤◌, ◌==◌, nat_lt, min, false}
 use Rattle.std.specs.Prelude.{Some, List, [], ◌∷◌, ◌++◌, length, slice_index, slice_set}
 use Rattle.route_walks.specs.declared.graph.Seed.{Seed}
-use Rattle.route_walks.specs.Label.{AreCapped, AreLeast}
+use Rattle.route_walks.specs.Label.{AreLeast}
+use Rattle.route_walks.specs.Walk.{AreSeeds}
+use Rattle.route_walks.specs.Operators.{seeds_of}
 use Rattle.csr_graph.specs.Graph.{Graph, IsInRows}
 use Rattle.relax_core.specs.declared.events.Event.{Event}
 use Rattle.relax_core.specs.declared.events.Event.TheVariants.{Take, Read, Relax, Raise, SetMark}
@@ -19,6 +21,8 @@ use Rattle.label_words.specs.Layout.{label_word, mark_word, total_of, label_of}
 use Rattle.label_words.specs.Rule.{views_of, AreLawful, IsLaid}
 use Rattle.label_words.specs.Known.{after_take, after_read, after_relax, after_raise, after_set_mark}
 use Rattle.label_words.specs.Known.{after_finish, after_see, left_half, right_half, both_known, gone}
+use Rattle.label_words.specs.declared.closed.Closed.{Closed}
+use Rattle.label_words.specs.Closed.{IsEnd, AreNoHigher, closed_labels}
 use Rattle.label_words.specs.Paused.{Rest, IsPause}
 use Rattle.label_words.specs.Seats.{IsReady}
 
@@ -148,6 +152,15 @@ UnmarkedPauseIsLeast =
     (graph : Graph) (seeds : List Seed) (rest : Rest)
     → IsInRows graph
     → IsPause graph seeds rest
-    → AreCapped graph.n (slice_index rest.labels)
     → ((v : ℕ) → v < graph.n → mark_of rest.marks v ≡ false)
     → AreLeast graph.n graph.arcs seeds (slice_index rest.labels)
+
+-- a run from the labels of a pause ends as a run from the pause's own seeds may end, and no label is
+-- above what it was in the pause
+abbrev pub ResumedRunsEndAlike : Type 0
+ResumedRunsEndAlike =
+    (graph : Graph) (seeds : List Seed) (rest : Rest) (closed : Closed)
+    → AreSeeds graph.n seeds
+    → IsPause graph seeds rest
+    → IsEnd graph (seeds_of rest.labels) closed
+    → IsEnd graph seeds closed × AreNoHigher (closed_labels closed) rest.labels

@@ -2,7 +2,7 @@
 use Rattle.std.specs.Prelude.{◌≡◌, ℕ, ◌⊎◌, Bool, true, List, length, slice_index, slice_get, Some, All}
 use Rattle.route_walks.specs.declared.graph.ArcRec.{ArcRec}
 use Rattle.route_walks.specs.declared.graph.Seed.{Seed}
-use Rattle.route_walks.specs.Label.{IsMet, IsRelaxed, IsSound}
+use Rattle.route_walks.specs.Label.{IsMet, IsRelaxed, IsSound, AreCapped}
 use Rattle.csr_graph.specs.Graph.{Graph}
 use Rattle.relax_core.specs.State.{mark_of}
 
@@ -11,12 +11,18 @@ pub record Rest : Type 0 where
   pub labels : List ℕ
   pub marks : List Bool
 
--- a pause of a graph and seeds: labels are sound, seeds are met, and each arc is relaxed or its tail is
--- marked
-pub record IsPause (graph : Graph) (seeds : List Seed) (rest : Rest) : Type 0 where
+-- a run over the graph can go on: each vertex has a label and a mark, and each arc is relaxed or its
+-- tail is marked
+pub record CanGoOn (graph : Graph) (rest : Rest) : Type 0 where
   pub labels : length rest.labels ≡ graph.n
   pub marks : length rest.marks ≡ graph.n
-  pub sound : IsSound graph.n graph.arcs seeds (slice_index rest.labels)
-  pub met : All (IsMet (slice_index rest.labels)) seeds
   pub waits : (k : ℕ) (arc : ArcRec) → slice_get graph.arcs k ≡ Some arc
       → IsRelaxed (slice_index rest.labels) arc ⊎ (mark_of rest.marks arc.tail ≡ true)
+
+-- a pause of a graph and seeds: a run can go on from it, no label is above INF, labels are sound, and
+-- seeds are met
+pub record IsPause (graph : Graph) (seeds : List Seed) (rest : Rest) : Type 0 where
+  pub going : CanGoOn graph rest
+  pub capped : AreCapped graph.n (slice_index rest.labels)
+  pub sound : IsSound graph.n graph.arcs seeds (slice_index rest.labels)
+  pub met : All (IsMet (slice_index rest.labels)) seeds

@@ -1,9 +1,10 @@
 -- The rule of the words: between any two steps they hold a lawful core with the views of all seats, and
 -- no label is above what any seat knows of it.
-use Rattle.std.specs.Prelude.{◌≡◌, ◌≢◌, ℕ, ◌<◌, ◌≤◌, List, length, map, slice_index, All}
+use Rattle.std.specs.Prelude.{◌≡◌, ◌≢◌, ℕ, ◌<◌, ◌≤◌, List, ◌++◌, length, map, slice_index, All}
 use mathlib.Core.Option.{some}
 use lib.ListN.{get_elem?}
 use Rattle.route_walks.specs.declared.graph.Seed.{Seed}
+use Rattle.route_walks.specs.Operators.{seeds_of}
 use Rattle.csr_graph.specs.Graph.{Graph}
 use Rattle.relax_core.specs.declared.views.View.{View}
 use Rattle.relax_core.specs.State.{State, IsLawful, mark_of as is_marked}
@@ -30,6 +31,10 @@ pub record Knows (graph : Graph) (seeds : List Seed) (label : ℕ → ℕ) (seat
 abbrev pub AllKnow : Graph → List Seed → (ℕ → ℕ) → List Known → Type 0
 AllKnow graph seeds label seats =
     (s : ℕ) (seat : Known) → get_elem? seats s ≡ some seat → seat.view.share ≢ 0 → Knows graph seeds label seat
+
+-- the seeds of the words: those that a run begins with, and those of the labels that it goes on from
+abbrev pub seeds_told : List Seed → List ℕ → List Seed
+seeds_told seeds labels = seeds ++ seeds_of labels
 
 -- the rule
 pub record AreLawful (graph : Graph) (seeds : List Seed) (words : List ℕ) (seats : List Known) : Type 0 where

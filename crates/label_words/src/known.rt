@@ -17,8 +17,9 @@ pub struct Known {
     pub seeds: LinkedList<Seed>,
 }
 
-/// What the words are told once: the graph and the seeds.
-pub(crate) type Key = (Snapshot<Csr>, Snapshot<Vec<Seed>>);
+/// What the words are told once: the graph, the seeds that a run begins with, and the labels that it goes
+/// on from, which are seeds too. One of the two lists is empty. For the contracts alone: it takes no room.
+pub(crate) type Key = (Snapshot<Csr>, Snapshot<Vec<Seed>>, Snapshot<Vec<u64>>);
 
 pub(crate) struct WordsRule;
 
@@ -26,9 +27,11 @@ impl TableRule<(), Known, Key> for WordsRule {
     ghost use Rattle.label_words.specs.Rule.{AreLawful};
     ghost use Rattle.label_words.specs.Known.{first_known};
 
-    ghost holds = { λ key state. AreLawful key.0.value key.1.value.items state.words state.views };
+    ghost use Rattle.label_words.specs.Rule.{seeds_told};
 
-    ghost first = { λ key. first_known key.0.value key.1.value.items };
+    ghost holds = { λ key state. AreLawful key.0.value (seeds_told key.1.value.items key.2.value.items) state.words state.views };
+
+    ghost first = { λ key. first_known key.0.value (seeds_told key.1.value.items key.2.value.items) };
 }
 
 pub(crate) type Board = Table<(), Known, Key, WordsRule, Global>;

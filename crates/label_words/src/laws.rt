@@ -5,6 +5,7 @@ ghost use Rattle.label_words.specs.Laws.{TakeIsItsEvent, ReadIsItsEvent, RelaxIs
 ghost use Rattle.label_words.specs.Laws.{RaiseIsItsEvent, SetMarkIsItsEvent, FinishIsItsEvent};
 ghost use Rattle.label_words.specs.Laws.{SeeIsItsEvent, SplitIsItsEvent, JoinIsItsEvent};
 ghost use Rattle.label_words.specs.Laws.{LawfulWordsHoldACore, UnmarkedPauseIsLeast};
+ghost use Rattle.label_words.specs.Laws.{ResumedRunsEndAlike};
 
 /// What the rule of the words keeps between any two steps is a lawful core.
 pub fn lawful_words_hold_a_core()
@@ -32,4 +33,10 @@ pub fn splits_and_joins_are_events()
 /// A pause in which no vertex is marked has least labels.
 pub fn unmarked_pauses_are_least()
     ensures { UnmarkedPauseIsLeast }
+{}
+
+/// A run that goes on from the labels of a pause ends with the least labels of the pause's own seeds, or
+/// with a pause of them; and no label rises.
+pub fn resumed_runs_end_alike()
+    ensures { ResumedRunsEndAlike }
 {}

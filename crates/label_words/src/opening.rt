@@ -1,11 +1,13 @@
-//! The words that a run begins with, laid straight from the seeds.
+//! The words that a run begins with, laid straight from the seeds, and those that a paused run goes on
+//! with.
 
 ghost use Rattle.std.specs.Prelude.{◌≡◌, ℕ, ◌<◌, ◌≤◌, ◌++◌, ◌∷◌, [], List, length, All, IfOk};
 ghost use Rattle.route_walks.specs.declared.graph.TheConstants.{MAX_VERTICES};
 ghost use Rattle.route_walks.specs.declared.graph.Seed.{Seed};
 ghost use Rattle.route_walks.specs.Walk.{AreSeeds};
 ghost use Rattle.label_words.specs.Layout.{word_count as count};
-ghost use Rattle.label_words.specs.Sown.{IsSown};
+ghost use Rattle.label_words.specs.Rule.{IsLaid};
+ghost use Rattle.label_words.specs.Sown.{IsSown, state_of};
 
 use crate::layout::{TOTAL, label_word, mark_word, word_count};
 use route_walks::{INF, Memory, Seed};
@@ -60,4 +62,40 @@ fn sow(words: &mut [u64], seed: &Seed)
     words[label] = words[label].min(seed.start);
     words[TOTAL] += new_marks;
     words[mark] = 1;
+}
+
+/// The words of `n` vertices with these labels and marks; the total is the number of marks.
+pub(crate) fn lay_rest(
+    alloc: Global,
+    n: u32,
+    labels: &[u64],
+    marks: &[bool],
+) -> Result<Vec<u64>, Memory>
+    requires vertices { n ≤ MAX_VERTICES }
+    requires labels { length labels.now ≡ n }
+    requires marks { length marks.now ≡ n }
+    ensures { IfOk result
+        (λ words. IsLaid (state_of record { labels = labels.now; marks = marks.now }) n words.items) }
+{
+    let mut words = vec![in alloc; 0; word_count(n)]?;
+    put_rest(&mut words, n, labels, marks);
+    Ok(words)
+}
+
+/// Gives each of `n` vertices its label and its mark, and counts the marks.
+fn put_rest(words: &mut [u64], n: u32, labels: &[u64], marks: &[bool])
+    requires vertices { n ≤ MAX_VERTICES }
+    requires count { length words.old ≡ count n }
+    requires labels { length labels.now ≡ n }
+    requires marks { length marks.now ≡ n }
+    ensures { IsLaid (state_of record { labels = labels.now; marks = marks.now }) n words.new }
+{
+    let mut total = 0;
+    for v in 0..n {
+        let mark = u64::from(marks[v as usize]);
+        words[label_word(v)] = labels[v as usize];
+        words[mark_word(v)] = mark;
+        total += mark;
+    }
+    words[TOTAL] = total;
 }

@@ -1,7 +1,8 @@
 //! The words of a run, and the calls on them.
 
-ghost use Rattle.std.specs.Prelude.{◌≡◌, ◌⊎◌, ◌<◌, ◌≤◌, true, not, IfOk};
+ghost use Rattle.std.specs.Prelude.{◌≡◌, ◌⊎◌, ◌<◌, ◌≤◌, true, not, [], ◌∷◌, IfOk};
 ghost use Rattle.route_walks.specs.Walk.{AreSeeds};
+ghost use Rattle.route_walks.specs.Operators.{seeds_of};
 ghost use Rattle.relax_core.specs.declared.views.TheConstants.{SHARES};
 ghost use Rattle.relax_core.specs.Views.{IsFresh, IsOpen, Owes, IsAtRowEnd};
 ghost use Rattle.label_words.specs.Known.{hand_of, IsIdle, IsFound, GoesAlong, Attains};
@@ -9,11 +10,13 @@ ghost use Rattle.label_words.specs.Known.{first_known, after_take, after_read, a
 ghost use Rattle.label_words.specs.Known.{after_set_mark, after_finish, after_see};
 ghost use Rattle.label_words.specs.Known.{left_half, right_half, both_known};
 ghost use Rattle.label_words.specs.Closed.{IsClosed, IsBelowKnown};
+ghost use Rattle.label_words.specs.Paused.{CanGoOn};
+ghost use Rattle.label_words.specs.Rule.{AreLawful, seeds_told};
 
 use crate::closed::{Closed, read_labels, read_marks};
 use crate::known::{Board, Key};
 use crate::layout::{TOTAL, label_word, mark_word};
-use crate::opening::lay;
+use crate::opening::{lay, lay_rest};
 use crate::pause::Paused;
 use crate::plays::{Finishes, Halves, Marks, Raises, Reads, Relaxes, Sees, Takes};
 use crate::seat::WorkSeat;
@@ -67,11 +70,36 @@ impl Words {
         // The copy is for the contracts alone and is let go before the words take any room.
         let mut copy = Vec::with_capacity(alloc, seeds.len())?;
         copy.extend_from_slice(seeds)?;
-        let key: Key = (Snapshot::of(csr), Snapshot::of(&copy));
+        let none = Vec::new(alloc);
+        let key: Key = (Snapshot::of(csr), Snapshot::of(&copy), Snapshot::of(&none));
         drop(copy);
         let words = lay(alloc, csr.n(), seeds)?;
+        Words::begin(alloc, words, key)
+    }
+
+    /// The words that a run goes on with from where it was paused: the labels and marks of the pause, and
+    /// as total the number of marks. The one seat is idle, has all shares, and knows no label; its seeds
+    /// are the vertices with labels below `INF`, each starting at its label. Takes 32 bytes a vertex
+    /// while it works, and leaves 16.
+    pub fn reopen(alloc: Global, csr: &Csr, rest: &Paused) -> Result<(Words, WorkSeat), Memory>
+        requires { CanGoOn csr.now rest.now }
+        ensures seat { IfOk result (λ opened. opened.1
+            ≡ record { words = opened.0; known = first_known csr.now (seeds_of rest.now.labels) }) }
+    {
+        let none = Vec::new(alloc);
+        let key: Key = (Snapshot::of(csr), Snapshot::of(&none), Snapshot::of(&rest.labels));
+        let words = lay_rest(alloc, csr.n(), &rest.labels, &rest.marks)?;
+        Words::begin(alloc, words, key)
+    }
+
+    /// The words that were laid, and their first seat.
+    fn begin(alloc: Global, words: Vec<u64>, key: Key) -> Result<(Words, WorkSeat), Memory>
+        requires { AreLawful key.0.value (seeds_told key.1.value.items key.2.value.items) words.items
+            (first_known key.0.value (seeds_told key.1.value.items key.2.value.items) ∷ []) }
+        ensures seat { IfOk result (λ opened. opened.1
+            ≡ record { words = opened.0; known = first_known key.0.value (seeds_told key.1.value.items key.2.value.items) }) }
+    {
         let (table, place) = Table::of_words(alloc, &words, &key)?;
-        drop(words);
         let view = View::idle(SHARES);
         Ok((Words { table }, WorkSeat { place, view }))
     }

@@ -11,7 +11,7 @@ use Rattle.route_walks.specs.Walk.{IsArcBelow, IsGraph, IsWalk, IsAttained}
 use Rattle.route_walks.specs.Operators.{seed_at, seeds_all, along, against, both_ways}
 use Rattle.route_walks.specs.Component.{IsPath, AreConnected, LeastLabelsAreComponents}
 use Rattle.route_walks.proofs.Cuts.{cost-le}
-use Rattle.route_walks.proofs.Facts.{contains-one}
+use Rattle.route_walks.proofs.Attained.{contains-one}
 
 -- the two ways of an arc
 abbrev two_ways : ArcRec → List ArcRec

@@ -1,6 +1,8 @@
+pub mod Attained
 pub mod Facts
 pub mod Cuts
 pub mod Labels
 pub mod Lowering
 pub mod SameArcs
 pub mod Components
+pub mod Reseeding

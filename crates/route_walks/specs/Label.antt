@@ -1,9 +1,10 @@
 -- Labels of vertices, read as functions from the vertex: when they are least, settled, sound.
-use Rattle.std.specs.Prelude.{◌≡◌, ℕ, ◌+◌, ◌^◌, ◌<◌, ◌≤◌, min, List, All, length, slice_index}
+use Rattle.std.specs.Prelude.{◌≡◌, ℕ, ◌+◌, ◌^◌, ◌<◌, ◌≤◌, ◌↔◌, min, List, All, length, slice_index}
 use Rattle.route_walks.specs.declared.graph.ArcRec.{ArcRec}
 use Rattle.route_walks.specs.declared.graph.Seed.{Seed}
 use Rattle.route_walks.specs.declared.graph.TheConstants.{INF, MAX_VERTICES}
 use Rattle.route_walks.specs.Walk.{IsAttained, HaveSameArcs, IsGraph, AreSeeds}
+use Rattle.route_walks.specs.Operators.{seeds_of}
 
 -- d is the least label of v: the smallest number attained there, or INF where none below INF is
 pub record IsLeast (arcs : List ArcRec) (seeds : List Seed) (v d : ℕ) : Type 0 where
@@ -85,3 +86,14 @@ InfMeansNoWalk =
     → (v : ℕ) → v < n
     → slice_index labels v ≡ INF
     → (c : ℕ) → ¬ (IsAttained arcs seeds v c)
+
+-- labels that are sound and meet the seeds serve as seeds themselves: the least labels from them are the
+-- least labels from the seeds
+abbrev pub LabelsServeAsSeeds : Type 0
+LabelsServeAsSeeds =
+    (n : ℕ) (arcs : List ArcRec) (seeds : List Seed) (labels least : List ℕ)
+    → AreSeeds n seeds
+    → length labels ≡ n
+    → IsSound n arcs seeds (slice_index labels)
+    → All (IsMet (slice_index labels)) seeds
+    → AreLeastLabels n arcs (seeds_of labels) least ↔ AreLeastLabels n arcs seeds least

@@ -1,4 +1,4 @@
 pub mod Walk
-pub mod Label
 pub mod Operators
+pub mod Label
 pub mod Component

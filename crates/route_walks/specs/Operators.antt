@@ -1,8 +1,10 @@
--- The operators: which arcs and which seeds give distances, hop levels and components.
-use Rattle.std.specs.Prelude.{ℕ, List, [], ◌∷◌, map}
-use Rattle.std.specs.List.{range_with_len, flat_map}
+-- The operators: which arcs and which seeds give distances, hop levels and components. And which seeds
+-- a run that goes on has.
+use Rattle.std.specs.Prelude.{ℕ, nat_lt, List, [], ◌∷◌, length, map, slice_index}
+use Rattle.std.specs.List.{range_with_len, flat_map, filter}
 use Rattle.route_walks.specs.declared.graph.ArcRec.{ArcRec}
 use Rattle.route_walks.specs.declared.graph.Seed.{Seed}
+use Rattle.route_walks.specs.declared.graph.TheConstants.{INF}
 
 -- for distances and hop levels from s: the one seed (s, 0)
 abbrev pub seeds_from : ℕ → List Seed
@@ -35,3 +37,13 @@ against arc = record { tail = arc.head; head = arc.tail; weight = 0 }
 -- for components: each arc along and against, at no cost
 abbrev pub both_ways : List ArcRec → List ArcRec
 both_ways arcs = flat_map (λ arc. along arc ∷ against arc ∷ []) arcs
+
+-- a vertex is a seed that starts at its label
+abbrev pub seed_of : (ℕ → ℕ) → ℕ → Seed
+seed_of label v = record { vertex = v; start = label v }
+
+-- for a run that goes on from labels: each vertex whose label is below INF is such a seed
+abbrev pub seeds_of : List ℕ → List Seed
+seeds_of labels =
+    filter (λ seed. nat_lt seed.start INF)
+    (map (seed_of (slice_index labels)) (range_with_len 0 (length labels)))

@@ -2,7 +2,7 @@
 
 ghost use Rattle.route_walks.specs.Walk.{WalksCanBeCut};
 ghost use Rattle.route_walks.specs.Label.{SettledAndSoundAreLeast, LeastLabelsAreUnique};
-ghost use Rattle.route_walks.specs.Label.{LeastLabelsFollowTheArcs, InfMeansNoWalk};
+ghost use Rattle.route_walks.specs.Label.{LeastLabelsFollowTheArcs, InfMeansNoWalk, LabelsServeAsSeeds};
 ghost use Rattle.route_walks.specs.Component.{LeastLabelsAreComponents};
 
 /// Among `n` vertices each walk can be cut to at most `n - 1` arcs, at no more cost: what lies between
@@ -38,4 +38,11 @@ pub fn inf_means_no_walk()
 /// cost, the least label of a vertex is the least number of a vertex connected with it.
 pub fn least_labels_are_components()
     ensures { LeastLabelsAreComponents }
+{}
+
+/// Where labels are attained or `INF`, and no seed can lower one, the vertices with labels below `INF`
+/// serve as seeds that start at their labels: the least labels from them are the least labels from the
+/// seeds. So a run that was paused goes on from its labels alone.
+pub fn labels_serve_as_seeds()
+    ensures { LabelsServeAsSeeds }
 {}
