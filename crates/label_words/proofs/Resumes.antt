@@ -1,14 +1,12 @@
 -- A run that goes on from a pause: its words are lawful, and it ends as one from the pause's own seeds.
-use Rattle.std.proofs.Common.{◌≡◌, ◌∙◌, refl, sym, ap, ℕ, zero, suc, ◌+◌, ◌<◌, ◌≤◌, List, [], ◌∷◌, Bool, true, false}
+use Rattle.std.proofs.Common.{◌≡◌, refl, ap, ℕ, ◌<◌, ◌≤◌, List, [], ◌∷◌, true, false}
 use Rattle.std.proofs.Common.{length, get_or, arith, inl, inr}
-use Rattle.std.specs.Prelude.{slice_index, All, sum_by}
+use Rattle.std.specs.Prelude.{slice_index, All}
 use Rattle.std.proofs.lemmas.Bool.{cases_lt}
-use Rattle.std.proofs.lemmas.List.Elements.{All-nil, All-cons, All-contains, All-weaker}
-use Rattle.route_walks.specs.declared.graph.Seed.{Seed}
+use Rattle.std.proofs.lemmas.List.Elements.{All-nil, All-cons, All-contains}
 use Rattle.route_walks.specs.declared.graph.TheConstants.{INF}
-use Rattle.route_walks.specs.Walk.{AreSeeds}
 use Rattle.route_walks.specs.Operators.{seed_of, seeds_of}
-use Rattle.route_walks.specs.Label.{IsMet, AreCapped, AreLeastLabels}
+use Rattle.route_walks.specs.Label.{IsMet, AreCapped}
 use Rattle.route_walks.proofs.Facts.{attained-start, labels-have_seed, labels-meet_their_seeds}
 use Rattle.route_walks.proofs.Facts.{attained-from_labels, labels_serve_as_seeds}
 use Rattle.csr_graph.specs.Graph.{Graph, IsInRows}
@@ -18,10 +16,9 @@ use Rattle.relax_core.specs.declared.views.TheConstants.{SHARES}
 use Rattle.relax_core.specs.Views.{IsHand, HasCredits, idle_view}
 use Rattle.relax_core.specs.Lawful.{marks_below}
 use Rattle.relax_core.specs.State.{IsLawful, mark_of}
-use Rattle.label_words.specs.declared.closed.Closed.{Closed}
 use Rattle.label_words.specs.declared.closed.Closed.TheVariants.{Settled, Paused}
-use Rattle.label_words.specs.Paused.{Rest, CanGoOn, IsPause}
-use Rattle.label_words.specs.Closed.{IsEnd, AreNoHigher, closed_labels}
+use Rattle.label_words.specs.Paused.{Rest, CanGoOn}
+use Rattle.label_words.specs.Closed.{AreNoHigher}
 use Rattle.label_words.specs.Layout.{label_of}
 use Rattle.label_words.specs.Known.{first_known}
 use Rattle.label_words.specs.Rule.{IsLaid, AreLawful}
@@ -93,24 +90,26 @@ resumed_runs_end_alike graph seeds rest (Settled labels) within pause end =
     let lower = no_higher labels.items old
     (λ v lt. (end.least v (omega (arith, going.labels))).capped)
     (λ v lt finite.
-        (end.least v (omega (arith, going.labels))).least (slice_index old v)
-        (attained-start graph.arcs (seeds_of old) (seed_of (slice_index old) v) (labels-have_seed old v lt finite))) in
+    (end.least v (omega (arith, going.labels))).least (slice_index old v)
+    (attained-start graph.arcs (seeds_of old) (seed_of (slice_index old) v) (labels-have_seed old v lt finite))) in
     (serve.0 end, lower)
 resumed_runs_end_alike graph seeds rest (Paused last) within pause end =
     let old = rest.labels in
     let lower = no_higher last.labels old
     (λ v lt. end.capped v (omega (arith, pause.going.labels)))
     (λ v lt finite.
-        All-contains (IsMet (slice_index last.labels)) (seeds_of old) (seed_of (slice_index old) v) end.met
-        (labels-have_seed old v lt finite)) in
-    (record {
-      going = end.going;
-      capped = end.capped;
-      sound = λ v lt finite.
-          attained-from_labels graph.n graph.arcs seeds rest.labels within pause.going.labels pause.sound pause.met v _
-          (end.sound v lt finite);
-      met = λ k d lt.
-          let seed = get_or seeds k d in
-          let below : seed.vertex < length rest.labels = omega (arith, within k d lt, pause.going.labels) in
-          omega (arith, pause.met k d lt, lower seed.vertex below);
-    }, lower)
+    All-contains (IsMet (slice_index last.labels)) (seeds_of old) (seed_of (slice_index old) v) end.met
+    (labels-have_seed old v lt finite)) in (
+      record {
+        going = end.going;
+        capped = end.capped;
+        sound = λ v lt finite.
+            attained-from_labels graph.n graph.arcs seeds rest.labels within pause.going.labels pause.sound pause.met v _
+            (end.sound v lt finite);
+        met = λ k d lt.
+            let seed = get_or seeds k d in
+            let below : seed.vertex < length rest.labels = omega (arith, within k d lt, pause.going.labels) in
+            omega (arith, pause.met k d lt, lower seed.vertex below);
+      },
+      lower,
+    )

@@ -3,6 +3,7 @@
 ghost use Rattle.std.specs.Prelude.{◌≡◌, ◌<◌, IfOk};
 
 mod callers;
+mod refusals;
 
 use crate::{Closed, Step, Words, WorkSeat};
 use csr_graph::Csr;

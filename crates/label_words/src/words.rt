@@ -87,7 +87,11 @@ impl Words {
             ≡ record { words = opened.0; known = first_known csr.now (seeds_of rest.now.labels) }) }
     {
         let none = Vec::new(alloc);
-        let key: Key = (Snapshot::of(csr), Snapshot::of(&none), Snapshot::of(&rest.labels));
+        let key: Key = (
+            Snapshot::of(csr),
+            Snapshot::of(&none),
+            Snapshot::of(&rest.labels),
+        );
         let words = lay_rest(alloc, csr.n(), &rest.labels, &rest.marks)?;
         Words::begin(alloc, words, key)
     }

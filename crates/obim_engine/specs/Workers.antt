@@ -1,5 +1,5 @@
 -- What workers need of a seat, and what they make of it.
-use Rattle.std.specs.Prelude.{◌≡◌, ℕ, ◌≤◌, true}
+use Rattle.std.specs.Prelude.{◌≡◌, ℕ, ◌≤◌, true, Option, None}
 use Rattle.csr_graph.specs.Graph.{Graph}
 use Rattle.relax_core.specs.declared.views.Hand.TheVariants.{Idle}
 use Rattle.relax_core.specs.declared.views.TheConstants.{SHARES}
@@ -13,8 +13,9 @@ pub record CanLead (graph : Graph) (workers : ℕ) (seat : Held) : Type 0 where
   pub enough : workers ≤ seat.known.view.share
   pub shares : seat.known.view.share ≤ SHARES
 
--- workers are done: the seat is still of its words, holds nothing, and saw the pending total at 0
-pub record AreDone (old new : Held) : Type 0 where
+-- workers are done: the seat is still of its words and holds nothing, and without a budget it saw the
+-- pending total at 0
+pub record AreDone (budget : Option ℕ) (old new : Held) : Type 0 where
   pub stays : Stays old new
   pub idle : new.known.view.hand ≡ Idle
-  pub saw : new.known.view.saw ≡ true
+  pub saw : budget ≡ None → new.known.view.saw ≡ true

@@ -13,8 +13,8 @@ use std::sync::Wait;
 use std::thread::{Threads, join_mut};
 use std::time::Clock;
 
-/// One worker for each side, numbered from `first`, until all of them saw the pending total at 0. Where
-/// no thread can be started, the workers that should have had one run after the others, on this thread.
+/// One worker for each side, numbered from `first`, until all of them saw the pending total at 0 or spent
+/// their budgets. Where no thread can be started, the workers that should have had one run after the others, on this thread.
 #[cycle(group)]
 pub(crate) fn run_group<H, S, P, G>(
     rt: &H,
@@ -33,7 +33,7 @@ where
     requires seat { CanLead shared.now.csr.now (length sides.old) seat.old }
     requires workers { first + length sides.old ≤ MAX_WORKERS }
     requires sides { All (P.is_side shared.now.pool.now) sides.old }
-    ensures seat { AreDone seat.old seat.new }
+    ensures seat { AreDone shared.now.budget seat.old seat.new }
     ensures sides { All (P.is_side shared.now.pool.now) sides.new }
 {
     if sides.len() == 1 {
@@ -54,7 +54,7 @@ where
             requires seat { CanLead shared.now.csr.now (length front.now) seat.now }
             requires workers { first + length front.now ≤ MAX_WORKERS }
             requires sides { All (P.is_side shared.now.pool.now) front.now }
-            ensures seat { AreDone seat.entry.now seat.exit.now }
+            ensures seat { AreDone shared.entry.now.budget seat.entry.now seat.exit.now }
             ensures sides { All (P.is_side shared.entry.now.pool.now) front.exit.now }
         { run_group(rt, shared, first, seat, front) },
         &mut ||
@@ -64,7 +64,7 @@ where
             requires seat { CanLead shared.now.csr.now (length back.now) other }
             requires workers { middle + length back.now ≤ MAX_WORKERS }
             requires sides { All (P.is_side shared.now.pool.now) back.now }
-            ensures seat { AreDone other.entry other.exit }
+            ensures seat { AreDone shared.entry.now.budget other.entry other.exit }
             ensures sides { All (P.is_side shared.entry.now.pool.now) back.exit.now }
         { run_group(rt, shared, middle, &mut other, back) },
     );

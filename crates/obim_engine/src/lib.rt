@@ -24,9 +24,10 @@ mod settings;
 mod worker;
 
 pub use gate::{Gate, OpenGate};
+pub use label_words::{Closed, Paused};
 pub use obim_pool::Worklist;
 pub use operators::{components, distances, least_labels, levels};
-pub use runs::{RunFault, run};
+pub use runs::{RunFault, resume, run, run_for};
 pub use settings::{MAX_CHUNK, MAX_SHIFT, MAX_WORKERS, Settings};
 
 #[cfg(test)]

@@ -34,7 +34,7 @@ pub(crate) struct Pace {
     workers: u32,
     /// By worker, the label of the vertex that it visits; `INF` while it has nothing to do.
     labels: Vec<CachePadded<AtomicU64>>,
-    /// Whether the pool refused a vertex since the last sweep.
+    /// Whether since the last sweep the pool refused a vertex, or a worker left that had spent its budget.
     lost: AtomicBool,
 }
 
@@ -58,7 +58,7 @@ impl Pace {
         }
     }
 
-    /// The pool refused a vertex, so a sweep has to find it.
+    /// The pool refused a vertex, or a worker leaves with what its side keeps: a sweep has to find it.
     pub(crate) fn lose(&self) {
         self.lost.store(true, Ordering::Relaxed);
     }
@@ -68,7 +68,7 @@ impl Pace {
         self.lost.store(false, Ordering::Relaxed);
     }
 
-    /// Whether the pool refused a vertex since the last sweep began.
+    /// Whether there is something that only a sweep finds, lost since the last one began.
     pub(crate) fn has_lost(&self) -> bool {
         self.lost.load(Ordering::Relaxed)
     }

@@ -1,8 +1,11 @@
 //! A run: open the words, hand the marked vertices to the pool, let the workers go, close.
 
-ghost use Rattle.std.specs.Prelude.{◌≡◌, length, All, IfOk};
+ghost use Rattle.std.specs.Prelude.{◌≡◌, length, None, All, IfOk};
 ghost use Rattle.route_walks.specs.Label.{AreLeastLabels};
 ghost use Rattle.route_walks.specs.Walk.{AreSeeds};
+ghost use Rattle.relax_core.specs.declared.views.TheConstants.{SHARES};
+ghost use Rattle.label_words.specs.Paused.{IsPause};
+ghost use Rattle.label_words.specs.Closed.{IsEnd, HasSettled, AreNoHigher, closed_labels};
 ghost use Rattle.obim_engine.specs.Workers.{CanLead};
 ghost use Rattle.obim_engine.specs.declared.runs.RunFault.TheVariants as fault;
 
@@ -12,7 +15,8 @@ use crate::pace::Pace;
 use crate::settings::{MAX_WORKERS, Settings};
 use crate::worker::Shared;
 use csr_graph::Csr;
-use label_words::{Closed, Words, WorkSeat};
+use label_words::laws::resumed_runs_end_alike;
+use label_words::{Closed, Paused, Words, WorkSeat};
 use obim_pool::WorkPool;
 use route_walks::Seed;
 use std::alloc::Global;
@@ -83,13 +87,83 @@ where
     solve(rt, alloc, csr, words, seat, settings, pool, sides, gate)
 }
 
-/// The same on words that are open, with the seat that they were opened with.
+/// The same as `run` until each worker has visited `budget` vertices or all is settled: then labels are
+/// least, or what is left is a pause, from which `resume` goes on. Which vertices are visited depends on
+/// the pool and on the order in which workers step. Visits of a sweep count.
+pub fn run_for<H, P, G>(
+    rt: &H,
+    alloc: Global,
+    csr: &Csr,
+    seeds: &[Seed],
+    settings: &Settings,
+    pool: &P,
+    sides: &mut [P::Side],
+    gate: &G,
+    budget: u64,
+) -> Result<Closed, RunFault>
+where
+    H: Threads + Wait + Clock + Sync,
+    P: WorkPool + Sync,
+    P::Side: Send,
+    G: Gate + Sync,
+    requires seeds { AreSeeds csr.now.n seeds.now }
+    requires workers { length sides.old ≡ settings.now.workers }
+    requires sides { All (P.is_side pool.now) sides.old }
+    ensures end { IfOk result (λ closed. IsEnd csr.now seeds.now closed) }
+    ensures sides { All (P.is_side pool.now) sides.new }
+{
+    let (words, seat) = Words::open(alloc, csr, seeds)?;
+    let budget = Some(budget);
+    run_workers(
+        rt, alloc, csr, words, seat, settings, pool, sides, gate, budget,
+    )
+}
+
+/// Goes on from a pause of this graph and these seeds, with a budget as `run_for` has it. No label rises.
+/// The pool, the sides and the settings may be others than before. After a fault the pause is gone.
+pub fn resume<H, P, G>(
+    rt: &H,
+    alloc: Global,
+    csr: &Csr,
+    seeds: &[Seed],
+    rest: Paused,
+    settings: &Settings,
+    pool: &P,
+    sides: &mut [P::Side],
+    gate: &G,
+    budget: u64,
+) -> Result<Closed, RunFault>
+where
+    H: Threads + Wait + Clock + Sync,
+    P: WorkPool + Sync,
+    P::Side: Send,
+    G: Gate + Sync,
+    requires seeds { AreSeeds csr.now.n seeds.now }
+    requires pause { IsPause csr.now seeds.now rest }
+    requires workers { length sides.old ≡ settings.now.workers }
+    requires sides { All (P.is_side pool.now) sides.old }
+    ensures end { IfOk result (λ closed. IsEnd csr.now seeds.now closed) }
+    ensures lower { IfOk result (λ closed. AreNoHigher (closed_labels closed) rest.labels) }
+    ensures sides { All (P.is_side pool.now) sides.new }
+{
+    // The words have the labels as their seeds; the caller's seeds are for the contract alone.
+    let _ = seeds;
+    let (words, seat) = Words::reopen(alloc, csr, &rest)?;
+    drop(rest);
+    resumed_runs_end_alike();
+    let visits = Some(budget);
+    run_workers(
+        rt, alloc, csr, words, seat, settings, pool, sides, gate, visits,
+    )
+}
+
+/// The same as `run` on words that are open, with the seat that they were opened with.
 pub(crate) fn solve<H, P, G>(
     rt: &H,
     alloc: Global,
     csr: &Csr,
     words: Words,
-    mut seat: WorkSeat,
+    seat: WorkSeat,
     settings: &Settings,
     pool: &P,
     sides: &mut [P::Side],
@@ -102,10 +176,47 @@ where
     G: Gate + Sync,
     requires words { seat.words ≡ words }
     requires seat { CanLead csr.now MAX_WORKERS seat }
+    requires shares { seat.known.view.share ≡ SHARES }
     requires workers { length sides.old ≡ settings.now.workers }
     requires sides { All (P.is_side pool.now) sides.old }
     ensures labels { IfOk result
         (λ labels. AreLeastLabels csr.now.n csr.now.arcs seat.known.seeds labels.items) }
+    ensures sides { All (P.is_side pool.now) sides.new }
+{
+    match run_workers(
+        rt, alloc, csr, words, seat, settings, pool, sides, gate, None,
+    )? {
+        Closed::Settled(labels) => Ok(labels),
+        // Without a budget the seat saw the total at 0.
+        Closed::Paused(_) => unreachable!(),
+    }
+}
+
+/// Lets the workers go, each with this budget, and closes the words.
+fn run_workers<H, P, G>(
+    rt: &H,
+    alloc: Global,
+    csr: &Csr,
+    words: Words,
+    mut seat: WorkSeat,
+    settings: &Settings,
+    pool: &P,
+    sides: &mut [P::Side],
+    gate: &G,
+    budget: Option<u64>,
+) -> Result<Closed, RunFault>
+where
+    H: Threads + Wait + Clock + Sync,
+    P: WorkPool + Sync,
+    P::Side: Send,
+    G: Gate + Sync,
+    requires words { seat.words ≡ words }
+    requires seat { CanLead csr.now MAX_WORKERS seat }
+    requires shares { seat.known.view.share ≡ SHARES }
+    requires workers { length sides.old ≡ settings.now.workers }
+    requires sides { All (P.is_side pool.now) sides.old }
+    ensures end { IfOk result (λ closed. IsEnd csr.now seat.known.seeds closed) }
+    ensures settled { budget ≡ None → IfOk result HasSettled }
     ensures sides { All (P.is_side pool.now) sides.new }
 {
     let pace = Pace::open(alloc, settings.workers)?;
@@ -116,14 +227,11 @@ where
         gate,
         settings,
         pace: &pace,
+        budget,
     };
     push_marked(rt, &shared, &seat, &mut sides[0]);
     run_group(rt, &shared, 0, &mut seat, sides);
-    match words.close(alloc, seat)? {
-        Closed::Settled(labels) => Ok(labels),
-        // The seat saw the total at 0.
-        Closed::Paused(_) => unreachable!(),
-    }
+    Ok(words.close(alloc, seat)?)
 }
 
 /// Hands each marked vertex to the pool, in rising order.

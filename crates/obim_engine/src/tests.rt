@@ -1,8 +1,11 @@
 //! Worked runs, pools that mislead, a gate that watches, and many runs beside the plain way.
 
+mod draws;
 mod gates;
 mod graphs;
+mod pauses;
 mod pools;
+mod refusals;
 
 ghost use Rattle.std.specs.Prelude.{◌≡◌, ◌<◌, IfOk};
 ghost use Rattle.route_walks.specs.Label.{AreLeastLabels};

@@ -1,6 +1,7 @@
-//! One worker: draw a vertex, take it, relax its arcs, and again until the pending total is 0.
+//! One worker: draw a vertex, take it, relax its arcs, and again until the pending total is 0 or the
+//! worker's budget is spent.
 
-ghost use Rattle.std.specs.Prelude.{◌≡◌, ◌+◌, ◌<◌, true, false};
+ghost use Rattle.std.specs.Prelude.{◌≡◌, ◌↔◌, ◌+◌, ◌<◌, true, false, None};
 ghost use Rattle.relax_core.specs.declared.views.Hand.TheVariants.{Idle, Fresh};
 ghost use Rattle.csr_graph.specs.Graph.{end_place};
 ghost use Rattle.label_words.specs.Callers.{Stays, HasRowOpen};
@@ -31,9 +32,12 @@ pub(crate) struct Shared<'a, P, G> {
     pub gate: &'a G,
     pub settings: &'a Settings,
     pub pace: &'a Pace,
+    /// How many vertices each worker may visit, where there is a limit.
+    pub budget: Option<u64>,
 }
 
-/// Works until the seat sees the pending total at 0.
+/// Works until the seat sees the pending total at 0, or the worker has visited as many vertices as its
+/// budget lets it.
 pub(crate) fn work<H: Wait + Clock, P: WorkPool, G: Gate>(
     rt: &H,
     shared: &Shared<'_, P, G>,
@@ -44,18 +48,27 @@ pub(crate) fn work<H: Wait + Clock, P: WorkPool, G: Gate>(
     requires words { seat.old.words ≡ shared.now.words.now }
     requires seat { CanLead shared.now.csr.now 1 seat.old }
     requires side { P.is_side shared.now.pool.now side.old }
-    ensures seat { AreDone seat.old seat.new }
+    ensures seat { AreDone shared.now.budget seat.old seat.new }
     ensures side { P.is_side shared.now.pool.now side.new }
 {
     let mut pauses = Pauses::new();
     let mut watch = Watch::new(worker);
     let mut left = FRUITLESS_POPS;
+    let mut budget = shared.budget;
     for _ in rt.forever() {
+        if budget == Some(0) {
+            // What the worker's side keeps is left for the sweeps of others.
+            shared.pace.lose();
+            // The run may be over all the same.
+            shared.words.see(seat);
+            return;
+        }
         let popped = shared.pool.pop(rt, side);
         show(shared, worker, seat, popped);
         match popped {
             Some(u) if u < shared.csr.n() && shared.words.take(seat, u) => {
                 visit(rt, shared, worker, seat, side, u);
+                budget = spent(budget);
                 left = FRUITLESS_POPS;
                 pauses.reset();
                 watch.visited(rt, shared.pace);
@@ -66,7 +79,7 @@ pub(crate) fn work<H: Wait + Clock, P: WorkPool, G: Gate>(
                 }
                 left -= 1;
                 if left == 0 {
-                    sweep(rt, shared, worker, seat, side);
+                    budget = sweep(rt, shared, worker, seat, side, budget);
                     left = FRUITLESS_POPS;
                 }
                 pauses.wait(rt, popped, shared.pace.has_lost());
@@ -74,6 +87,13 @@ pub(crate) fn work<H: Wait + Clock, P: WorkPool, G: Gate>(
         }
     }
     unreachable!()
+}
+
+/// What is left of a budget after one visit.
+fn spent(budget: Option<u64>) -> Option<u64>
+    ensures { result ≡ None ↔ budget ≡ None }
+{
+    budget.map(|visits| visits.saturating_sub(1))
 }
 
 /// Shows the label of the vertex that the worker is about to take, if it is marked, and `INF` where there
@@ -93,14 +113,16 @@ fn show<P, G>(shared: &Shared<'_, P, G>, worker: u32, seat: &WorkSeat, vertex: O
     }
 }
 
-/// Visits each vertex that is marked, in rising order: those too that the pool has lost.
+/// Visits each vertex that is marked, in rising order, until the budget is spent: those too that the pool
+/// has lost. Returns what is left of the budget.
 fn sweep<H: Wait, P: WorkPool, G: Gate>(
     rt: &H,
     shared: &Shared<'_, P, G>,
     worker: u32,
     seat: &mut WorkSeat,
     side: &mut P::Side,
-)
+    mut budget: Option<u64>,
+) -> Option<u64>
     requires words { seat.old.words ≡ shared.now.words.now }
     requires graph { shared.now.csr.now ≡ seat.old.known.graph }
     requires idle { seat.old.known.view.hand ≡ Idle }
@@ -108,14 +130,20 @@ fn sweep<H: Wait, P: WorkPool, G: Gate>(
     ensures stays { Stays seat.old seat.new }
     ensures idle { seat.new.known.view.hand ≡ Idle }
     ensures side { P.is_side shared.now.pool.now side.new }
+    ensures budget { budget ≡ None → result ≡ None }
 {
     shared.pace.seek();
     for v in 0..shared.csr.n() {
+        if budget == Some(0) {
+            break;
+        }
         show(shared, worker, seat, Some(v));
         if shared.words.take(seat, v) {
             visit(rt, shared, worker, seat, side, v);
+            budget = spent(budget);
         }
     }
+    budget
 }
 
 /// Relaxes the row of the vertex that the seat took, and finishes it.

@@ -36,10 +36,10 @@ seeds-start_at_labels labels =
     let n = length labels in
     let seed = seed_of (slice_index labels) in
     let each : (i d : ℕ) → i < length (range_with_len 0 n)
-        → StartsAtLabel labels (seed (get_or (range_with_len 0 n) i d)) =
+    → StartsAtLabel labels (seed (get_or (range_with_len 0 n) i d)) =
     λ i d lt.
-        let here : i < n = omega (arith, length-range_with_len 0 n) in
-        (omega (arith, get_or-range_with_len 0 n i d here), refl) in
+    let here : i < n = omega (arith, length-range_with_len 0 n) in
+    (omega (arith, get_or-range_with_len 0 n i d here), refl) in
     All-filter (λ s. nat_lt s.start INF) (StartsAtLabel labels) (map seed (range_with_len 0 n))
     (All-map (StartsAtLabel labels) seed (range_with_len 0 n) each)
 
@@ -69,7 +69,6 @@ labels-have_seed labels v below finite =
 module _ (n : ℕ) (arcs : List ArcRec) (seeds : List Seed) (labels : List ℕ) (within : AreSeeds n seeds)
     (count : length labels ≡ n) (sound : IsSound n arcs seeds (slice_index labels))
     (met : All (IsMet (slice_index labels)) seeds) where
-
   -- what is attained from the labels is attained from the seeds
   pub attained-from_labels : (v c : ℕ) → IsAttained arcs (seeds_of labels) v c → IsAttained arcs seeds v c
   attained-from_labels v c attained =
@@ -89,14 +88,17 @@ module _ (n : ℕ) (arcs : List ArcRec) (seeds : List Seed) (labels : List ℕ) 
       let lower = All-contains (IsMet label) seeds attained.seed met attained.seeded in
       let inside = All-contains (λ (s : Seed). s.vertex < n) seeds attained.seed within attained.seeded in
       let seeded =
-      labels-have_seed labels u (omega (arith, inside, count)) (omega (arith, lower, attained.costs, finite)) in
-      (label u + cost attained.walk, omega (arith, lower, attained.costs), record {
-        seed = seed_of label u;
-        walk = attained.walk;
-        seeded = seeded;
-        walks = attained.walks;
-        costs = refl;
-      })
+      labels-have_seed labels u (omega (arith, inside, count)) (omega (arith, lower, attained.costs, finite)) in (
+        label u + cost attained.walk,
+        omega (arith, lower, attained.costs),
+        record {
+          seed = seed_of label u;
+          walk = attained.walk;
+          seeded = seeded;
+          walks = attained.walks;
+          costs = refl;
+        },
+      )
 
   least-from_labels : (v d : ℕ) → IsLeast arcs (seeds_of labels) v d → IsLeast arcs seeds v d
   least-from_labels v d is = record {

@@ -6,7 +6,6 @@ ghost use Rattle.route_walks.specs.Walk.{IsGraph, AreSeeds};
 use csr_graph::{Csr, MAX_ARCS, MAX_VERTICES};
 use route_walks::{ArcRec, Memory, Seed};
 use std::alloc::Global;
-use std::test::Fail;
 
 /// An arc: tail, head and weight.
 type Triple = (u32, u32, u32);
@@ -118,11 +117,11 @@ pub(crate) fn are_seeds(n: u32, seeds: &[Seed]) -> bool
     seeds.iter().all(|seed| seed.vertex < n)
 }
 
-pub(crate) fn six(alloc: Global) -> Result<Csr, Fail>
+pub(crate) fn six(alloc: Global) -> Result<Csr, Memory>
     ensures { IfOk result (λ csr. csr.n ≡ 6) }
 {
     let arcs = SIX.map(|(tail, head, weight)| ArcRec::new(tail, head, weight));
-    Ok(Csr::build(alloc, 6, &arcs)?)
+    Csr::build(alloc, 6, &arcs)
 }
 
 /// So many arcs among `n` vertices, the same ones at each call.

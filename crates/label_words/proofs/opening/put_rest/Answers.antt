@@ -1,5 +1,5 @@
 -- No more marks than vertices are counted.
-use Rattle.std.proofs.Common.{arith, slice_index_or, false, ap, refl, ◌≤◌, ◌∙◌, inl, inr}
+use Rattle.std.proofs.Common.{arith, ◌≤◌, inl, inr}
 use Rattle.std.proofs.lemmas.Bool.{cases_Bool}
 use Rattle.relax_core.specs.State.{mark_of as is_marked}
 use Rattle.relax_core.proofs.Facts.{marks_le}

@@ -1,5 +1,5 @@
 -- The words that were laid from the pause keep the rule.
-use Rattle.std.proofs.Common.{◌≡◌, ◌∙◌, sym, ap, List, [], ℕ}
+use Rattle.std.proofs.Common.{◌≡◌, ◌∙◌, ap, [], ℕ}
 use Rattle.std.specs.declared.vec.Vec.{Vec}
 use Rattle.std.specs.declared.alloc.Global.{Global}
 use Rattle.route_walks.specs.declared.graph.Seed.{Seed}
