@@ -58,9 +58,15 @@ impl Pace {
         }
     }
 
-    /// The pool refused a vertex, or a worker leaves with what its side keeps: a sweep has to find it.
+    /// The pool refused a vertex: a sweep has to find it.
     pub(crate) fn lose(&self) {
         self.lost.store(true, Ordering::Relaxed);
+    }
+
+    /// A worker leaves that has spent its budget: a sweep has to find what its side keeps.
+    pub(crate) fn leave(&self, worker: u32) {
+        self.show(worker, INF);
+        self.lose();
     }
 
     /// A sweep begins.

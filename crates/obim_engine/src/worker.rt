@@ -57,8 +57,7 @@ pub(crate) fn work<H: Wait + Clock, P: WorkPool, G: Gate>(
     let mut budget = shared.budget;
     for _ in rt.forever() {
         if budget == Some(0) {
-            // What the worker's side keeps is left for the sweeps of others.
-            shared.pace.lose();
+            shared.pace.leave(worker);
             // The run may be over all the same.
             shared.words.see(seat);
             return;
