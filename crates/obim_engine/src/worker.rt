@@ -146,6 +146,7 @@ fn sweep<H: Wait, P: WorkPool, G: Gate>(
 }
 
 /// Relaxes the row of the vertex that the seat took, and finishes it.
+#[inline(always)]
 fn visit<H: Wait, P: WorkPool, G: Gate>(
     rt: &H,
     shared: &Shared<'_, P, G>,
@@ -171,6 +172,7 @@ fn visit<H: Wait, P: WorkPool, G: Gate>(
 
 /// Relaxes the next arc of the row of `u`. Where its head's label falls the head is marked and handed
 /// to the pool. False at the row's end.
+#[inline(always)]
 fn relax_next<H: Wait, P: WorkPool, G>(
     rt: &H,
     shared: &Shared<'_, P, G>,
