@@ -37,12 +37,13 @@ impl Pauses {
     }
 
     /// Waits after a fruitless pop. Where the pool gave a vertex, which another worker took, there may be
-    /// more, so the processor is kept. Where a sweep is due, there is no sleep. The clock only sleeps.
+    /// more, and where a sweep is due, the sooner it comes the better: so the processor is kept. The clock
+    /// only sleeps.
     pub(crate) fn wait<C: Clock>(&mut self, clock: &C, popped: Option<u32>, due: bool) {
-        if popped.is_some() {
+        if popped.is_some() || due {
             self.reset();
             self.backoff.spin();
-        } else if self.backoff.is_completed() && !due {
+        } else if self.backoff.is_completed() {
             sleep(clock, Duration::from_micros(self.micros));
             self.micros = self.micros.saturating_add(LONGER).min(LONGEST);
         } else {

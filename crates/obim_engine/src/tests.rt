@@ -3,6 +3,7 @@
 mod draws;
 mod gates;
 mod graphs;
+mod hostile;
 mod pauses;
 mod pools;
 mod refusals;
@@ -16,8 +17,10 @@ use crate::{
     least_labels, levels, run,
 };
 use csr_graph::Csr;
+use draws::Draws;
 use gates::{Holding, Recorder, Yielding};
 use graphs::{SIX_LABELS, WORKED, arcs_of, are_seeds, grid_arcs, is_graph, random_arcs, six};
+use hostile::Hostile;
 use obim_pool::{LockedPool, ObimPool};
 use pools::{FirstIn, Misleading, Useless};
 use route_walks::{ArcRec, Seed, both_ways, plain_labels, seeds_all, seeds_from, unit_weights};
@@ -160,6 +163,29 @@ fn pools_that_are_useless(rt: HostRuntime) -> Result<(), Fail> {
             &rt, alloc, &csr, &seeds, &settings, &pool, &mut sides, &OpenGate,
         )?;
         assert_eq!(rt; labels.as_slice(), SIX_LABELS.as_slice());
+    }
+    Ok(())
+}
+
+// A pool that drops, refuses, repeats and invents vertices at random: the same labels each time.
+#[test]
+fn a_hostile_pool(rt: HostRuntime) -> Result<(), Fail> {
+    let alloc = rt.alloc();
+    let n = 3_000;
+    let arcs = random_arcs(alloc, n, 12_000)?;
+    let seeds = [Seed::new(0, 5), Seed::new(7, 0)];
+    let within = is_graph(n, &arcs) && are_seeds(n, &seeds);
+    assert!(rt; within);
+    let csr = Csr::build(alloc, n, &arcs)?;
+    let plain = plainly(&rt, alloc, n, &arcs, &seeds)?;
+    let mut draws = Draws::new();
+    for round in 0..200_u32 {
+        let settings = settings(&rt, 1 + round % 8, round % 16);
+        let (pool, mut sides) = Hostile::open(alloc, settings.workers, &mut draws)?;
+        let labels = run(
+            &rt, alloc, &csr, &seeds, &settings, &pool, &mut sides, &OpenGate,
+        )?;
+        assert!(rt; labels.as_slice() == plain.as_slice(), "round {round}");
     }
     Ok(())
 }

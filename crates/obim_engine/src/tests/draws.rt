@@ -37,6 +37,12 @@ impl Draws {
         (self.state >> 32) as u32 % end.max(1)
     }
 
+    /// Other draws, begun at a number that is drawn.
+    pub fn other(&mut self) -> Draws {
+        let state = u64::from(self.below(u32::MAX)) << 32 | u64::from(self.below(u32::MAX)) | 1;
+        Draws { state }
+    }
+
     /// From 1 to 8 workers, with a shift and chunks that fit or don't.
     pub fn settings(&mut self, rt: &impl Abort) -> Settings {
         let workers = 1 + self.below(8) % 8;
