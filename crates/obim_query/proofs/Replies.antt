@@ -1,6 +1,6 @@
 -- Labels and blocks that are right along the rows are right along the job's arcs, of which the rows were
 -- built.
-use Rattle.std.proofs.Common.{◌≡◌, ◌≢◌, ◌↔◌, Bool, true, false, ℕ, ◌<◌, ◌^◌, List, [], ◌∷◌, Option, slice_index, refl, subst, arith}
+use Rattle.std.proofs.Common.{◌≡◌, ◌≢◌, ◌↔◌, Bool, true, false, ℕ, ◌<◌, ◌^◌, List, [], ◌∷◌, Option, slice_index, refl, subst, sym, ◌∙◌, arith}
 use Rattle.std.specs.List.{All}
 use Rattle.std.proofs.lemmas.List.Elements.{All-from_get_or}
 use Rattle.route_walks.specs.declared.graph.ArcRec.{ArcRec}
@@ -10,15 +10,19 @@ use Rattle.route_walks.specs.Label.{AreLeastLabels, LeastLabelsFollowTheArcs}
 use Rattle.route_walks.specs.Operators.{seeds_from, seeds_all, both_ways, unit_weights}
 use Rattle.route_walks.specs.Component.{LeastLabelsAreComponents}
 use Rattle.walk_report.specs.Parent.{HopsAndParentsFollowTheArcs}
-use Rattle.dimacs_text.specs.Jobs.{Content, from_sources}
+use Rattle.dimacs_text.specs.Jobs.{Content, absent, from_sources}
 use Rattle.std.specs.Prelude.{Result, Ok, Err, IfErr, OnErr}
 use Rattle.dimacs_text.specs.AnswerLines.{components_text}
+use Rattle.obim_engine.specs.declared.runs.RunFault.{RunFault}
+use Rattle.obim_engine.specs.declared.runs.RunFault.TheVariants as stopped
+use Rattle.obim_query.specs.Choices.{fault_of_run}
+use Rattle.obim_query.proofs.Prefixes.{puts-nothing}
 use Rattle.obim_query.specs.declared.fault.Fault.{Fault}
 use Rattle.obim_query.specs.declared.fault.Fault.TheVariants.{Read, TooLong, Text, NoAsk, Memory, Spawn, Write}
 use Rattle.obim_query.specs.declared.asked.Answer.{Answer}
 use Rattle.obim_query.specs.declared.asked.Answer.TheVariants.{Distances, Levels, Components}
 use Rattle.obim_query.specs.Bytes.{WritesPrefix}
-use Rattle.obim_query.specs.Outcome.{IsReplyFault, IsWritingFault}
+use Rattle.obim_query.specs.Outcome.{IsReplyFault, IsUnasked, IsWritingFault}
 use Rattle.obim_query.specs.AnswerText.{IsBlock, AreSourceBlocks, AreAskedBlocks, IsAnswerText, arcs_for}
 
 -- a block along the same arcs is the same
@@ -129,22 +133,40 @@ components_found law n arcs labels few graph found =
     let low = (law n arcs (slice_index labels) graph few found.least v inside).least v ([], refl) in
     omega (arith, low, inside, few))
 
+-- where queries are there, or components are asked for, the job is asked
+pub is_asked-from_sources : (kind : Answer) (job : Content) (sources : List ℕ) → job.question ≡ from_sources sources
+    → ¬ (IsUnasked kind job)
+is_asked-from_sources kind job sources asked unasked =
+    let never : absent ≡ from_sources sources = sym unasked.unasked ∙ asked in cc
+
+pub is_asked-components : (kind : Answer) (job : Content) → kind ≡ Components → ¬ (IsUnasked kind job)
+is_asked-components kind job components unasked = unasked.needed components
+
 -- what is said of a fault while blocks are written is said of a fault of the reply
 reply-fault : (kind : Answer) (walks : Bool) (job : Content) (before after : Option (List ℕ)) (fault : Fault)
-    → IsWritingFault fault → WritesPrefix (IsAnswerText kind walks job) before after
+    → ¬ (IsUnasked kind job) → IsWritingFault fault → WritesPrefix (IsAnswerText kind walks job) before after
     → IsReplyFault kind walks job before after fault
-reply-fault kind walks job before after Read never cut = absurd never
-reply-fault kind walks job before after TooLong never cut = absurd never
-reply-fault kind walks job before after (Text line what) never cut = absurd never
-reply-fault kind walks job before after NoAsk never cut = absurd never
-reply-fault kind walks job before after Memory writing cut = cut
-reply-fault kind walks job before after Spawn writing cut = cut
-reply-fault kind walks job before after Write writing cut = cut
+reply-fault kind walks job before after Read asked never cut = absurd never
+reply-fault kind walks job before after TooLong asked never cut = absurd never
+reply-fault kind walks job before after (Text line what) asked never cut = absurd never
+reply-fault kind walks job before after NoAsk asked never cut = absurd never
+reply-fault kind walks job before after Memory asked writing cut = record { asked = asked; cut = cut }
+reply-fault kind walks job before after Spawn asked writing cut = record { asked = asked; cut = cut }
+reply-fault kind walks job before after Write asked writing cut = record { asked = asked; cut = cut }
 
 pub reply-says : {T : Type 0} (kind : Answer) (walks : Bool) (job : Content) (before after : Option (List ℕ))
     (r : Result T Fault)
-    → IfErr r IsWritingFault → OnErr r (WritesPrefix (IsAnswerText kind walks job) before after)
+    → ¬ (IsUnasked kind job) → IfErr r IsWritingFault → OnErr r (WritesPrefix (IsAnswerText kind walks job) before after)
     → IfErr r (IsReplyFault kind walks job before after)
-reply-says kind walks job before after (Ok x) kinds cut = tt
-reply-says kind walks job before after (Err fault) kinds cut =
-    reply-fault kind walks job before after fault kinds cut
+reply-says kind walks job before after (Ok x) asked kinds cut = tt
+reply-says kind walks job before after (Err fault) asked kinds cut =
+    reply-fault kind walks job before after fault asked kinds cut
+
+-- before anything is written, whatever refused a run is such a fault
+pub run-stops : (kind : Answer) (walks : Bool) (job : Content) (before : Option (List ℕ)) (refused : RunFault)
+    → ¬ (IsUnasked kind job)
+    → IsReplyFault kind walks job before before (fault_of_run refused)
+run-stops kind walks job before stopped.Memory asked =
+    record { asked = asked; cut = puts-nothing (IsAnswerText kind walks job) before [] }
+run-stops kind walks job before stopped.Spawn asked =
+    record { asked = asked; cut = puts-nothing (IsAnswerText kind walks job) before [] }

@@ -26,12 +26,24 @@ pub record IsAnswered (limit : ℕ) (kind : Answer) (walks : Bool)
   pub request : IsRequest limit taken_from taken_to job
   pub reply : Writes (IsAnswerText kind walks job) given_from given_to
 
--- the whole text was taken, it is a job's, and a prefix of the job's answer was written and nothing else
+-- the job has no section of queries, and only components need none
+pub record IsUnasked (kind : Answer) (job : Content) : Type 0 where
+  pub unasked : job.question ≡ absent
+  pub needed : kind ≢ answer.Components
+
+-- the job is asked, so it has an answer, and a prefix of that was written and nothing else
+pub record IsReplyBegun (kind : Answer) (walks : Bool) (job : Content) (before after : Option (List ℕ))
+    : Type 0 where
+  pub asked : ¬ (IsUnasked kind job)
+  pub cut : WritesPrefix (IsAnswerText kind walks job) before after
+
+-- the whole text was taken, it is a job's that is asked, and a prefix of its answer was written and
+-- nothing else
 pub record IsBegun (limit : ℕ) (kind : Answer) (walks : Bool)
     (taken_from taken_to given_from given_to : Option (List ℕ)) : Type 0 where
   pub job : Content
   pub request : IsRequest limit taken_from taken_to job
-  pub reply : WritesPrefix (IsAnswerText kind walks job) given_from given_to
+  pub reply : IsReplyBegun kind walks job given_from given_to
 
 -- the text is a job's, and the bytes are the job's answer
 pub record IsAnswerOf (kind : Answer) (walks : Bool) (text bytes : List ℕ) : Type 0 where
@@ -44,11 +56,6 @@ pub record IsFaulty (before after : Option (List ℕ)) (line : ℕ) (kind : Line
   pub text : List ℕ
   pub whole : TakesWhole before after text
   pub first : IsFirstFault text line kind
-
--- the job has no section of queries, and only components need none
-pub record IsUnasked (kind : Answer) (job : Content) : Type 0 where
-  pub unasked : job.question ≡ absent
-  pub needed : kind ≢ answer.Components
 
 -- the whole text was taken, and it is a job's without a section of queries
 pub record IsRequestUnasked (limit : ℕ) (kind : Answer) (before after : Option (List ℕ)) : Type 0 where
@@ -119,18 +126,16 @@ IsRequestFault before after fault.Memory = ⊤
 IsRequestFault before after fault.Spawn = ⊥
 IsRequestFault before after fault.Write = ⊥
 
--- the faults of answering a job: nothing is written where nothing was asked, and else a prefix
+-- the faults of answering a job: nothing is written where nothing was asked, and only there it is NoAsk;
+-- and else a prefix
 abbrev pub IsReplyFault : Answer → Bool → Content → Option (List ℕ) → Option (List ℕ) → Fault → Type 0
 IsReplyFault kind walks job before after fault.Read = ⊥
 IsReplyFault kind walks job before after fault.TooLong = ⊥
 IsReplyFault kind walks job before after (fault.Text line what) = ⊥
 IsReplyFault kind walks job before after fault.NoAsk = IsUnasked kind job × Keeps before after
-IsReplyFault kind walks job before after fault.Memory =
-    WritesPrefix (IsAnswerText kind walks job) before after
-IsReplyFault kind walks job before after fault.Spawn =
-    WritesPrefix (IsAnswerText kind walks job) before after
-IsReplyFault kind walks job before after fault.Write =
-    WritesPrefix (IsAnswerText kind walks job) before after
+IsReplyFault kind walks job before after fault.Memory = IsReplyBegun kind walks job before after
+IsReplyFault kind walks job before after fault.Spawn = IsReplyBegun kind walks job before after
+IsReplyFault kind walks job before after fault.Write = IsReplyBegun kind walks job before after
 
 -- the faults of working out blocks and writing them
 abbrev pub IsWritingFault : Fault → Type 0

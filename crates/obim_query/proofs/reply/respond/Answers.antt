@@ -1,7 +1,7 @@
 use Rattle.std.proofs.Common.{◌<◌, [], ap, subst, sym, arith}
 use Rattle.std.specs.List.{All}
 use Rattle.std.proofs.lemmas.List.Elements.{All-weaker}
-use Rattle.std.proofs.lemmas.Result.{on_err_weaker, on_ok_weaker}
+use Rattle.std.proofs.lemmas.Result.{err_from_is_err_and, on_err_weaker, on_ok_weaker}
 use Rattle.route_walks.specs.declared.graph.TheConstants.{INF}
 use Rattle.route_walks.specs.Walk.{IsArcBelow, IsGraph}
 use Rattle.dimacs_text.specs.Jobs.{IsArcWithin, content_of, question_of}
@@ -9,6 +9,7 @@ use Rattle.dimacs_text.specs.AnswerLines.{components_text}
 use Rattle.obim_query.specs.AnswerText.{IsAnswerText}
 use Rattle.obim_query.proofs.Prefixes.{only-text}
 use Rattle.obim_query.proofs.Replies.{components_answered, components_found, components_least}
+use Rattle.obim_query.proofs.Replies.{is_asked-components, is_asked-from_sources, run-stops}
 use Rattle.obim_query.proofs.Replies.{reply-says, sources_answered, sources_begun}
 use Rattle.obim_query.proofs.reply.respond.Goals as goal
 
@@ -57,7 +58,8 @@ returns-in_ok-labels-in-Components-default-clause-says g c =
     components_answered c.least_labels_follow_the_arcs.ensures kind walks job csr.n csr.arcs labels
     c.in-Components-default.is-0 c.in_ok-csr-in-Components-default.ensures.vertices
     c.in_ok-csr-in-Components-default.ensures.arcs c.in_ok-labels-in-Components-default.ensures in
-    reply-says kind walks job _ _ c.write_components.result c.write_components.ensures.kinds
+    reply-says kind walks job _ _ c.write_components.result
+    (is_asked-components kind job c.in-Components-default.is-0) c.write_components.ensures.kinds
     (on_err_weaker c.write_components.result
     (only-text (IsAnswerText kind walks job) _ _ [] (components_text labels)
     (λ other. c.answer_texts_are_unique.ensures kind walks job (components_text labels) other answered))
@@ -85,10 +87,24 @@ returns-in_ok-csr-in_default-Sources-clause-says g c =
     let walks = c.args.asked.now.walks in
     let job = content_of c.args.job in
     let csr = c.in_ok-csr-in_default-Sources.csr in
-    reply-says kind walks job _ _ c.write_sources.result c.write_sources.ensures.kinds
+    reply-says kind walks job _ _ c.write_sources.result
+    (is_asked-from_sources kind job c.in_default-Sources.sources.items (ap question_of c.in_default-Sources.is-1))
+    c.write_sources.ensures.kinds
     (on_err_weaker c.write_sources.result
     (sources_begun c.least_labels_follow_the_arcs.ensures c.hops_and_parents_follow_the_arcs.ensures kind walks job
     csr.n csr.arcs c.in_default-Sources.sources.items _ _ c.in_default-Sources.not-Components-0
     (ap question_of c.in_default-Sources.is-1) c.in_ok-csr-in_default-Sources.ensures.vertices
     c.in_ok-csr-in_default-Sources.ensures.arcs)
     (rw c.deref-in_default-Sources.ensures.value at c.write_sources.ensures.prefix))
+
+pub returns-in_err-labels-in-Components-default-clause-says :
+    goal.returns-in_err-labels-in-Components-default-clause-says
+returns-in_err-labels-in-Components-default-clause-says g c =
+    let kind = c.args.asked.now.answer in
+    let job = content_of c.args.job in
+    let p =
+    err_from_is_err_and c.from_residual-in_err-labels-in-Components-default.result
+    c.from_residual-in_err-labels-in-Components-default.ensures.1 in
+    rw (p.1, p.2)
+    (run-stops kind c.args.asked.now.walks job _ c.in_err-labels-in-Components-default.field-0.0
+    (is_asked-components kind job c.in-Components-default.is-0))

@@ -22,11 +22,11 @@ module _ (law : ATextHasOneJob) (limit : ℕ) (kind : Answer) (walks : Bool) (te
       let whole : text ≡ run.request.text =
       taken.taken ∙ ap (λ (xs : List ℕ). run.request.text ++ xs) taken.ended ∙ append-nil run.request.text in
       let same = law text job run.job is_job (subst (λ (xs : List ℕ). IsJobText xs run.job) (sym whole) run.request.is_job) in
-      let prefix = run.reply.is_prefix reply (subst (λ (j : Content). IsAnswerText kind walks j reply) same answered) in (
+      let prefix = run.reply.cut.is_prefix reply (subst (λ (j : Content). IsAnswerText kind walks j reply) same answered) in (
         prefix.0,
         ap (λ (xs : List ℕ). old ++ xs) prefix.1
-            ∙ sym (append_assoc old run.reply.given prefix.0)
-            ∙ ap (λ (xs : List ℕ). xs ++ prefix.0) (sym run.reply.appended),
+            ∙ sym (append_assoc old run.reply.cut.given prefix.0)
+            ∙ ap (λ (xs : List ℕ). xs ++ prefix.0) (sym run.reply.cut.appended),
       )
 
   at-fault : (fault : Fault) → HasWritten limit kind walks (Some text) (Some rest) (Some old) (Some new) fault
