@@ -2,6 +2,7 @@
 
 mod callers;
 mod command_lines;
+mod cuts;
 mod gates;
 mod streams;
 
@@ -40,6 +41,12 @@ fn asked_with(
 ) -> Asked {
     let settings = Settings::new(workers, shift, chunk).expect(rt, "settings within their limits");
     Asked::new(answer, settings, false, limit).expect(rt, "a limit of at most 2^36")
+}
+
+/// Distances with their walks.
+fn asked_with_walks(rt: &impl Abort, limit: u64) -> Asked {
+    let settings = Settings::new(2, 4, 16).expect(rt, "settings within their limits");
+    Asked::new(Answer::Distances, settings, true, limit).expect(rt, "walks of distances")
 }
 
 fn fault(line: u64, kind: LineKind) -> Fault {
@@ -93,11 +100,7 @@ fn settings_change_no_answer(rt: HostRuntime) -> Result<(), Fail> {
 fn answers_with_walks(rt: HostRuntime) -> Result<(), Fail> {
     let walks: &[u8] = b"s 1\nd 1 0\nw 1 0 1\nd 2 10\nw 2 10 1 3 5 2\nd 3 10\nw 3 10 1 3\nd 4 12\n\
         w 4 12 1 3 5 2 4\nd 5 10\nw 5 10 1 3 5\nd 6 15\nw 6 15 1 3 5 2 4 6\n";
-    let settings = Settings::new(2, 4, 16).expect(&rt, "settings within their limits");
-    let asked = Asked::new(Answer::Distances, settings, true, 1000).expect(
-        &rt,
-        "walks of distances",
-    );
+    let asked = asked_with_walks(&rt, 1000);
     let bytes = answer_bytes(&rt, rt.alloc(), SIX, &asked, &OpenGate)?;
     assert_eq!(rt; bytes.as_slice(), walks);
     Ok(())
@@ -210,21 +213,15 @@ fn readers_that_fail_or_give_little(rt: HostRuntime) -> Result<(), Fail> {
     let alloc = rt.alloc();
     let asked = asked(&rt, Answer::Distances, 1000);
     for count in 0..=SIX.len() {
-        let mut reader = Source {
-            rest: &SIX[..count],
-            step: 7,
-            fails: true,
-        };
-        let mut written = Vec::new(alloc);
-        let outcome = answer(&rt, alloc, &mut reader, &mut written, &asked, &OpenGate);
-        assert_eq!(rt; outcome, Err(Fault::Read), "after {count}");
-        assert!(rt; written.is_empty());
+        for step in [1, 7, 1000] {
+            let mut reader = Source::failing(&SIX[..count], step);
+            let mut written = Vec::new(alloc);
+            let outcome = answer(&rt, alloc, &mut reader, &mut written, &asked, &OpenGate);
+            assert_eq!(rt; outcome, Err(Fault::Read), "after {count}, by {step}");
+            assert!(rt; written.is_empty());
+        }
     }
-    let mut reader = Source {
-        rest: SIX,
-        step: 1,
-        fails: false,
-    };
+    let mut reader = Source::new(SIX, 1, 1);
     let mut written = Vec::new(alloc);
     answer(&rt, alloc, &mut reader, &mut written, &asked, &OpenGate)?;
     assert_eq!(rt; written.as_slice(), SIX_ANSWER);
@@ -244,11 +241,15 @@ fn writers_that_fail_or_take_little(rt: HostRuntime) -> Result<(), Fail> {
             assert_eq!(rt; sink.taken.as_slice(), &SIX_ANSWER[..room]);
         }
     }
-    let mut sink = Sink::never_flushed(alloc, 1);
-    let mut reader = SIX;
-    let outcome = answer(&rt, alloc, &mut reader, &mut sink, &asked, &OpenGate);
-    assert_eq!(rt; outcome, Err(Fault::Write));
-    assert_eq!(rt; sink.taken.as_slice(), SIX_ANSWER);
+    for (mut sink, want) in [
+        (Sink::new(alloc, 1), Ok(())),
+        (Sink::never_flushed(alloc, 1), Err(Fault::Write)),
+    ] {
+        let mut reader = SIX;
+        let outcome = answer(&rt, alloc, &mut reader, &mut sink, &asked, &OpenGate);
+        assert_eq!(rt; outcome, want);
+        assert_eq!(rt; sink.taken.as_slice(), SIX_ANSWER);
+    }
     Ok(())
 }
 

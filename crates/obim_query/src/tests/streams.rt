@@ -1,25 +1,53 @@
-//! A reader and a writer that fail, or give and take little at a time.
+//! A reader and a writer that tell their bytes, and fail, or give and take little at a time.
+
+ghost use Rattle.std.specs.Prelude.{◌<◌, Some};
 
 use std::alloc::Global;
 use std::io::{self, ErrorKind, Read, Write};
 
-/// Gives its bytes in reads of at most `step`, and then fails or is at its end.
+/// Gives its bytes, and then fails or is at its end. The first read gives at most `first` of them, and
+/// each after that at most `step`.
 #[derive(Drop)]
 pub(crate) struct Source<'a> {
-    pub rest: &'a [u8],
-    pub step: usize,
-    pub fails: bool,
+    rest: &'a [u8],
+    first: usize,
+    step: usize,
+    fails: bool,
+    ghost first_some: { 0 < first },
+    ghost some: { 0 < step },
+}
+
+impl<'a> Source<'a> {
+    /// A reader that gives all in such reads, of a byte at least.
+    pub fn new(bytes: &'a [u8], first: usize, step: usize) -> Source<'a> {
+        Source {
+            rest: bytes,
+            first: first.max(1),
+            step: step.max(1),
+            fails: false,
+        }
+    }
+
+    /// The same, which fails where there are no more.
+    pub fn failing(bytes: &'a [u8], step: usize) -> Source<'a> {
+        let mut source = Source::new(bytes, step, step);
+        source.fails = true;
+        source
+    }
 }
 
 impl Read for Source<'_> {
+    ghost remaining = { λ s. Some s.rest.now };
+
     fn read(&mut self, buffer: &mut [u8]) -> io::Result<usize> {
         if self.rest.is_empty() && self.fails {
             return Err(io::Error::from(ErrorKind::Other));
         }
-        let count = self.step.min(self.rest.len()).min(buffer.len());
+        let count = self.first.min(self.rest.len()).min(buffer.len());
         let (given, rest) = self.rest.split_at(count);
         buffer[..count].copy_from_slice(given);
         self.rest = rest;
+        self.first = self.step;
         Ok(count)
     }
 }
@@ -66,6 +94,8 @@ impl Sink {
 }
 
 impl Write for Sink {
+    ghost contents = { λ w. Some w.taken.items };
+
     fn write(&mut self, bytes: &[u8]) -> io::Result<usize> {
         let left = self.room.saturating_sub(self.taken.len());
         let count = self.step.min(left).min(bytes.len());
