@@ -5,3 +5,4 @@ pub mod Replies
 pub mod Costs
 pub mod Uniqueness
 pub mod Prefixes
+pub mod Existence

@@ -3,3 +3,4 @@ pub mod Bytes
 pub mod AnswerText
 pub mod Outcome
 pub mod Costs
+pub mod Existence

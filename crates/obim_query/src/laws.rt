@@ -2,9 +2,10 @@
 
 ghost use Rattle.obim_query.specs.AnswerText.{AnswerTextsAreUnique, BlocksAreUnique};
 ghost use Rattle.obim_query.specs.Costs.{AnswersSayCosts};
+ghost use Rattle.obim_query.specs.Existence.{AskedJobsHaveAnswers};
 
-use route_walks::laws::{inf_means_no_walk, least_labels_are_unique};
-use walk_report::laws::hops_and_parents_are_unique;
+use route_walks::laws::{inf_means_no_walk, least_labels_are_unique, least_labels_exist};
+use walk_report::laws::{hops_and_parents_are_unique, hops_and_parents_exist};
 
 /// A source has only one block of a kind.
 pub fn blocks_are_unique()
@@ -21,6 +22,15 @@ pub fn answer_texts_are_unique()
 {
     least_labels_are_unique();
     blocks_are_unique();
+}
+
+/// A job within the limits has an answer text of each kind, unless it asks for nothing. So what is said of
+/// every text that answers a job is never said of none.
+pub fn asked_jobs_have_answers()
+    ensures { AskedJobsHaveAnswers }
+{
+    least_labels_exist();
+    hops_and_parents_exist();
 }
 
 /// In an answer of distances or levels the line of a vertex says `inf` where no walk at all leads there

@@ -6,3 +6,4 @@ pub mod Lowering
 pub mod SameArcs
 pub mod Components
 pub mod Reseeding
+mod Existence

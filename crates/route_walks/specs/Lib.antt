@@ -2,3 +2,4 @@ pub mod Walk
 pub mod Operators
 pub mod Label
 pub mod Component
+pub mod Existence

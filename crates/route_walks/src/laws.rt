@@ -4,6 +4,7 @@ ghost use Rattle.route_walks.specs.Walk.{WalksCanBeCut};
 ghost use Rattle.route_walks.specs.Label.{SettledAndSoundAreLeast, LeastLabelsAreUnique};
 ghost use Rattle.route_walks.specs.Label.{LeastLabelsFollowTheArcs, InfMeansNoWalk, LabelsServeAsSeeds};
 ghost use Rattle.route_walks.specs.Component.{LeastLabelsAreComponents};
+ghost use Rattle.route_walks.specs.Existence.{LeastLabelsExist};
 
 /// Among `n` vertices each walk can be cut to at most `n - 1` arcs, at no more cost: what lies between
 /// two visits of one vertex can be left out.
@@ -20,6 +21,12 @@ pub fn settled_and_sound_are_least()
 /// A vertex has only one least label, so two programs that give least labels give the same ones.
 pub fn least_labels_are_unique()
     ensures { LeastLabelsAreUnique }
+{}
+
+/// Each vertex has a least label, so what is said of least labels is never said of nothing. Rounds over
+/// all arcs give them, as many as there are vertices.
+pub fn least_labels_exist()
+    ensures { LeastLabelsExist }
 {}
 
 /// Lists with the same arcs have the same least labels: neither the order of the arcs nor how often one

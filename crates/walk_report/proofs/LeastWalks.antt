@@ -42,7 +42,7 @@ module _ {n : ℕ} {arcs : List ArcRec} {s : ℕ} {labels : List ℕ} (graph : I
   label-le-cost v walk below walks = (least.least v below).least _ (attained-by_walk arcs s v walk walks)
 
   -- the first arc of a walk along which the labels differ by its cost is tight, and so for the rest
-  first-step : (u v : ℕ) (arc : ArcRec) (walk : List ArcRec) → u < n → v < n → slice_index labels v < INF
+  pub first-step : (u v : ℕ) (arc : ArcRec) (walk : List ArcRec) → u < n → v < n → slice_index labels v < INF
       → slice_index labels u + cost (arc ∷ walk) ≡ slice_index labels v → IsWalk arcs u (arc ∷ walk) v
       → (arc.head < n) × (slice_index labels arc.head < INF)
       × (slice_index labels u + arc.weight ≡ slice_index labels arc.head)

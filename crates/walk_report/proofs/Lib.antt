@@ -4,3 +4,4 @@ mod RowArcs
 mod Tails
 mod Printing
 mod Determined
+mod Existence

@@ -2,3 +2,4 @@ pub mod Hop
 pub mod Parent
 pub mod Printed
 pub mod Search
+pub mod Existence

@@ -3,6 +3,9 @@
 
 ghost use Rattle.walk_report.specs.Parent.{HopsAndParentsFollowTheArcs, HopsAndParentsAreUnique};
 ghost use Rattle.walk_report.specs.Printed.{PrintedWalksAreWalks};
+ghost use Rattle.walk_report.specs.Existence.{HopsAndParentsExist};
+
+use route_walks::laws::least_labels_exist;
 
 /// The vertices of a printed walk are those of a walk from the source, whose cost is the least label
 /// and whose number of arcs is the hop.
@@ -20,3 +23,11 @@ pub fn hops_and_parents_follow_the_arcs()
 pub fn hops_and_parents_are_unique()
     ensures { HopsAndParentsAreUnique }
 {}
+
+/// With the least labels from a source there are hops and parents, so what is said of them is never said of
+/// nothing.
+pub fn hops_and_parents_exist()
+    ensures { HopsAndParentsExist }
+{
+    least_labels_exist();
+}

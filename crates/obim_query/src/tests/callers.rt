@@ -4,9 +4,11 @@ ghost use Rattle.std.specs.Prelude.{◌≡◌, ◌≢◌, ◌+◌, ◌≤◌, �
 ghost use Rattle.dimacs_text.specs.Jobs.{Content, IsJobText};
 ghost use Rattle.dimacs_text.specs.declared.fault.LineKind.{LineKind};
 ghost use Rattle.obim_query.specs.AnswerText.{IsAnswerText};
+ghost use Rattle.obim_query.specs.Outcome.{IsAnswerOf};
 
 use crate::asked::Asked;
 use crate::fault::Fault;
+use crate::laws::asked_jobs_have_answers;
 use crate::reply::answer;
 use dimacs_text::laws::a_text_has_one_job;
 use obim_engine::Gate;
@@ -33,8 +35,13 @@ pub(crate) fn append_answer<H: Threads + Wait + Clock + Sync, G: Gate + Sync>(
     ensures prefix { IfErr result (λ _. (job : Content) (reply : List ℕ)
         → IsJobText text.now job → IsAnswerText asked.now.answer asked.now.walks job reply
         → (left : List ℕ) × (bytes.old.items ++ reply ≡ bytes.new.items ++ left)) }
+    // And there is an answer, of which it is a prefix.
+    ensures begun { result ≡ Err Fault.Write → (reply : List ℕ)
+        × IsAnswerOf asked.now.answer asked.now.walks text.now reply
+        × (left : List ℕ) × (bytes.old.items ++ reply ≡ bytes.new.items ++ left) }
 {
     a_text_has_one_job();
+    asked_jobs_have_answers();
     let mut reader = text;
     answer(rt, alloc, &mut reader, bytes, asked, gate)
 }

@@ -1,0 +1,377 @@
+-- Hops and parents exist. A hop is a least label too: along the tight arcs, each of which counts 1. A parent
+-- is found by looking at one arc after another.
+use Rattle.std.proofs.Common.{◌≡◌, ◌∙◌, ℕ, ◌+◌, ◌<◌, ◌≤◌, ◌⊎◌, List, [], ◌∷◌, length, get_or, map, min, slice_index}
+use Rattle.std.proofs.Common.{refl, sym, subst, ap, arith, inl, inr}
+use Rattle.std.specs.List.{Contains, range_with_len}
+use Rattle.std.proofs.lemmas.Bool.{cases_eq, cases_lt}
+use Rattle.std.proofs.lemmas.List.{get_or-map, get_or_default, length-map}
+use Rattle.std.proofs.lemmas.List.Elements.{All-cons, All-contains, All-from_get_or, All-nil}
+use Rattle.std.proofs.lemmas.List.Elements.{Contains-append_cases, Contains-append_right}
+use Rattle.std.proofs.lemmas.List.FromFn.{get_or-map-range_with_len, length-map-range_with_len}
+use Rattle.route_walks.specs.declared.graph.ArcRec.{ArcRec}
+use Rattle.route_walks.specs.declared.graph.Seed.{Seed}
+use Rattle.route_walks.specs.declared.graph.TheConstants.{INF, MAX_VERTICES}
+use Rattle.route_walks.specs.Walk.{AreSeeds, IsArcBelow, IsGraph, IsWalk, cost}
+use Rattle.route_walks.specs.Label.{AreLeastLabels}
+use Rattle.route_walks.specs.Operators.{seeds_from, unit_weight}
+use Rattle.route_walks.specs.Existence.{LeastLabelsExist}
+use Rattle.route_walks.proofs.Facts.{attained-by_walk, contains-one, walk-of_attained, walks_can_be_cut}
+use Rattle.csr_graph.proofs.Facts.{no_arc}
+use Rattle.walk_report.specs.declared.hop.TheConstants.{NONE}
+use Rattle.walk_report.specs.Hop.{AreFromOneSource, AreHops}
+use Rattle.walk_report.specs.Parent.{AreFirstTails, IsLeading, IsParent, Leads}
+use Rattle.walk_report.specs.Search.{IsTight}
+use Rattle.walk_report.specs.Existence.{HopsAndParentsExist}
+use Rattle.walk_report.proofs.LeastWalks.{first-step, label-le-cost}
+use Rattle.walk_report.proofs.Tails.{parents-done}
+
+-- a step is a tight arc that counts 1
+record IsStep (label : ℕ → ℕ) (arcs : List ArcRec) (step : ArcRec) : Type 0 where
+  arc : ArcRec
+  within : Contains arcs arc
+  tight : IsTight label arc
+  is : unit_weight arc ≡ step
+
+record AreSteps (label : ℕ → ℕ) (arcs steps : List ArcRec) : Type 0 where
+  all : (arc : ArcRec) → Contains arcs arc → IsTight label arc → Contains steps (unit_weight arc)
+  only : (step : ArcRec) → Contains steps step → IsStep label arcs step
+
+cases_tight : (label : ℕ → ℕ) (arc : ArcRec) → IsTight label arc ⊎ (IsTight label arc → ⊥)
+cases_tight label arc =
+    elim (cases_eq (label arc.tail + arc.weight) (label arc.head)) [
+      | inr other ↦ inr (λ tight. other tight.0)
+      | inl is ↦
+          elim (cases_lt (label arc.head) INF) [
+            | inl finite ↦ inl (is, finite)
+            | inr high ↦ inr (λ tight. omega (arith, high, tight.1))
+          ]
+    ]
+
+step-later : (label : ℕ → ℕ) (first : ArcRec) (arcs : List ArcRec) (step : ArcRec) → IsStep label arcs step
+    → IsStep label (first ∷ arcs) step
+step-later label first arcs step found = record {
+  arc = found.arc;
+  within = Contains-append_right (first ∷ []) arcs found.arc found.within;
+  tight = found.tight;
+  is = found.is;
+}
+
+steps_of : (label : ℕ → ℕ) (arcs : List ArcRec) → (steps : List ArcRec) × AreSteps label arcs steps
+steps_of label [] = (
+  [],
+  record {
+    all = λ arc within tight. absurd (omega (arith, within.1));
+    only = λ step within. absurd (omega (arith, within.1));
+  },
+)
+steps_of label (first ∷ arcs) =
+    let rest = steps_of label arcs in
+    elim (cases_tight label first) [
+      | inl tight ↦ (
+        unit_weight first ∷ rest.0,
+        record {
+          all = λ arc within is.
+              elim (Contains-append_cases (first ∷ []) arcs arc within) [
+                | inl here ↦ (0, omega arith, ap unit_weight (contains-one first arc here))
+                | inr later ↦
+                    Contains-append_right (unit_weight first ∷ []) rest.0 (unit_weight arc) (rest.1.all arc later is)
+              ];
+          only = λ step within.
+              elim (Contains-append_cases (unit_weight first ∷ []) rest.0 step within) [
+                | inl here ↦
+                    record {
+                      arc = first;
+                      within = (0, omega arith, refl);
+                      tight = tight;
+                      is = contains-one (unit_weight first) step here;
+                    }
+                | inr later ↦ step-later label first arcs step (rest.1.only step later)
+              ];
+        },
+      )
+      | inr loose ↦ (
+        rest.0,
+        record {
+          all = λ arc within is.
+              elim (Contains-append_cases (first ∷ []) arcs arc within) [
+                | inl here ↦ absurd (loose (subst (IsTight label) (sym (contains-one first arc here)) is))
+                | inr later ↦ rest.1.all arc later is
+              ];
+          only = λ step within. step-later label first arcs step (rest.1.only step within);
+        },
+      )
+    ]
+
+-- as many as the arcs of a walk
+cost-units : (walk : List ArcRec) → cost (map unit_weight walk) ≡ length walk
+cost-units [] = refl
+cost-units (arc ∷ walk) = omega (arith, cost-units walk)
+
+-- a walk of tight arcs from u to v, which a walk of steps of this cost goes along
+record GoesAlong (arcs : List ArcRec) (label : ℕ → ℕ) (u v count : ℕ) : Type 0 where
+  walk : List ArcRec
+  walks : IsWalk arcs u walk v
+  costs : label u + cost walk ≡ label v
+  counts : length walk ≡ count
+  finite : label v < INF
+
+module _ (label : ℕ → ℕ) (arcs steps : List ArcRec) (are : AreSteps label arcs steps) where
+  step-costs : (step : ArcRec) → Contains steps step → step.weight ≡ 1
+  step-costs step within = sym (ap (λ (a : ArcRec). a.weight) (are.only step within).is)
+
+  steps-cost : (u v : ℕ) (walk : List ArcRec) → IsWalk steps u walk v → cost walk ≡ length walk
+  steps-cost u v [] walks = refl
+  steps-cost u v (step ∷ walk) walks =
+      omega (arith, step-costs step walks.0, steps-cost step.head v walk walks.2)
+
+  steps-graph : (n : ℕ) → IsGraph n arcs → IsGraph n steps
+  steps-graph n graph =
+      All-from_get_or (IsArcBelow n) steps no_arc
+      (λ k below.
+      let step = get_or steps k no_arc in
+      let found = are.only step (k, below, sym (get_or_default steps k no_arc step below)) in
+      subst (IsArcBelow n) found.is (All-contains (IsArcBelow n) arcs found.arc graph found.within))
+
+  along-steps : (u v : ℕ) (walk : List ArcRec) → label u < INF → IsWalk steps u walk v
+      → GoesAlong arcs label u v (cost walk)
+  along-steps u v [] finite walks = record {
+    walk = [];
+    walks = walks;
+    costs = omega (arith, ap label walks);
+    counts = refl;
+    finite = omega (arith, ap label walks, finite);
+  }
+  along-steps u v (step ∷ walk) finite walks =
+      let found = are.only step walks.0 in
+      let head : found.arc.head ≡ step.head = ap (λ (a : ArcRec). a.head) found.is in
+      let tail : found.arc.tail ≡ u = ap (λ (a : ArcRec). a.tail) found.is ∙ walks.1 in
+      let rest =
+      along-steps step.head v walk (omega (arith, ap label head, found.tight.1)) walks.2 in
+      record {
+        walk = found.arc ∷ rest.walk;
+        walks = (found.within, tail, subst (λ (x : ℕ). IsWalk arcs x rest.walk v) (sym head) rest.walks);
+        costs = omega (arith, found.tight.0, ap label head, ap label tail, rest.costs);
+        counts = omega (arith, rest.counts, step-costs step walks.0);
+        finite = rest.finite;
+      }
+
+module _ (n : ℕ) (arcs : List ArcRec) (s : ℕ) (labels : List ℕ) (few : n ≤ MAX_VERTICES) (graph : IsGraph n arcs)
+    (inside : s < n) (least : AreLeastLabels n arcs (seeds_from s) labels) where
+  label_s : slice_index labels s ≡ 0
+  label_s = omega (arith, label-le-cost graph least s [] inside refl)
+
+  module _ (steps : List ArcRec) (are : AreSteps (slice_index labels) arcs steps) where
+    -- a walk along which labels differ by its cost goes by steps
+    by-steps : (u v : ℕ) (walk : List ArcRec) → u < n → v < n → slice_index labels v < INF
+        → slice_index labels u + cost walk ≡ slice_index labels v → IsWalk arcs u walk v
+        → IsWalk steps u (map unit_weight walk) v
+    by-steps u v [] below below' finite costs walks = walks
+    by-steps u v (arc ∷ walk) below below' finite costs walks =
+        let next = first-step graph least u v arc walk below below' finite costs walks in
+        let tail : slice_index labels arc.tail ≡ slice_index labels u = ap (slice_index labels) walks.1 in (
+          are.all arc walks.0 (omega (arith, next.2, tail), next.1),
+          walks.1,
+          by-steps arc.head v walk next.0 below' finite next.3 walks.2,
+        )
+
+    module _ (counts : List ℕ) (fewest : AreLeastLabels n steps (seeds_from s) counts) where
+      -- a walk of least cost has no fewer arcs
+      count-le : (v : ℕ) (walk : List ArcRec) → v < n → slice_index labels v < INF → IsWalk arcs s walk v
+          → cost walk ≡ slice_index labels v
+          → slice_index counts v ≤ length walk
+      count-le v walk below finite walks costs =
+          let stepped = by-steps s v walk inside below finite (omega (arith, label_s, costs)) walks in
+          let low = (fewest.least v below).least _ (attained-by_walk steps s v (map unit_weight walk) stepped) in
+          omega (arith, low, cost-units walk)
+
+      count-lt : (v : ℕ) → v < n → slice_index labels v < INF → slice_index counts v < n
+      count-lt v below finite =
+          let found = walk-of_attained arcs s v (slice_index labels v) ((least.least v below).attained finite) in
+          let stepped =
+          by-steps s v found.0 inside below finite (omega (arith, label_s, found.2)) found.1 in
+          let cut =
+          walks_can_be_cut n steps s v (map unit_weight found.0)
+          (steps-graph (slice_index labels) arcs steps are n graph) inside stepped in
+          let low = (fewest.least v below).least _ (attained-by_walk steps s v cut.walk cut.walks) in
+          omega (arith, low, steps-cost (slice_index labels) arcs steps are s v cut.walk cut.walks, cut.short)
+
+      counted : (v : ℕ) → v < n → slice_index counts v < INF
+          → GoesAlong arcs (slice_index labels) s v (slice_index counts v)
+      counted v below finite =
+          let found = walk-of_attained steps s v (slice_index counts v) ((fewest.least v below).attained finite) in
+          subst (GoesAlong arcs (slice_index labels) s v) found.2
+          (along-steps (slice_index labels) arcs steps are s v found.0 (omega (arith, label_s)) found.1)
+
+      hops-from : AreHops n arcs s labels (map (λ count. min count NONE) counts)
+      hops-from =
+          let hop : ℕ → ℕ = slice_index (map (λ count. min count NONE) counts) in
+          let is : (v : ℕ) → v < n → hop v ≡ min (slice_index counts v) NONE =
+          λ v below. get_or-map (λ count. min count NONE) counts v 0 0 (omega (arith, fewest.count)) in
+          let exact : (v : ℕ) → v < n → slice_index labels v < INF → hop v ≡ slice_index counts v =
+          λ v below finite. omega (arith, is v below, count-lt v below finite, few) in
+          record {
+            count = omega (arith, length-map counts (λ count. min count NONE), fewest.count);
+            none = λ v below infinite.
+                elim (cases_lt (slice_index counts v) INF) [
+                  | inl some ↦ absurd (omega (arith, (counted v below some).finite, infinite))
+                  | inr none ↦ omega (arith, is v below, none)
+                ];
+            below = λ v below finite. omega (arith, is v below, count-lt v below finite, few);
+            hop = λ v below finite.
+                let found = counted v below (omega (arith, count-lt v below finite, few)) in
+                record {
+                  walk = record {
+                    walk = found.walk;
+                    walks = found.walks;
+                    costs = omega (arith, label_s, found.costs);
+                    count = found.counts ∙ sym (exact v below finite);
+                  };
+                  fewest = λ walk walks costs.
+                      omega (arith, count-le v walk below finite walks costs, exact v below finite);
+                };
+          }
+
+-- an arc leads to its head, and that is v
+record LeadsTo (label hop : ℕ → ℕ) (v : ℕ) (arc : ArcRec) : Type 0 where
+  head : arc.head ≡ v
+  leading : IsLeading label hop arc
+
+-- the least vertex that leads to v is p, or none does and p is NONE
+abbrev IsFirst : List ArcRec → (ℕ → ℕ) → (ℕ → ℕ) → ℕ → ℕ → Type 0
+IsFirst arcs label hop v p = ((p ≡ NONE) × ((u : ℕ) → Leads arcs label hop u v → ⊥)) ⊎ IsParent arcs label hop v p
+
+module _ (label hop : ℕ → ℕ) (v : ℕ) where
+  cases_leading : (arc : ArcRec) → LeadsTo label hop v arc ⊎ (LeadsTo label hop v arc → ⊥)
+  cases_leading arc =
+      elim (cases_eq arc.head v) [
+        | inr other ↦ inr (λ leads. other leads.head)
+        | inl head ↦
+            elim (cases_eq (label arc.tail + arc.weight) (label arc.head)) [
+              | inr other ↦ inr (λ leads. other leads.leading.tight)
+              | inl tight ↦
+                  elim (cases_eq (hop arc.tail + 1) (hop arc.head)) [
+                    | inr other ↦ inr (λ leads. other leads.leading.nearer)
+                    | inl nearer ↦ inl (record { head = head; leading = record { tight = tight; nearer = nearer } })
+                  ]
+            ]
+      ]
+
+  -- a vertex leads to v by the first arc or by one of the others
+  leads-cases : (arc : ArcRec) (arcs : List ArcRec) (u : ℕ) → Leads (arc ∷ arcs) label hop u v
+      → ((arc.tail ≡ u) × LeadsTo label hop v arc) ⊎ Leads arcs label hop u v
+  leads-cases arc arcs u leads =
+      elim (Contains-append_cases (arc ∷ []) arcs _ leads.within) [
+        | inl here ↦
+            let is = contains-one arc _ here in
+            inl (
+              ap (λ (a : ArcRec). a.tail) is,
+              record {
+                head = ap (λ (a : ArcRec). a.head) is;
+                leading = subst (IsLeading label hop) (sym is) leads.leading;
+              },
+            )
+        | inr later ↦ inr (record { weight = leads.weight; within = later; leading = leads.leading })
+      ]
+
+  leads-first : (arc : ArcRec) (arcs : List ArcRec) → LeadsTo label hop v arc → Leads (arc ∷ arcs) label hop arc.tail v
+  leads-first arc arcs leads =
+      subst (Leads (arc ∷ arcs) label hop arc.tail) leads.head
+      (record { weight = arc.weight; within = (0, omega arith, refl); leading = leads.leading })
+
+  leads-later : (arc : ArcRec) (arcs : List ArcRec) (u : ℕ) → Leads arcs label hop u v
+      → Leads (arc ∷ arcs) label hop u v
+  leads-later arc arcs u leads = record {
+    weight = leads.weight;
+    within = Contains-append_right (arc ∷ []) arcs _ leads.within;
+    leading = leads.leading;
+  }
+
+  -- an arc that doesn't lead to v changes nothing
+  first-kept : (arc : ArcRec) (arcs : List ArcRec) (p : ℕ) → (LeadsTo label hop v arc → ⊥) → IsFirst arcs label hop v p
+      → IsFirst (arc ∷ arcs) label hop v p
+  first-kept arc arcs p not first =
+      elim first [
+        | inl none ↦
+            inl (
+              none.0,
+              λ u leads.
+                  elim (leads-cases arc arcs u leads) [
+                    | inl here ↦ not here.1
+                    | inr later ↦ none.1 u later
+                  ],
+            )
+        | inr parent ↦
+            inr (record {
+              leads = leads-later arc arcs p parent.leads;
+              least = λ other leads.
+                  elim (leads-cases arc arcs other leads) [
+                    | inl here ↦ absurd (not here.1)
+                    | inr later ↦ parent.least other later
+                  ];
+            })
+      ]
+
+  -- the tail of one that does is a parent, where no lower vertex leads to v
+  first-taken : (arc : ArcRec) (arcs : List ArcRec) → LeadsTo label hop v arc
+      → ((u : ℕ) → Leads arcs label hop u v → arc.tail ≤ u)
+      → IsParent (arc ∷ arcs) label hop v arc.tail
+  first-taken arc arcs leads low = record {
+    leads = leads-first arc arcs leads;
+    least = λ other leads.
+        elim (leads-cases arc arcs other leads) [
+          | inl here ↦ omega (arith, here.0)
+          | inr later ↦ low other later
+        ];
+  }
+
+  first-of : (arcs : List ArcRec) → (p : ℕ) × IsFirst arcs label hop v p
+  first-of [] = (NONE, inl (refl, λ u leads. absurd (omega (arith, leads.within.1))))
+  first-of (arc ∷ arcs) =
+      let rest = first-of arcs in
+      elim (cases_leading arc) [
+        | inr not ↦ (rest.0, first-kept arc arcs rest.0 not rest.1)
+        | inl leads ↦
+            elim (rest.1) [
+              | inl none ↦ (arc.tail, inr (first-taken arc arcs leads (λ u later. absurd (none.1 u later))))
+              | inr parent ↦
+                  elim (cases_lt rest.0 arc.tail) [
+                    | inr low ↦ (
+                      arc.tail,
+                      inr (first-taken arc arcs leads (λ u later. omega (arith, low, parent.least u later))),
+                    )
+                    | inl high ↦ (
+                      rest.0,
+                      inr (record {
+                        leads = leads-later arc arcs rest.0 parent.leads;
+                        least = λ other leads'.
+                            elim (leads-cases arc arcs other leads') [
+                              | inl here ↦ omega (arith, here.0, high)
+                              | inr later ↦ parent.least other later
+                            ];
+                      }),
+                    )
+                  ]
+            ]
+      ]
+
+pub hops_and_parents_exist : LeastLabelsExist → HopsAndParentsExist
+hops_and_parents_exist law n arcs s labels few graph inside least =
+    let label = slice_index labels in
+    let steps = steps_of label arcs in
+    let source : AreSeeds n (seeds_from s) =
+    All-cons (λ (seed : Seed). seed.vertex < n) (record { vertex = s; start = 0 }) [] inside (All-nil _) in
+    let counts = law n steps.0 (seeds_from s) (steps-graph label arcs steps.0 steps.1 n graph) source in
+    let exact = hops-from n arcs s labels few graph inside least steps.0 steps.1 counts.0 counts.1 in
+    let hops = map (λ count. min count NONE) counts.0 in
+    let first : ℕ → ℕ = λ v. (first-of label (slice_index hops) v arcs).0 in
+    let parents = map first (range_with_len 0 n) in
+    let tails : AreFirstTails n arcs label (slice_index hops) parents =
+    record {
+      count = length-map-range_with_len first 0 n;
+      first = λ v below.
+          let is = get_or-map-range_with_len first 0 n v v 0 below (omega arith) in
+          subst (IsFirst arcs label (slice_index hops) v) (sym is) (first-of label (slice_index hops) v arcs).1;
+    } in
+    let from : AreFromOneSource n arcs labels hops =
+    record { source = s; within = inside; least = least; exact = exact } in
+    (hops, parents, exact, parents-done few graph from tails)
