@@ -19,7 +19,7 @@ use crate::{
 use csr_graph::Csr;
 use draws::Draws;
 use gates::{Holding, Recorder, Yielding};
-use graphs::{SIX_LABELS, WORKED, arcs_of, are_seeds, grid_arcs, is_graph, random_arcs, six};
+use graphs::{SIX, SIX_LABELS, WORKED, arcs_of, are_seeds, grid_arcs, is_graph, random_arcs, six};
 use hostile::Hostile;
 use obim_pool::{LockedPool, ObimPool};
 use pools::{FirstIn, Misleading, Useless};
@@ -190,45 +190,130 @@ fn a_hostile_pool(rt: HostRuntime) -> Result<(), Fail> {
     Ok(())
 }
 
-// One worker over a pool that gives the first pushed first: what it pushes, and what the gate sees.
+/// What one worker does over a pool that gives the first pushed first, on the arcs of `n` vertices, from a
+/// seed at vertex 0: what it pushes, at which metrics, and what the gate sees.
+struct Order {
+    n: u32,
+    arcs: &'static [(u32, u32, u32)],
+    start: u64,
+    shift: u32,
+    pushes: &'static [(u32, u64)],
+    visits: &'static [u32],
+}
+
+const ORDERS: [Order; 4] = [
+    Order {
+        n: 6,
+        arcs: &SIX,
+        start: 0,
+        shift: 0,
+        pushes: &[
+            (0, 0),
+            (1, 17),
+            (2, 10),
+            (3, 19),
+            (4, 10),
+            (5, 22),
+            (1, 10),
+            (3, 12),
+            (5, 15),
+        ],
+        visits: &[0, 1, 2, 3, 4, 5, 1, 3, 5],
+    },
+    Order {
+        n: 6,
+        arcs: &SIX,
+        start: 0,
+        shift: 2,
+        pushes: &[
+            (0, 0),
+            (1, 4),
+            (2, 2),
+            (3, 4),
+            (4, 2),
+            (5, 5),
+            (1, 2),
+            (3, 3),
+            (5, 3),
+        ],
+        visits: &[0, 1, 2, 3, 4, 5, 1, 3, 5],
+    },
+    Order {
+        n: 6,
+        arcs: &SIX,
+        start: 9,
+        shift: 2,
+        pushes: &[
+            (0, 2),
+            (1, 6),
+            (2, 4),
+            (3, 7),
+            (4, 4),
+            (5, 7),
+            (1, 4),
+            (3, 5),
+            (5, 6),
+        ],
+        visits: &[0, 1, 2, 3, 4, 5, 1, 3, 5],
+    },
+    // Vertex 1 is lowered twice before it is visited, and pushed each time.
+    Order {
+        n: 3,
+        arcs: &[(0, 1, 9), (0, 1, 4), (1, 2, 1)],
+        start: 0,
+        shift: 0,
+        pushes: &[(0, 0), (1, 9), (1, 4), (2, 5)],
+        visits: &[0, 1, 2],
+    },
+];
+
 #[test]
 fn visits_and_pushes_of_one_worker(rt: HostRuntime) -> Result<(), Fail> {
     let alloc = rt.alloc();
-    let csr = six(alloc)?;
-    let seeds = seeds_from(alloc, 0)?;
-    let at_shift_0 = [
-        (0, 0),
-        (1, 17),
-        (2, 10),
-        (3, 19),
-        (4, 10),
-        (5, 22),
-        (1, 10),
-        (3, 12),
-        (5, 15),
-    ];
-    let at_shift_2 = [
-        (0, 0),
-        (1, 4),
-        (2, 2),
-        (3, 4),
-        (4, 2),
-        (5, 5),
-        (1, 2),
-        (3, 3),
-        (5, 3),
-    ];
-    for (shift, pushes) in [(0, at_shift_0), (2, at_shift_2)] {
+    for order in &ORDERS {
+        let arcs = arcs_of(alloc, order.arcs)?;
+        let seeds = [Seed::new(0, order.start)];
+        let within = is_graph(order.n, &arcs) && are_seeds(order.n, &seeds);
+        assert!(rt; within);
+        let csr = Csr::build(alloc, order.n, &arcs)?;
         let gate = Recorder::new(alloc);
         let mut sides = FirstIn::sides(alloc)?;
-        let settings = settings(&rt, 1, shift);
+        let settings = settings(&rt, 1, order.shift);
         let labels = run(
             &rt, alloc, &csr, &seeds, &settings, &FirstIn, &mut sides, &gate,
         )?;
-        assert_eq!(rt; labels.as_slice(), SIX_LABELS.as_slice());
-        assert_eq!(rt; sides[0].pushes.as_slice(), pushes.as_slice());
-        let passed = gate.into_passed();
-        assert_eq!(rt; passed.as_slice(), [0, 1, 2, 3, 4, 5, 1, 3, 5].as_slice());
+        let plain = plainly(&rt, alloc, order.n, &arcs, &seeds)?;
+        assert_eq!(rt; labels.as_slice(), plain.as_slice());
+        assert_eq!(rt; sides[0].pushes.as_slice(), order.pushes);
+        assert_eq!(rt; gate.into_passed().as_slice(), order.visits);
+    }
+    Ok(())
+}
+
+// Pools that keep nothing, and more vertices than a sweep meets in the other tests.
+#[test]
+fn a_sweep_of_a_large_star(rt: HostRuntime) -> Result<(), Fail> {
+    let alloc = rt.alloc();
+    let n = 70_001;
+    let mut arcs = Vec::new(alloc);
+    for v in 1..n {
+        arcs.push(ArcRec::new(0, v, v % 100))?;
+    }
+    let within = is_graph(n, &arcs);
+    assert!(rt; within);
+    let csr = Csr::build(alloc, n, &arcs)?;
+    let seeds = [Seed::new(0, 0)];
+    let settings = settings(&rt, 2, 4);
+    let pool = Useless {
+        accepts: false,
+        gives: None,
+    };
+    let mut sides = Useless::sides(alloc, 2)?;
+    let labels = run(
+        &rt, alloc, &csr, &seeds, &settings, &pool, &mut sides, &OpenGate,
+    )?;
+    for (v, label) in labels.iter().enumerate() {
+        assert_eq!(rt; *label, v as u64 % 100, "vertex {v}");
     }
     Ok(())
 }

@@ -1,6 +1,6 @@
 -- Least labels say the costs of walks: the labels of a block, as its lines write them.
-use Rattle.std.proofs.Common.{◌≡◌, Bool, true, false, ℕ, ◌+◌, ◌<◌, ◌≤◌, ◌^◌, List, [], ◌∷◌, ◌++◌}
-use Rattle.std.proofs.Common.{length, get_or, slice_index, suc, refl, subst, sym, ap, arith, inl, inr}
+use Rattle.std.proofs.Common.{◌≡◌, ◌∙◌, Bool, true, false, ℕ, ◌+◌, ◌<◌, ◌≤◌, ◌^◌, List, [], ◌∷◌, ◌++◌}
+use Rattle.std.proofs.Common.{length, get_or, slice_index, suc, refl, subst, sym, ap, ap₂, arith, inl, inr}
 use Rattle.std.specs.List.{All}
 use Rattle.std.specs.Prelude.{◌==◌, decimal, if◌then◌else◌}
 use Rattle.std.proofs.lemmas.List.{append-nil}
@@ -10,16 +10,21 @@ use Rattle.std.proofs.lemmas.Bool.Decides.{nat_tests}
 use Rattle.route_walks.specs.declared.graph.ArcRec.{ArcRec}
 use Rattle.route_walks.specs.declared.graph.Seed.{Seed}
 use Rattle.route_walks.specs.declared.graph.TheConstants.{INF, MAX_VERTICES}
-use Rattle.route_walks.specs.Walk.{IsArcBelow, IsGraph, cost}
+use Rattle.route_walks.specs.Walk.{IsArcBelow, IsGraph, IsWalk, cost}
+use Rattle.route_walks.specs.Component.{IsComponentLabel, LeastLabelsAreComponents}
 use Rattle.route_walks.specs.Label.{AreLeastLabels, InfMeansNoWalk}
 use Rattle.route_walks.specs.Operators.{seeds_from, unit_weight, unit_weights}
 use Rattle.route_walks.proofs.Facts.{attained-by_walk, walk-of_attained}
 use Rattle.dimacs_text.specs.AnswerLines.{cost_text, label_text, label_lines, walk_text}
 use Rattle.dimacs_text.specs.Jobs.{Content, Question, from_sources, IsArcWithin, IsQuestionWithin, IsWithinLimits}
-use Rattle.walk_report.specs.Printed.{printed_walk}
+use Rattle.dimacs_text.specs.AnswerLines.{component_lines}
+use Rattle.walk_report.specs.Hop.{AreHops}
+use Rattle.walk_report.specs.Parent.{AreParents}
+use Rattle.walk_report.specs.Printed.{printed_walk, PrintedWalksAreWalks}
 use Rattle.obim_query.specs.declared.asked.Answer.TheVariants.{Distances, Levels, Components}
 use Rattle.obim_query.specs.AnswerText.{AreAskedBlocks, AreBlocks, AreSourceBlocks, IsBlock, vertex_lines}
 use Rattle.obim_query.specs.Costs.{AnswersSayCosts, AreCostLines, IsCostText, SaysCosts, unreached, reached}
+use Rattle.obim_query.specs.Costs.{IsWalkLine, unasked, no_walk, shortest, AnswersSayComponents, AreComponentLines}
 
 -- along these arcs INF means that no walk exists
 record AreLight (n : ℕ) (arcs : List ArcRec) : Type 0 where
@@ -27,18 +32,23 @@ record AreLight (n : ℕ) (arcs : List ArcRec) : Type 0 where
   graph : IsGraph n arcs
   light : All (λ (arc : ArcRec). arc.weight < 2 ^ 32) arcs
 
+-- where a least label is INF there is no walk
+no_walk_at : InfMeansNoWalk → (n : ℕ) (arcs : List ArcRec) (source : ℕ) (labels : List ℕ) → AreLight n arcs
+    → source < n → AreLeastLabels n arcs (seeds_from source) labels
+    → (v : ℕ) → v < n → get_or labels v 0 ≡ INF → (walk : List ArcRec) → ¬ (IsWalk arcs source walk v)
+no_walk_at law n arcs source labels light within least v below is walk walks =
+    law n arcs (seeds_from source) labels light.few light.graph light.light
+    (All-cons (λ (s : Seed). s.vertex < n) (record { vertex = source; start = 0 }) [] within (All-nil _))
+    (All-cons (λ (s : Seed). s.start ≤ 2 ^ 60) (record { vertex = source; start = 0 }) [] (omega arith) (All-nil _))
+    least v below is (cost walk) (attained-by_walk arcs source v walk walks)
+
 -- what is written for a least label is the text of the cost
 label_is_cost : InfMeansNoWalk → (n : ℕ) (arcs : List ArcRec) (source : ℕ) (labels : List ℕ) → AreLight n arcs
     → source < n → AreLeastLabels n arcs (seeds_from source) labels
     → (v : ℕ) → v < n → IsCostText arcs source v (cost_text (get_or labels v 0))
 label_is_cost law n arcs source labels light within least v below =
     elim (cases_eq (get_or labels v 0) INF) [
-      | inl is ↦
-          let none = law n arcs (seeds_from source) labels light.few light.graph light.light
-          (All-cons (λ (s : Seed). s.vertex < n) (record { vertex = source; start = 0 }) [] within (All-nil _))
-          (All-cons (λ (s : Seed). s.start ≤ 2 ^ 60) (record { vertex = source; start = 0 }) [] (omega arith) (All-nil _))
-          least v below is in
-          unreached (ap cost_text is) (λ walk walks. none (cost walk) (attained-by_walk arcs source v walk walks))
+      | inl is ↦ unreached (ap cost_text is) (no_walk_at law n arcs source labels light within least v below is)
       | inr finite ↦
           let here = least.least v below in
           let found = walk-of_attained arcs source v (get_or labels v 0) (here.attained (omega (arith, here.capped))) in
@@ -46,6 +56,35 @@ label_is_cost law n arcs source labels light within least v below =
           reached found.0 found.1
           (λ walk walks. omega (arith, here.least (cost walk) (attained-by_walk arcs source v walk walks), found.2))
           (rw test (ap decimal (sym found.2)))
+    ]
+
+-- the line of the printed walk to w, whose label is given
+abbrev walk_line : (ℕ → ℕ) → (ℕ → ℕ) → ℕ → ℕ → List ℕ
+walk_line hop parent w label = if label == INF then [] else walk_text label (printed_walk parent (hop w) w)
+
+-- it is that of a walk of least cost and fewest arcs
+line_is_walk : InfMeansNoWalk → PrintedWalksAreWalks → (n : ℕ) (arcs : List ArcRec) (source : ℕ)
+    (labels hops parents : List ℕ) → AreLight n arcs → source < n → AreLeastLabels n arcs (seeds_from source) labels
+    → AreHops n arcs source labels hops → AreParents n arcs labels hops parents
+    → (v : ℕ) → v < n
+    → IsWalkLine true arcs source v (walk_line (slice_index hops) (slice_index parents) v (get_or labels v 0))
+line_is_walk law printed n arcs source labels hops parents light within least fewest before v below =
+    elim (cases_eq (get_or labels v 0) INF) [
+      | inl is ↦
+          no_walk (no_walk_at law n arcs source labels light within least v below is)
+          (ap (walk_line (slice_index hops) (slice_index parents) v) is)
+      | inr finite ↦
+          let here = least.least v below in
+          let reached : slice_index labels v < INF = omega (arith, here.capped) in
+          let goes = printed n arcs source labels hops parents light.graph within least fewest before v below reached in
+          let test : (get_or labels v 0 == INF) ≡ false = grind (arith, nat_tests) in
+          let shown : walk_line (slice_index hops) (slice_index parents) v (get_or labels v 0)
+          ≡ walk_text (get_or labels v 0) (printed_walk (slice_index parents) (slice_index hops v) v) = rw test refl in
+          shortest goes.walk goes.walks
+          (λ other walks. omega (arith, here.least (cost other) (attained-by_walk arcs source v other walks), goes.costs))
+          (λ other walks same.
+          omega (arith, (fewest.hop v below reached).fewest other walks (same ∙ goes.costs), goes.count))
+          (shown ∙ sym (ap₂ walk_text goes.costs goes.through))
     ]
 
 -- what is written for the labels of the vertices from v on says the costs
@@ -61,21 +100,28 @@ lines_say_costs arcs source v (label ∷ labels) each = (
   [],
   label_lines (v + 1) labels,
   each 0 v (omega arith) (omega arith),
-  λ _. refl,
+  unasked refl refl,
   lines_say_costs arcs source (v + 1) labels (λ k w below is. each (suc k) w (omega arith) (omega arith)),
   ap (λ (line : List ℕ). line ++ label_lines (v + 1) labels) (sym (append-nil (label_text v label))),
 )
 
+-- and what is written for their walks is walks
+abbrev SayWalks : List ArcRec → ℕ → (ℕ → ℕ) → (ℕ → ℕ) → ℕ → List ℕ → Type 0
+SayWalks arcs source hop parent v labels =
+    (k w : ℕ) → k < length labels → w ≡ v + k → IsWalkLine true arcs source w (walk_line hop parent w (get_or labels k 0))
+
 walks_say_costs : (arcs : List ArcRec) (source v : ℕ) (hop parent : ℕ → ℕ) (labels : List ℕ) → SayCosts arcs source v labels
+    → SayWalks arcs source hop parent v labels
     → AreCostLines true arcs source v (length labels) (vertex_lines hop parent v labels)
-walks_say_costs arcs source v hop parent [] each = refl
-walks_say_costs arcs source v hop parent (label ∷ labels) each = (
+walks_say_costs arcs source v hop parent [] each lines = refl
+walks_say_costs arcs source v hop parent (label ∷ labels) each lines = (
   cost_text label,
-  if label == INF then [] else walk_text label (printed_walk parent (hop v) v),
+  walk_line hop parent v label,
   vertex_lines hop parent (v + 1) labels,
   each 0 v (omega arith) (omega arith),
-  λ never. cc,
-  walks_say_costs arcs source (v + 1) hop parent labels (λ k w below is. each (suc k) w (omega arith) (omega arith)),
+  lines 0 v (omega arith) (omega arith),
+  walks_say_costs arcs source (v + 1) hop parent labels (λ k w below is. each (suc k) w (omega arith) (omega arith))
+      (λ k w below is. lines (suc k) w (omega arith) (omega arith)),
   refl,
 )
 
@@ -87,33 +133,47 @@ say_costs law n arcs source labels light within least k w below is =
     subst (λ (x : ℕ). IsCostText arcs source x (cost_text (get_or labels k 0))) same
     (label_is_cost law n arcs source labels light within least k (omega (arith, least.count)))
 
-block_says_costs : InfMeansNoWalk → (walks : Bool) (n : ℕ) (arcs : List ArcRec) → AreLight n arcs
+say_walks : InfMeansNoWalk → PrintedWalksAreWalks → (n : ℕ) (arcs : List ArcRec) (source : ℕ)
+    (labels hops parents : List ℕ) → AreLight n arcs → source < n → AreLeastLabels n arcs (seeds_from source) labels
+    → AreHops n arcs source labels hops → AreParents n arcs labels hops parents
+    → SayWalks arcs source (slice_index hops) (slice_index parents) 0 labels
+say_walks law printed n arcs source labels hops parents light within least fewest before k w below is =
+    let same : k ≡ w = omega arith in
+    let line : ℕ → Type 0 = λ x.
+    IsWalkLine true arcs source x (walk_line (slice_index hops) (slice_index parents) x (get_or labels k 0)) in
+    subst line same
+    (line_is_walk law printed n arcs source labels hops parents light within least fewest before k
+    (omega (arith, least.count)))
+
+block_says_costs : InfMeansNoWalk → PrintedWalksAreWalks → (walks : Bool) (n : ℕ) (arcs : List ArcRec) → AreLight n arcs
     → (source : ℕ) (block : List ℕ) → source < n → IsBlock walks n arcs source block
     → SaysCosts walks n arcs source block
-block_says_costs law false n arcs light source text within block = (
+block_says_costs law printed false n arcs light source text within block = (
   label_lines 0 block.labels,
   subst (λ (m : ℕ). AreCostLines false arcs source 0 m (label_lines 0 block.labels)) block.least.count
       (lines_say_costs arcs source 0 block.labels (say_costs law n arcs source block.labels light within block.least)),
   block.written,
 )
-block_says_costs law true n arcs light source text within block =
+block_says_costs law printed true n arcs light source text within block =
     let lines = vertex_lines (slice_index block.hops) (slice_index block.parents) 0 block.labels in (
       lines,
       subst (λ (m : ℕ). AreCostLines true arcs source 0 m lines) block.least.count
           (walks_say_costs arcs source 0 (slice_index block.hops) (slice_index block.parents) block.labels
-          (say_costs law n arcs source block.labels light within block.least)),
+          (say_costs law n arcs source block.labels light within block.least)
+          (say_walks law printed n arcs source block.labels block.hops block.parents light within block.least
+          block.fewest block.before)),
       block.written,
     )
 
-blocks_say_costs : InfMeansNoWalk → (walks : Bool) (n : ℕ) (arcs : List ArcRec) → AreLight n arcs
+blocks_say_costs : InfMeansNoWalk → PrintedWalksAreWalks → (walks : Bool) (n : ℕ) (arcs : List ArcRec) → AreLight n arcs
     → (sources text : List ℕ) → All (λ v. v < n) sources → AreSourceBlocks walks n arcs sources text
     → AreBlocks (SaysCosts walks n arcs) sources text
-blocks_say_costs law walks n arcs light [] text within blocks = blocks
-blocks_say_costs law walks n arcs light (source ∷ sources) text within blocks = (
+blocks_say_costs law printed walks n arcs light [] text within blocks = blocks
+blocks_say_costs law printed walks n arcs light (source ∷ sources) text within blocks = (
   blocks.0,
   blocks.1,
-  block_says_costs law walks n arcs light source blocks.0 (All-head (λ v. v < n) source sources within) blocks.2,
-  blocks_say_costs law walks n arcs light sources blocks.1 (All-tail (λ v. v < n) source sources within) blocks.3,
+  block_says_costs law printed walks n arcs light source blocks.0 (All-head (λ v. v < n) source sources within) blocks.2,
+  blocks_say_costs law printed walks n arcs light sources blocks.1 (All-tail (λ v. v < n) source sources within) blocks.3,
   blocks.4,
 )
 
@@ -133,18 +193,45 @@ light_units n arcs light = record {
   light = All-map (λ (arc : ArcRec). arc.weight < 2 ^ 32) unit_weight arcs (λ k d below. omega arith);
 }
 
-asked_costs : InfMeansNoWalk → (walks : Bool) (n : ℕ) (arcs : List ArcRec) → AreLight n arcs
+asked_costs : InfMeansNoWalk → PrintedWalksAreWalks → (walks : Bool) (n : ℕ) (arcs : List ArcRec) → AreLight n arcs
     → (question : Question) (sources text : List ℕ) → question ≡ from_sources sources → IsQuestionWithin n question
     → AreAskedBlocks walks n arcs question text → AreBlocks (SaysCosts walks n arcs) sources text
-asked_costs law walks n arcs light question sources text asked within blocks =
+asked_costs law printed walks n arcs light question sources text asked within blocks =
     let inside = subst (IsQuestionWithin n) asked within in
-    blocks_say_costs law walks n arcs light sources text inside.1
+    blocks_say_costs law printed walks n arcs light sources text inside.1
     (subst (λ (q : Question). AreAskedBlocks walks n arcs q text) asked blocks)
 
-pub answers_say_costs : InfMeansNoWalk → AnswersSayCosts
-answers_say_costs law Distances walks job sources text other asked limits answered =
-    asked_costs law walks job.n job.arcs (light_arcs job limits) job.question sources text asked limits.question answered
-answers_say_costs law Levels walks job sources text other asked limits answered =
-    asked_costs law walks job.n (unit_weights job.arcs) (light_units job.n job.arcs (light_arcs job limits)) job.question
+pub answers_say_costs : InfMeansNoWalk → PrintedWalksAreWalks → AnswersSayCosts
+answers_say_costs law printed Distances walks job sources text other asked limits answered =
+    asked_costs law printed walks job.n job.arcs (light_arcs job limits) job.question sources text asked limits.question answered
+answers_say_costs law printed Levels walks job sources text other asked limits answered =
+    asked_costs law printed walks job.n (unit_weights job.arcs) (light_units job.n job.arcs (light_arcs job limits)) job.question
     sources text asked limits.question answered
-answers_say_costs law Components walks job sources text other asked limits answered = absurd (other refl)
+answers_say_costs law printed Components walks job sources text other asked limits answered = absurd (other refl)
+
+-- ---- components
+
+component_lines_say : (arcs : List ArcRec) (v : ℕ) (labels : List ℕ)
+    → ((k w : ℕ) → k < length labels → w ≡ v + k → IsComponentLabel arcs w (get_or labels k 0))
+    → AreComponentLines arcs v (length labels) (component_lines v labels)
+component_lines_say arcs v [] each = refl
+component_lines_say arcs v (label ∷ labels) each = (
+  label,
+  component_lines (v + 1) labels,
+  each 0 v (omega arith) (omega arith),
+  component_lines_say arcs (v + 1) labels (λ k w below is. each (suc k) w (omega arith) (omega arith)),
+  refl,
+)
+
+pub answers_say_components : LeastLabelsAreComponents → AnswersSayComponents
+answers_say_components law walks job text limits block =
+    let light = light_arcs job limits in
+    let lines : AreComponentLines job.arcs 0 (length block.labels) text =
+    rw block.written
+    (component_lines_say job.arcs 0 block.labels
+    (λ k w below is.
+    let same : k ≡ w = omega arith in
+    subst (λ (x : ℕ). IsComponentLabel job.arcs x (get_or block.labels k 0)) same
+    (law job.n job.arcs (slice_index block.labels) light.graph (omega (arith, light.few)) block.least.least k
+    (omega (arith, block.least.count))))) in
+    subst (λ (m : ℕ). AreComponentLines job.arcs 0 m text) block.least.count lines

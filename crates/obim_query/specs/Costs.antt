@@ -1,9 +1,10 @@
--- What an answer of distances or levels says of each vertex: by walks alone, with no labels and no seeds.
-use Rattle.std.specs.Prelude.{◌≡◌, ◌≢◌, ℕ, zero, suc, ◌+◌, ◌≤◌, Bool, false, List, [], ◌++◌}
-use Rattle.std.specs.Prelude.{codes, decimal}
+-- What an answer says of each vertex: by walks and paths alone, with no labels and no seeds.
+use Rattle.std.specs.Prelude.{◌≡◌, ◌≢◌, ℕ, zero, suc, ◌+◌, ◌≤◌, Bool, false, List, [], ◌∷◌, ◌++◌}
+use Rattle.std.specs.Prelude.{codes, decimal, length, map}
 use Rattle.route_walks.specs.declared.graph.ArcRec.{ArcRec}
+use Rattle.route_walks.specs.Component.{IsComponentLabel}
 use Rattle.route_walks.specs.Walk.{IsWalk, cost}
-use Rattle.dimacs_text.specs.AnswerLines.{source_text, cost_line}
+use Rattle.dimacs_text.specs.AnswerLines.{source_text, cost_line, walk_text, component_text}
 use Rattle.dimacs_text.specs.Jobs.{Content, from_sources, IsWithinLimits}
 use Rattle.obim_query.specs.AnswerText.{AreBlocks, IsAnswerText, arcs_for}
 use Rattle.obim_query.specs.declared.asked.Answer.{Answer}
@@ -20,6 +21,22 @@ pub data IsCostText (arcs : List ArcRec) (source v : ℕ) (text : List ℕ) : Ty
       → text ≡ decimal (cost cheapest)
       → IsCostText arcs source v text
 
+-- the line of the walk from the source to v: nothing where walks aren't asked for, or where there is none at
+-- all; else the vertices of a cheapest walk, which has the fewest arcs of all that cost no more
+pub data IsWalkLine (walks : Bool) (arcs : List ArcRec) (source v : ℕ) (text : List ℕ) : Type 0 where
+  unasked : walks ≡ false
+      → text ≡ []
+      → IsWalkLine walks arcs source v text
+  no_walk : ((walk : List ArcRec) → ¬ (IsWalk arcs source walk v))
+      → text ≡ []
+      → IsWalkLine walks arcs source v text
+  shortest : (walk : List ArcRec)
+      → IsWalk arcs source walk v
+      → ((other : List ArcRec) → IsWalk arcs source other v → cost walk ≤ cost other)
+      → ((other : List ArcRec) → IsWalk arcs source other v → cost other ≡ cost walk → length walk ≤ length other)
+      → text ≡ walk_text (cost walk) (source ∷ map (λ arc. arc.head) walk)
+      → IsWalkLine walks arcs source v text
+
 -- the lines of so many vertices from v on: 'd V COST' for each, and after it perhaps that of a walk
 abbrev pub AreCostLines : Bool → List ArcRec → ℕ → ℕ → ℕ → List ℕ → Type 0
 AreCostLines walks arcs source v zero text = text ≡ []
@@ -28,11 +45,11 @@ AreCostLines walks arcs source v (suc count) text =
     × (walk_to_v : List ℕ)
     × (rest : List ℕ)
     × IsCostText arcs source v cost_of_v
-    × (walks ≡ false → walk_to_v ≡ [])
+    × IsWalkLine walks arcs source v walk_to_v
     × AreCostLines walks arcs source (v + 1) count rest
     × (text ≡ cost_line v cost_of_v ++ walk_to_v ++ rest)
 
--- a block says the cost from its source to each of n vertices, in order
+-- a block says the cost from its source to each of n vertices, in order, with the walks
 abbrev pub SaysCosts : Bool → ℕ → List ArcRec → ℕ → List ℕ → Type 0
 SaysCosts walks n arcs source block =
     (lines : List ℕ)
@@ -49,3 +66,21 @@ AnswersSayCosts =
     → IsWithinLimits job
     → IsAnswerText kind walks job text
     → AreBlocks (SaysCosts walks job.n (arcs_for kind job.arcs)) sources text
+
+-- the lines of so many vertices from v on: 'k V LABEL' for each, of the least vertex connected with it
+abbrev pub AreComponentLines : List ArcRec → ℕ → ℕ → List ℕ → Type 0
+AreComponentLines arcs v zero text = text ≡ []
+AreComponentLines arcs v (suc count) text =
+    (least : ℕ)
+    × (rest : List ℕ)
+    × IsComponentLabel arcs v least
+    × AreComponentLines arcs (v + 1) count rest
+    × (text ≡ component_text v least ++ rest)
+
+-- the lines of components say the least vertex that is connected with each one along the job's arcs
+abbrev pub AnswersSayComponents : Type 0
+AnswersSayComponents =
+    (walks : Bool) (job : Content) (text : List ℕ)
+    → IsWithinLimits job
+    → IsAnswerText Components walks job text
+    → AreComponentLines job.arcs 0 job.n text

@@ -1,11 +1,15 @@
 //! Which laws hold of answers? Each is the contract of a function that does nothing.
 
 ghost use Rattle.obim_query.specs.AnswerText.{AnswerTextsAreUnique, BlocksAreUnique};
-ghost use Rattle.obim_query.specs.Costs.{AnswersSayCosts};
+ghost use Rattle.obim_query.specs.Costs.{AnswersSayCosts, AnswersSayComponents};
 ghost use Rattle.obim_query.specs.Existence.{AskedJobsHaveAnswers};
 
-use route_walks::laws::{inf_means_no_walk, least_labels_are_unique, least_labels_exist};
-use walk_report::laws::{hops_and_parents_are_unique, hops_and_parents_exist};
+use route_walks::laws::{
+    inf_means_no_walk, least_labels_are_components, least_labels_are_unique, least_labels_exist,
+};
+use walk_report::laws::{
+    hops_and_parents_are_unique, hops_and_parents_exist, printed_walks_are_walks,
+};
 
 /// A source has only one block of a kind.
 pub fn blocks_are_unique()
@@ -34,9 +38,19 @@ pub fn asked_jobs_have_answers()
 }
 
 /// In an answer of distances or levels the line of a vertex says `inf` where no walk at all leads there
-/// from the source, and else what the cheapest walk costs.
+/// from the source, and else what the cheapest walk costs. Where walks are asked for, the line after it has
+/// the vertices of such a walk, with no more arcs than another of that cost.
 pub fn answers_say_costs()
     ensures { AnswersSayCosts }
 {
     inf_means_no_walk();
+    printed_walks_are_walks();
+}
+
+/// In an answer of components the line of a vertex says the least vertex that the job's arcs connect with
+/// it, whichever way each arc points.
+pub fn answers_say_components()
+    ensures { AnswersSayComponents }
+{
+    least_labels_are_components();
 }
