@@ -1,5 +1,6 @@
 mod bags;
 mod chunks;
+mod ends;
 mod faults;
 mod helpers;
 mod logs;

@@ -2,5 +2,6 @@ mod helpers;
 mod locked;
 mod obim;
 mod refusals;
+mod sizes;
 mod threads;
 mod widening;
