@@ -27,3 +27,33 @@ impl<T: Drop> From<AllocFailed<T>> for Memory {
         Memory
     }
 }
+
+/// For tests: what a call gives to which `tests/refuse.c` may refuse memory. An allocation of 1,000,003
+/// bytes before the call and one after it are signals: it counts those between, and refuses one of them.
+#[macro_export]
+macro_rules! refusable {
+    ($alloc:expr, $call:expr) => {{
+        let _begun: Vec<u8> = Vec::with_capacity($alloc, 1_000_003)?;
+        let given = $call;
+        let _ended: Vec<u8> = Vec::with_capacity($alloc, 1_000_003)?;
+        given
+    }};
+}
+
+/// For tests: the same, and where the call answered this fault, what a second call gives: the same one,
+/// unless another is named.
+#[macro_export]
+macro_rules! tried_again {
+    ($rt:expr, $alloc:expr, $fault:expr, $call:expr) => {
+        $crate::tried_again!($rt, $alloc, $fault, $call, $call)
+    };
+    ($rt:expr, $alloc:expr, $fault:expr, $call:expr, $again:expr) => {
+        match $crate::refusable!($alloc, $call) {
+            Ok(given) => given,
+            Err(fault) => {
+                assert_eq!($rt; fault, $fault);
+                $again?
+            }
+        }
+    };
+}

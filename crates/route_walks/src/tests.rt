@@ -3,6 +3,8 @@
 ghost use Rattle.std.specs.Prelude.{◌↔◌, length, IsTrue};
 ghost use Rattle.route_walks.specs.Walk.{IsGraph, AreSeeds};
 
+mod refusals;
+
 use crate::{
     ArcRec, INF, Seed, both_ways, is_settled, plain_labels, seeds_all, seeds_from, unit_weights,
 };
