@@ -1,5 +1,7 @@
 //! Texts with the job or the fault that they must give, and the lines of answers.
 
+mod refusals;
+
 use crate::{
     Ask, Job, JobReader, LineKind, TextFault, put_components, put_distances, put_label, put_source,
     put_walk, read_job,

@@ -1,0 +1,145 @@
+//! Each call that takes memory, with one allocation of it refused: `Memory` then, with the vector as it was, and made
+//! once more it gives the job, the fault or the bytes that were worked by hand. `tests/refusals` refuses each in
+//! turn; `tests/refusals.tsv` has the calls.
+
+use crate::tests::{GRAPH, assert_job, joined};
+use crate::{
+    JobReader, LineKind, TextFault, put_component, put_components, put_distances, put_label,
+    put_source, put_walk, read_job,
+};
+use route_walks::{ArcRec, INF, Memory, refusable, tried_again};
+use std::alloc::Global;
+use std::test::Fail;
+
+// What stands in a vector before a call puts its lines there.
+const FRONT: &[u8] = b"c\n";
+
+// More vertices than a walk's line has room for at first.
+const WALK: [u32; 12] = [0, 2, 4, 1, 3, 5, 3, 2, 4, 1, 3, 5];
+
+// A line that is put into a vector without room, or the vector as it was, and then the line.
+macro_rules! expect_put {
+    ($rt:expr, $out:ident, $call:expr, $want:expr) => {{
+        let alloc = $rt.alloc();
+        let mut $out = Vec::from_slice(alloc, FRONT)?;
+        if let Err(Memory) = refusable!(alloc, $call) {
+            assert_eq!($rt; $out.as_slice(), FRONT);
+            $call?;
+        }
+        assert_eq!($rt; $out.as_slice(), $want.as_bytes());
+    }};
+}
+
+// Hands a reader a text in two pieces.
+fn feed_both(reader: &mut JobReader, front: &[u8], back: &[u8]) -> Result<(), Memory> {
+    reader.feed(front)?;
+    reader.feed(back)
+}
+
+#[test]
+fn of_read_job(rt: HostRuntime) -> Result<(), Fail> {
+    let alloc = rt.alloc();
+    let text = joined(alloc, GRAPH, b"p aux sp ss 3\ns 3\ns 5\ns 3")?;
+    assert!(rt; text.len() < 1000);
+    let job = tried_again!(rt, alloc, TextFault::Memory, read_job(alloc, &text));
+    assert_eq!(rt; job.arcs.len(), 8);
+    assert_job(&rt, &job, 6, ArcRec::new(4, 5, 20), &[2, 4, 2]);
+    Ok(())
+}
+
+// After a refusal nothing is known of the reader: the text goes to another one.
+#[test]
+fn of_job_reader_feed(rt: HostRuntime) -> Result<(), Fail> {
+    let alloc = rt.alloc();
+    let text = joined(alloc, GRAPH, b"p aux sp ss 3\ns 3\ns 5\ns 3")?;
+    for cut in [0, 5, 30, 90] {
+        let (front, back) = text.split_at(text.len().min(cut));
+        let mut reader = JobReader::new(alloc);
+        if let Err(Memory) = refusable!(alloc, feed_both(&mut reader, front, back)) {
+            reader = JobReader::new(alloc);
+            feed_both(&mut reader, front, back)?;
+        }
+        let job = reader.finish()?;
+        assert_job(&rt, &job, 6, ArcRec::new(4, 5, 20), &[2, 4, 2]);
+    }
+    Ok(())
+}
+
+// A reader that was fed all but a last line of an arc.
+fn fed(alloc: Global) -> Result<JobReader, Memory> {
+    let mut reader = JobReader::new(alloc);
+    reader.feed(b"p sp 2 1\na 1 2 7")?;
+    Ok(reader)
+}
+
+#[test]
+fn of_job_reader_finish(rt: HostRuntime) -> Result<(), Fail> {
+    let alloc = rt.alloc();
+    let (reader, same) = (fed(alloc)?, fed(alloc)?);
+    let job = tried_again!(rt, alloc, TextFault::Memory, reader.finish(), same.finish());
+    assert_job(&rt, &job, 2, ArcRec::new(0, 1, 7), &[]);
+    Ok(())
+}
+
+#[test]
+fn of_job_reader_new(rt: HostRuntime) -> Result<(), Fail> {
+    let alloc = rt.alloc();
+    let reader = refusable!(alloc, JobReader::new(alloc));
+    let none = TextFault::Line {
+        line: 1,
+        kind: LineKind::NoProblem,
+    };
+    assert_eq!(rt; reader.finish().err(), Some(none));
+    Ok(())
+}
+
+#[test]
+fn of_put_source(rt: HostRuntime) -> Result<(), Fail> {
+    expect_put!(rt, out, put_source(&mut out, 268435455), "c\ns 268435456\n");
+    Ok(())
+}
+
+#[test]
+fn of_put_label(rt: HostRuntime) -> Result<(), Fail> {
+    expect_put!(rt, out, put_label(&mut out, 9, INF), "c\nd 10 inf\n");
+    Ok(())
+}
+
+#[test]
+fn of_put_component(rt: HostRuntime) -> Result<(), Fail> {
+    expect_put!(rt, out, put_component(&mut out, 2, 0), "c\nk 3 1\n");
+    Ok(())
+}
+
+#[test]
+fn of_put_distances(rt: HostRuntime) -> Result<(), Fail> {
+    expect_put!(
+        rt,
+        out,
+        put_distances(&mut out, 0, &[0, 10, 10, 12, 10, 15]),
+        "c\ns 1\nd 1 0\nd 2 10\nd 3 10\nd 4 12\nd 5 10\nd 6 15\n"
+    );
+    Ok(())
+}
+
+#[test]
+fn of_put_components(rt: HostRuntime) -> Result<(), Fail> {
+    expect_put!(
+        rt,
+        out,
+        put_components(&mut out, &[0, 0, 0, 0, 0, 0]),
+        "c\nk 1 1\nk 2 1\nk 3 1\nk 4 1\nk 5 1\nk 6 1\n"
+    );
+    Ok(())
+}
+
+#[test]
+fn of_put_walk(rt: HostRuntime) -> Result<(), Fail> {
+    expect_put!(
+        rt,
+        out,
+        put_walk(&mut out, 15, &WALK),
+        "c\nw 6 15 1 3 5 2 4 6 4 3 5 2 4 6\n"
+    );
+    Ok(())
+}
