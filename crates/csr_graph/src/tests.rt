@@ -3,6 +3,8 @@
 ghost use Rattle.std.specs.Prelude.{◌<◌, ◌↔◌, ℕ, IsTrue};
 ghost use Rattle.route_walks.specs.Walk.{IsGraph};
 
+mod refusals;
+
 use crate::{Csr, MAX_ARCS, Target};
 use route_walks::{ArcRec, Memory, both_ways};
 use std::alloc::Global;
