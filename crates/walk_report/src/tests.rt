@@ -5,6 +5,8 @@ ghost use Rattle.route_walks.specs.Walk.{IsGraph};
 ghost use Rattle.route_walks.specs.Label.{AreLeastLabels};
 ghost use Rattle.route_walks.specs.Operators.{seeds_from};
 
+mod refusals;
+
 use crate::{NONE, hops, parents, walk_to};
 use csr_graph::{Csr, MAX_ARCS, MAX_VERTICES};
 use route_walks::{ArcRec, INF, Memory, plain_labels, seeds_from, unit_weights};
