@@ -4,6 +4,8 @@ ghost use Rattle.std.specs.Prelude.{◌≡◌, ◌↔◌, ◌<◌, IfOk, IsTrue}
 ghost use Rattle.route_walks.specs.Walk.{AreSeeds, IsGraph};
 ghost use Rattle.relax_core.specs.State.{IsOf};
 
+mod refusals;
+
 use crate::Event::{Finish, Join, Raise, Read, Relax, See, SetMark, Split, Take};
 use crate::Hand::{Fresh, Idle, Open, Owe};
 use crate::{Core, Event, Hand, ReplayFault, SHARES, View, apply, open_core, replay};
