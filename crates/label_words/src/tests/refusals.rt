@@ -1,21 +1,35 @@
-//! Each call that opens or closes words, tried again where it was refused memory. `tests/refusals` refuses each
-//! allocation of these tests in turn.
+//! Each call that takes memory, with one allocation of it refused: `Memory` then, with the pause as it was, and made
+//! once more it gives what was worked by hand. `tests/refusals` refuses each in turn; `tests/refusals.tsv` has the
+//! calls.
 
 ghost use Rattle.std.specs.Prelude.{◌≡◌, ◌<◌, IfOk};
 ghost use Rattle.relax_core.specs.declared.views.TheConstants.{SHARES};
 ghost use Rattle.label_words.specs.Known.{IsIdle};
 ghost use Rattle.label_words.specs.Paused.{CanGoOn};
 
-use crate::tests::{ARCS, SEEDS};
+use crate::tests::{SEEDS, graph, play};
 use crate::{Closed, Paused, Words, WorkSeat};
 use csr_graph::Csr;
-use route_walks::{INF, Memory};
+use relax_core::{Hand, SHARES};
+use route_walks::{INF, Memory, refusable, tried_again};
 use std::alloc::Global;
 use std::process::Abort;
 use std::test::Fail;
 
 // The labels of the opening.
 const OPENING: [u64; 4] = [0, INF, INF, INF];
+
+// Asserts that a pause is the opening's.
+fn expect_opening(rt: &impl Abort, csr: &Csr, rest: &Paused)
+    requires vertices { csr.now.n ≡ 4 }
+    requires rest { CanGoOn csr.now rest.now }
+{
+    let _csr = csr;
+    assert_eq!(rt; rest.labels(), OPENING.as_slice());
+    for v in 0..4_u32 {
+        assert_eq!(rt; rest.marked(v), v == 0, "mark of {v}");
+    }
+}
 
 // Closes words that nobody stepped on. A run can go on from what they leave.
 fn close_at_once(
@@ -43,62 +57,62 @@ fn open_and_close(rt: &impl Abort, alloc: Global, csr: &Csr) -> Result<Paused, M
     close_at_once(rt, alloc, words, seat)
 }
 
-fn reopen_and_close(
-    rt: &impl Abort,
-    alloc: Global,
-    csr: &Csr,
-    rest: &Paused,
-) -> Result<Paused, Memory>
-    requires { CanGoOn csr.now rest.now }
-    ensures { IfOk result (λ again. CanGoOn csr.now again) }
-{
-    let (words, seat) = Words::reopen(alloc, csr, rest)?;
-    close_at_once(rt, alloc, words, seat)
-}
-
-// Opens, closes, opens again and closes again, each with a second try. How many refusals it met.
-fn pause_twice(rt: &impl Abort, alloc: Global) -> Result<u32, Memory> {
-    let mut refusals = 0_u32;
-    let csr = match Csr::build(alloc, 4, &ARCS) {
-        Ok(csr) => csr,
-        Err(Memory) => {
-            refusals = refusals.wrapping_add(1);
-            Csr::build(alloc, 4, &ARCS)?
-        }
-    };
-    let first = match open_and_close(rt, alloc, &csr) {
-        Ok(rest) => rest,
-        Err(Memory) => {
-            refusals = refusals.wrapping_add(1);
-            open_and_close(rt, alloc, &csr)?
-        }
-    };
-    let second = match reopen_and_close(rt, alloc, &csr, &first) {
-        Ok(rest) => rest,
-        Err(Memory) => {
-            refusals = refusals.wrapping_add(1);
-            reopen_and_close(rt, alloc, &csr, &first)?
-        }
-    };
-    for rest in [&first, &second] {
-        assert_eq!(rt; rest.labels(), OPENING.as_slice());
-    }
-    for v in 0..4_u32 {
-        assert_eq!(rt; first.marked(v), v == 0, "mark of {v}");
-        assert_eq!(rt; second.marked(v), v == 0, "mark of {v} after reopening");
-    }
-    Ok(refusals)
-}
-
 #[test]
-fn a_refused_allocation_leaves_the_pause(rt: HostRuntime) -> Result<(), Fail> {
-    pause_twice(&rt, rt.alloc())?;
+fn of_words_open(rt: HostRuntime) -> Result<(), Fail> {
+    let alloc = rt.alloc();
+    let csr = graph(alloc)?;
+    let (words, seat) = tried_again!(rt, alloc, Memory, Words::open(alloc, &csr, &SEEDS));
+    assert!(rt; seat.hand() == Hand::Idle && seat.share() == SHARES && !seat.saw());
+    expect_opening(&rt, &csr, &close_at_once(&rt, alloc, words, seat)?);
     Ok(())
 }
 
-// Fails where an allocation is refused: so a run in which it passes met no refusal.
 #[test]
-fn with_memory_nothing_is_refused(rt: HostRuntime) -> Result<(), Fail> {
-    assert_eq!(rt; pause_twice(&rt, rt.alloc())?, 0);
+fn of_words_reopen(rt: HostRuntime) -> Result<(), Fail> {
+    let alloc = rt.alloc();
+    let csr = graph(alloc)?;
+    let rest = open_and_close(&rt, alloc, &csr)?;
+    let (words, seat) = tried_again!(rt, alloc, Memory, Words::reopen(alloc, &csr, &rest));
+    expect_opening(&rt, &csr, &rest);
+    assert!(rt; seat.hand() == Hand::Idle && seat.share() == SHARES && !seat.saw());
+    expect_opening(&rt, &csr, &close_at_once(&rt, alloc, words, seat)?);
+    Ok(())
+}
+
+// The labels that words are closed to after the worked schedule.
+fn labels_of_schedule(rt: &impl Abort, alloc: Global, csr: &Csr) -> Result<Vec<u64>, Memory>
+    requires { csr.now.n ≡ 4 }
+{
+    let (words, mut left) = Words::open(alloc, csr, &SEEDS)?;
+    let mut right = words.split(&mut left);
+    play(rt, &words, &mut left, &mut right, csr);
+    assert!(rt; left.saw() && left.hand() == Hand::Idle && right.hand() == Hand::Idle);
+    words.join(&mut left, right);
+    let closed = refusable!(alloc, words.close(alloc, left))?;
+    match closed {
+        Closed::Settled(labels) => Ok(labels),
+        Closed::Paused(_) => panic!(rt; "paused"),
+    }
+}
+
+// Words that are closed at once, and those of the worked schedule. After a refusal the words are gone.
+#[test]
+fn of_words_close(rt: HostRuntime) -> Result<(), Fail> {
+    let alloc = rt.alloc();
+    let csr = graph(alloc)?;
+    let (words, seat) = Words::open(alloc, &csr, &SEEDS)?;
+    let rest = tried_again!(
+        rt,
+        alloc,
+        Memory,
+        close_at_once(&rt, alloc, words, seat),
+        open_and_close(&rt, alloc, &csr)
+    );
+    expect_opening(&rt, &csr, &rest);
+    let labels = match labels_of_schedule(&rt, alloc, &csr) {
+        Ok(labels) => labels,
+        Err(Memory) => labels_of_schedule(&rt, alloc, &csr)?,
+    };
+    assert_eq!(rt; labels.as_slice(), [0, 2, 1, 3].as_slice());
     Ok(())
 }
