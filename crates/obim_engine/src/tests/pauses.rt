@@ -63,7 +63,7 @@ fn expect_pause(
 }
 
 /// A run over the locked pool.
-fn run_a_little<H: Threads + Wait + Clock + Sync>(
+pub(crate) fn run_a_little<H: Threads + Wait + Clock + Sync>(
     rt: &H,
     alloc: Global,
     csr: &Csr,

@@ -11,11 +11,10 @@ use std::sync::{Mutex, Wait};
 /// Gives the first pushed first, to one worker.
 pub(crate) struct FirstIn;
 
-/// What was pushed, in order, what of it waits, and how many pushes were refused memory.
+/// What was pushed, in order, and what of it waits.
 #[derive(Drop)]
 pub(crate) struct Queue {
     pub pushes: Vec<(u32, u64)>,
-    pub refusals: u32,
     waiting: VecDeque<u32>,
 }
 
@@ -25,7 +24,6 @@ impl FirstIn {
     {
         let queue = Queue {
             pushes: Vec::new(alloc),
-            refusals: 0,
             waiting: VecDeque::new(alloc),
         };
         Ok(vec![in alloc; queue]?)
@@ -38,11 +36,7 @@ impl WorkPool for FirstIn {
     ghost is_side = { λ _ _. ⊤ };
 
     fn push<H: Wait>(&self, _rt: &H, side: &mut Queue, v: u32, metric: u64) -> bool {
-        let kept = side.pushes.push((v, metric)).is_ok() && side.waiting.push_back(v).is_ok();
-        if !kept {
-            side.refusals = side.refusals.wrapping_add(1);
-        }
-        kept
+        side.pushes.push((v, metric)).is_ok() && side.waiting.push_back(v).is_ok()
     }
 
     fn pop<H: Wait>(&self, _rt: &H, side: &mut Queue) -> Option<u32> {
