@@ -89,7 +89,7 @@ IsTrueOfText limit kind before after fault.Memory = ⊤
 IsTrueOfText limit kind before after fault.Spawn = ⊤
 IsTrueOfText limit kind before after fault.Write = ⊤
 
--- what a fault says of a text in memory, and of the limit
+-- what a fault says of a text in memory, and of the limit; no writer can fail there
 abbrev pub IsTrueOfBytes : ℕ → Answer → List ℕ → Fault → Type 0
 IsTrueOfBytes limit kind text fault.Read = ⊤
 IsTrueOfBytes limit kind text fault.TooLong = limit < length text
@@ -97,7 +97,7 @@ IsTrueOfBytes limit kind text (fault.Text line what) = IsFirstFault text line wh
 IsTrueOfBytes limit kind text fault.NoAsk = IsTextUnasked kind text
 IsTrueOfBytes limit kind text fault.Memory = ⊤
 IsTrueOfBytes limit kind text fault.Spawn = ⊤
-IsTrueOfBytes limit kind text fault.Write = ⊤
+IsTrueOfBytes limit kind text fault.Write = ⊥
 
 -- what was written before a fault: nothing where the text is refused, and else a prefix of the answer;
 -- memory may be refused while the text is read too

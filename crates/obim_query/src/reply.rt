@@ -80,7 +80,7 @@ pub fn answer_counted<H: Threads + Wait + Clock + Sync, R: Read, W: Write, G: Ga
     respond(rt, alloc, writer, asked, job, gate, figures)
 }
 
-/// The same over memory: the bytes of the answer to the text.
+/// The same over memory: the bytes of the answer to the text. No fault is `Write`.
 pub fn answer_bytes<H: Threads + Wait + Clock + Sync, G: Gate + Sync>(
     rt: &H,
     alloc: Global,
@@ -94,8 +94,12 @@ pub fn answer_bytes<H: Threads + Wait + Clock + Sync, G: Gate + Sync>(
 {
     let mut reader = text;
     let mut bytes = Vec::new(alloc);
-    answer(rt, alloc, &mut reader, &mut bytes, asked, gate)?;
-    Ok(bytes)
+    match answer(rt, alloc, &mut reader, &mut bytes, asked, gate) {
+        Ok(()) => Ok(bytes),
+        // A vector fails to take bytes only where it is refused memory.
+        Err(Fault::Write) => Err(Fault::Memory),
+        Err(fault) => Err(fault),
+    }
 }
 
 /// Writes the answer of the job.

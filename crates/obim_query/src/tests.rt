@@ -4,6 +4,7 @@ mod callers;
 mod command_lines;
 mod cuts;
 mod gates;
+mod refusals;
 mod streams;
 
 use crate::asked::{Answer, Asked};
@@ -28,6 +29,11 @@ const SIX_GRAPH: usize = 76;
 
 const SIX_ANSWER: &[u8] = b"s 1\nd 1 0\nd 2 10\nd 3 10\nd 4 12\nd 5 10\nd 6 15\n";
 
+/// The same with a walk of fewest arcs beside each label, along least tails.
+const SIX_WALKS: &[u8] =
+    b"s 1\nd 1 0\nw 1 0 1\nd 2 10\nw 2 10 1 3 5 2\nd 3 10\nw 3 10 1 3\nd 4 12\n\
+      w 4 12 1 3 5 2 4\nd 5 10\nw 5 10 1 3 5\nd 6 15\nw 6 15 1 3 5 2 4 6\n";
+
 fn asked(rt: &impl Abort, answer: Answer, limit: u64) -> Asked {
     asked_with(rt, answer, limit, (2, 4, 16))
 }
@@ -43,9 +49,9 @@ fn asked_with(
     Asked::new(answer, settings, false, limit).expect(rt, "a limit of at most 2^36")
 }
 
-/// Distances with their walks.
-fn asked_with_walks(rt: &impl Abort, limit: u64) -> Asked {
-    let settings = Settings::new(2, 4, 16).expect(rt, "settings within their limits");
+/// Distances with walks, by so many workers.
+fn asked_for_walks(rt: &impl Abort, workers: u32, limit: u64) -> Asked {
+    let settings = Settings::new(workers, 4, 16).expect(rt, "settings within their limits");
     Asked::new(Answer::Distances, settings, true, limit).expect(rt, "walks of distances")
 }
 
@@ -95,14 +101,11 @@ fn settings_change_no_answer(rt: HostRuntime) -> Result<(), Fail> {
     Ok(())
 }
 
-// A walk of fewest arcs beside each label, along least tails.
 #[test]
 fn answers_with_walks(rt: HostRuntime) -> Result<(), Fail> {
-    let walks: &[u8] = b"s 1\nd 1 0\nw 1 0 1\nd 2 10\nw 2 10 1 3 5 2\nd 3 10\nw 3 10 1 3\nd 4 12\n\
-        w 4 12 1 3 5 2 4\nd 5 10\nw 5 10 1 3 5\nd 6 15\nw 6 15 1 3 5 2 4 6\n";
-    let asked = asked_with_walks(&rt, 1000);
+    let asked = asked_for_walks(&rt, 2, 1000);
     let bytes = answer_bytes(&rt, rt.alloc(), SIX, &asked, &OpenGate)?;
-    assert_eq!(rt; bytes.as_slice(), walks);
+    assert_eq!(rt; bytes.as_slice(), SIX_WALKS);
     Ok(())
 }
 

@@ -2,7 +2,7 @@
 //! the whole answer.
 
 use super::streams::{Sink, Source};
-use super::{SIX, SIX_ANSWER, asked, asked_with_walks, fault};
+use super::{SIX, SIX_ANSWER, asked, asked_for_walks, fault};
 use crate::asked::Answer;
 use crate::fault::Fault;
 use crate::reply::answer;
@@ -99,7 +99,7 @@ fn beginnings_of_larger_jobs(rt: HostRuntime) -> Result<(), Fail> {
         asked(&rt, Answer::Distances, 1000),
         asked(&rt, Answer::Levels, 1000),
     );
-    let walks = asked_with_walks(&rt, 1000);
+    let walks = asked_for_walks(&rt, 2, 1000);
     let table = [
         (walks, WALKED, WALKED_ANSWER, 1),
         (levels, RETURNS, RETURNS_ANSWER, 2),
