@@ -14,7 +14,8 @@ use std::thread::{Threads, join_mut};
 use std::time::Clock;
 
 /// One worker for each side, numbered from `first`, until all of them saw the pending total at 0 or spent
-/// their budgets. Where no thread can be started, the workers that should have had one run after the others, on this thread.
+/// their budgets. Where no thread can be started, the workers that should have had one run after the
+/// others, on this thread.
 #[cycle(group)]
 pub(crate) fn run_group<H, S, P, G>(
     rt: &H,

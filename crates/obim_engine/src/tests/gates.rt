@@ -32,7 +32,7 @@ impl Gate for Recorder {
     }
 }
 
-/// Hands the processor on before one visit in 64, drawn at random.
+/// Hands the processor on before one visit in eight, drawn at random.
 #[derive(Drop)]
 pub(crate) struct Yielding {
     state: AtomicU64,
@@ -52,7 +52,7 @@ impl Gate for Yielding {
         let mut bits = self.state.fetch_add(1442695040888963407, Ordering::Relaxed);
         bits = (bits ^ bits >> 30).wrapping_mul(0xbf58476d1ce4e5b9);
         bits = (bits ^ bits >> 27).wrapping_mul(0x94d049bb133111eb);
-        if bits >> 58 == 0 {
+        if bits >> 61 == 0 {
             yield_now();
         }
     }
