@@ -9,8 +9,8 @@ use Rattle.route_walks.specs.declared.graph.TheConstants.{MAX_VERTICES}
 use Rattle.dimacs_text.specs.declared.form.Item.{Item}
 use Rattle.dimacs_text.specs.declared.form.Limit.{Limit}
 use Rattle.dimacs_text.specs.declared.form.Section.{Section}
-use Rattle.dimacs_text.specs.declared.form.Section.TheVariants.{Problem, Sources}
-use Rattle.dimacs_text.specs.declared.form.Item.TheVariants.{Arc, Source}
+use Rattle.dimacs_text.specs.declared.form.Section.TheVariants.{Problem, Sources, Pairs}
+use Rattle.dimacs_text.specs.declared.form.Item.TheVariants.{Arc, Source, Pair}
 use Rattle.dimacs_text.specs.declared.fault.LineKind.{LineKind}
 use Rattle.dimacs_text.specs.declared.fault.LineKind.TheVariants.{TooFew, NoProblem}
 use Rattle.dimacs_text.specs.declared.form.Form.{Form}
@@ -22,14 +22,15 @@ use Rattle.dimacs_text.specs.Forms.{reading, Record, Reading, readings, limits, 
 use Rattle.dimacs_text.specs.declared.stage.Stage.{Stage}
 use Rattle.dimacs_text.specs.declared.stage.Stage.TheVariants.{Start, Within}
 use Rattle.dimacs_text.specs.reader.Machine.{run, misfit_at}
-use Rattle.dimacs_text.specs.Jobs.{Content, Question, absent, from_sources, arc_record, source_record, problem_record}
-use Rattle.dimacs_text.specs.Jobs.{sources_record, records_of, records_of_question, records_among, IsJobText}
+use Rattle.dimacs_text.specs.Jobs.{Content, Question, absent, from_sources, of_pairs, arc_record, source_record}
+use Rattle.dimacs_text.specs.Jobs.{pair_record, problem_record, sources_record, pairs_record, records_of}
+use Rattle.dimacs_text.specs.Jobs.{records_of_question, records_among, IsJobText}
 use Rattle.dimacs_text.specs.Faults.{tokens_among, IsFirstAmong, unfinished, IsFirstFault}
 use Rattle.dimacs_text.specs.reader.Drafts.{token_in, after_line, Progress, Fits, IsReadAmong, IsLackAt}
 use Rattle.dimacs_text.proofs.FormLemmas.{are_within}
 use Rattle.dimacs_text.proofs.Limits.{IsShaped, AreShaped, all_shaped, all_within}
 use Rattle.dimacs_text.proofs.Machine.{run_begins, complete}
-use Rattle.dimacs_text.proofs.TextLaws.{arc_back, source_back}
+use Rattle.dimacs_text.proofs.TextLaws.{arc_back, source_back, pair_back}
 use Rattle.dimacs_text.proofs.ReaderLemmas.{incomplete, form-token, all_said, line_leads, line_wrong}
 
 -- the readings have a first fault, or all say something, and that is legal
@@ -90,14 +91,18 @@ vertex_back v some = omega arith
 abbrev numbers_back : Form → List ℕ → List ℕ
 numbers_back (Head Problem) vs = get_or vs 0 0 ∷ get_or vs 1 0 ∷ []
 numbers_back (Head Sources) vs = get_or vs 0 0 ∷ []
+numbers_back (Head Pairs) vs = get_or vs 0 0 ∷ []
 numbers_back (Counted Arc) vs = (get_or vs 0 0 - 1 + 1) ∷ (get_or vs 1 0 - 1 + 1) ∷ get_or vs 2 0 ∷ []
 numbers_back (Counted Source) vs = (get_or vs 0 0 - 1 + 1) ∷ []
+numbers_back (Counted Pair) vs = (get_or vs 0 0 - 1 + 1) ∷ (get_or vs 1 0 - 1 + 1) ∷ []
 
 numbers_same : (n : ℕ) (f : Form) (vs : List ℕ) → in_limits (limits n f) vs ≡ true → vs ≡ numbers_back f vs
 numbers_same n (Head Problem) vs e =
     let count = numbers_count (limits n (Head Problem)) vs e in grind (arith, common_steps)
 numbers_same n (Head Sources) vs e =
     let count = numbers_count (limits n (Head Sources)) vs e in grind (arith, common_steps)
+numbers_same n (Head Pairs) vs e =
+    let count = numbers_count (limits n (Head Pairs)) vs e in grind (arith, common_steps)
 numbers_same n (Counted Arc) vs e =
     let count = numbers_count (limits n (Counted Arc)) vs e in
     let limit = are_within (limits n (Counted Arc)) vs e in
@@ -110,6 +115,13 @@ numbers_same n (Counted Source) vs e =
     let limit = are_within (limits n (Counted Source)) vs e in
     let one : vs ≡ get_or vs 0 0 ∷ [] = grind (arith, common_steps) in
     one ∙ ap (λ x. x ∷ []) (vertex_back (get_or vs 0 0) (limit 0 (omega arith)).0)
+numbers_same n (Counted Pair) vs e =
+    let count = numbers_count (limits n (Counted Pair)) vs e in
+    let limit = are_within (limits n (Counted Pair)) vs e in
+    let two : vs ≡ get_or vs 0 0 ∷ get_or vs 1 0 ∷ [] = grind (arith, common_steps) in
+    two
+    ∙ ap₂ (λ x y. x ∷ y ∷ []) (vertex_back (get_or vs 0 0) (limit 0 (omega arith)).0)
+    (vertex_back (get_or vs 1 0) (limit 1 (omega arith)).0)
 
 -- a record has the form of its token, and the last number of a head is its count
 record_back : (r : Record) (m : Token)
@@ -126,6 +138,9 @@ arc_by r shaped m = (arc_back r, record_back r (adds Arc) shaped m)
 source_by : (r : Record) → IsShaped r → token_in r ≡ adds Source → (v : ℕ) × (r ≡ source_record v)
 source_by r shaped m = (source_back r, record_back r (adds Source) shaped m)
 
+pair_by : (r : Record) → IsShaped r → token_in r ≡ adds Pair → (p : ℕ × ℕ) × (r ≡ pair_record p)
+pair_by r shaped m = (pair_back r, record_back r (adds Pair) shaped m)
+
 problem_by : (r : Record) (c : ℕ) → IsShaped r → token_in r ≡ opens Problem c → (k : ℕ) × (r ≡ problem_record k c)
 problem_by r c shaped m =
     let same = record_back r (opens Problem c) shaped m in
@@ -138,6 +153,12 @@ sources_by r c shaped m =
     let same = record_back r (opens Sources c) shaped m in
     let last : opens Sources (get_or r.numbers 0 0) ≡ opens Sources c = ap token_in (sym same) ∙ m in
     let count : get_or r.numbers 0 0 ≡ c = cc in same ∙ ap (λ x. sources_record x) count
+
+pairs_by : (r : Record) (c : ℕ) → IsShaped r → token_in r ≡ opens Pairs c → r ≡ pairs_record c
+pairs_by r c shaped m =
+    let same = record_back r (opens Pairs c) shaped m in
+    let last : opens Pairs (get_or r.numbers 0 0) ≡ opens Pairs c = ap token_in (sym same) ∙ m in
+    let count : get_or r.numbers 0 0 ≡ c = cc in same ∙ ap (λ x. pairs_record x) count
 
 -- the records of so many items, and those after them
 items_in : {X : Type 0} (rec : X → Record) (i : Item) (k : ℕ) (rs : List Record) (rest : List Token)
@@ -166,6 +187,7 @@ no_records (r ∷ rs) e = absurd (cc)
 last_place : (s : Section) → place s ≤ 1
 last_place Problem = omega arith
 last_place Sources = omega arith
+last_place Pairs = omega arith
 
 none_follows : (s : Section) (ps : List Part) → 0 < place s → AreInTurn s ps → ps ≡ []
 none_follows s [] after turn = refl
@@ -183,6 +205,12 @@ query_in Sources k r rs after m e top shaped =
       from_sources vs,
       ap₂ (λ x xs. x ∷ xs) (sources_by r k top m ∙ ap (λ n. sources_record n) (sym count))
           (same ∙ ap (λ l. map source_record vs ++ l) (no_records others none) ∙ append-nil (map source_record vs)),
+    )
+query_in Pairs k r rs after m e top shaped =
+    let (ps, others, count, same, none, more) = items_in pair_record Pair k rs [] pair_by e shaped in (
+      of_pairs ps,
+      ap₂ (λ x xs. x ∷ xs) (pairs_by r k top m ∙ ap (λ n. pairs_record n) (sym count))
+          (same ∙ ap (λ l. map pair_record ps ++ l) (no_records others none) ∙ append-nil (map pair_record ps)),
     )
 
 question_in : (s : Section) (ps : List Part) (rs : List Record)
@@ -210,6 +238,7 @@ job_of_parts : (s : Section) (k : ℕ) (ps : List Part) (r : Record) (rs : List 
     → IsShaped r → AreShaped rs
     → JobOf (r ∷ rs)
 job_of_parts Sources k ps r rs first turn m e top shaped = absurd (cc)
+job_of_parts Pairs k ps r rs first turn m e top shaped = absurd (cc)
 job_of_parts Problem k ps r rs first turn m e top shaped =
     let (arcs, others, count, same, tokens, more) = items_in arc_record Arc k rs (flat_map tokens_of ps) arc_by e shaped in
     let problem = problem_by r k top m in

@@ -11,9 +11,9 @@ use Rattle.dimacs_text.specs.Lines.{lines, fields, without_cr}
 use Rattle.dimacs_text.specs.declared.form.Form.{Form}
 use Rattle.dimacs_text.specs.Forms.{Record, leading, limits, in_limits, numbers_within, in_form, form_of}
 use Rattle.dimacs_text.specs.Forms.{record_reading, fields_reading, reading, readings, vertices_next, vertices_after}
-use Rattle.dimacs_text.specs.Jobs.{Content, Question, absent, from_sources, arc_record, source_record}
-use Rattle.dimacs_text.specs.Jobs.{records_of_question, records_among, IsJobText, IsArcWithin, IsQuestionWithin}
-use Rattle.dimacs_text.specs.Jobs.{IsWithinLimits}
+use Rattle.dimacs_text.specs.Jobs.{Content, Question, absent, from_sources, of_pairs, arc_record, source_record}
+use Rattle.dimacs_text.specs.Jobs.{pair_record, records_of_question, records_among, IsJobText, IsArcWithin}
+use Rattle.dimacs_text.specs.Jobs.{IsPairWithin, IsQuestionWithin, IsWithinLimits}
 
 -- each number of the record is within its limit
 abbrev pub IsWithin : ℕ → Record → Type 0
@@ -95,9 +95,16 @@ sources_within n (v ∷ vs) w =
     let first = w.0 in
     All-cons (λ v. v < n) v vs (grind (arith, nat_tests)) (sources_within n vs w.1)
 
+pairs_within : (n : ℕ) (ps : List (ℕ × ℕ)) → AreWithin n (map pair_record ps) → All (IsPairWithin n) ps
+pairs_within n [] w = All-nil (IsPairWithin n)
+pairs_within n (p ∷ ps) w =
+    let first = w.0 in
+    All-cons (IsPairWithin n) p ps (grind (arith, nat_tests), grind (arith, nat_tests)) (pairs_within n ps w.1)
+
 question_within : (n : ℕ) (q : Question) → AreWithin n (records_of_question q) → IsQuestionWithin n q
 question_within n absent w = tt
 question_within n (from_sources vs) w = let first = w.0 in (grind (arith, nat_tests), sources_within n vs w.1)
+question_within n (of_pairs ps) w = let first = w.0 in (grind (arith, nat_tests), pairs_within n ps w.1)
 
 pub job_within : (text : List ℕ) (job : Content) → IsJobText text job → IsWithinLimits job
 unfolding IsJobText

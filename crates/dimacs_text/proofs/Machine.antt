@@ -7,7 +7,7 @@ use Rattle.std.proofs.lemmas.List.{map-append}
 use Rattle.dimacs_text.specs.declared.form.Section.{Section}
 use Rattle.dimacs_text.specs.declared.form.Section.TheVariants.{Problem}
 use Rattle.dimacs_text.specs.declared.form.Item.{Item}
-use Rattle.dimacs_text.specs.declared.form.Item.TheVariants.{Arc, Source}
+use Rattle.dimacs_text.specs.declared.form.Item.TheVariants.{Arc, Source, Pair}
 use Rattle.dimacs_text.specs.declared.form.Form.{Form}
 use Rattle.dimacs_text.specs.declared.form.Form.TheVariants.{Head, Counted}
 use Rattle.dimacs_text.specs.declared.fault.LineKind.{LineKind}
@@ -22,7 +22,8 @@ use Rattle.dimacs_text.specs.Grammar.{AreInTurn, IsLegal, BeginsLegal, FitsSomeC
 -- items with one number are one item
 abbrev item_at : ℕ → Item
 item_at zero = Arc
-item_at (suc n) = Source
+item_at (suc zero) = Source
+item_at (suc (suc n)) = Pair
 
 same_item_eq : (i j : Item) → same_item i j ≡ true → i ≡ j
 same_item_eq i j e = sym (back i) ∙ ap (λ n. item_at n) (eqb-true (item_number i) (item_number j) e) ∙ back j
@@ -30,6 +31,7 @@ same_item_eq i j e = sym (back i) ∙ ap (λ n. item_at n) (eqb-true (item_numbe
     back : (k : Item) → item_at (item_number k) ≡ k
     back Arc = refl
     back Source = refl
+    back Pair = refl
 
 -- the machine goes on where nothing is wrong: the form can come there, and the count is right
 pub goes : (o : Option LineKind) (x : Option Stage) (b : Stage) → unless_wrong o x ≡ Some b → (o ≡ None) × (x ≡ Some b)

@@ -8,8 +8,8 @@ use Rattle.route_walks.specs.declared.graph.TheConstants.{MAX_VERTICES}
 use Rattle.dimacs_text.specs.declared.form.Form.TheVariants.{Head, Counted}
 use Rattle.dimacs_text.specs.declared.form.Item.{Item}
 use Rattle.dimacs_text.specs.declared.form.Section.{Section}
-use Rattle.dimacs_text.specs.declared.form.Section.TheVariants.{Problem, Sources}
-use Rattle.dimacs_text.specs.declared.form.Item.TheVariants.{Arc, Source}
+use Rattle.dimacs_text.specs.declared.form.Section.TheVariants.{Problem, Sources, Pairs}
+use Rattle.dimacs_text.specs.declared.form.Item.TheVariants.{Arc, Source, Pair}
 use Rattle.dimacs_text.specs.declared.fault.LineKind.{LineKind}
 use Rattle.dimacs_text.specs.declared.fault.LineKind.TheVariants.{TooFew, NoProblem}
 use Rattle.dimacs_text.specs.declared.form.Form.{Form}
@@ -20,7 +20,8 @@ use Rattle.dimacs_text.specs.Forms.{Record, Reading, readings}
 use Rattle.dimacs_text.specs.declared.stage.Stage.{Stage}
 use Rattle.dimacs_text.specs.declared.stage.Stage.TheVariants.{Start, Within}
 use Rattle.dimacs_text.specs.reader.Machine.{run, unless_wrong, misfit_at, next_at}
-use Rattle.dimacs_text.specs.Jobs.{Content, Question, absent, from_sources, arc_record, source_record}
+use Rattle.dimacs_text.specs.Jobs.{Content, Question, absent, from_sources, of_pairs}
+use Rattle.dimacs_text.specs.Jobs.{arc_record, source_record, pair_record}
 use Rattle.dimacs_text.specs.Jobs.{records_of, records_of_question, records_among, IsJobText}
 use Rattle.dimacs_text.specs.Faults.{tokens_among, IsFirstAmong, unread, misfit, unfinished, IsFirstFault}
 use Rattle.dimacs_text.specs.reader.Drafts.{token_in}
@@ -53,9 +54,13 @@ arc_back r =
 abbrev pub source_back : Record → ℕ
 source_back r = get_or r.numbers 0 0 - 1
 
+abbrev pub pair_back : Record → ℕ × ℕ
+pair_back r = (get_or r.numbers 0 0 - 1, get_or r.numbers 1 0 - 1)
+
 abbrev asked_by : Form → List Record → Question
 asked_by (Head Problem) rs = absent
 asked_by (Head Sources) rs = from_sources (map source_back rs)
+asked_by (Head Pairs) rs = of_pairs (map pair_back rs)
 asked_by (Counted i) rs = absent
 
 abbrev asked_in : List Record → Question
@@ -66,6 +71,13 @@ asked_back : (q : Question) → asked_in (records_of_question q) ≡ q
 asked_back absent = refl
 asked_back (from_sources vs) =
     ap (λ l. from_sources l) (items_back source_record source_back vs (λ v. omega arith))
+asked_back (of_pairs ps) = ap (λ l. of_pairs l) (items_back pair_record pair_back ps same_pair)
+  where
+    same_pair : (p : ℕ × ℕ) → pair_back (pair_record p) ≡ p
+    same_pair (s, t) =
+        let source : s + 1 - 1 ≡ s = omega arith in
+        let target : t + 1 - 1 ≡ t = omega arith in
+        ap₂ (λ x y. (x, y)) source target
 
 abbrev content_by : List Record → Content
 content_by [] = record { n = 0; arcs = []; question = absent }
@@ -119,6 +131,12 @@ parts_of_question (from_sources vs) = (
   (refl, tt),
   ap (λ l. opens Sources (length vs) ∷ l)
       (tokens_of_items source_record Source vs (λ v. refl) ∙ sym (append-nil (replicate (length vs) (adds Source)))),
+)
+parts_of_question (of_pairs ps) = (
+  record { section = Pairs; count = length ps } ∷ [],
+  (refl, tt),
+  ap (λ l. opens Pairs (length ps) ∷ l)
+      (tokens_of_items pair_record Pair ps (λ p. refl) ∙ sym (append-nil (replicate (length ps) (adds Pair)))),
 )
 
 legal_by : (job : Content) → IsLegal (map token_in (records_of job))

@@ -19,6 +19,14 @@ cost_line v text = codes "d " ++ decimal (v + 1) ++ codes " " ++ text ++ codes "
 abbrev pub label_text : ℕ → ℕ → List ℕ
 label_text v label = cost_line v (cost_text label)
 
+-- 'q S T COST', for the text of a cost
+abbrev pub pair_line : ℕ → ℕ → List ℕ → List ℕ
+pair_line s t text = codes "q " ++ decimal (s + 1) ++ codes " " ++ decimal (t + 1) ++ codes " " ++ text ++ codes "\n"
+
+-- 'q S T COST', for the label of a target
+abbrev pub pair_text : ℕ → ℕ → ℕ → List ℕ
+pair_text s t label = pair_line s t (cost_text label)
+
 -- the lines of the labels, the first of which is that of the vertex v
 abbrev pub label_lines : ℕ → List ℕ → List ℕ
 label_lines v [] = []

@@ -3,9 +3,9 @@ use Rattle.std.specs.Prelude.{◌≡◌, ℕ, ◌+◌, ◌^◌, ◌<◌, ◌≤�
 use Rattle.std.specs.Prelude.{length, map, filter_map, All, Option, Ok}
 use Rattle.route_walks.specs.declared.graph.ArcRec.{ArcRec}
 use Rattle.route_walks.specs.declared.graph.TheConstants.{MAX_VERTICES}
-use Rattle.dimacs_text.specs.declared.form.Section.TheVariants.{Problem, Sources}
-use Rattle.dimacs_text.specs.declared.form.Item.TheVariants.{Arc, Source}
-use Rattle.dimacs_text.specs.declared.form.TheConstants.{MAX_TEXT_ARCS, MAX_SOURCES}
+use Rattle.dimacs_text.specs.declared.form.Section.TheVariants.{Problem, Sources, Pairs}
+use Rattle.dimacs_text.specs.declared.form.Item.TheVariants.{Arc, Source, Pair}
+use Rattle.dimacs_text.specs.declared.form.TheConstants.{MAX_TEXT_ARCS, MAX_QUERIES}
 use Rattle.dimacs_text.specs.declared.job.Job.{Job}
 use Rattle.dimacs_text.specs.declared.job.Ask as rust
 use Rattle.dimacs_text.specs.declared.job.Ask.TheVariants as ask
@@ -17,6 +17,8 @@ use Rattle.dimacs_text.specs.Forms.{Record, readings}
 pub data Question : Type 0 where
   absent : Question
   from_sources : List ℕ → Question
+  -- of each pair a source and a target
+  of_pairs : List (ℕ × ℕ) → Question
 
 -- a job, without where it lies in memory
 pub record Content : Type 0 where
@@ -27,6 +29,7 @@ pub record Content : Type 0 where
 abbrev pub question_of : rust.Ask → Question
 question_of ask.Absent = absent
 question_of (ask.Sources sources) = from_sources sources.items
+question_of (ask.Pairs pairs) = of_pairs pairs.items
 
 abbrev pub content_of : Job → Content
 content_of job = record { n = job.n; arcs = job.arcs.items; question = question_of job.ask }
@@ -42,16 +45,23 @@ arc_record arc =
 abbrev pub source_record : ℕ → Record
 source_record vertex = record { form = Counted Source; numbers = (vertex + 1) ∷ [] }
 
+abbrev pub pair_record : ℕ × ℕ → Record
+pair_record pair = record { form = Counted Pair; numbers = (pair.0 + 1) ∷ (pair.1 + 1) ∷ [] }
+
 abbrev pub problem_record : ℕ → ℕ → Record
 problem_record n m = record { form = Head Problem; numbers = n ∷ m ∷ [] }
 
 abbrev pub sources_record : ℕ → Record
 sources_record k = record { form = Head Sources; numbers = k ∷ [] }
 
+abbrev pub pairs_record : ℕ → Record
+pairs_record k = record { form = Head Pairs; numbers = k ∷ [] }
+
 abbrev pub records_of_question : Question → List Record
 records_of_question absent = []
 records_of_question (from_sources vertices) =
     sources_record (length vertices) ∷ map source_record vertices
+records_of_question (of_pairs pairs) = pairs_record (length pairs) ∷ map pair_record pairs
 
 -- the lines of a job: the problem line, its arcs, and the section of what is asked
 abbrev pub records_of : Content → List Record
@@ -77,11 +87,18 @@ pub record IsArcWithin (n : ℕ) (arc : ArcRec) : Type 0 where
   pub head : arc.head < n
   pub weight : arc.weight < 2 ^ 32
 
+-- both ends of a pair are vertices
+abbrev pub IsPairWithin : ℕ → ℕ × ℕ → Type 0
+IsPairWithin n pair = (pair.0 < n) × (pair.1 < n)
+
 abbrev pub IsQuestionWithin : ℕ → Question → Type 0
 IsQuestionWithin n absent = Unit {0}
 IsQuestionWithin n (from_sources vertices) =
-    (length vertices ≤ MAX_SOURCES)
+    (length vertices ≤ MAX_QUERIES)
     × All (λ v. v < n) vertices
+IsQuestionWithin n (of_pairs pairs) =
+    (length pairs ≤ MAX_QUERIES)
+    × All (IsPairWithin n) pairs
 
 -- the limits of a job
 pub record IsWithinLimits (job : Content) : Type 0 where

@@ -7,13 +7,13 @@ ghost use Rattle.std.specs.Prelude.{◌≡◌, ℕ, ◌+◌, ◌<◌, ◌≤◌,
 ghost use Rattle.std.specs.Prelude.{drop, decimal, codes, All, OnOk, OnErr, vec_len, slice_index};
 ghost use Rattle.dimacs_text.specs.AnswerLines.{source_text, label_text, cost_text};
 ghost use Rattle.dimacs_text.specs.AnswerLines.{distances_text, components_text, component_text};
-ghost use Rattle.dimacs_text.specs.AnswerLines.{vertices_text, walk_text};
+ghost use Rattle.dimacs_text.specs.AnswerLines.{pair_text, vertices_text, walk_text};
 
 use itoa::write_digits;
 use route_walks::{INF, MAX_VERTICES, Memory};
 
-/// No line has more bytes: a letter, two numbers of at most 20 digits, two spaces and a line feed.
-const ROOM: usize = 44;
+/// No line has more bytes: a letter, three numbers of at most 20 digits, three spaces and a line feed.
+const ROOM: usize = 65;
 
 /// Puts a byte in front of what stands at the end of a line.
 fn put_byte(line: &mut [u8], end: usize, byte: u8) -> usize
@@ -84,6 +84,25 @@ pub fn put_label(out: &mut Vec<u8>, v: u32, label: u64) -> Result<(), Memory>
     let end = put_cost(&mut line, end, label);
     let end = put_byte(&mut line, end, b' ');
     let start = put_start(&mut line, end, b'd', u64::from(v) + 1);
+    out.extend_from_slice(&line[start..])?;
+    Ok(())
+}
+
+/// Appends the line `q S T COST` of a pair, for the label of its target `t` from its source `s`, where the
+/// cost of `INF` is `inf`.
+pub fn put_pair(out: &mut Vec<u8>, s: u32, t: u32, label: u64) -> Result<(), Memory>
+    requires source { s < MAX_VERTICES }
+    requires target { t < MAX_VERTICES }
+    ensures ok { OnOk result (out.new.items ≡ out.old.items ++ pair_text s t label) }
+    ensures err { OnErr result (out.new.items ≡ out.old.items) }
+{
+    let mut line = [0u8; ROOM];
+    let end = put_byte(&mut line, ROOM, b'\n');
+    let end = put_cost(&mut line, end, label);
+    let end = put_byte(&mut line, end, b' ');
+    let end = put_number(&mut line, end, u64::from(t) + 1);
+    let end = put_byte(&mut line, end, b' ');
+    let start = put_start(&mut line, end, b'q', u64::from(s) + 1);
     out.extend_from_slice(&line[start..])?;
     Ok(())
 }

@@ -24,6 +24,7 @@ pub struct Draft {
     pub vertices: u32,
     pub arcs: Vec<ArcRec>,
     pub sources: Vec<u32>,
+    pub pairs: Vec<(u32, u32)>,
 }
 
 impl Draft {
@@ -43,6 +44,7 @@ impl Draft {
             vertices: MAX_VERTICES,
             arcs: Vec::new(alloc),
             sources: Vec::new(alloc),
+            pairs: Vec::new(alloc),
         }
     }
 
@@ -74,6 +76,17 @@ impl Draft {
             }
             Entry::Source(vertex) => {
                 self.sources.push(vertex)?;
+                self.stage = self.stage.one_less();
+            }
+            Entry::Pairs(count) => {
+                self.stage = Stage::Within {
+                    section: Section::Pairs,
+                    missing: count,
+                };
+                self.pairs.clear();
+            }
+            Entry::Pair(source, target) => {
+                self.pairs.push((source, target))?;
                 self.stage = self.stage.one_less();
             }
         }
@@ -181,12 +194,17 @@ impl Draft {
             vertices,
             arcs,
             sources,
+            pairs,
         } = self;
         let ask = match stage {
             Stage::Within {
                 section: Section::Sources,
                 ..
             } => Ask::Sources(sources),
+            Stage::Within {
+                section: Section::Pairs,
+                ..
+            } => Ask::Pairs(pairs),
             _ => Ask::Absent,
         };
         Ok(Job {

@@ -12,8 +12,8 @@ use route_walks::{ArcRec, MAX_VERTICES};
 /// The largest number of arcs that a problem line can count, 2^30.
 pub const MAX_TEXT_ARCS: u32 = 1073741824;
 
-/// The largest number of sources that a text can ask for, 2^20.
-pub const MAX_SOURCES: u32 = 1048576;
+/// The largest number of sources, or of pairs, that a text can ask for, 2^20.
+pub const MAX_QUERIES: u32 = 1048576;
 
 /// A part of a text: a head with a count, and then as many items as it counts.
 #[derive(Clone, Copy, Debug, PartialEq, Eq)]
@@ -22,6 +22,8 @@ pub enum Section {
     Problem,
     /// The line `p aux sp ss K`, and its K sources.
     Sources,
+    /// The line `p aux sp p2p K`, and its K pairs.
+    Pairs,
 }
 
 impl Section {
@@ -34,6 +36,7 @@ impl Section {
         match self {
             Section::Problem => Item::Arc,
             Section::Sources => Item::Source,
+            Section::Pairs => Item::Pair,
         }
     }
 
@@ -44,6 +47,7 @@ impl Section {
         match self {
             Section::Problem => 0,
             Section::Sources => 1,
+            Section::Pairs => 1,
         }
     }
 
@@ -62,6 +66,8 @@ pub enum Item {
     Arc,
     /// The line `s V`.
     Source,
+    /// The line `q S T`.
+    Pair,
 }
 
 /// A line is the head of a section, or an item that a head counts.
@@ -72,11 +78,13 @@ pub enum Form {
 }
 
 /// The forms, in the order in which a line is compared with them.
-const FORMS: [Form; 4] = [
+const FORMS: [Form; 6] = [
     Form::Head(Section::Problem),
     Form::Head(Section::Sources),
+    Form::Head(Section::Pairs),
     Form::Counted(Item::Arc),
     Form::Counted(Item::Source),
+    Form::Counted(Item::Pair),
 ];
 
 impl Form {
@@ -87,8 +95,10 @@ impl Form {
         match self {
             Form::Head(Section::Problem) => &[b"p", b"sp"],
             Form::Head(Section::Sources) => &[b"p", b"aux", b"sp", b"ss"],
+            Form::Head(Section::Pairs) => &[b"p", b"aux", b"sp", b"p2p"],
             Form::Counted(Item::Arc) => &[b"a"],
             Form::Counted(Item::Source) => &[b"s"],
+            Form::Counted(Item::Pair) => &[b"q"],
         }
     }
 }
@@ -136,6 +146,8 @@ pub enum Entry {
     Arc(ArcRec),
     Sources(u32),
     Source(u32),
+    Pairs(u32),
+    Pair(u32, u32),
 }
 
 impl Entry {
@@ -150,6 +162,8 @@ impl Entry {
             Entry::Arc(_) => Form::Counted(Item::Arc),
             Entry::Sources(_) => Form::Head(Section::Sources),
             Entry::Source(_) => Form::Counted(Item::Source),
+            Entry::Pairs(_) => Form::Head(Section::Pairs),
+            Entry::Pair(_, _) => Form::Counted(Item::Pair),
         }
     }
 }
@@ -228,8 +242,12 @@ fn read_form(form: Form, args: &[u8], vertices: u32) -> Result<Entry, LineKind>
             Ok(Entry::Problem { vertices, arcs })
         }
         Form::Head(Section::Sources) => {
-            let [count] = read_numbers(args, [Limit::up_to(MAX_SOURCES)])?;
+            let [count] = read_numbers(args, [Limit::up_to(MAX_QUERIES)])?;
             Ok(Entry::Sources(count))
+        }
+        Form::Head(Section::Pairs) => {
+            let [count] = read_numbers(args, [Limit::up_to(MAX_QUERIES)])?;
+            Ok(Entry::Pairs(count))
         }
         Form::Counted(Item::Arc) => {
             let limits = [vertex, vertex, Limit::up_to(u32::MAX)];
@@ -243,6 +261,10 @@ fn read_form(form: Form, args: &[u8], vertices: u32) -> Result<Entry, LineKind>
         Form::Counted(Item::Source) => {
             let [vertex] = read_numbers(args, [vertex])?;
             Ok(Entry::Source(vertex - 1))
+        }
+        Form::Counted(Item::Pair) => {
+            let [source, target] = read_numbers(args, [vertex, vertex])?;
+            Ok(Entry::Pair(source - 1, target - 1))
         }
     }
 }

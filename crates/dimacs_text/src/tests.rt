@@ -3,8 +3,8 @@
 mod refusals;
 
 use crate::{
-    Ask, Job, JobReader, LineKind, TextFault, put_components, put_distances, put_label, put_source,
-    put_walk, read_job,
+    Ask, Job, JobReader, LineKind, TextFault, put_components, put_distances, put_label, put_pair,
+    put_source, put_walk, read_job,
 };
 use route_walks::{ArcRec, INF};
 use std::alloc::Global;
@@ -115,7 +115,6 @@ fn faults_after_a_graph(rt: HostRuntime) {
     let rows = [
         ("p", 10, LineKind::Unknown),
         ("p aux sp", 10, LineKind::Unknown),
-        ("p aux sp p2p 1\n", 10, LineKind::Unknown),
         ("p aux sp add 1\n", 10, LineKind::Unknown),
         ("s 1\n", 10, LineKind::Misplaced),
         ("a 1 1 1\n", 10, LineKind::TooMany),
@@ -128,6 +127,25 @@ fn faults_after_a_graph(rt: HostRuntime) {
         ("p aux sp ss 0\ns 1\n", 11, LineKind::TooMany),
         ("p aux sp ss 2\ns 1\n", 12, LineKind::TooFew),
         ("p aux sp ss 2\ns 1\n \n", 13, LineKind::TooFew),
+        ("p aux sp p2p\n", 10, LineKind::Fields),
+        ("p aux sp p2p 1048577\n", 10, LineKind::Range),
+        ("p aux sp p2p 1\n", 11, LineKind::TooFew),
+        ("p aux sp p2p 1048576\nq 1 6\n", 12, LineKind::TooFew),
+        ("p aux sp p2p 1\nq 1 7\n", 11, LineKind::Range),
+        ("p aux sp p2p 1\nq 0 1\n", 11, LineKind::Range),
+        ("p aux sp p2p 1\nq 1\n", 11, LineKind::Fields),
+        ("p aux sp p2p 1\nq 1 6 1\n", 11, LineKind::Fields),
+        ("p aux sp p2p 1\nq 1 -6\n", 11, LineKind::Number),
+        ("p aux sp p2p 1\ns 1\n", 11, LineKind::Misplaced),
+        ("p aux sp ss 1\nq 1 6\n", 11, LineKind::Misplaced),
+        ("q 1 6\n", 10, LineKind::Misplaced),
+        ("p aux sp p2p 1\nq 1 6\nq 1 6\n", 12, LineKind::TooMany),
+        ("p aux sp p2p 0\nq 1 6\n", 11, LineKind::TooMany),
+        ("p aux sp p2p 1\nq 1 6\na 1 2 1\n", 12, LineKind::Misplaced),
+        // A second section of queries is misplaced, of whichever form and also where the first lacks some.
+        ("p aux sp p2p 0\np aux sp ss 0\n", 11, LineKind::Misplaced),
+        ("p aux sp ss 1\np aux sp p2p 1\n", 11, LineKind::Misplaced),
+        ("p aux sp p2p 1\np aux sp p2p 1\n", 11, LineKind::Misplaced),
     ];
     for (tail, line, kind) in rows {
         assert!(rt;
@@ -161,7 +179,34 @@ fn assert_job(rt: &impl Abort, job: &Job, n: u32, last: ArcRec, sources: &[u32])
     match &job.ask {
         Ask::Absent => assert_eq!(rt; sources.len(), 0),
         Ask::Sources(given) => assert_eq!(rt; given.as_slice(), sources),
+        Ask::Pairs(_) => assert!(rt; false, "pairs for sources"),
     }
+}
+
+/// Asserts that a text asks for these pairs.
+fn assert_pairs(rt: &impl Abort, job: &Job, pairs: &[(u32, u32)]) {
+    match &job.ask {
+        Ask::Pairs(given) => assert_eq!(rt; given.as_slice(), pairs),
+        _ => assert!(rt; false, "no pairs"),
+    }
+}
+
+#[test]
+fn jobs_of_pairs(rt: HostRuntime) -> Result<(), Fail> {
+    let rows: [(&[u8], &[(u32, u32)]); 3] = [
+        (b"p aux sp p2p 0", &[]),
+        (b"p aux sp p2p 1\nq 6 6\n", &[(5, 5)]),
+        (
+            b"p aux sp p2p 3\nq 1 6\n\tq  03 2\r\nq 1 6",
+            &[(0, 5), (2, 1), (0, 5)],
+        ),
+    ];
+    for (tail, pairs) in rows {
+        assert_pairs(&rt, &read(rt.alloc(), GRAPH, tail)?, pairs);
+        let text = joined(rt.alloc(), GRAPH, tail)?;
+        assert_pairs(&rt, &read_pieces(rt.alloc(), &text, 3)?, pairs);
+    }
+    Ok(())
 }
 
 #[test]
@@ -193,8 +238,12 @@ fn answers(rt: HostRuntime) -> Result<(), Fail> {
     put_components(&mut out, &[0, 0, 2])?;
     put_walk(&mut out, 15, &[0, 2, 4, 1, 3, 5])?;
     put_walk(&mut out, 0, &[3])?;
+    put_pair(&mut out, 0, 5, 15)?;
+    put_pair(&mut out, 268435455, 268435454, INF - 1)?;
+    put_pair(&mut out, 5, 0, INF)?;
     let lines = "s 268435456\nd 10 inf\nd 1 18446744073709551614\ns 3\nd 1 inf\nd 2 0\nd 3 10\n\
-         k 1 1\nk 2 1\nk 3 3\nw 6 15 1 3 5 2 4 6\nw 4 0 4\n";
+         k 1 1\nk 2 1\nk 3 3\nw 6 15 1 3 5 2 4 6\nw 4 0 4\n\
+         q 1 6 15\nq 268435456 268435455 18446744073709551614\nq 6 1 inf\n";
     assert_eq!(rt; out.as_slice(), lines.as_bytes());
     Ok(())
 }

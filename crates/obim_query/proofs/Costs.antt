@@ -15,15 +15,17 @@ use Rattle.route_walks.specs.Component.{IsComponentLabel, LeastLabelsAreComponen
 use Rattle.route_walks.specs.Label.{AreLeastLabels, InfMeansNoWalk}
 use Rattle.route_walks.specs.Operators.{seeds_from, unit_weight, unit_weights}
 use Rattle.route_walks.proofs.Facts.{attained-by_walk, walk-of_attained}
-use Rattle.dimacs_text.specs.AnswerLines.{cost_text, label_text, label_lines, walk_text}
-use Rattle.dimacs_text.specs.Jobs.{Content, Question, from_sources, IsArcWithin, IsQuestionWithin, IsWithinLimits}
+use Rattle.dimacs_text.specs.AnswerLines.{cost_text, label_text, label_lines, pair_text, walk_text}
+use Rattle.dimacs_text.specs.Jobs.{Content, Question, from_sources, of_pairs}
+use Rattle.dimacs_text.specs.Jobs.{IsArcWithin, IsPairWithin, IsQuestionWithin, IsWithinLimits}
 use Rattle.dimacs_text.specs.AnswerLines.{component_lines}
 use Rattle.walk_report.specs.Hop.{AreHops}
 use Rattle.walk_report.specs.Parent.{AreParents}
 use Rattle.walk_report.specs.Printed.{printed_walk, PrintedWalksAreWalks}
 use Rattle.obim_query.specs.declared.asked.Answer.TheVariants.{Distances, Levels, Components}
-use Rattle.obim_query.specs.AnswerText.{AreAskedBlocks, AreBlocks, AreSourceBlocks, IsBlock, vertex_lines}
-use Rattle.obim_query.specs.Costs.{AnswersSayCosts, AreCostLines, IsCostText, SaysCosts, unreached, reached}
+use Rattle.obim_query.specs.AnswerText.{AreAskedBlocks, AreBlocks, IsBlock, IsPairBlock, vertex_lines, walk_line}
+use Rattle.obim_query.specs.Costs.{AnswersSayCosts, AnswersSayPairCosts, AreCostLines, IsCostText, SaysCosts}
+use Rattle.obim_query.specs.Costs.{SaysPairCost, unreached, reached}
 use Rattle.obim_query.specs.Costs.{IsWalkLine, unasked, no_walk, shortest, AnswersSayComponents, AreComponentLines}
 
 -- along these arcs INF means that no walk exists
@@ -57,10 +59,6 @@ label_is_cost law n arcs source labels light within least v below =
           (λ walk walks. omega (arith, here.least (cost walk) (attained-by_walk arcs source v walk walks), found.2))
           (rw test (ap decimal (sym found.2)))
     ]
-
--- the line of the printed walk to w, whose label is given
-abbrev walk_line : (ℕ → ℕ) → (ℕ → ℕ) → ℕ → ℕ → List ℕ
-walk_line hop parent w label = if label == INF then [] else walk_text label (printed_walk parent (hop w) w)
 
 -- it is that of a walk of least cost and fewest arcs
 line_is_walk : InfMeansNoWalk → PrintedWalksAreWalks → (n : ℕ) (arcs : List ArcRec) (source : ℕ)
@@ -155,25 +153,48 @@ block_says_costs law printed false n arcs light source text within block = (
   block.written,
 )
 block_says_costs law printed true n arcs light source text within block =
-    let lines = vertex_lines (slice_index block.hops) (slice_index block.parents) 0 block.labels in (
+    let lines = vertex_lines (slice_index block.hops) (slice_index block.parents) 0 block.labels in
+    let are = block.walked in (
       lines,
-      subst (λ (m : ℕ). AreCostLines true arcs source 0 m lines) block.least.count
+      subst (λ (m : ℕ). AreCostLines true arcs source 0 m lines) are.least.count
           (walks_say_costs arcs source 0 (slice_index block.hops) (slice_index block.parents) block.labels
-          (say_costs law n arcs source block.labels light within block.least)
-          (say_walks law printed n arcs source block.labels block.hops block.parents light within block.least
-          block.fewest block.before)),
+          (say_costs law n arcs source block.labels light within are.least)
+          (say_walks law printed n arcs source block.labels block.hops block.parents light within are.least
+          are.fewest are.before)),
       block.written,
     )
 
-blocks_say_costs : InfMeansNoWalk → PrintedWalksAreWalks → (walks : Bool) (n : ℕ) (arcs : List ArcRec) → AreLight n arcs
-    → (sources text : List ℕ) → All (λ v. v < n) sources → AreSourceBlocks walks n arcs sources text
-    → AreBlocks (SaysCosts walks n arcs) sources text
-blocks_say_costs law printed walks n arcs light [] text within blocks = blocks
-blocks_say_costs law printed walks n arcs light (source ∷ sources) text within blocks = (
+pair_says_cost : InfMeansNoWalk → PrintedWalksAreWalks → (walks : Bool) (n : ℕ) (arcs : List ArcRec) → AreLight n arcs
+    → (pair : ℕ × ℕ) (block : List ℕ) → IsPairWithin n pair → IsPairBlock walks n arcs pair block
+    → SaysPairCost walks arcs pair block
+pair_says_cost law printed false n arcs light pair text within block = (
+  cost_text (slice_index block.labels pair.1),
+  [],
+  label_is_cost law n arcs pair.0 block.labels light within.0 block.least pair.1 within.1,
+  unasked refl refl,
+  block.written ∙ sym (append-nil (pair_text pair.0 pair.1 (slice_index block.labels pair.1))),
+)
+pair_says_cost law printed true n arcs light pair text within block =
+    let are = block.walked in (
+      cost_text (slice_index block.labels pair.1),
+      walk_line (slice_index block.hops) (slice_index block.parents) pair.1 (slice_index block.labels pair.1),
+      label_is_cost law n arcs pair.0 block.labels light within.0 are.least pair.1 within.1,
+      line_is_walk law printed n arcs pair.0 block.labels block.hops block.parents light within.0 are.least are.fewest
+          are.before pair.1 within.1,
+      block.written,
+    )
+
+-- what each block says, all of them say
+blocks_say : {Query : Type 0} (IsWithin : Query → Type 0) (IsBlockOf Says : Query → List ℕ → Type 0)
+    → ((query : Query) (block : List ℕ) → IsWithin query → IsBlockOf query block → Says query block)
+    → (queries : List Query) (text : List ℕ) → All IsWithin queries → AreBlocks IsBlockOf queries text
+    → AreBlocks Says queries text
+blocks_say IsWithin IsBlockOf Says each [] text within blocks = blocks
+blocks_say IsWithin IsBlockOf Says each (query ∷ queries) text within blocks = (
   blocks.0,
   blocks.1,
-  block_says_costs law printed walks n arcs light source blocks.0 (All-head (λ v. v < n) source sources within) blocks.2,
-  blocks_say_costs law printed walks n arcs light sources blocks.1 (All-tail (λ v. v < n) source sources within) blocks.3,
+  each query blocks.0 (All-head IsWithin query queries within) blocks.2,
+  blocks_say IsWithin IsBlockOf Says each queries blocks.1 (All-tail IsWithin query queries within) blocks.3,
   blocks.4,
 )
 
@@ -193,21 +214,38 @@ light_units n arcs light = record {
   light = All-map (λ (arc : ArcRec). arc.weight < 2 ^ 32) unit_weight arcs (λ k d below. omega arith);
 }
 
-asked_costs : InfMeansNoWalk → PrintedWalksAreWalks → (walks : Bool) (n : ℕ) (arcs : List ArcRec) → AreLight n arcs
-    → (question : Question) (sources text : List ℕ) → question ≡ from_sources sources → IsQuestionWithin n question
-    → AreAskedBlocks walks n arcs question text → AreBlocks (SaysCosts walks n arcs) sources text
-asked_costs law printed walks n arcs light question sources text asked within blocks =
-    let inside = subst (IsQuestionWithin n) asked within in
-    blocks_say_costs law printed walks n arcs light sources text inside.1
-    (subst (λ (q : Question). AreAskedBlocks walks n arcs q text) asked blocks)
+module _ (law : InfMeansNoWalk) (printed : PrintedWalksAreWalks) (walks : Bool) (n : ℕ) (arcs : List ArcRec)
+    (light : AreLight n arcs) (question : Question) (text : List ℕ) (limits : IsQuestionWithin n question)
+    (answered : AreAskedBlocks walks n arcs question text) where
+  sources_say : (sources : List ℕ) → question ≡ from_sources sources → AreBlocks (SaysCosts walks n arcs) sources text
+  sources_say sources asked =
+      blocks_say (λ v. v < n) (IsBlock walks n arcs) (SaysCosts walks n arcs)
+      (block_says_costs law printed walks n arcs light) sources text (subst (IsQuestionWithin n) asked limits).1
+      (subst (λ (q : Question). AreAskedBlocks walks n arcs q text) asked answered)
+
+  pairs_say : (pairs : List (ℕ × ℕ)) → question ≡ of_pairs pairs → AreBlocks (SaysPairCost walks arcs) pairs text
+  pairs_say pairs asked =
+      blocks_say (IsPairWithin n) (IsPairBlock walks n arcs) (SaysPairCost walks arcs)
+      (pair_says_cost law printed walks n arcs light) pairs text (subst (IsQuestionWithin n) asked limits).1
+      (subst (λ (q : Question). AreAskedBlocks walks n arcs q text) asked answered)
 
 pub answers_say_costs : InfMeansNoWalk → PrintedWalksAreWalks → AnswersSayCosts
 answers_say_costs law printed Distances walks job sources text other asked limits answered =
-    asked_costs law printed walks job.n job.arcs (light_arcs job limits) job.question sources text asked limits.question answered
+    sources_say law printed walks job.n job.arcs (light_arcs job limits) job.question text limits.question answered sources
+    asked
 answers_say_costs law printed Levels walks job sources text other asked limits answered =
-    asked_costs law printed walks job.n (unit_weights job.arcs) (light_units job.n job.arcs (light_arcs job limits)) job.question
-    sources text asked limits.question answered
+    sources_say law printed walks job.n (unit_weights job.arcs) (light_units job.n job.arcs (light_arcs job limits))
+    job.question text limits.question answered sources asked
 answers_say_costs law printed Components walks job sources text other asked limits answered = absurd (other refl)
+
+pub answers_say_pair_costs : InfMeansNoWalk → PrintedWalksAreWalks → AnswersSayPairCosts
+answers_say_pair_costs law printed Distances walks job pairs text other asked limits answered =
+    pairs_say law printed walks job.n job.arcs (light_arcs job limits) job.question text limits.question answered pairs
+    asked
+answers_say_pair_costs law printed Levels walks job pairs text other asked limits answered =
+    pairs_say law printed walks job.n (unit_weights job.arcs) (light_units job.n job.arcs (light_arcs job limits))
+    job.question text limits.question answered pairs asked
+answers_say_pair_costs law printed Components walks job pairs text other asked limits answered = absurd (other refl)
 
 -- ---- components
 

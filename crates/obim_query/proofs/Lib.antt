@@ -6,3 +6,4 @@ pub mod Costs
 pub mod Uniqueness
 pub mod Prefixes
 pub mod Existence
+pub mod PairLabels

@@ -1,14 +1,14 @@
 -- What was given is a prefix of the whole, also where a write fails.
-use Rattle.std.proofs.Common.{◌≡◌, Bool, ℕ, ◌<◌, ◌≤◌, List, [], ◌∷◌, ◌++◌, length, get_or, take}
+use Rattle.std.proofs.Common.{◌≡◌, ℕ, ◌<◌, ◌≤◌, List, [], ◌∷◌, ◌++◌, length, get_or, take}
 use Rattle.std.proofs.Common.{zero, suc, Option, Some, None, refl, sym, subst, ap, ◌∙◌, append_assoc, arith}
 use Rattle.std.specs.Io.KnownBytes.{Appends}
 use Rattle.std.specs.Prelude.{Result, Ok, Err, OnErr}
 use Rattle.std.proofs.lemmas.List.{append-nil, take_all}
-use Rattle.route_walks.specs.declared.graph.ArcRec.{ArcRec}
-use Rattle.obim_query.specs.AnswerText.{AreSourceBlocks, BlocksAreUnique, IsBlock}
+use Rattle.obim_query.specs.AnswerText.{AreBlocks, IsOneBlock}
 use Rattle.obim_query.specs.Bytes.{GivesPrefix, IsPrefix, PutsPrefix, WritesPrefix}
 use Rattle.obim_query.proofs.Known.{appends-then}
-use Rattle.obim_query.proofs.Sending.{AreSent, IsPut}
+use Rattle.obim_query.specs.Sent.{AreSent}
+use Rattle.obim_query.proofs.Sending.{IsPut}
 use Rattle.obim_query.proofs.Uniqueness.{blocks-same}
 
 pub at-err : {T E P : Type 0} (r : Result T E) → P → OnErr r P
@@ -81,66 +81,61 @@ only-text IsText before after waiting text only cut = record {
   appended = cut.appended;
 }
 
--- the blocks of all sources begin with those of the first, and then with the block of the next source
-blocks-next : BlocksAreUnique
-    → (walks : Bool) (n : ℕ) (arcs : List ArcRec) (sources : List ℕ) (i : ℕ) (done text : List ℕ)
-    → i < length sources → AreSourceBlocks walks n arcs (take i sources) done
-    → AreSourceBlocks walks n arcs sources text
-    → (block : List ℕ)
-    × (rest : List ℕ)
-    × IsBlock walks n arcs (get_or sources i 0) block
-    × (text ≡ done ++ block ++ rest)
-blocks-next law walks n arcs [] i done text here some all = absurd (omega arith)
-blocks-next law walks n arcs (source ∷ sources) zero done text here some all =
-    (all.0, all.1, all.2, all.4 ∙ ap (λ (xs : List ℕ). xs ++ all.0 ++ all.1) (sym some))
-blocks-next law walks n arcs (source ∷ sources) (suc i) done text here some all =
-    let next = blocks-next law walks n arcs sources i some.1 all.1 (omega arith) some.3 all.3 in (
-      next.0,
-      next.1,
-      next.2,
-      all.4
-          ∙ ap (λ (xs : List ℕ). xs ++ all.1) (law walks n arcs source all.0 some.0 all.2 some.2)
-          ∙ ap (λ (xs : List ℕ). some.0 ++ xs) next.3
-          ∙ sym (append_assoc some.0 (some.1 ++ next.0) next.1)
-          ∙ ap (λ (xs : List ℕ). xs ++ next.1) (sym (append_assoc some.0 some.1 next.0))
-          ∙ ap (λ (xs : List ℕ). xs ++ next.0 ++ next.1) (sym some.4),
-    )
+module _ {Query : Type 0} (IsBlockOf : Query → List ℕ → Type 0) (only : IsOneBlock IsBlockOf) where
+  -- the blocks of all queries begin with those of the first, and then with the block of the next query
+  blocks-next : (queries : List Query) (i : ℕ) (d : Query) (done text : List ℕ)
+      → i < length queries → AreBlocks IsBlockOf (take i queries) done → AreBlocks IsBlockOf queries text
+      → (block : List ℕ)
+      × (rest : List ℕ)
+      × IsBlockOf (get_or queries i d) block
+      × (text ≡ done ++ block ++ rest)
+  blocks-next [] i d done text here some all = absurd (omega arith)
+  blocks-next (query ∷ queries) zero d done text here some all =
+      (all.0, all.1, all.2, all.4 ∙ ap (λ (xs : List ℕ). xs ++ all.0 ++ all.1) (sym some))
+  blocks-next (query ∷ queries) (suc i) d done text here some all =
+      let next = blocks-next queries i d some.1 all.1 (omega arith) some.3 all.3 in (
+        next.0,
+        next.1,
+        next.2,
+        all.4
+            ∙ ap (λ (xs : List ℕ). xs ++ all.1) (only query all.0 some.0 all.2 some.2)
+            ∙ ap (λ (xs : List ℕ). some.0 ++ xs) next.3
+            ∙ sym (append_assoc some.0 (some.1 ++ next.0) next.1)
+            ∙ ap (λ (xs : List ℕ). xs ++ next.1) (sym (append_assoc some.0 some.1 next.0))
+            ∙ ap (λ (xs : List ℕ). xs ++ next.0 ++ next.1) (sym some.4),
+      )
 
--- a fault comes in the block of a source, before it or while what waits of it is written
-pub sources-cut : BlocksAreUnique
-    → (walks : Bool) (n : ℕ) (arcs : List ArcRec) (sources : List ℕ) (i : ℕ)
-    (before between after : Option (List ℕ)) (waiting : List ℕ)
-    → i < length sources → AreSent walks n arcs sources i before between waiting
-    → PutsPrefix (IsBlock walks n arcs (get_or sources i 0)) between after waiting
-    → WritesPrefix (AreSourceBlocks walks n arcs sources) before after
-sources-cut law walks n arcs sources i before between after waiting here sent cut = record {
-  given = sent.waits.given ++ cut.given;
-  is_prefix =
-      λ text all.
-      let next = blocks-next law walks n arcs sources i sent.text text here sent.blocks all in
-      subst (IsPrefix (sent.waits.given ++ cut.given)) (sym next.3)
-      (prefix-longer (sent.waits.given ++ cut.given) (sent.text ++ next.0) next.1
-      (prefix-after sent.waits.given waiting sent.text next.0 cut.given sent.waits.whole
-      (cut.is_prefix next.0 next.2)));
-  appended = appends-then before between after sent.waits.given cut.given sent.waits.appended cut.appended;
-}
+  module _ (queries : List Query) where
+    -- a fault comes in the block of a query, before it or while what waits of it is written
+    pub block-cut : (i : ℕ) (d : Query) (before between after : Option (List ℕ)) (waiting : List ℕ)
+        → i < length queries → AreSent IsBlockOf queries i before between waiting
+        → PutsPrefix (IsBlockOf (get_or queries i d)) between after waiting
+        → WritesPrefix (AreBlocks IsBlockOf queries) before after
+    block-cut i d before between after waiting here sent cut = record {
+      given = sent.waits.given ++ cut.given;
+      is_prefix =
+          λ text all.
+          let next = blocks-next queries i d sent.text text here sent.blocks all in
+          subst (IsPrefix (sent.waits.given ++ cut.given)) (sym next.3)
+          (prefix-longer (sent.waits.given ++ cut.given) (sent.text ++ next.0) next.1
+          (prefix-after sent.waits.given waiting sent.text next.0 cut.given sent.waits.whole
+          (cut.is_prefix next.0 next.2)));
+      appended = appends-then before between after sent.waits.given cut.given sent.waits.appended cut.appended;
+    }
 
--- all was put, and the last write fails
-pub all-cut : BlocksAreUnique
-    → (walks : Bool) (n : ℕ) (arcs : List ArcRec) (sources : List ℕ) (i : ℕ)
-    (before between after : Option (List ℕ)) (waiting : List ℕ)
-    → length sources ≤ i → AreSent walks n arcs sources i before between waiting
-    → GivesPrefix between after waiting
-    → WritesPrefix (AreSourceBlocks walks n arcs sources) before after
-all-cut law walks n arcs sources i before between after waiting past sent cut = record {
-  given = sent.waits.given ++ cut.given;
-  is_prefix =
-      λ text all.
-      let blocks =
-      subst (λ (xs : List ℕ). AreSourceBlocks walks n arcs xs sent.text) (take_all i sources past) sent.blocks in
-      let waits = subst (IsPrefix cut.given) (sym (append-nil waiting)) cut.is_prefix in
-      subst (IsPrefix (sent.waits.given ++ cut.given))
-      (append-nil sent.text ∙ blocks-same law walks n arcs sources sent.text text blocks all)
-      (prefix-after sent.waits.given waiting sent.text [] cut.given sent.waits.whole waits);
-  appended = appends-then before between after sent.waits.given cut.given sent.waits.appended cut.appended;
-}
+    -- all was put, and the last write fails
+    pub all-cut : (i : ℕ) (before between after : Option (List ℕ)) (waiting : List ℕ)
+        → length queries ≤ i → AreSent IsBlockOf queries i before between waiting → GivesPrefix between after waiting
+        → WritesPrefix (AreBlocks IsBlockOf queries) before after
+    all-cut i before between after waiting past sent cut = record {
+      given = sent.waits.given ++ cut.given;
+      is_prefix =
+          λ text all.
+          let blocks =
+          subst (λ (xs : List Query). AreBlocks IsBlockOf xs sent.text) (take_all i queries past) sent.blocks in
+          let waits = subst (IsPrefix cut.given) (sym (append-nil waiting)) cut.is_prefix in
+          subst (IsPrefix (sent.waits.given ++ cut.given))
+          (append-nil sent.text ∙ blocks-same IsBlockOf only queries sent.text text blocks all)
+          (prefix-after sent.waits.given waiting sent.text [] cut.given sent.waits.whole waits);
+      appended = appends-then before between after sent.waits.given cut.given sent.waits.appended cut.appended;
+    }

@@ -10,91 +10,116 @@ use Rattle.route_walks.specs.Label.{AreLeastLabels, LeastLabelsFollowTheArcs}
 use Rattle.route_walks.specs.Operators.{seeds_from, seeds_all, both_ways, unit_weights}
 use Rattle.route_walks.specs.Component.{LeastLabelsAreComponents}
 use Rattle.walk_report.specs.Parent.{HopsAndParentsFollowTheArcs}
-use Rattle.dimacs_text.specs.Jobs.{Content, absent, from_sources}
+use Rattle.dimacs_text.specs.Jobs.{Content, Question, absent, from_sources, of_pairs}
 use Rattle.std.specs.Prelude.{Result, Ok, Err, IfErr, OnErr}
 use Rattle.dimacs_text.specs.AnswerLines.{components_text}
-use Rattle.obim_engine.specs.declared.runs.RunFault.{RunFault}
-use Rattle.obim_engine.specs.declared.runs.RunFault.TheVariants as stopped
-use Rattle.obim_query.specs.Choices.{fault_of_run}
-use Rattle.obim_query.proofs.Prefixes.{puts-nothing}
 use Rattle.obim_query.specs.declared.fault.Fault.{Fault}
 use Rattle.obim_query.specs.declared.fault.Fault.TheVariants.{Read, TooLong, Text, NoAsk, Memory, Spawn, Write}
 use Rattle.obim_query.specs.declared.asked.Answer.{Answer}
 use Rattle.obim_query.specs.declared.asked.Answer.TheVariants.{Distances, Levels, Components}
 use Rattle.obim_query.specs.Bytes.{WritesPrefix}
 use Rattle.obim_query.specs.Outcome.{IsReplyFault, IsUnasked, IsWritingFault}
-use Rattle.obim_query.specs.AnswerText.{IsBlock, AreSourceBlocks, AreAskedBlocks, IsAnswerText, arcs_for}
+use Rattle.obim_query.specs.AnswerText.{IsBlock, IsPairBlock, AreWalksFrom, AreBlocks, AreAskedBlocks}
+use Rattle.obim_query.specs.AnswerText.{IsAnswerText, arcs_for}
 
--- a block along the same arcs is the same
-block-over : LeastLabelsFollowTheArcs → HopsAndParentsFollowTheArcs
-    → (walks : Bool) (n : ℕ) (one other : List ArcRec) (source : ℕ) (text : List ℕ) → HaveSameArcs one other
-    → IsBlock walks n one source text
-    → IsBlock walks n other source text
-block-over law walked false n one other source text same block = record {
-  labels = block.labels;
-  least = law n one other (seeds_from source) block.labels same block.least;
-  written = block.written;
-}
-block-over law walked true n one other source text same block =
-    let over = walked n one other source block.labels block.hops block.parents same block.fewest block.before in
-    record {
-      labels = block.labels;
-      least = law n one other (seeds_from source) block.labels same block.least;
-      hops = block.hops;
-      fewest = over.0;
-      parents = block.parents;
-      before = over.1;
-      written = block.written;
-    }
+module _ (law : LeastLabelsFollowTheArcs) (walked : HopsAndParentsFollowTheArcs) (n : ℕ) (one other : List ArcRec)
+    (same : HaveSameArcs one other) where
+  walks-over : (source : ℕ) (labels hops parents : List ℕ) → AreWalksFrom n one source labels hops parents
+      → AreWalksFrom n other source labels hops parents
+  walks-over source labels hops parents are =
+      let over = walked n one other source labels hops parents same are.fewest are.before in
+      record { least = law n one other (seeds_from source) labels same are.least; fewest = over.0; before = over.1 }
 
-blocks-over : LeastLabelsFollowTheArcs → HopsAndParentsFollowTheArcs
-    → (walks : Bool) (n : ℕ) (one other : List ArcRec) → HaveSameArcs one other
-    → (sources text : List ℕ) → AreSourceBlocks walks n one sources text
-    → AreSourceBlocks walks n other sources text
-blocks-over law walked walks n one other same [] text blocks = blocks
-blocks-over law walked walks n one other same (source ∷ sources) text blocks = (
+  -- a block along the same arcs is the same
+  block-over : (walks : Bool) (source : ℕ) (text : List ℕ) → IsBlock walks n one source text → IsBlock walks n other source text
+  block-over false source text block = record {
+    labels = block.labels;
+    least = law n one other (seeds_from source) block.labels same block.least;
+    written = block.written;
+  }
+  block-over true source text block = record {
+    labels = block.labels;
+    hops = block.hops;
+    parents = block.parents;
+    walked = walks-over source block.labels block.hops block.parents block.walked;
+    written = block.written;
+  }
+
+  pair-over : (walks : Bool) (pair : ℕ × ℕ) (text : List ℕ) → IsPairBlock walks n one pair text
+      → IsPairBlock walks n other pair text
+  pair-over false pair text block = record {
+    labels = block.labels;
+    least = law n one other (seeds_from pair.0) block.labels same block.least;
+    written = block.written;
+  }
+  pair-over true pair text block = record {
+    labels = block.labels;
+    hops = block.hops;
+    parents = block.parents;
+    walked = walks-over pair.0 block.labels block.hops block.parents block.walked;
+    written = block.written;
+  }
+
+blocks-over : {Query : Type 0} (IsOne IsOther : Query → List ℕ → Type 0)
+    → ((query : Query) (text : List ℕ) → IsOne query text → IsOther query text)
+    → (queries : List Query) (text : List ℕ) → AreBlocks IsOne queries text
+    → AreBlocks IsOther queries text
+blocks-over IsOne IsOther each [] text blocks = blocks
+blocks-over IsOne IsOther each (query ∷ queries) text blocks = (
   blocks.0,
   blocks.1,
-  block-over law walked walks n one other source blocks.0 same blocks.2,
-  blocks-over law walked walks n one other same sources blocks.1 blocks.3,
+  each query blocks.0 blocks.2,
+  blocks-over IsOne IsOther each queries blocks.1 blocks.3,
   blocks.4,
 )
 
--- the blocks along the rows are those along the arcs, and the other way round
+-- what is asked along the rows is what is asked along the arcs
+asked-over : LeastLabelsFollowTheArcs → HopsAndParentsFollowTheArcs
+    → (walks : Bool) (n : ℕ) (one other : List ArcRec) → HaveSameArcs one other
+    → (question : Question) (text : List ℕ) → AreAskedBlocks walks n one question text
+    → AreAskedBlocks walks n other question text
+asked-over law walked walks n one other same absent text blocks = blocks
+asked-over law walked walks n one other same (from_sources sources) text blocks =
+    blocks-over (IsBlock walks n one) (IsBlock walks n other) (block-over law walked n one other same walks) sources text
+    blocks
+asked-over law walked walks n one other same (of_pairs pairs) text blocks =
+    blocks-over (IsPairBlock walks n one) (IsPairBlock walks n other) (pair-over law walked n one other same walks) pairs
+    text blocks
+
 asked_answered : LeastLabelsFollowTheArcs → HopsAndParentsFollowTheArcs
-    → (walks : Bool) (job : Content) (n : ℕ) (one other : List ArcRec) (sources text : List ℕ)
-    → job.question ≡ from_sources sources → n ≡ job.n → HaveSameArcs one other
-    → (AreSourceBlocks walks n one sources text) ↔ (AreAskedBlocks walks job.n other job.question text)
-asked_answered law walked walks job n one other sources text asked count same =
+    → (walks : Bool) (job : Content) (n : ℕ) (one other : List ArcRec) (question : Question) (text : List ℕ)
+    → job.question ≡ question → n ≡ job.n → HaveSameArcs one other
+    → (AreAskedBlocks walks n one question text) ↔ (AreAskedBlocks walks job.n other job.question text)
+asked_answered law walked walks job n one other question text asked count same =
     rw (asked, ← count) (
-      blocks-over law walked walks n one other same sources text,
-      blocks-over law walked walks n other one (λ arc. ((same arc).1, (same arc).0)) sources text,
+      asked-over law walked walks n one other same question text,
+      asked-over law walked walks n other one (λ arc. ((same arc).1, (same arc).0)) question text,
     )
 
--- the blocks of all sources along the rows are the answer
-pub sources_answered : LeastLabelsFollowTheArcs → HopsAndParentsFollowTheArcs
-    → (kind : Answer) (walks : Bool) (job : Content) (n : ℕ) (one : List ArcRec) (sources text : List ℕ)
-    → kind ≢ Components → job.question ≡ from_sources sources → n ≡ job.n → HaveSameArcs one (arcs_for kind job.arcs)
-    → (AreSourceBlocks walks n one sources text) ↔ (IsAnswerText kind walks job text)
-sources_answered law walked Distances walks job n one sources text other asked count same =
-    asked_answered law walked walks job n one job.arcs sources text asked count same
-sources_answered law walked Levels walks job n one sources text other asked count same =
-    asked_answered law walked walks job n one (unit_weights job.arcs) sources text asked count same
-sources_answered law walked Components walks job n one sources text other asked count same = absurd (other refl)
+-- the blocks of all queries along the rows are the answer
+pub queries_answered : LeastLabelsFollowTheArcs → HopsAndParentsFollowTheArcs
+    → (kind : Answer) (walks : Bool) (job : Content) (n : ℕ) (one : List ArcRec) (question : Question) (text : List ℕ)
+    → kind ≢ Components → job.question ≡ question → n ≡ job.n → HaveSameArcs one (arcs_for kind job.arcs)
+    → (AreAskedBlocks walks n one question text) ↔ (IsAnswerText kind walks job text)
+queries_answered law walked Distances walks job n one question text other asked count same =
+    asked_answered law walked walks job n one job.arcs question text asked count same
+queries_answered law walked Levels walks job n one question text other asked count same =
+    asked_answered law walked walks job n one (unit_weights job.arcs) question text asked count same
+queries_answered law walked Components walks job n one question text other asked count same = absurd (other refl)
 
 -- a prefix of the blocks along the rows is one of the answer
-pub sources_begun : LeastLabelsFollowTheArcs → HopsAndParentsFollowTheArcs
-    → (kind : Answer) (walks : Bool) (job : Content) (n : ℕ) (one : List ArcRec) (sources : List ℕ)
+pub queries_begun : LeastLabelsFollowTheArcs → HopsAndParentsFollowTheArcs
+    → (kind : Answer) (walks : Bool) (job : Content) (n : ℕ) (one : List ArcRec) (question : Question)
     (before after : Option (List ℕ))
-    → kind ≢ Components → job.question ≡ from_sources sources → n ≡ job.n
-    → HaveSameArcs one (arcs_for kind job.arcs) → WritesPrefix (AreSourceBlocks walks n one sources) before after
+    → kind ≢ Components → job.question ≡ question → n ≡ job.n → HaveSameArcs one (arcs_for kind job.arcs)
+    → WritesPrefix (AreAskedBlocks walks n one question) before after
     → WritesPrefix (IsAnswerText kind walks job) before after
-sources_begun law walked kind walks job n one sources before after other asked count same cut = record {
+queries_begun law walked kind walks job n one question before after other asked count same cut = record {
   given = cut.given;
   is_prefix =
       λ text answered.
       cut.is_prefix text
-      ((sources_answered law walked kind walks job n one sources text other asked count same).1 answered);
+      ((queries_answered law walked kind walks job n one question text other asked count same).1 answered);
   appended = cut.appended;
 }
 
@@ -134,16 +159,15 @@ components_found law n arcs labels few graph found =
     omega (arith, low, inside, few))
 
 -- where queries are there, or components are asked for, the job is asked
-pub is_asked-from_sources : (kind : Answer) (job : Content) (sources : List ℕ) → job.question ≡ from_sources sources
+pub is_asked-queries : (kind : Answer) (job : Content) (question : Question) → job.question ≡ question → question ≢ absent
     → ¬ (IsUnasked kind job)
-is_asked-from_sources kind job sources asked unasked =
-    let never : absent ≡ from_sources sources = sym unasked.unasked ∙ asked in cc
+is_asked-queries kind job question asked some unasked = some (sym asked ∙ unasked.unasked)
 
 pub is_asked-components : (kind : Answer) (job : Content) → kind ≡ Components → ¬ (IsUnasked kind job)
 is_asked-components kind job components unasked = unasked.needed components
 
 -- what is said of a fault while blocks are written is said of a fault of the reply
-reply-fault : (kind : Answer) (walks : Bool) (job : Content) (before after : Option (List ℕ)) (fault : Fault)
+pub reply-fault : (kind : Answer) (walks : Bool) (job : Content) (before after : Option (List ℕ)) (fault : Fault)
     → ¬ (IsUnasked kind job) → IsWritingFault fault → WritesPrefix (IsAnswerText kind walks job) before after
     → IsReplyFault kind walks job before after fault
 reply-fault kind walks job before after Read asked never cut = absurd never
@@ -161,12 +185,3 @@ pub reply-says : {T : Type 0} (kind : Answer) (walks : Bool) (job : Content) (be
 reply-says kind walks job before after (Ok x) asked kinds cut = tt
 reply-says kind walks job before after (Err fault) asked kinds cut =
     reply-fault kind walks job before after fault asked kinds cut
-
--- before anything is written, whatever refused a run is such a fault
-pub run-stops : (kind : Answer) (walks : Bool) (job : Content) (before : Option (List ℕ)) (refused : RunFault)
-    → ¬ (IsUnasked kind job)
-    → IsReplyFault kind walks job before before (fault_of_run refused)
-run-stops kind walks job before stopped.Memory asked =
-    record { asked = asked; cut = puts-nothing (IsAnswerText kind walks job) before [] }
-run-stops kind walks job before stopped.Spawn asked =
-    record { asked = asked; cut = puts-nothing (IsAnswerText kind walks job) before [] }

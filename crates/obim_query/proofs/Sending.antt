@@ -1,24 +1,25 @@
--- Blocks of sources, one after another, written as they fill up.
-use Rattle.std.proofs.Common.{◌≡◌, Bool, ℕ, ◌+◌, ◌<◌, ◌≤◌, List, [], ◌∷◌, ◌++◌, length, get_or, drop}
+-- Blocks, one after another, written as they fill up.
+use Rattle.std.proofs.Common.{◌≡◌, ℕ, ◌+◌, ◌<◌, ◌≤◌, List, [], ◌∷◌, ◌++◌, length, get_or, drop}
 use Rattle.std.proofs.Common.{suc, take, drop-cons, Option, refl, sym, subst, ap, ◌∙◌, append_assoc, arith}
 use Rattle.std.specs.Io.KnownBytes.{Appends}
 use Rattle.std.proofs.lemmas.List.{append-nil, take_all, take_more}
-use Rattle.route_walks.specs.declared.graph.ArcRec.{ArcRec}
 use Rattle.dimacs_text.specs.AnswerLines.{label_text, label_lines, component_text, component_lines}
-use Rattle.obim_query.specs.AnswerText.{IsBlock, AreSourceBlocks, vertex_text, vertex_lines}
+use Rattle.obim_query.specs.AnswerText.{AreBlocks, vertex_text, vertex_lines}
 use Rattle.obim_query.specs.Bytes.{Waits, Writes, Puts}
+use Rattle.obim_query.specs.Sent.{AreSent}
 use Rattle.obim_query.proofs.Known.{appends-then, waits-put, waits-sent}
 
-pub blocks-push : (walks : Bool) (n : ℕ) (arcs : List ArcRec) (sources : List ℕ) (source : ℕ) (text block : List ℕ)
-    → AreSourceBlocks walks n arcs sources text → IsBlock walks n arcs source block
-    → AreSourceBlocks walks n arcs (sources ++ source ∷ []) (text ++ block)
-blocks-push walks n arcs [] source text block blocks is_block =
+pub blocks-push : {Query : Type 0} (IsBlockOf : Query → List ℕ → Type 0) (queries : List Query) (query : Query)
+    (text block : List ℕ)
+    → AreBlocks IsBlockOf queries text → IsBlockOf query block
+    → AreBlocks IsBlockOf (queries ++ query ∷ []) (text ++ block)
+blocks-push IsBlockOf [] query text block blocks is_block =
     (block, [], is_block, refl, ap (λ (xs : List ℕ). xs ++ block) blocks ∙ sym (append-nil block))
-blocks-push walks n arcs (first ∷ sources) source text block blocks is_block = (
+blocks-push IsBlockOf (first ∷ queries) query text block blocks is_block = (
   blocks.0,
   blocks.1 ++ block,
   blocks.2,
-  blocks-push walks n arcs sources source blocks.1 block blocks.3 is_block,
+  blocks-push IsBlockOf queries query blocks.1 block blocks.3 is_block,
   ap (λ (xs : List ℕ). xs ++ block) blocks.4 ∙ append_assoc blocks.0 blocks.1 block,
 )
 
@@ -67,42 +68,33 @@ vertex_lines-next hop parent v labels below =
     ∙ ap (λ (k : ℕ). vertex_text hop parent v (get_or labels v 0) ++ vertex_lines hop parent (v + 1) (drop k labels))
     one
 
--- the blocks of the first sources were given, but for the bytes that wait
-pub record AreSent (walks : Bool) (n : ℕ) (arcs : List ArcRec) (sources : List ℕ) (count : ℕ)
-    (before after : Option (List ℕ)) (waiting : List ℕ) : Type 0 where
-  pub text : List ℕ
-  pub waits : Waits before after waiting text
-  pub blocks : AreSourceBlocks walks n arcs (take count sources) text
+module _ {Query : Type 0} (IsBlockOf : Query → List ℕ → Type 0) (queries : List Query) where
+  -- a block more is put, and some of what waits is given
+  pub sent-more : (i : ℕ) (d : Query) (before between after : Option (List ℕ)) (waiting left : List ℕ)
+      → i < length queries → AreSent IsBlockOf queries i before between waiting
+      → Puts (IsBlockOf (get_or queries i d)) between after waiting left
+      → AreSent IsBlockOf queries (i + 1) before after left
+  sent-more i d before between after waiting left here sent put =
+      let blocks = blocks-push IsBlockOf (take i queries) (get_or queries i d) sent.text put.text sent.blocks put.is_text in
+      record {
+        text = sent.text ++ put.text;
+        waits =
+            waits-sent before between after (waiting ++ put.text) left (sent.text ++ put.text)
+            (waits-put before between waiting sent.text put.text sent.waits) put.waits;
+        blocks =
+            subst (λ (xs : List Query). AreBlocks IsBlockOf xs (sent.text ++ put.text))
+            (sym (take_more queries i d here)) blocks;
+      }
 
--- a block more is put, and some of what waits is given
-pub sent-more : (walks : Bool) (n : ℕ) (arcs : List ArcRec) (sources : List ℕ) (i : ℕ)
-    (before between after : Option (List ℕ)) (waiting left : List ℕ)
-    → i < length sources → AreSent walks n arcs sources i before between waiting
-    → Puts (IsBlock walks n arcs (get_or sources i 0)) between after waiting left
-    → AreSent walks n arcs sources (i + 1) before after left
-sent-more walks n arcs sources i before between after waiting left here sent put =
-    let blocks =
-    blocks-push walks n arcs (take i sources) (get_or sources i 0) sent.text put.text sent.blocks put.is_text in
-    record {
-      text = sent.text ++ put.text;
-      waits =
-          waits-sent before between after (waiting ++ put.text) left (sent.text ++ put.text)
-          (waits-put before between waiting sent.text put.text sent.waits) put.waits;
-      blocks =
-          subst (λ (xs : List ℕ). AreSourceBlocks walks n arcs xs (sent.text ++ put.text))
-          (sym (take_more sources i 0 here)) blocks;
-    }
-
--- all was put, and what waits is given
-pub all-sent : (walks : Bool) (n : ℕ) (arcs : List ArcRec) (sources : List ℕ) (i : ℕ)
-    (before between after : Option (List ℕ)) (waiting : List ℕ)
-    → length sources ≤ i → AreSent walks n arcs sources i before between waiting → Appends between after waiting
-    → Writes (AreSourceBlocks walks n arcs sources) before after
-all-sent walks n arcs sources i before between after waiting past sent written =
-    record {
-      text = sent.text;
-      is_text = subst (λ (xs : List ℕ). AreSourceBlocks walks n arcs xs sent.text) (take_all i sources past) sent.blocks;
-      appended =
-          subst (Appends before after) (sym sent.waits.whole)
-          (appends-then before between after sent.waits.given waiting sent.waits.appended written);
-    }
+  -- all was put, and what waits is given
+  pub all-sent : (i : ℕ) (before between after : Option (List ℕ)) (waiting : List ℕ)
+      → length queries ≤ i → AreSent IsBlockOf queries i before between waiting → Appends between after waiting
+      → Writes (AreBlocks IsBlockOf queries) before after
+  all-sent i before between after waiting past sent written =
+      record {
+        text = sent.text;
+        is_text = subst (λ (xs : List Query). AreBlocks IsBlockOf xs sent.text) (take_all i queries past) sent.blocks;
+        appended =
+            subst (Appends before after) (sym sent.waits.whole)
+            (appends-then before between after sent.waits.given waiting sent.waits.appended written);
+      }

@@ -4,8 +4,8 @@ use Rattle.std.specs.Prelude.{codes, decimal, length, map}
 use Rattle.route_walks.specs.declared.graph.ArcRec.{ArcRec}
 use Rattle.route_walks.specs.Component.{IsComponentLabel}
 use Rattle.route_walks.specs.Walk.{IsWalk, cost}
-use Rattle.dimacs_text.specs.AnswerLines.{source_text, cost_line, walk_text, component_text}
-use Rattle.dimacs_text.specs.Jobs.{Content, from_sources, IsWithinLimits}
+use Rattle.dimacs_text.specs.AnswerLines.{source_text, cost_line, pair_line, walk_text, component_text}
+use Rattle.dimacs_text.specs.Jobs.{Content, from_sources, of_pairs, IsWithinLimits}
 use Rattle.obim_query.specs.AnswerText.{AreBlocks, IsAnswerText, arcs_for}
 use Rattle.obim_query.specs.declared.asked.Answer.{Answer}
 use Rattle.obim_query.specs.declared.asked.Answer.TheVariants.{Components}
@@ -66,6 +66,25 @@ AnswersSayCosts =
     → IsWithinLimits job
     → IsAnswerText kind walks job text
     → AreBlocks (SaysCosts walks job.n (arcs_for kind job.arcs)) sources text
+
+-- the lines of a pair say the cost from its source to its target, with the walk
+abbrev pub SaysPairCost : Bool → List ArcRec → ℕ × ℕ → List ℕ → Type 0
+SaysPairCost walks arcs pair block =
+    (cost_of_target : List ℕ)
+    × (walk_to_target : List ℕ)
+    × IsCostText arcs pair.0 pair.1 cost_of_target
+    × IsWalkLine walks arcs pair.0 pair.1 walk_to_target
+    × (block ≡ pair_line pair.0 pair.1 cost_of_target ++ walk_to_target)
+
+-- so do the lines of pairs
+abbrev pub AnswersSayPairCosts : Type 0
+AnswersSayPairCosts =
+    (kind : Answer) (walks : Bool) (job : Content) (pairs : List (ℕ × ℕ)) (text : List ℕ)
+    → kind ≢ Components
+    → job.question ≡ of_pairs pairs
+    → IsWithinLimits job
+    → IsAnswerText kind walks job text
+    → AreBlocks (SaysPairCost walks (arcs_for kind job.arcs)) pairs text
 
 -- the lines of so many vertices from v on: 'k V LABEL' for each, of the least vertex connected with it
 abbrev pub AreComponentLines : List ArcRec → ℕ → ℕ → List ℕ → Type 0

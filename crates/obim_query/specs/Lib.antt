@@ -4,3 +4,5 @@ pub mod AnswerText
 pub mod Outcome
 pub mod Costs
 pub mod Existence
+pub mod Sent
+pub mod Solves

@@ -8,7 +8,7 @@ ghost use Rattle.route_walks.specs.Label.{AreLeastLabels};
 ghost use Rattle.route_walks.specs.Operators.{seeds_from};
 ghost use Rattle.walk_report.specs.Parent.{LeadBack};
 ghost use Rattle.obim_query.specs.AnswerText.{AreSourceBlocks, IsBlock, vertex_text, walks_text};
-ghost use Rattle.obim_query.specs.AnswerText.{AreReached};
+ghost use Rattle.obim_query.specs.AnswerText.{walk_line, AreReached};
 ghost use Rattle.obim_query.specs.Bytes.{GivesPrefix, Puts, PutsPrefix, Waits, Writes, WritesPrefix};
 ghost use Rattle.obim_query.specs.Outcome.{IsWritingFault};
 
@@ -17,9 +17,10 @@ use crate::fault::Fault;
 use crate::figures::{Figures, Phase};
 use crate::laws::blocks_are_unique;
 use crate::outlet::Waiting;
+use crate::solves::Solve;
 use csr_graph::Csr;
 use dimacs_text::{put_component, put_label, put_source, put_walk};
-use obim_engine::{Gate, distances};
+use obim_engine::Gate;
 use route_walks::{INF, MAX_VERTICES, Memory};
 use std::alloc::Global;
 use std::io::Write;
@@ -53,10 +54,9 @@ pub fn write_sources<H: Threads + Wait + Clock + Sync, W: Write, G: Gate + Sync>
     // So what is a prefix of these blocks is one of the blocks that another run would write.
     blocks_are_unique();
     let mut waiting = Waiting::new(alloc);
-    for source in sources {
-        let labels = distances(rt, alloc, csr, *source, &asked.settings, gate)?;
-        figures.see_run();
-        figures.end(rt, Phase::Solving);
+    for (place, source) in sources.iter().enumerate() {
+        let solve = Solve::of_source(sources, place);
+        let labels = solve.run(rt, alloc, csr, &asked.settings, gate, figures)?;
         put_block(
             alloc,
             writer,
@@ -193,6 +193,25 @@ fn put_vertex(
         ++ vertex_text (slice_index hops.now) (slice_index parents.now) v label) }
 {
     put_label(out, v, label)?;
+    put_walk_line(alloc, out, v, label, hops, parents)
+}
+
+/// Puts the line of the walk to a vertex, where one leads to it.
+pub fn put_walk_line(
+    alloc: Global,
+    out: &mut Vec<u8>,
+    v: u32,
+    label: u64,
+    hops: &[u32],
+    parents: &[u32],
+) -> Result<(), Memory>
+    requires vertex { v < length hops.now }
+    requires vertices { length hops.now ≤ MAX_VERTICES }
+    requires back { LeadBack hops.now parents.now }
+    requires reached { (label ≡ INF) ↔ (slice_index hops.now v ≡ NONE) }
+    ensures put { OnOk result (out.new.items ≡ out.old.items
+        ++ walk_line (slice_index hops.now) (slice_index parents.now) v label) }
+{
     match walk_to(alloc, hops, parents, v)? {
         None => Ok(()),
         Some(walk) => put_walk(out, label, &walk),

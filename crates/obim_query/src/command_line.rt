@@ -26,20 +26,23 @@ with their labels; with --shift BITS each is 2^BITS labels wide. Without --chunk
 one worker hands on 256 vertices at a time, and several 64.
 
 A job is one text on standard input: a graph in the .gr format of the 9th DIMACS
-Implementation Challenge, and after it its sources in the .ss format. Vertices
-count from 1.
+Implementation Challenge, and after it its sources in the .ss format, or pairs
+of a source and a target in the .p2p format. Vertices count from 1.
 
   c a comment
   p sp N M           N vertices and M arcs; M lines follow:
   a U V W            an arc from U to V of weight W, from 0 to 4294967295
   p aux sp ss K      K sources; K lines follow:
   s V                the source V
+  p aux sp p2p K     or K pairs; K lines follow:
+  q S T              the pair of the source S and the target T
 
 For each source the answer has the line `s V`, and for each vertex a line
 `d V COST`: the least cost of a walk, or its arcs for levels, and `inf` where no
-walk leads. With --walks a line `w V COST U .. V` follows where one leads: its
-vertices in order. For components it has for each vertex `k V LABEL`: the least
-vertex that arcs join to V, whichever way they point.
+walk leads. For each pair it has the line `q S T COST`. With --walks a line
+`w V COST U .. V` follows where a walk leads: its vertices in order. For
+components the answer has for each vertex `k V LABEL`: the least vertex that
+arcs join to V, whichever way they point.
 
 Example:
   $ printf 'p sp 2 1\\na 1 2 7\\np aux sp ss 1\\ns 1\\n' | obim_query

@@ -1,7 +1,7 @@
 //! Which laws hold of answers? Each is the contract of a function that does nothing.
 
 ghost use Rattle.obim_query.specs.AnswerText.{AnswerTextsAreUnique, BlocksAreUnique};
-ghost use Rattle.obim_query.specs.Costs.{AnswersSayCosts, AnswersSayComponents};
+ghost use Rattle.obim_query.specs.Costs.{AnswersSayCosts, AnswersSayPairCosts, AnswersSayComponents};
 ghost use Rattle.obim_query.specs.Existence.{AskedJobsHaveAnswers};
 
 use route_walks::laws::{
@@ -11,7 +11,7 @@ use walk_report::laws::{
     hops_and_parents_are_unique, hops_and_parents_exist, printed_walks_are_walks,
 };
 
-/// A source has only one block of a kind.
+/// A source has only one block of a kind, and so has a pair.
 pub fn blocks_are_unique()
     ensures { BlocksAreUnique }
 {
@@ -42,6 +42,14 @@ pub fn asked_jobs_have_answers()
 /// the vertices of such a walk, with no more arcs than another of that cost.
 pub fn answers_say_costs()
     ensures { AnswersSayCosts }
+{
+    inf_means_no_walk();
+    printed_walks_are_walks();
+}
+
+/// The same of a pair: its line says the cost from its source to its target.
+pub fn answers_say_pair_costs()
+    ensures { AnswersSayPairCosts }
 {
     inf_means_no_walk();
     printed_walks_are_walks();

@@ -18,7 +18,9 @@ mod intake;
 pub mod laws;
 mod operators;
 mod outlet;
+mod pairs;
 mod reply;
+mod solves;
 mod stats;
 #[cfg(test)]
 mod tests;

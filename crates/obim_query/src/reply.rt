@@ -13,7 +13,9 @@ use crate::fault::Fault;
 use crate::figures::{Figures, Phase};
 use crate::intake::read_request;
 use crate::laws::answer_texts_are_unique;
-use crate::operators::{component_labels, rows_for};
+use crate::operators::rows_for;
+use crate::pairs::write_pairs;
+use crate::solves::Solve;
 use dimacs_text::{Ask, Job};
 use obim_engine::Gate;
 use route_walks::laws::{least_labels_are_components, least_labels_follow_the_arcs};
@@ -128,10 +130,9 @@ fn respond<H: Threads + Wait + Clock + Sync, W: Write, G: Gate + Sync>(
             let csr = rows_for(alloc, Answer::Components, n, arcs)?;
             figures.see_rows(&csr);
             figures.end(rt, Phase::Rows);
-            let labels = component_labels(rt, alloc, &csr, &asked.settings, gate)?;
+            let solve = Solve::of_components();
+            let labels = solve.run(rt, alloc, &csr, &asked.settings, gate, figures)?;
             drop(csr);
-            figures.see_run();
-            figures.end(rt, Phase::Solving);
             // So each label is the number of a vertex, and none is INF.
             least_labels_are_components();
             write_components(alloc, writer, &labels)
@@ -142,6 +143,12 @@ fn respond<H: Threads + Wait + Clock + Sync, W: Write, G: Gate + Sync>(
             figures.see_rows(&csr);
             figures.end(rt, Phase::Rows);
             write_sources(rt, alloc, writer, &csr, &sources, asked, gate, figures)
+        }
+        (answer, Ask::Pairs(pairs)) => {
+            let csr = rows_for(alloc, answer, n, arcs)?;
+            figures.see_rows(&csr);
+            figures.end(rt, Phase::Rows);
+            write_pairs(rt, alloc, writer, &csr, &pairs, asked, gate, figures)
         }
     }
 }

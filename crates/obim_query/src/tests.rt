@@ -4,6 +4,7 @@ mod callers;
 mod command_lines;
 mod cuts;
 mod gates;
+mod pairs;
 mod refusals;
 mod streams;
 

@@ -4,7 +4,7 @@ use Rattle.std.specs.Prelude.{Option, Some, None, Ok, Err, ◌⊎◌, slice_inde
 use Rattle.route_walks.specs.declared.graph.ArcRec.{ArcRec}
 use Rattle.route_walks.specs.declared.graph.TheConstants.{MAX_VERTICES}
 use Rattle.dimacs_text.specs.declared.draft.Draft.{Draft}
-use Rattle.dimacs_text.specs.declared.form.Section.TheVariants.{Problem, Sources}
+use Rattle.dimacs_text.specs.declared.form.Section.TheVariants.{Problem, Sources, Pairs}
 use Rattle.dimacs_text.specs.declared.fault.LineKind.{LineKind}
 use Rattle.dimacs_text.specs.declared.fault.LineKind.TheVariants.{TooFew, NoProblem}
 use Rattle.dimacs_text.specs.declared.fault.TextFault.{TextFault}
@@ -13,8 +13,8 @@ use Rattle.dimacs_text.specs.Forms.{Record, reading, readings, vertices_next}
 use Rattle.dimacs_text.specs.Lines.{lines}
 use Rattle.dimacs_text.specs.Grammar.{Token, token_of}
 use Rattle.dimacs_text.specs.Faults.{IsFaultOf, tokens_among}
-use Rattle.dimacs_text.specs.Jobs.{arc_record, source_record, problem_record}
-use Rattle.dimacs_text.specs.Jobs.{sources_record, records_among}
+use Rattle.dimacs_text.specs.Jobs.{arc_record, source_record, pair_record, problem_record}
+use Rattle.dimacs_text.specs.Jobs.{sources_record, pairs_record, records_among}
 use Rattle.dimacs_text.specs.reader.Machine.{next_at, run, misfit_at}
 use Rattle.dimacs_text.specs.declared.stage.Stage.{Stage}
 use Rattle.dimacs_text.specs.declared.stage.Stage.TheVariants.{Start, Within}
@@ -26,20 +26,24 @@ pub record Progress : Type 0 where
   pub vertices : ℕ
 
 -- the records that were read
-abbrev pub records_by : Stage → ℕ → List ArcRec → List ℕ → List Record
-records_by Start n arcs sources = []
-records_by (Within Problem missing) n arcs sources =
+abbrev pub records_by : Stage → ℕ → List ArcRec → List ℕ → List (ℕ × ℕ) → List Record
+records_by Start n arcs sources pairs = []
+records_by (Within Problem missing) n arcs sources pairs =
     problem_record n (length arcs + missing) ∷ map arc_record arcs
-records_by (Within Sources missing) n arcs sources =
+records_by (Within Sources missing) n arcs sources pairs =
     (problem_record n (length arcs) ∷ map arc_record arcs)
     ++ sources_record (length sources + missing) ∷ map source_record sources
+records_by (Within Pairs missing) n arcs sources pairs =
+    (problem_record n (length arcs) ∷ map arc_record arcs)
+    ++ pairs_record (length pairs + missing) ∷ map pair_record pairs
 
-abbrev pub progress_by : Stage → ℕ → List ArcRec → List ℕ → Progress
-progress_by stage n arcs sources =
-    record { records = records_by stage n arcs sources; stage = stage; vertices = n }
+abbrev pub progress_by : Stage → ℕ → List ArcRec → List ℕ → List (ℕ × ℕ) → Progress
+progress_by stage n arcs sources pairs =
+    record { records = records_by stage n arcs sources pairs; stage = stage; vertices = n }
 
 abbrev pub progress_of : Draft → Progress
-progress_of draft = progress_by draft.stage draft.vertices draft.arcs.items draft.sources.items
+progress_of draft =
+    progress_by draft.stage draft.vertices draft.arcs.items draft.sources.items draft.pairs.items
 
 abbrev pub token_in : Record → Token
 token_in r = token_of r.form r.numbers
@@ -87,10 +91,10 @@ ReadsTo old line rest new next after =
 -- arcs that were added to the old ones, a line each
 abbrev pub ReadsArcs : ℕ → List ℕ → List ArcRec → List ArcRec → ℕ → List ℕ → Type 0
 ReadsArcs n rest old new count after =
-    (missing line : ℕ) (sources : List ℕ)
+    (missing line : ℕ) (sources : List ℕ) (pairs : List (ℕ × ℕ))
     → count ≤ missing
-    → ReadsTo (progress_by (Within Problem missing) n old sources) line rest
-    (progress_by (Within Problem (missing - count)) n new sources) (line + count) after
+    → ReadsTo (progress_by (Within Problem missing) n old sources pairs) line rest
+    (progress_by (Within Problem (missing - count)) n new sources pairs) (line + count) after
 
 -- the first line that is wrong is one of the rest, whatever the text is in which it stands
 abbrev pub IsFaultIn : Progress → ℕ → List ℕ → TextFault → Type 0

@@ -6,7 +6,8 @@ use Rattle.dimacs_text.specs.declared.form.Entry.{Entry}
 use Rattle.dimacs_text.specs.declared.form.Limit.{Limit}
 use Rattle.dimacs_text.specs.declared.fault.LineKind.{LineKind}
 use Rattle.dimacs_text.specs.Forms.{Record, Reading, begins_with}
-use Rattle.dimacs_text.specs.Jobs.{arc_record, source_record, problem_record, sources_record}
+use Rattle.dimacs_text.specs.Jobs.{arc_record, source_record, pair_record}
+use Rattle.dimacs_text.specs.Jobs.{problem_record, sources_record, pairs_record}
 use Rattle.dimacs_text.specs.declared.form.Entry.TheVariants as entry
 
 abbrev pub record_of : Entry → Record
@@ -14,6 +15,8 @@ record_of (entry.Problem vertices arcs) = problem_record vertices arcs
 record_of (entry.Arc arc) = arc_record arc
 record_of (entry.Sources count) = sources_record count
 record_of (entry.Source vertex) = source_record vertex
+record_of (entry.Pairs count) = pairs_record count
+record_of (entry.Pair source target) = pair_record (source, target)
 
 -- what was read of a line, as what the line says
 abbrev pub said_by : Result (Option Entry) LineKind → Reading

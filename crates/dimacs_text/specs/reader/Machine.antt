@@ -3,7 +3,7 @@
 use Rattle.std.specs.Prelude.{ℕ, zero, suc, Bool, false, cond, nat_eq, List, [], ◌∷◌, Option, Some, None}
 use Rattle.dimacs_text.specs.declared.form.Section.{Section}
 use Rattle.dimacs_text.specs.declared.form.Item.{Item}
-use Rattle.dimacs_text.specs.declared.form.Item.TheVariants.{Arc, Source}
+use Rattle.dimacs_text.specs.declared.form.Item.TheVariants.{Arc, Source, Pair}
 use Rattle.dimacs_text.specs.declared.fault.LineKind.{LineKind}
 use Rattle.dimacs_text.specs.declared.fault.LineKind.TheVariants.{Misplaced, TooMany, TooFew}
 use Rattle.dimacs_text.specs.declared.stage.Stage.{Stage}
@@ -16,6 +16,7 @@ use Rattle.dimacs_text.specs.Grammar.{Token, opens, adds, item_of, place, may_fo
 abbrev pub item_number : Item → ℕ
 item_number Arc = 0
 item_number Source = 1
+item_number Pair = 2
 
 abbrev pub same_item : Item → Item → Bool
 same_item i j = nat_eq (item_number i) (item_number j)

@@ -5,7 +5,7 @@
 use crate::tests::{GRAPH, assert_job, joined};
 use crate::{
     JobReader, LineKind, TextFault, put_component, put_components, put_distances, put_label,
-    put_source, put_walk, read_job,
+    put_pair, put_source, put_walk, read_job,
 };
 use route_walks::{ArcRec, INF, Memory, refusable, tried_again};
 use std::alloc::Global;
@@ -141,5 +141,11 @@ fn of_put_walk(rt: HostRuntime) -> Result<(), Fail> {
         put_walk(&mut out, 15, &WALK),
         "c\nw 6 15 1 3 5 2 4 6 4 3 5 2 4 6\n"
     );
+    Ok(())
+}
+
+#[test]
+fn of_put_pair(rt: HostRuntime) -> Result<(), Fail> {
+    expect_put!(rt, out, put_pair(&mut out, 0, 5, INF), "c\nq 1 6 inf\n");
     Ok(())
 }

@@ -2,10 +2,12 @@
 //! the answer, and made once more it writes the answer that was worked by hand. `tests/refusals` refuses each in
 //! turn; `tests/refusals.tsv` has the calls.
 
+use crate::asked::Answer;
 use crate::fault::Fault;
 use crate::figures::Figures;
 use crate::reply::{answer, answer_bytes, answer_counted};
-use crate::tests::{SIX, SIX_WALKS, asked_for_walks};
+use crate::tests::pairs::{SIX_PAIRS, SIX_PAIRS_ANSWER, SIX_PAIRS_WALKS};
+use crate::tests::{SIX, SIX_WALKS, asked_for_walks, asked_with};
 use obim_engine::OpenGate;
 use route_walks::refusable;
 use std::process::Abort;
@@ -21,20 +23,26 @@ fn expect_refused(rt: &impl Abort, fault: Fault) {
 #[test]
 fn of_answer(rt: HostRuntime) -> Result<(), Fail> {
     let alloc = rt.alloc();
-    for workers in [1, 2] {
-        let asked = asked_for_walks(&rt, workers, 1000);
-        let (mut reader, mut same) = (SIX, SIX);
+    let labels = asked_with(&rt, Answer::Distances, 1000, (2, 4, 16));
+    let table = [
+        (asked_for_walks(&rt, 1, 1000), SIX, SIX_WALKS),
+        (asked_for_walks(&rt, 2, 1000), SIX, SIX_WALKS),
+        (asked_for_walks(&rt, 1, 1000), SIX_PAIRS, SIX_PAIRS_WALKS),
+        (labels, SIX_PAIRS, SIX_PAIRS_ANSWER),
+    ];
+    for (asked, text, want) in table {
+        let (mut reader, mut same) = (text, text);
         let mut out = Vec::with_capacity(alloc, ROOM)?;
         if let Err(fault) = refusable!(
             alloc,
             answer(&rt, alloc, &mut reader, &mut out, &asked, &OpenGate)
         ) {
             expect_refused(&rt, fault);
-            assert!(rt; SIX_WALKS.starts_with(&out));
+            assert!(rt; want.starts_with(&out));
             out.clear();
             answer(&rt, alloc, &mut same, &mut out, &asked, &OpenGate)?;
         }
-        assert_eq!(rt; out.as_slice(), SIX_WALKS);
+        assert_eq!(rt; out.as_slice(), want);
     }
     Ok(())
 }

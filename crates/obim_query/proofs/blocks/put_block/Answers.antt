@@ -13,7 +13,7 @@ returns-else-walks-clause-prefix g c =
     rw c.if-walks.false (record { labels = c.args.labels.now; least = c.requires.least; written = refl }) in
     on_err_weaker c.put_labels.result
     (only-text (IsBlock c.args.walks csr.n csr.arcs c.args.source) _ _ c.args.waiting.now.bytes.items text
-    (λ other. c.blocks_are_unique.ensures c.args.walks csr.n csr.arcs c.args.source text other is_block))
+    (λ other. (c.blocks_are_unique.ensures c.args.walks csr.n csr.arcs).0 c.args.source text other is_block))
     c.put_labels.ensures.prefix
 
 pub returns-in_ok-parents-clause-prefix : goal.returns-in_ok-parents-clause-prefix
@@ -26,14 +26,16 @@ returns-in_ok-parents-clause-prefix g c =
     rw c.if-walks.true
     (record {
       labels = c.args.labels.now;
-      least = c.requires.least;
       hops = hops;
-      fewest = c.in_ok-hops.ensures.exact;
       parents = parents;
-      before = rw c.deref.ensures.value at c.in_ok-parents.ensures.exact;
+      walked = record {
+        least = c.requires.least;
+        fewest = c.in_ok-hops.ensures.exact;
+        before = rw c.deref.ensures.value at c.in_ok-parents.ensures.exact;
+      };
       written = refl;
     }) in
     on_err_weaker c.put_walks.result
     (only-text (IsBlock c.args.walks csr.n csr.arcs c.args.source) _ _ c.args.waiting.now.bytes.items text
-    (λ other. c.blocks_are_unique.ensures c.args.walks csr.n csr.arcs c.args.source text other is_block))
+    (λ other. (c.blocks_are_unique.ensures c.args.walks csr.n csr.arcs).0 c.args.source text other is_block))
     (rw (c.deref-then-walks.ensures.value, c.deref-then-walks-2.ensures.value) at c.put_walks.ensures.prefix)

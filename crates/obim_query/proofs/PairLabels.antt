@@ -1,0 +1,149 @@
+-- How the labels of pairs are filled in, and which lines they make.
+use Rattle.std.proofs.Common.{◌≡◌, ◌≢◌, ℕ, suc, ◌+◌, ◌<◌, ◌≤◌, false, List, [], ◌∷◌, ◌++◌, length, get_or, set, drop, take}
+use Rattle.std.proofs.Common.{drop-cons, refl, sym, subst, ap, ◌∙◌, inl, inr, arith}
+use Rattle.std.specs.List.{All, Contains}
+use Rattle.std.specs.List.Sorted.{IsPermutation}
+use Rattle.std.proofs.lemmas.List.{append-nil, drop_all, get_or-set_same, get_or-set_other, length-set, take_all, take_more}
+use Rattle.std.proofs.lemmas.List.Elements.{All-append, All-cons, All-contains, All-get_or, All-nil, All-weaker}
+use Rattle.std.proofs.lemmas.List.Elements.{Contains-append_left, Contains-push}
+use Rattle.std.proofs.lemmas.List.Sorted.{All-permutation, Contains-permutation}
+use Rattle.std.proofs.lemmas.Bool.{cases_eq}
+use Rattle.route_walks.specs.declared.graph.ArcRec.{ArcRec}
+use Rattle.route_walks.specs.Label.{AreLeastLabels}
+use Rattle.route_walks.specs.Operators.{seeds_from}
+use Rattle.dimacs_text.specs.AnswerLines.{pair_text}
+use Rattle.obim_query.specs.AnswerText.{ArePairBlocks}
+use Rattle.obim_query.specs.declared.solves.Solve.{Solve}
+use Rattle.obim_query.specs.Solves.{pair_at, pair_lines, AreBySource, AreFilled, ArePairLabels, IsForQueries, IsPairLabel}
+
+-- the first pairs are in the order, with their sources
+pub record ArePlaced (pairs : List (ℕ × ℕ)) (count : ℕ) (order : List (ℕ × ℕ)) : Type 0 where
+  pub each : All (λ entry. (entry.1 < count) × (entry.0 ≡ (pair_at pairs entry.1).0)) order
+  pub all : (k : ℕ) → k < count → Contains order ((pair_at pairs k).0, k)
+
+pub none_placed : (pairs : List (ℕ × ℕ)) → ArePlaced pairs 0 []
+none_placed pairs = record { each = All-nil _; all = λ k below. absurd (omega arith) }
+
+pub placed_more : (pairs : List (ℕ × ℕ)) (i : ℕ) (order : List (ℕ × ℕ))
+    → ArePlaced pairs i order
+    → ArePlaced pairs (i + 1) (order ++ ((pair_at pairs i).0, i) ∷ [])
+placed_more pairs i order placed =
+    let within : ℕ × ℕ → Type 0 = λ entry. (entry.1 < i + 1) × (entry.0 ≡ (pair_at pairs entry.1).0) in record {
+      each =
+          All-append within order (((pair_at pairs i).0, i) ∷ [])
+          (All-weaker (λ entry. (entry.1 < i) × (entry.0 ≡ (pair_at pairs entry.1).0)) within
+          (λ entry is. (omega (arith, is.0), is.1)) order placed.each)
+          (All-cons within ((pair_at pairs i).0, i) [] (omega arith, refl) (All-nil within));
+      all = λ k below.
+          elim (cases_eq k i) [
+            | inl is ↦
+                subst (λ (j : ℕ). Contains (order ++ ((pair_at pairs i).0, i) ∷ []) ((pair_at pairs j).0, j)) (sym is)
+                (Contains-push order ((pair_at pairs i).0, i))
+            | inr other ↦
+                Contains-append_left order (((pair_at pairs i).0, i) ∷ []) ((pair_at pairs k).0, k)
+                (placed.all k (omega (arith, other)))
+          ];
+    }
+
+-- they are in it however it is sorted
+pub all_placed : (pairs : List (ℕ × ℕ)) (i : ℕ) (order sorted : List (ℕ × ℕ))
+    → i ≡ length pairs → ArePlaced pairs i order → IsPermutation order sorted
+    → AreBySource pairs sorted
+all_placed pairs i order sorted all placed moved = record {
+  each =
+      subst (λ (k : ℕ). All (λ (entry : ℕ × ℕ). (entry.1 < k) × (entry.0 ≡ (pair_at pairs entry.1).0)) sorted) all
+      (All-permutation (λ entry. (entry.1 < i) × (entry.0 ≡ (pair_at pairs entry.1).0)) order sorted moved placed.each);
+  all = λ k below.
+      Contains-permutation order sorted ((pair_at pairs k).0, k) moved (placed.all k (omega (arith, all)));
+}
+
+-- one label more is filled in
+pub filled_more : (n : ℕ) (arcs : List ArcRec) (pairs order : List (ℕ × ℕ)) (i : ℕ) (filled labels : List ℕ)
+    → i < length order → AreBySource pairs order → AreLeastLabels n arcs (seeds_from (pair_at order i).0) labels
+    → AreFilled n arcs pairs order i filled
+    → AreFilled n arcs pairs order (i + 1)
+    (set filled (pair_at order i).1 (get_or labels (pair_at pairs (pair_at order i).1).1 0))
+filled_more n arcs pairs order i filled labels here by least before =
+    let entry = pair_at order i in
+    let label = get_or labels (pair_at pairs entry.1).1 0 in
+    let new = set filled entry.1 label in
+    let is = All-get_or (λ e. (e.1 < length pairs) × (e.0 ≡ (pair_at pairs e.1).0)) order i (0, 0) here by.each in
+    let now : IsPairLabel n arcs (pair_at pairs entry.1) (get_or new entry.1 0) =
+    record {
+      labels = labels;
+      least = subst (λ (s : ℕ). AreLeastLabels n arcs (seeds_from s) labels) is.1 least;
+      is = get_or-set_same filled entry.1 label 0 (omega (arith, is.0, before.places));
+    } in
+    let stays : (e : ℕ × ℕ)
+    → IsPairLabel n arcs (pair_at pairs e.1) (get_or filled e.1 0)
+    → IsPairLabel n arcs (pair_at pairs e.1) (get_or new e.1 0) =
+    λ e old.
+    elim (cases_eq e.1 entry.1) [
+      | inl same ↦ subst (λ (k : ℕ). IsPairLabel n arcs (pair_at pairs k) (get_or new k 0)) (sym same) now
+      | inr other ↦
+          subst (IsPairLabel n arcs (pair_at pairs e.1)) (sym (get_or-set_other filled entry.1 e.1 label 0 other)) old
+    ] in
+    let labelled : ℕ × ℕ → Type 0 = λ e. IsPairLabel n arcs (pair_at pairs e.1) (get_or new e.1 0) in record {
+      places = length-set filled entry.1 label ∙ before.places;
+      filled =
+          subst (All labelled) (sym (take_more order i (0, 0) here))
+          (All-append labelled (take i order) (entry ∷ [])
+          (All-weaker (λ e. IsPairLabel n arcs (pair_at pairs e.1) (get_or filled e.1 0)) labelled stays (take i order)
+          before.filled)
+          (All-cons labelled entry [] now (All-nil labelled)));
+    }
+
+-- once all are filled in, each pair has its label
+pub all_filled : (n : ℕ) (arcs : List ArcRec) (pairs order : List (ℕ × ℕ)) (i : ℕ) (labels : List ℕ)
+    → length order ≤ i → AreBySource pairs order → AreFilled n arcs pairs order i labels
+    → ArePairLabels n arcs pairs labels
+all_filled n arcs pairs order i labels past by filled = record {
+  places = filled.places;
+  labelled = λ k below.
+      All-contains (λ e. IsPairLabel n arcs (pair_at pairs e.1) (get_or labels e.1 0)) order ((pair_at pairs k).0, k)
+      (subst (All (λ (e : ℕ × ℕ). IsPairLabel n arcs (pair_at pairs e.1) (get_or labels e.1 0))) (take_all i order past)
+      filled.filled) (by.all k below);
+}
+
+-- the lines of pairs, from one on
+pub pair_lines-next : (k : ℕ) (pairs : List (ℕ × ℕ)) (labels : List ℕ)
+    → k < length pairs → length labels ≡ length pairs
+    → pair_lines (drop k pairs) (drop k labels)
+    ≡ pair_text (pair_at pairs k).0 (pair_at pairs k).1 (get_or labels k 0)
+    ++ pair_lines (drop (k + 1) pairs) (drop (k + 1) labels)
+pair_lines-next k pairs labels below same =
+    let one : suc k ≡ k + 1 = omega arith in
+    let inside : k < length labels = omega (arith, same) in
+    rw (drop-cons pairs k (0, 0) below, drop-cons labels k 0 inside, ← one) refl
+
+-- lines of these labels are the blocks of the pairs
+pub lines_are_blocks : (n : ℕ) (arcs : List ArcRec) (pairs : List (ℕ × ℕ)) (labels : List ℕ)
+    → length labels ≡ length pairs
+    → ((k : ℕ) → k < length pairs → IsPairLabel n arcs (pair_at pairs k) (get_or labels k 0))
+    → ArePairBlocks false n arcs pairs (pair_lines pairs labels)
+lines_are_blocks n arcs [] labels same each = refl
+lines_are_blocks n arcs (pair ∷ pairs) [] same each = absurd (omega (arith, same))
+lines_are_blocks n arcs (pair ∷ pairs) (label ∷ labels) same each =
+    let first = each 0 (omega arith) in (
+      pair_text pair.0 pair.1 label,
+      pair_lines pairs labels,
+      record { labels = first.labels; least = first.least; written = ap (pair_text pair.0 pair.1) first.is },
+      lines_are_blocks n arcs pairs labels (omega (arith, same)) (λ k below. each (suc k) (omega arith)),
+      refl,
+    )
+
+-- the queries of a solve have one source
+pub one_source : (queries : List (ℕ × ℕ)) (solve : Solve) (k : ℕ)
+    → IsForQueries queries solve → solve.first ≤ k → k < solve.end
+    → (pair_at queries solve.first).0 ≡ (pair_at queries k).0
+one_source queries solve k is from below =
+    let first = is.alike solve.first (omega arith) is.some in
+    let here = is.alike k from below in cc
+
+-- what a slice of a whole vector holds is what the vector holds then
+pub written_back : (len : ℕ) (new old : List ℕ) → length new ≡ length old → len ≡ length old
+    → take len (new ++ drop (length new) old) ≡ new
+written_back len new old same count =
+    ap (λ l. take len (new ++ l)) (drop_all (length new) old (omega (arith, same)))
+    ∙ ap (take len) (append-nil new)
+    ∙ take_all len new (omega (arith, same, count))

@@ -1,0 +1,119 @@
+//! Which solves does an answer need, and which of its queries does each one answer?
+
+ghost use Rattle.std.specs.Prelude.{◌≡◌, ◌<◌, ◌≤◌, ◌^◌, length, All, IfOk, IfErr};
+ghost use Rattle.route_walks.specs.Label.{AreLeastLabels};
+ghost use Rattle.obim_query.specs.Outcome.{IsWritingFault};
+ghost use Rattle.obim_query.specs.Solves.{seeds_at, AreBySource, IsForQueries, IsStartWithin};
+
+use crate::fault::Fault;
+use crate::figures::{Figures, Phase};
+use crate::operators::component_labels;
+use csr_graph::Csr;
+use obim_engine::{Gate, Settings, distances};
+use route_walks::Memory;
+use std::alloc::Global;
+use std::sync::Wait;
+use std::thread::Threads;
+use std::time::Clock;
+
+/// Where the labels of a solve start.
+#[derive(Clone, Copy, Debug)]
+pub enum Start {
+    /// At this vertex, at cost 0: they are the labels from a source.
+    At(u32),
+    /// At each vertex, at its number: they are the labels of the components.
+    Everywhere,
+}
+
+/// One solve: its labels answer the queries from `first` up to `end`.
+#[derive(Clone, Copy, Debug)]
+pub struct Solve {
+    pub start: Start,
+    pub first: usize,
+    pub end: usize,
+}
+
+impl Solve {
+    ghost use Rattle.obim_query.specs.declared.solves.Start.TheVariants.{At, Everywhere};
+    ghost use Rattle.std.specs.Prelude.{slice_index};
+
+    /// For the components, which are one query.
+    pub fn of_components() -> Solve
+        ensures { result.start ≡ Everywhere }
+    {
+        Solve {
+            start: Start::Everywhere,
+            first: 0,
+            end: 1,
+        }
+    }
+
+    /// For the source at a place.
+    pub fn of_source(sources: &[u32], place: usize) -> Solve
+        requires { place < length sources.now }
+        ensures { result.start ≡ At (slice_index sources.now place) }
+    {
+        Solve {
+            start: Start::At(sources[place]),
+            first: place,
+            end: place + 1,
+        }
+    }
+
+    /// For the query at a place and those after it that have the same source. A query begins with its
+    /// source.
+    pub fn of_queries(queries: &[(u32, u32)], first: usize) -> Solve
+        requires { first < length queries.now }
+        ensures queries { IsForQueries queries.now result }
+        ensures first { result.first ≡ first }
+    {
+        let source = queries[first].0;
+        let mut end = first + 1;
+        while end < queries.len() && queries[end].0 == source {
+            end += 1;
+        }
+        Solve {
+            start: Start::At(source),
+            first,
+            end,
+        }
+    }
+
+    /// Works out the labels along the rows.
+    pub fn run<H: Threads + Wait + Clock + Sync, G: Gate + Sync>(
+        self,
+        rt: &H,
+        alloc: Global,
+        csr: &Csr,
+        settings: &Settings,
+        gate: &G,
+        figures: &mut Figures,
+    ) -> Result<Vec<u64>, Fault>
+        requires { IsStartWithin csr.now.n self.start }
+        ensures least { IfOk result (λ labels.
+            AreLeastLabels csr.now.n csr.now.arcs (seeds_at csr.now.n self.start) labels.items) }
+        ensures kinds { IfErr result IsWritingFault }
+    {
+        let labels = match self.start {
+            Start::At(source) => distances(rt, alloc, csr, source, settings, gate)?,
+            Start::Everywhere => component_labels(rt, alloc, csr, settings, gate)?,
+        };
+        figures.see_run();
+        figures.end(rt, Phase::Solving);
+        Ok(labels)
+    }
+}
+
+/// The source of each pair with the place of the pair, by rising source: so one solve after another
+/// answers all of them, and no source is solved twice.
+pub fn by_source(alloc: Global, pairs: &[(u32, u32)]) -> Result<Vec<(u32, u32)>, Memory>
+    requires { length pairs.now ≤ 2 ^ 20 }
+    ensures { IfOk result (λ order. AreBySource pairs.now order.items) }
+{
+    let mut order = Vec::with_capacity(alloc, pairs.len())?;
+    for (place, pair) in pairs.iter().enumerate() {
+        order.push((pair.0, place as u32))?;
+    }
+    order.sort()?;
+    Ok(order)
+}
