@@ -1,7 +1,7 @@
 //! A pool of bags, which are drawn from by rising metric.
 
-ghost use Rattle.std.specs.Prelude.{◌≡◌, ◌≤◌, replicate, All};
-ghost use Rattle.std.specs.Prelude.{IfNone, IfOk, IfSome};
+ghost use Rattle.std.specs.Prelude.{◌≡◌, ◌≢◌, ◌≤◌, [], replicate, All};
+ghost use Rattle.std.specs.Prelude.{IfNone, IfOk, IfSome, OnOk};
 ghost use Rattle.std.specs.Bool.{OnFalse, OnTrue};
 ghost use Rattle.obim_bags.specs.declared.chunk.TheConstants.{MAX_SIZE};
 ghost use Rattle.obim_bags.specs.Logs.{IsLogSettled};
@@ -95,7 +95,8 @@ impl ObimPool {
         sides: Vec<ObimSide>,
     ) -> Result<Vec<Chunk>, SettleFault>
         requires { All (IsSideOf self) sides.items }
-        ensures { IfOk result (λ left. IsLogSettled (mirrors_of sides.items) left.items) }
+        ensures handed { OnOk result (sides.items ≢ []) }
+        ensures settled { IfOk result (λ left. IsLogSettled (mirrors_of sides.items) left.items) }
     {
         let mut mirrors = Vec::with_capacity(alloc, sides.len())?;
         for side in sides {
