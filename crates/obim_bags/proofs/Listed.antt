@@ -1,6 +1,6 @@
 -- What stands at a place of a list.
 use Rattle.std.proofs.Common.{◌≡◌, ◌≢◌, ◌∙◌, ap, refl, subst, sym, ℕ, zero, suc, ◌<◌, List, [], ◌∷◌, ◌++◌, map, reverse, set, length, get_or, Some, None, inl, inr, ⊎_elim, ◌⊎◌}
-use Rattle.std.specs.Prelude.{slice_get, option_map, Option, IfNone, All, Bool, true, false}
+use Rattle.std.specs.Prelude.{slice_get, option_map, Option, IfNone, MatchOption, All, Bool, true, false}
 use Rattle.std.specs.Bool.{OnTrue}
 use Rattle.std.proofs.lemmas.Option.{slice_get-map, slice_get-get_or, slice_get_within, get_or_from_slice_get}
 use Rattle.std.proofs.lemmas.List.Elements.{All-cons, All-get_or, All-head, All-nil, All-tail}
@@ -34,10 +34,20 @@ pub none_then : {A : Type 0} (P Q : Type 0) (found : Option A) → (P → Q) →
 none_then P Q None then' was = then' was
 none_then P Q (Some x) then' was = tt
 
+-- what follows where nothing is found
+pub none_gives : {A : Type 0} (P Q : Type 0) (R : A → Type 0) (found : Option A) → (P → Q) → MatchOption found P R → IfNone found Q
+none_gives P Q R None gives was = gives was
+none_gives P Q R (Some x) gives was = tt
+
 -- what follows from what is so where the answer is true
 pub true_then : (P Q : Type 0) (b : Bool) → (P → Q) → OnTrue b P → OnTrue b Q
 true_then P Q true then' was = then' was
 true_then P Q false then' was = tt
+
+-- what follows where the answer is true
+pub true_gives : (P Q : Type 0) (b : Bool) → (P → Q) → (b ≡ true → P) → OnTrue b Q
+true_gives P Q true gives was = gives (was refl)
+true_gives P Q false gives was = tt
 
 -- what stands in a list with one element more stood there before or is that element
 pub at_snoc : {A : Type 0} (xs : List A) (y x : A) (i : ℕ) → slice_get (xs ++ y ∷ []) i ≡ Some x

@@ -46,9 +46,11 @@ IsSeenIn chunks tally =
     × AreLawful chunks tallies
     × (get_elem? tallies place ≡ some tally)
 
--- the bag was empty at a moment when the pass knew this
-abbrev pub WasEmpty : Tally → Type 0
-WasEmpty tally = IsSeenIn [] tally
+-- The bag was empty, if the pass is alone in it, with all shares: what it put is what it got, each chunk as often, however
+-- chunks are weighed. Of a bag that has other passes it says nothing, since those may have put and got anything.
+abbrev pub WasEmptyIfAlone : Tally → Type 0
+WasEmptyIfAlone tally =
+    tally.share ≡ tally.workers → (weight : ChunkSeen → ℕ) → weight_of weight tally.put ≡ weight_of weight tally.got
 
 -- ---- what each step makes of a tally
 

@@ -3,7 +3,7 @@ use Rattle.std.specs.Prelude.{◌≡◌, ℕ, List, [], ◌∷◌, ◌++◌, map
 use mathlib.Core.List.{IsPrefix}
 use Rattle.atomic_table.specs.Seated.{TableId}
 use Rattle.obim_bags.specs.Chunks.{ChunkSeen}
-use Rattle.obim_bags.specs.Accounts.{WasEmpty}
+use Rattle.obim_bags.specs.Accounts.{WasEmptyIfAlone}
 use Rattle.obim_bags.specs.Bags.{BagSeen, PassSeen, AreSettled, after_put, after_get, after_empty_find, new_pass}
 use Rattle.obim_bags.specs.Indexes.{AreDistinct}
 
@@ -66,13 +66,13 @@ ChangesAt place change old new =
     (was : PlaceSeen) × (slice_get old.places place ≡ Some was)
     × (new ≡ record old { places = slice_set old.places place (change was) })
 
--- the bag at this place was empty at a moment when its pass knew this
-abbrev pub WasEmptyIn : ℕ → List PlaceSeen → Type 0
-WasEmptyIn place places = (was : PlaceSeen) × (slice_get places place ≡ Some was) × WasEmpty was.pass.tally
+-- the bag at this place was empty, if its pass is alone in it
+abbrev pub WasEmptyIfAloneIn : ℕ → List PlaceSeen → Type 0
+WasEmptyIfAloneIn place places = (was : PlaceSeen) × (slice_get places place ≡ Some was) × WasEmptyIfAlone was.pass.tally
 
 -- the same of a mirror
-abbrev pub WasEmptyAt : ℕ → MirrorSeen → Type 0
-WasEmptyAt place mirror = WasEmptyIn place mirror.places
+abbrev pub WasEmptyIfAloneAt : ℕ → MirrorSeen → Type 0
+WasEmptyIfAloneAt place mirror = WasEmptyIfAloneIn place mirror.places
 
 -- ---- draining
 

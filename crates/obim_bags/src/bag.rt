@@ -4,7 +4,7 @@ ghost use Rattle.std.specs.Prelude.{◌≡◌, ◌≢◌, ◌≤◌, [], replica
 ghost use Rattle.std.specs.Prelude.{IfErr, IfNone, IfOk, IfSome, OnErr, OnOk};
 ghost use Rattle.std.specs.Bool.{OnFalse, OnTrue};
 ghost use Rattle.obim_bags.specs.declared.fault.SettleFault.TheVariants.{Missing};
-ghost use Rattle.obim_bags.specs.Accounts.{WasEmpty};
+ghost use Rattle.obim_bags.specs.Accounts.{WasEmptyIfAlone};
 ghost use Rattle.obim_bags.specs.Bags.{IsPassOf, new_pass, after_put, after_get, after_empty_find};
 ghost use Rattle.obim_bags.specs.Bags.{AreAllPasses, AreSettled};
 
@@ -109,7 +109,7 @@ impl Bag {
         ensures got { IfSome result (λ chunk. pass.new ≡ after_get chunk pass.old) }
         ensures filled { IfSome result (λ chunk. chunk.vertices ≢ []) }
         ensures found_empty { IfNone result (pass.new ≡ after_empty_find pass.old) }
-        ensures empty { IfNone result (WasEmpty pass.old.tally) }
+        ensures alone { IfNone result (WasEmptyIfAlone pass.old.tally) }
     {
         Some(Box::into_inner(self.get_boxed(rt, pass)?))
     }
@@ -121,7 +121,7 @@ impl Bag {
         ensures got { IfSome result (λ chunk. pass.new ≡ after_get chunk.value pass.old) }
         ensures filled { IfSome result (λ chunk. chunk.value.vertices ≢ []) }
         ensures found_empty { IfNone result (pass.new ≡ after_empty_find pass.old) }
-        ensures empty { IfNone result (WasEmpty pass.old.tally) }
+        ensures alone { IfNone result (WasEmptyIfAlone pass.old.tally) }
     {
         if self.finds_empty(pass) {
             return None;
@@ -135,7 +135,7 @@ impl Bag {
     pub fn finds_empty(&self, pass: &mut BagPass) -> bool
         requires { IsPassOf self.now pass.old }
         ensures found_empty { OnTrue result (pass.new ≡ after_empty_find pass.old) }
-        ensures empty { OnTrue result (WasEmpty pass.old.tally) }
+        ensures alone { OnTrue result (WasEmptyIfAlone pass.old.tally) }
         ensures unchanged { OnFalse result (pass.new ≡ pass.old) }
     {
         let empty = self.queue.is_empty_as::<Gets>(&mut pass.pass);
@@ -152,7 +152,7 @@ impl Bag {
         ensures got { IfSome result (λ chunk. pass.new ≡ after_get chunk.value pass.old) }
         ensures filled { IfSome result (λ chunk. chunk.value.vertices ≢ []) }
         ensures found_empty { IfNone result (pass.new ≡ after_empty_find pass.old) }
-        ensures empty { IfNone result (WasEmpty pass.old.tally) }
+        ensures alone { IfNone result (WasEmptyIfAlone pass.old.tally) }
     {
         let got = self.queue.pop_as::<Gets, R>(rt, &mut pass.pass);
         if got.is_none() {

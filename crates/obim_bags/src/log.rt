@@ -8,7 +8,7 @@ ghost use mathlib.Core.List.{IsPrefix};
 ghost use Rattle.obim_bags.specs.Bags.{after_put};
 ghost use Rattle.obim_bags.specs.Entries.{bags_of};
 ghost use Rattle.obim_bags.specs.Rolls.{IsWithin, HoldsSlot, with_slot, without_slot};
-ghost use Rattle.obim_bags.specs.Logs.{Gains, ChangesAt, WasEmptyAt, metrics_in, new_mirror};
+ghost use Rattle.obim_bags.specs.Logs.{Gains, ChangesAt, WasEmptyIfAloneAt, metrics_in, new_mirror};
 ghost use Rattle.obim_bags.specs.Logs.{place_after_put, place_after_get, place_after_empty_find};
 
 use crate::chunk::Chunk;
@@ -184,7 +184,7 @@ impl BagLog {
         ensures got { IfSome result (λ chunk. ChangesAt place (place_after_get chunk) mirror.old mirror.new) }
         ensures filled { IfSome result (λ chunk. chunk.vertices ≢ []) }
         ensures found_empty { IfNone result (ChangesAt place place_after_empty_find mirror.old mirror.new) }
-        ensures empty { IfNone result (WasEmptyAt place mirror.old) }
+        ensures alone { IfNone result (WasEmptyIfAloneAt place mirror.old) }
     {
         mirror.places.get(rt, place)
     }
@@ -202,7 +202,7 @@ impl BagLog {
         ensures got { IfSome result (λ chunk. ChangesAt place (place_after_get chunk.value) mirror.old mirror.new) }
         ensures filled { IfSome result (λ chunk. chunk.value.vertices ≢ []) }
         ensures found_empty { IfNone result (ChangesAt place place_after_empty_find mirror.old mirror.new) }
-        ensures empty { IfNone result (WasEmptyAt place mirror.old) }
+        ensures alone { IfNone result (WasEmptyIfAloneAt place mirror.old) }
     {
         mirror.places.get_boxed(rt, place)
     }
@@ -213,7 +213,7 @@ impl BagLog {
         requires log { mirror.old.log ≡ self.now }
         requires place { place < length mirror.old.places }
         ensures found_empty { OnTrue result (ChangesAt place place_after_empty_find mirror.old mirror.new) }
-        ensures empty { OnTrue result (WasEmptyAt place mirror.old) }
+        ensures alone { OnTrue result (WasEmptyIfAloneAt place mirror.old) }
         ensures unchanged { OnFalse result (mirror.new ≡ mirror.old) }
     {
         mirror.places.finds_empty(place)

@@ -3,7 +3,7 @@
 ghost use Rattle.std.specs.Prelude.{◌≡◌, ◌≢◌, []};
 ghost use Rattle.std.specs.Prelude.{IfErr, IfNone, IfSome, OnErr, OnOk};
 ghost use Rattle.std.specs.Bool.{OnFalse, OnTrue};
-ghost use Rattle.obim_bags.specs.Accounts.{WasEmpty};
+ghost use Rattle.obim_bags.specs.Accounts.{WasEmptyIfAlone};
 ghost use Rattle.obim_bags.specs.Bags.{IsPassOf};
 ghost use Rattle.obim_bags.specs.Logs.{PlaceSeen, place_after_put, place_after_get, place_after_empty_find};
 
@@ -77,7 +77,7 @@ impl Place {
         ensures got { IfSome result (λ chunk. self.new ≡ place_after_get chunk self.old) }
         ensures filled { IfSome result (λ chunk. chunk.vertices ≢ []) }
         ensures found_empty { IfNone result (self.new ≡ place_after_empty_find self.old) }
-        ensures empty { IfNone result (WasEmpty self.old.pass.tally) }
+        ensures alone { IfNone result (WasEmptyIfAlone self.old.pass.tally) }
         ensures bag { self.new.bag ≡ self.old.bag }
     {
         self.bag.get(rt, &mut self.pass)
@@ -88,7 +88,7 @@ impl Place {
         ensures got { IfSome result (λ chunk. self.new ≡ place_after_get chunk.value self.old) }
         ensures filled { IfSome result (λ chunk. chunk.value.vertices ≢ []) }
         ensures found_empty { IfNone result (self.new ≡ place_after_empty_find self.old) }
-        ensures empty { IfNone result (WasEmpty self.old.pass.tally) }
+        ensures alone { IfNone result (WasEmptyIfAlone self.old.pass.tally) }
         ensures bag { self.new.bag ≡ self.old.bag }
     {
         self.bag.get_boxed(rt, &mut self.pass)
@@ -97,7 +97,7 @@ impl Place {
     #[inline(always)]
     pub(crate) fn finds_empty(&mut self) -> bool
         ensures found_empty { OnTrue result (self.new ≡ place_after_empty_find self.old) }
-        ensures empty { OnTrue result (WasEmpty self.old.pass.tally) }
+        ensures alone { OnTrue result (WasEmptyIfAlone self.old.pass.tally) }
         ensures unchanged { OnFalse result (self.new ≡ self.old) }
         ensures bag { self.new.bag ≡ self.old.bag }
     {

@@ -5,7 +5,7 @@ ghost use Rattle.std.specs.Prelude.{IfErr, IfNone, IfOk, IfSome, OnErr, OnOk};
 ghost use Rattle.std.specs.Bool.{OnFalse, OnTrue};
 ghost use mathlib.Core.List.{IsPrefix};
 ghost use Rattle.obim_bags.specs.Indexes.{AreDistinct, IsAlone, Lacks};
-ghost use Rattle.obim_bags.specs.Logs.{ChangesPlace, WasEmptyIn, bags_in, metrics_in, metrics_of};
+ghost use Rattle.obim_bags.specs.Logs.{ChangesPlace, WasEmptyIfAloneIn, bags_in, metrics_in, metrics_of};
 ghost use Rattle.obim_bags.specs.Logs.{place_after_put, place_after_get, place_after_empty_find};
 ghost use Rattle.obim_bags.specs.Entries.{bags_of, HasPlacesFrom};
 ghost use Rattle.obim_bags.specs.Places.{AreGained};
@@ -162,7 +162,7 @@ impl Places {
         ensures got { IfSome result (λ chunk. ChangesPlace place (place_after_get chunk) self.old.list self.new.list) }
         ensures filled { IfSome result (λ chunk. chunk.vertices ≢ []) }
         ensures found_empty { IfNone result (ChangesPlace place place_after_empty_find self.old.list self.new.list) }
-        ensures empty { IfNone result (WasEmptyIn place self.old.list) }
+        ensures alone { IfNone result (WasEmptyIfAloneIn place self.old.list) }
         ensures bags { bags_in self.new.list ≡ bags_in self.old.list }
         ensures index { self.new.index ≡ self.old.index }
     {
@@ -176,7 +176,7 @@ impl Places {
         ensures got { IfSome result (λ chunk. ChangesPlace place (place_after_get chunk.value) self.old.list self.new.list) }
         ensures filled { IfSome result (λ chunk. chunk.value.vertices ≢ []) }
         ensures found_empty { IfNone result (ChangesPlace place place_after_empty_find self.old.list self.new.list) }
-        ensures empty { IfNone result (WasEmptyIn place self.old.list) }
+        ensures alone { IfNone result (WasEmptyIfAloneIn place self.old.list) }
         ensures bags { bags_in self.new.list ≡ bags_in self.old.list }
         ensures index { self.new.index ≡ self.old.index }
     {
@@ -188,7 +188,7 @@ impl Places {
     pub(crate) fn finds_empty(&mut self, place: usize) -> bool
         requires { place < length self.old.list }
         ensures found_empty { OnTrue result (ChangesPlace place place_after_empty_find self.old.list self.new.list) }
-        ensures empty { OnTrue result (WasEmptyIn place self.old.list) }
+        ensures alone { OnTrue result (WasEmptyIfAloneIn place self.old.list) }
         ensures unchanged { OnFalse result (self.new ≡ self.old) }
         ensures index { self.new.index ≡ self.old.index }
         ensures bags { bags_in self.new.list ≡ bags_in self.old.list }

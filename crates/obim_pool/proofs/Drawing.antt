@@ -4,9 +4,9 @@ use Rattle.std.specs.Prelude.{Option, Box, IfNone, IfSome, sum_by}
 use Rattle.std.specs.declared.alloc.Global.{Global}
 use Rattle.std.proofs.lemmas.List.{append-nil, nil_from_length}
 use Rattle.std.proofs.lemmas.List.Sums.{sum_by-cons}
-use Rattle.obim_bags.specs.Accounts.{WasEmpty}
+use Rattle.obim_bags.specs.Accounts.{WasEmptyIfAlone}
 use Rattle.obim_bags.specs.Chunks.{ChunkSeen}
-use Rattle.obim_bags.specs.Logs.{MirrorSeen, PlaceSeen, ChangesAt, WasEmptyAt, place_after_empty_find}
+use Rattle.obim_bags.specs.Logs.{MirrorSeen, PlaceSeen, ChangesAt, WasEmptyIfAloneAt, place_after_empty_find}
 use Rattle.obim_pool.specs.declared.kept.Kept.{Kept}
 use Rattle.obim_pool.proofs.Lifting.{at_set, one_of_kept}
 use Rattle.obim_pool.specs.Accounts.{AreSame, Gets}
@@ -24,7 +24,7 @@ some_same same = cc same
 
 -- an empty find at a place of which nothing is held, before and after
 pub finds_bare : (place : ℕ) (old new : MirrorSeen) (old_kept new_kept : Kept)
-    → ChangesAt place place_after_empty_find old new → WasEmptyAt place old
+    → ChangesAt place place_after_empty_find old new → WasEmptyIfAloneAt place old
     → held_of old_kept ≡ [] → held_of new_kept ≡ []
     → FindsEmpty place old old_kept new new_kept
 finds_bare place old new old_kept new_kept changes empty none none' =
@@ -42,10 +42,10 @@ finds_bare place old new old_kept new_kept changes empty none none' =
           bare = none';
         };
       };
-      empty = (
+      alone = (
         place_after_empty_find changes.0,
         rw changes.2 (at_set old.places place changes.0 (place_after_empty_find changes.0) changes.1),
-        subst (λ (p : PlaceSeen). WasEmpty p.pass.tally) same empty.2,
+        subst (λ (p : PlaceSeen). WasEmptyIfAlone p.pass.tally) same empty.2,
       );
     }
 
@@ -77,7 +77,7 @@ drains_some P old new chunk None drains some filling held none =
 
 -- where nothing is taken out though the filling chunk was turned, nothing was held
 pub turned_finds : (place : ℕ) (m m' : MirrorSeen) (old mid new : Kept) (found : Option ℕ)
-    → ChangesAt place place_after_empty_find m m' → WasEmptyAt place m
+    → ChangesAt place place_after_empty_find m m' → WasEmptyIfAloneAt place m
     → AreSame (held_of mid) (held_of old) → mid.filling ≡ None → new.filling ≡ mid.filling
     → IfNone found (held_of new ≡ held_of mid) → IfNone found (vertices_in new.draining ≡ [])
     → IfNone found (FindsEmpty place m old m' new)

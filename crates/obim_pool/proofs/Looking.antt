@@ -72,7 +72,7 @@ bare_stays {place = place} {old = old} {mid = mid} {new = new} {old_kept = old_k
     ap (λ (m : MirrorSeen). slice_get m.places bare) one.is_there ∙ at_set_else mid.places place bare one.is apart in
     record {
       find = subst (OneFind (account_in bare old.places (all_held old_kept))) (sym (change.others bare apart)) was.find;
-      empty = (was.empty.0, there ∙ was.empty.1, was.empty.2);
+      alone = (was.alone.0, there ∙ was.alone.1, was.alone.2);
     }
 
 -- each entry of the order is one of the side's own bags, however many were tried
@@ -96,7 +96,7 @@ tried_next rank entries at metrics old mid new old_kept mid_kept k k' order here
     let bare : IsBare at.place old old_kept new (set mid_kept at.place k') =
     record {
       find = subst (λ (a : Account). OneFind a (account_in at.place new.places (all_held (set mid_kept at.place k')))) was change.here;
-      empty = finds.empty;
+      alone = finds.alone;
     } in
     record {
       log = change.log ∙ tried.log;

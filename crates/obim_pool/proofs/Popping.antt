@@ -41,7 +41,7 @@ found_once : {entries : List At} {m0 m1 m2 : MirrorSeen} {k0 k1 k2 : List Kept} 
     → Searched entries m0 k0 m1 k1 m2 k2 → IsBare place m1 k1 m2 k2 → FoundOnceAt place (seen m0 k0 before) (seen m2 k2 after)
 found_once {m2 = m2} {k2 = k2} before after place searched bare = record {
   find = subst (λ (a : Account). OneFind a (account_in place m2.places (all_held k2))) (searched.grows.accounts place) bare.find;
-  empty = bare.empty;
+  alone = bare.alone;
 }
 
 looks_grown : {entries : List At} {m0 m1 m2 : MirrorSeen} {k0 k1 k2 : List Kept} (place : ℕ) → Searched entries m0 k0 m1 k1 m2 k2
@@ -144,7 +144,7 @@ tried_found {old} {mid} {new} place tries once =
       some = omega arith;
       few = omega arith;
       finds = once.find.finds ∙ ap (λ n. (n + 1) % 2 ^ 64) same;
-      empty = once.empty;
+      alone = once.alone;
     })
     (λ (more : FindsMore 1 (account_at place old) (account_at place mid)). record {
       bare = bare;
@@ -152,7 +152,7 @@ tried_found {old} {mid} {new} place tries once =
       some = omega arith;
       few = omega arith;
       finds = twice_more (account_at place old).empties (account_at place mid).empties (account_at place new).empties more once.find.finds;
-      empty = once.empty;
+      alone = once.alone;
     })
     (tries.finds place)
 

@@ -2,7 +2,7 @@
 use Rattle.std.specs.Prelude.{◌≡◌, ◌≢◌, ℕ, ◌≤◌, ◌<◌, ⊤, min, List, [], ◌∷◌, map, length, Option, Some, None, slice_get, get_or}
 use mathlib.Core.List.{IsPrefix}
 use Rattle.atomic_table.specs.Seated.{TableId}
-use Rattle.obim_bags.specs.Logs.{MirrorSeen, PlaceSeen, WasEmptyAt, metrics_in, new_mirror}
+use Rattle.obim_bags.specs.Logs.{MirrorSeen, PlaceSeen, WasEmptyIfAloneAt, metrics_in, new_mirror}
 use Rattle.obim_pool.specs.declared.order.At.{At}
 use Rattle.obim_pool.specs.declared.kept.Kept.{Kept}
 use Rattle.obim_pool.specs.Accounts.{Account, FindsMore, Gets, OnlyLooks, Puts, account_of}
@@ -80,7 +80,7 @@ pub record FoundEmptyAt (place : ℕ) (old new : SideSeen) : Type 0 where
   pub some : 1 ≤ count
   pub few : count ≤ 2
   pub finds : FindsMore count (account_at place old) (account_at place new)
-  pub empty : WasEmptyAt place new.mirror
+  pub alone : WasEmptyIfAloneAt place new.mirror
 
 -- where the current metric changed, each of the side's own bags below the new one was found empty
 abbrev pub HasLookedBelow : SideSeen → SideSeen → Type 0

@@ -1,7 +1,7 @@
 -- What a side's calls do to its bags, one at a time and all together.
 use Rattle.std.specs.Prelude.{◌≡◌, ◌≢◌, ℕ, ◌≤◌, ◌<◌, List, [], ◌⊎◌, length, Some, None, slice_get, slice_set}
 use mathlib.Core.List.{IsPrefix}
-use Rattle.obim_bags.specs.Logs.{MirrorSeen, PlaceSeen, WasEmptyAt, metrics_in}
+use Rattle.obim_bags.specs.Logs.{MirrorSeen, PlaceSeen, WasEmptyIfAloneAt, metrics_in}
 use Rattle.obim_pool.specs.declared.kept.Kept.{Kept}
 use Rattle.obim_pool.specs.declared.order.At.{At}
 use Rattle.obim_pool.specs.Accounts.{Account, FindsMore, Gets, OnlyLooks, account_of}
@@ -27,7 +27,7 @@ pub record OneFind (old new : Account) : Type 0 where
 -- the bag at this place was found empty, and nothing is held of it
 pub record FindsEmpty (place : ℕ) (old : MirrorSeen) (old_kept : Kept) (new : MirrorSeen) (new_kept : Kept) : Type 0 where
   pub here : OneBag OneFind place old old_kept new new_kept
-  pub empty : WasEmptyAt place new
+  pub alone : WasEmptyIfAloneAt place new
 
 -- The mirror and what the side has room for may have grown. No account changed.
 pub record Grows (old : MirrorSeen) (old_kept : List Kept) (new : MirrorSeen) (new_kept : List Kept) : Type 0 where
@@ -40,7 +40,7 @@ pub record Grows (old : MirrorSeen) (old_kept : List Kept) (new : MirrorSeen) (n
 -- the bag at this place was found empty, once, and nothing is held of it
 pub record IsBare (place : ℕ) (old : MirrorSeen) (old_kept : List Kept) (new : MirrorSeen) (new_kept : List Kept) : Type 0 where
   pub find : OneFind (account_in place old.places (all_held old_kept)) (account_in place new.places (all_held new_kept))
-  pub empty : WasEmptyAt place new
+  pub alone : WasEmptyIfAloneAt place new
 
 -- each bag of the order was found empty, and of each bag the side only counted empty finds
 pub record AreBare (entries : List At) (old : MirrorSeen) (old_kept : List Kept) (new : MirrorSeen) (new_kept : List Kept) : Type 0 where
@@ -75,7 +75,7 @@ pub record TriesCurrent (old new : SideSeen) : Type 0 where
 -- the bag at this place was found empty, once, and nothing is held of it
 pub record FoundOnceAt (place : ℕ) (old new : SideSeen) : Type 0 where
   pub find : OneFind (account_at place old) (account_at place new)
-  pub empty : WasEmptyAt place new.mirror
+  pub alone : WasEmptyIfAloneAt place new.mirror
 
 -- the vertex came out of the lowest of the side's own bags that wasn't found empty
 pub record PopsLowest (vertex : ℕ) (old new : SideSeen) : Type 0 where

@@ -15,6 +15,6 @@ returns-clause-none g c =
           (ap (λ (k : Kept). k.draining) w.kept-is ∙ w.drain.ensures.draining)
           w.in-Some.ensures.filled last.filling last.unchanged last.empty
       | in-None w ↦ turned_finds c.args.place c.args.mirror.now c.get_boxed_at.new.mirror c.args.kept.now mid new c.take_last.result
-          w.in-None.ensures.found_empty w.in-None.ensures.empty (rw w.kept-is w.turn.ensures.same)
+          w.in-None.ensures.found_empty w.in-None.ensures.alone (rw w.kept-is w.turn.ensures.same)
           (ap (λ (k : Kept). k.filling) w.kept-is ∙ w.turn.ensures.filling) last.filling last.unchanged last.empty
     ]

@@ -19,7 +19,7 @@ returns-clause-found_empty c =
     let at = called_at {now = c.finds_empty.new.self} c.self.inside.list.items (rw (← c.self.view_is) at c.requires) c.index_mut.ensures.value c.finds_empty.ensures.bag in
     rw (← c.self.view_is) (true_then _ _ c.finds_empty.result (changed place_after_empty_find at) c.finds_empty.ensures.found_empty)
 
-pub returns-clause-empty : goal.returns-clause-empty
-returns-clause-empty c =
+pub returns-clause-alone : goal.returns-clause-alone
+returns-clause-alone c =
     let at = called_at {now = c.finds_empty.new.self} c.self.inside.list.items (rw (← c.self.view_is) at c.requires) c.index_mut.ensures.value c.finds_empty.ensures.bag in
-    rw (← c.self.view_is) (true_then _ _ c.finds_empty.result (λ empty. (c.index_mut.result.now, at.here, empty)) c.finds_empty.ensures.empty)
+    rw (← c.self.view_is) (true_then _ _ c.finds_empty.result (λ empty. (c.index_mut.result.now, at.here, empty)) c.finds_empty.ensures.alone)

@@ -25,7 +25,7 @@ returns-clause-found_empty g c =
     let at = called_at {now = c.get_boxed.new.self} c.self.inside.list.items (rw (← c.self.view_is) at c.requires) c.index_mut.ensures.value c.get_boxed.ensures.bag in
     rw (← c.self.view_is) (none_then _ _ c.get_boxed.result (changed place_after_empty_find at) c.get_boxed.ensures.found_empty)
 
-pub returns-clause-empty : goal.returns-clause-empty
-returns-clause-empty g c =
+pub returns-clause-alone : goal.returns-clause-alone
+returns-clause-alone g c =
     let at = called_at {now = c.get_boxed.new.self} c.self.inside.list.items (rw (← c.self.view_is) at c.requires) c.index_mut.ensures.value c.get_boxed.ensures.bag in
-    rw (← c.self.view_is) (none_then _ _ c.get_boxed.result (λ empty. (c.index_mut.result.now, at.here, empty)) c.get_boxed.ensures.empty)
+    rw (← c.self.view_is) (none_then _ _ c.get_boxed.result (λ empty. (c.index_mut.result.now, at.here, empty)) c.get_boxed.ensures.alone)
