@@ -1,7 +1,8 @@
 -- What stands at a place of a list.
-use Rattle.std.proofs.Common.{◌≡◌, ◌≢◌, ◌∙◌, ap, refl, subst, sym, ℕ, zero, suc, ◌<◌, List, [], ◌∷◌, ◌++◌, map, reverse, set, length, get_or, Some, None, inl, inr, ⊎_elim, ◌⊎◌}
+use Rattle.std.proofs.Common.{Result, Ok, Err, ◌≡◌, ◌≢◌, ◌∙◌, ap, refl, subst, sym, ℕ, zero, suc, ◌<◌, List, [], ◌∷◌, ◌++◌, map, reverse, set, length, get_or, Some, None, inl, inr, ⊎_elim, ◌⊎◌}
 use Rattle.std.specs.Prelude.{slice_get, option_map, Option, IfNone, MatchOption, All, Bool, true, false}
 use Rattle.std.specs.Bool.{OnTrue}
+use Rattle.std.specs.Result.{IfErr, IsErrAnd}
 use Rattle.std.proofs.lemmas.Option.{slice_get-map, slice_get-get_or, slice_get_within, get_or_from_slice_get}
 use Rattle.std.proofs.lemmas.List.Elements.{All-cons, All-get_or, All-head, All-nil, All-tail}
 use Rattle.std.proofs.lemmas.Grind.{reverse_onto}
@@ -13,6 +14,13 @@ found_at xs i x within is = slice_get-get_or xs i x within ∙ ap Some (sym is)
 
 pub at_map : {A B : Type 0} (f : A → B) (xs : List A) (i : ℕ) (x : A) → slice_get xs i ≡ Some x → slice_get (map f xs) i ≡ Some (f x)
 at_map f xs i x at = slice_get-map f xs i ∙ ap (option_map f) at
+
+-- what stands at a place of the mapped list comes of what stands there
+pub mapped_at : {A B : Type 0} (f : A → B) (xs : List A) (i : ℕ) (y : B) → slice_get (map f xs) i ≡ Some y
+    → (x : A) × (slice_get xs i ≡ Some x) × (f x ≡ y)
+mapped_at f [] i y at = absurd cc
+mapped_at f (x ∷ xs) zero y at = (x, refl, cc at)
+mapped_at f (x ∷ xs) (suc i) y at = mapped_at f xs i y at
 
 -- an element is replaced by one that f can't tell from it
 pub map_kept : {A B : Type 0} (f : A → B) (xs : List A) (i : ℕ) (x y : A) → slice_get xs i ≡ Some x → f y ≡ f x → map f (set xs i y) ≡ map f xs
@@ -43,6 +51,11 @@ none_gives P Q R (Some x) gives was = tt
 pub true_then : (P Q : Type 0) (b : Bool) → (P → Q) → OnTrue b P → OnTrue b Q
 true_then P Q true then' was = then' was
 true_then P Q false then' was = tt
+
+-- what follows from what is so of the fault that there is
+pub err_and : {T E : Type 0} (result : Result T E) (P Q : E → Type 0) → IsErrAnd result P → ((fault : E) → P fault → Q fault) → IfErr result Q
+err_and (Ok value) P Q is then' = tt
+err_and (Err fault) P Q is then' = then' fault is
 
 -- what follows where the answer is true
 pub true_gives : (P Q : Type 0) (b : Bool) → (P → Q) → (b ≡ true → P) → OnTrue b Q

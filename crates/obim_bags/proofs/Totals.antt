@@ -1,16 +1,16 @@
 -- What passes put and got, added up.
 use Rattle.std.proofs.Common.{◌≡◌, ◌∙◌, ap, sym, refl, ℕ, ◌+◌, List, [], ◌∷◌, ◌++◌, reverse, append_assoc, arith}
-use Rattle.std.specs.Prelude.{All, slice_get, sum_by}
+use Rattle.std.specs.Prelude.{All, Option, slice_get, sum_by}
 use Rattle.std.proofs.lemmas.List.{map-append}
 use Rattle.std.proofs.lemmas.List.Sums.{sum_by-append, sum_by-cons}
 use Rattle.std.proofs.lemmas.List.Elements.{All-head, All-tail}
 use Rattle.std.proofs.lemmas.Grind.{reverse_onto}
 use Rattle.obim_bags.specs.Chunks.{ChunkSeen}
-use Rattle.obim_bags.specs.Accounts.{weight_of, new_tally}
+use Rattle.obim_bags.specs.Accounts.{weight_of, new_tally, shares_of}
 use Rattle.obim_bags.specs.declared.account.Tally.{Tally}
-use Rattle.obim_bags.specs.Bags.{AreSettled, BagSeen, PassSeen, new_pass, tallies_of}
+use Rattle.obim_bags.specs.Bags.{AreAdded, AreSettled, BagSeen, PassSeen, new_pass, tallies_of}
 use Rattle.obim_bags.specs.Logs.{MirrorSeen, PlaceSeen, pass_in, passes_at}
-use Rattle.obim_bags.specs.Entries.{AreAdded}
+use Rattle.obim_bags.specs.Entries.{unclaimed_of}
 use Rattle.obim_bags.specs.Settling.{passes_in, places_of}
 
 abbrev total : (Tally → ℕ) → List PassSeen → ℕ
@@ -67,3 +67,48 @@ pub passes_of_mirrors : (place : ℕ) (mirrors : List MirrorSeen) → passes_at 
 passes_of_mirrors place [] = refl
 passes_of_mirrors place (mirror ∷ mirrors) =
     ap (λ (passes : List PassSeen). pass_in (slice_get mirror.places place) ++ passes) (passes_of_mirrors place mirrors)
+
+-- ---- shares
+
+abbrev share_of : Tally → ℕ
+share_of tally = tally.share
+
+unclaimed_append : (xs ys : List (Option PlaceSeen)) → unclaimed_of (xs ++ ys) ≡ unclaimed_of xs ++ unclaimed_of ys
+unclaimed_append [] ys = refl
+unclaimed_append (x ∷ xs) ys =
+    ap (λ (passes : List PassSeen). pass_in x ++ passes) (unclaimed_append xs ys) ∙ sym (append_assoc (pass_in x) (unclaimed_of xs) (unclaimed_of ys))
+
+-- the last of the places moved its pass to these
+pub shares_moved : (passes new : List PassSeen) (places rest : List (Option PlaceSeen)) (place : Option PlaceSeen)
+    → places ≡ rest ++ place ∷ [] → new ≡ passes ++ pass_in place
+    → shares_of (tallies_of (new ++ unclaimed_of rest)) ≡ shares_of (tallies_of (passes ++ unclaimed_of places))
+shares_moved passes new places rest place is put =
+    let last = unclaimed_of (place ∷ []) in
+    let whole = ap (λ (ps : List (Option PlaceSeen)). total share_of (passes ++ unclaimed_of ps)) is
+    ∙ ap (λ (ps : List PassSeen). total share_of (passes ++ ps)) (unclaimed_append rest (place ∷ [])) in
+    let moved = ap (λ (ps : List PassSeen). total share_of (ps ++ unclaimed_of rest)) put in
+    let same : total share_of (new ++ unclaimed_of rest) ≡ total share_of (passes ++ unclaimed_of places) =
+    omega (
+      arith,
+      whole,
+      moved,
+      total_append share_of (passes ++ pass_in place) (unclaimed_of rest),
+      total_append share_of passes (pass_in place),
+      total_append share_of passes (unclaimed_of rest ++ last),
+      total_append share_of (unclaimed_of rest) last,
+      total_append share_of (pass_in place) [],
+    ) in
+    same
+
+-- the order of the lists doesn't count, whatever else there is
+pub shares_reverse : (place : ℕ) (held : List (List PlaceSeen)) (more : List PassSeen)
+    → shares_of (tallies_of (passes_in place (reverse held) ++ more)) ≡ shares_of (tallies_of (passes_in place held ++ more))
+shares_reverse place held more =
+    let same : total share_of (passes_in place (reverse held) ++ more) ≡ total share_of (passes_in place held ++ more) =
+    omega (
+      arith,
+      total_append share_of (passes_in place (reverse held)) more,
+      total_append share_of (passes_in place held) more,
+      total_reverse share_of place held,
+    ) in
+    same

@@ -1,5 +1,5 @@
 -- Bags and their passes, as contracts see them.
-use Rattle.std.specs.Prelude.{◌≡◌, ℕ, ◌+◌, ◌%◌, ◌^◌, List, map}
+use Rattle.std.specs.Prelude.{◌≡◌, ℕ, ◌+◌, ◌%◌, ◌^◌, List, ◌++◌, map, All}
 use Rattle.std.specs.declared.alloc.Global.{Global}
 use Rattle.crossbeam_queue.specs.SegTies.{SegId}
 use Rattle.obim_bags.specs.Chunks.{ChunkSeen}
@@ -53,6 +53,12 @@ tallies_of passes = map (λ (pass : PassSeen). pass.tally) passes
 -- these passes have all the shares of the bag
 abbrev pub AreAllPasses : BagSeen → List PassSeen → Type 0
 AreAllPasses bag passes = shares_of (tallies_of passes) ≡ bag.workers
+
+-- passes of this bag that have put and got nothing were put last
+pub record AreAdded (bag : BagSeen) (old new : List PassSeen) : Type 0 where
+  pub added : List PassSeen
+  pub last : new ≡ old ++ added
+  pub are_new : All (λ (pass : PassSeen). pass ≡ new_pass bag) added
 
 -- what these passes put is what they got and what was left, each chunk as often, however chunks are weighed
 abbrev pub AreSettled : List PassSeen → List ChunkSeen → Type 0

@@ -1,8 +1,8 @@
 -- What stands in the slot of a log.
-use Rattle.std.specs.Prelude.{◌≡◌, ℕ, ◌≤◌, ◌<◌, List, ◌++◌, map, length, Option, Some, slice_get, All}
-use Rattle.obim_bags.specs.Bags.{BagSeen, PassSeen, new_pass}
+use Rattle.std.specs.Prelude.{◌≡◌, ℕ, ◌≤◌, ◌<◌, List, [], ◌∷◌, ◌++◌, map, length, Option, Some, slice_get, All}
+use Rattle.obim_bags.specs.Bags.{AreAllPasses, BagSeen, PassSeen}
 use Rattle.obim_bags.specs.Indexes.{AreDistinct}
-use Rattle.obim_bags.specs.Logs.{PlaceSeen, metrics_of, IsNew}
+use Rattle.obim_bags.specs.Logs.{PlaceSeen, metrics_of, pass_in, IsNew}
 
 -- an entry: its bag, and by worker the place that its mirror hasn't claimed yet
 pub record EntrySeen : Type 0 where
@@ -35,8 +35,15 @@ abbrev pub HasPlacesFrom : ℕ → ℕ → EntriesSeen → Type 0
 HasPlacesFrom worker first entries =
     (place : ℕ) → first ≤ place → place < length entries.list → HasPlaceAt worker place entries
 
--- passes of this bag that have put and got nothing were put last
-pub record AreAdded (bag : BagSeen) (old new : List PassSeen) : Type 0 where
-  pub added : List PassSeen
-  pub last : new ≡ old ++ added
-  pub are_new : All (λ (pass : PassSeen). pass ≡ new_pass bag) added
+-- the passes of these places
+abbrev pub unclaimed_of : List (Option PlaceSeen) → List PassSeen
+unclaimed_of [] = []
+unclaimed_of (place ∷ places) = pass_in place ++ unclaimed_of places
+
+-- these passes and those that are still in the entry have all shares of its bag
+abbrev pub AreAllOf : EntrySeen → List PassSeen → Type 0
+AreAllOf entry passes = AreAllPasses entry.bag (passes ++ unclaimed_of entry.unclaimed)
+
+-- what is in the entry is of its bag
+abbrev pub IsEntry : EntrySeen → Type 0
+IsEntry entry = All (IsUnclaimed entry.bag) entry.unclaimed

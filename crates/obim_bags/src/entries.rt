@@ -3,10 +3,12 @@
 ghost use Rattle.std.specs.Prelude.{◌≡◌, ◌≢◌, ◌≤◌, ◌<◌, ◌++◌, ◌∷◌, ℕ, [], Some, length, map, slice_get};
 ghost use Rattle.std.specs.Prelude.{All, IsTrue, IfNone, IfOk, IfSome, OnErr, OnOk};
 ghost use mathlib.Core.List.{IsPrefix};
-ghost use Rattle.obim_bags.specs.Bags.{BagSeen};
+ghost use Rattle.obim_bags.specs.Accounts.{shares_of};
+ghost use Rattle.obim_bags.specs.Bags.{AreAdded, AreAllPasses, BagSeen, tallies_of};
 ghost use Rattle.obim_bags.specs.Indexes.{AreDistinct, Lacks};
-ghost use Rattle.obim_bags.specs.Logs.{IsNew, metrics_of};
-ghost use Rattle.obim_bags.specs.Entries.{bags_of, AreAdded, IsUnclaimed, HasPlaceOf, HasPlaceAt, HasPlacesFrom};
+ghost use Rattle.obim_bags.specs.Logs.{IsNew, metrics_of, pass_in};
+ghost use Rattle.obim_bags.specs.Entries.{bags_of, AreAllOf, IsEntry, IsUnclaimed, unclaimed_of};
+ghost use Rattle.obim_bags.specs.Entries.{HasPlaceOf, HasPlaceAt, HasPlacesFrom};
 
 use crate::bag::Bag;
 use crate::passes::BagPass;
@@ -93,6 +95,9 @@ impl Entry {
     pub(crate) fn claim_all(&mut self, passes: &mut Vec<BagPass>) -> Result<(), Memory>
         ensures bag { self.new.bag ≡ self.old.bag }
         ensures added { OnOk result (AreAdded self.old.bag passes.old.items passes.new.items) }
+        ensures all { OnOk result (AreAllOf self.old passes.old.items → AreAllPasses self.old.bag passes.new.items) }
+        ensures only { OnOk result (AreAllPasses self.old.bag passes.new.items → AreAllOf self.old passes.old.items) }
+        ensures entry { IsEntry self.old }
     {
         keep_all(&mut self.unclaimed, passes)
     }
@@ -103,6 +108,8 @@ fn keep_all(unclaimed: &mut Vec<Option<Place>>, passes: &mut Vec<BagPass>) -> Re
     ensures rest { (bag : BagSeen) → All (IsUnclaimed bag) unclaimed.old.items → All (IsUnclaimed bag) unclaimed.new.items }
     ensures added { OnOk result
         ((bag : BagSeen) → All (IsUnclaimed bag) unclaimed.old.items → AreAdded bag passes.old.items passes.new.items) }
+    ensures shares { OnOk result (shares_of (tallies_of passes.new.items)
+        ≡ shares_of (tallies_of (passes.old.items ++ unclaimed_of unclaimed.old.items))) }
 {
     while let Some(place) = unclaimed.pop() {
         keep(place, passes)?;
@@ -112,7 +119,8 @@ fn keep_all(unclaimed: &mut Vec<Option<Place>>, passes: &mut Vec<BagPass>) -> Re
 
 // The pass of a place, if there is one, put last.
 fn keep(place: Option<Place>, passes: &mut Vec<BagPass>) -> Result<(), Memory>
-    ensures { OnOk result ((bag : BagSeen) → IsUnclaimed bag place → AreAdded bag passes.old.items passes.new.items) }
+    ensures added { OnOk result ((bag : BagSeen) → IsUnclaimed bag place → AreAdded bag passes.old.items passes.new.items) }
+    ensures pass { OnOk result (passes.new.items ≡ passes.old.items ++ pass_in place) }
 {
     if let Some(place) = place {
         passes.push(place.into_pass())?;

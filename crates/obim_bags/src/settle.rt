@@ -1,13 +1,16 @@
 //! The end of a log: what is left in its bags.
 
 ghost use Rattle.std.specs.Prelude.{◌≡◌, ◌≢◌, ◌+◌, ◌++◌, ◌<◌, ◌≤◌, ℕ, List, [], Some, length, map, reverse, slice_get, take};
-ghost use Rattle.std.specs.Prelude.{All, IfOk, OnOk};
+ghost use Rattle.std.specs.Prelude.{All, IfErr, IfOk, OnOk};
 ghost use mathlib.Core.List.{IsPrefix};
+ghost use Rattle.obim_bags.specs.declared.fault.SettleFault.TheVariants.{Memory, Missing};
 ghost use Rattle.obim_bags.specs.Bags.{AreSettled, BagSeen, IsPassOf};
 ghost use Rattle.obim_bags.specs.Indexes.{AreDistinct};
-ghost use Rattle.obim_bags.specs.Logs.{IsLogSettled, IsMirrorOf, PlaceSeen, all_of, bags_in, metrics_of, pass_in};
-ghost use Rattle.obim_bags.specs.Entries.{bags_of};
-ghost use Rattle.obim_bags.specs.Settling.{AreDrainedFrom, AreOf, KnowsAllOf, lists_of, passes_in, places_of};
+ghost use Rattle.obim_bags.specs.Logs.{IsLogSettled, IsMirrorOf, PlaceSeen, WantsMirrors};
+ghost use Rattle.obim_bags.specs.Logs.{all_of, bags_in, metrics_of, pass_in};
+ghost use Rattle.obim_bags.specs.Entries.{AreAllOf, EntrySeen, IsEntry, bags_of};
+ghost use Rattle.obim_bags.specs.Settling.{AreDrainedFrom, AreOf, AreWholeFrom, KnowsAllOf, LackSome};
+ghost use Rattle.obim_bags.specs.Settling.{lists_of, passes_in, places_of};
 
 use crate::chunk::Chunk;
 use crate::entries::{Entries, Entry};
@@ -33,6 +36,7 @@ impl BagLog {
         requires { All (IsMirrorOf self.now) mirrors.items }
         ensures handed { OnOk result (mirrors.items ≢ []) }
         ensures settled { IfOk result (λ left. IsLogSettled mirrors.items left.items) }
+        ensures missing { IfErr result (λ fault. fault ≡ Missing → WantsMirrors mirrors.items) }
     {
         let (mut seat, held) = self.join(alloc, mirrors)?;
         let mut entries = self.take(rt, &mut seat);
@@ -49,6 +53,7 @@ impl BagLog {
     ) -> Result<(LogSeat, Vec<Vec<Place>>), SettleFault>
         requires { All (IsMirrorOf self.now) mirrors.items }
         ensures some { OnOk result (mirrors.items ≢ []) }
+        ensures none { IfErr result (λ fault. fault ≡ Missing → mirrors.items ≡ []) }
         ensures log { IfOk result (λ joined. joined.0.table_id ≡ self.now) }
         ensures slots { IfOk result (λ joined. joined.0.me.1 ≡ []) }
         ensures known { IfOk result (λ joined. KnowsAllOf joined.0.me.0 (lists_of joined.1.items)) }
@@ -80,6 +85,9 @@ impl Entry {
         requires { All (IsPassOf self.old.bag) passes.items }
         ensures bag { self.new.bag ≡ self.old.bag }
         ensures settled { IfOk result (λ left. AreSettled passes.items left.items) }
+        ensures entry { IsEntry self.old }
+        ensures all { OnOk result (AreAllOf self.old passes.items) }
+        ensures missing { IfErr result (λ fault. fault ≡ Missing → AreAllOf self.old passes.items → ⊥) }
     {
         self.claim_all(&mut passes)?;
         self.bag().drain(rt, alloc, passes)
@@ -98,7 +106,12 @@ impl Entries {
         requires place { place < length self.old.list }
         requires passes { (bag : BagSeen) → slice_get (bags_of self.old) place ≡ Some bag → All (IsPassOf bag) passes.items }
         ensures bags { bags_of self.new ≡ bags_of self.old }
+        ensures others { (other : ℕ) → other ≢ place → slice_get self.new.list other ≡ slice_get self.old.list other }
         ensures settled { IfOk result (λ left. AreSettled passes.items left.items) }
+        ensures entry { (entry : EntrySeen) → slice_get self.old.list place ≡ Some entry → IsEntry entry }
+        ensures all { OnOk result ((entry : EntrySeen) → slice_get self.old.list place ≡ Some entry → AreAllOf entry passes.items) }
+        ensures missing { IfErr result (λ fault. fault ≡ Missing
+            → (entry : EntrySeen) → slice_get self.old.list place ≡ Some entry → AreAllOf entry passes.items → ⊥) }
     {
         self.list[place].drain(rt, alloc, passes)
     }
@@ -116,6 +129,8 @@ fn drain_all<R: Wait>(
     ensures distinct { AreDistinct (metrics_of (bags_of entries.new)) }
     ensures count { IfOk result (λ parts. length parts.items ≡ length (bags_of entries.old)) }
     ensures drained { IfOk result (λ parts. AreDrainedFrom 0 (lists_of held.items) (reverse (lists_of parts.items))) }
+    ensures whole { OnOk result (AreWholeFrom 0 (lists_of held.items) entries.old) }
+    ensures missing { IfErr result (λ fault. fault ≡ Missing → LackSome (lists_of held.items) entries.old) }
 {
     let mut parts = Vec::new(alloc);
     let mut place = entries.len();
@@ -138,6 +153,7 @@ fn claimed(
     ensures passes { IfOk result (λ passes. passes.items ≡ passes_in place (lists_of held.old.items)) }
     ensures of_bag { IfOk result (λ passes. (bags : List BagSeen) (bag : BagSeen)
         → AreOf bags (lists_of held.old.items) → slice_get bags place ≡ Some bag → All (IsPassOf bag) passes.items) }
+    ensures refused { IfErr result (λ fault. fault ≡ Memory) }
 {
     let mut passes = Vec::new(alloc);
     for at in 0..held.len() {
@@ -158,6 +174,7 @@ fn move_last(
     ensures of_bag { OnOk result ((bags : List BagSeen) (bag : BagSeen)
         → IsPrefix (bags_in places.old.items) bags → slice_get bags place ≡ Some bag
         → All (IsPassOf bag) passes.old.items → All (IsPassOf bag) passes.new.items) }
+    ensures refused { IfErr result (λ fault. fault ≡ Memory) }
 {
     if places.len() <= place {
         return Ok(());
@@ -170,7 +187,8 @@ fn move_last(
 
 // The parts joined, the last first.
 fn flatten(alloc: Global, mut parts: Vec<Vec<Chunk>>) -> Result<Vec<Chunk>, SettleFault>
-    ensures { IfOk result (λ left. left.items ≡ all_of (reverse (lists_of parts.items))) }
+    ensures parts { IfOk result (λ left. left.items ≡ all_of (reverse (lists_of parts.items))) }
+    ensures refused { IfErr result (λ fault. fault ≡ Memory) }
 {
     let mut left = Vec::new(alloc);
     while let Some(mut part) = parts.pop() {

@@ -1,16 +1,20 @@
 -- One bag more is drained.
-use Rattle.std.proofs.Common.{◌≡◌, ◌∙◌, ap, refl, sym, subst, ℕ, zero, suc, ◌+◌, ◌-◌, ◌≤◌, List, [], ◌∷◌, ◌++◌, map, reverse, take, drop, get_or, length, length-append, arith}
-use Rattle.std.specs.Prelude.{All}
+use Rattle.std.proofs.Common.{◌≡◌, ◌≢◌, ◌∙◌, ⊎_elim, ap, refl, sym, subst, ℕ, zero, suc, ◌+◌, ◌-◌, ◌<◌, ◌≤◌, List, [], ◌∷◌, ◌++◌, map, reverse, take, drop, get_or, length, length-append, arith}
+use Rattle.std.specs.Prelude.{All, Some, slice_get}
+use Rattle.std.proofs.lemmas.Bool.{cases_eq}
+use Rattle.std.proofs.lemmas.Option.{slice_get_within}
 use Rattle.std.specs.declared.vec.Vec.{Vec}
 use Rattle.std.specs.declared.alloc.Global.{Global}
 use Rattle.std.proofs.lemmas.List.{length-map, length-take, map-append, reverse-append, take-append-drop}
 use Rattle.std.proofs.lemmas.List.Elements.{All-map, All-weaker}
 use mathlib.Core.List.{IsPrefix}
+use Rattle.obim_bags.specs.declared.fault.SettleFault.TheVariants.{Missing}
 use Rattle.obim_bags.specs.Chunks.{ChunkSeen}
 use Rattle.obim_bags.specs.Bags.{AreSettled, BagSeen, PassSeen}
 use Rattle.obim_bags.specs.Logs.{PlaceSeen, bags_in}
-use Rattle.obim_bags.specs.Entries.{EntriesSeen, EntrySeen, bags_of}
-use Rattle.obim_bags.specs.Settling.{AreDrainedFrom, AreOf, lists_of, passes_in}
+use Rattle.obim_bags.specs.Entries.{AreAllOf, EntriesSeen, EntrySeen, bags_of}
+use Rattle.obim_bags.specs.Settling.{AreDrainedFrom, AreOf, AreWholeFrom, IsWholeAt, LackSome, lists_of, passes_in}
+use Rattle.obim_bags.proofs.Listed.{err_and}
 use Rattle.obim_bags.proofs.Prefixes.{prefix_length, prefix_map, prefix_trans}
 use Rattle.obim_bags.proofs.Cuts.{passes_kept}
 use Rattle.obim_bags.proofs.settle.drain_all.Goals as goal
@@ -52,6 +56,22 @@ first_part : (parts new : List (Vec ChunkSeen Global)) (part : Vec ChunkSeen Glo
 first_part parts new part is =
     rw (is, map-append (λ (v : Vec ChunkSeen Global). v.items) parts (part ∷ []), reverse-append (lists_of parts) (part.items ∷ [])) refl
 
+-- there is something at a place within a list
+some_at : {A : Type 0} (xs : List A) (i : ℕ) → i < length xs → (x : A) × (slice_get xs i ≡ Some x)
+some_at [] i within = absurd (omega (arith, within))
+some_at (x ∷ xs) zero within = (x, refl)
+some_at (x ∷ xs) (suc i) within = some_at xs i (omega (arith, within))
+
+-- one entry more is whole
+whole_more : (n : ℕ) (held : List (List PlaceSeen)) (entries : EntriesSeen)
+    → ((entry : EntrySeen) → slice_get entries.list n ≡ Some entry → IsWholeAt n held entry)
+    → AreWholeFrom (n + 1) held entries → AreWholeFrom n held entries
+whole_more n held entries this was place entry from there =
+    ⊎_elim
+    (λ (same : place ≡ n). subst (λ (p : ℕ). IsWholeAt p held entry) (sym same) (this entry (subst (λ (p : ℕ). slice_get entries.list p ≡ Some entry) same there)))
+    (λ (apart : place ≢ n). was place entry (omega (arith, from, apart)) there)
+    (cases_eq place n)
+
 pub loop-place-init : goal.loop-place-init
 loop-place-init g c = record {
   bags = refl;
@@ -59,6 +79,8 @@ loop-place-init g c = record {
   short = of_short (bags_of c.args.entries.now) c.len-place.result (lists_of c.args.held.items) (count_of c.args.entries.now ∙ sym c.len-place.ensures.len) c.requires;
   passes = λ place below. refl;
   count = rw c.new-parts.ensures.items (omega (arith, c.len-place.ensures.len, count_of c.args.entries.now));
+  rest = λ place below. refl;
+  whole = λ place entry from there. absurd (omega (arith, from, c.len-place.ensures.len, slice_get_within c.args.entries.now.list place entry there));
   drained = rw c.new-parts.ensures.items (λ place part at. absurd cc);
 }
 
@@ -77,8 +99,36 @@ loop-place-preserved g c =
       passes = λ place below.
           ap (passes_in place) c.in_ok-passes.ensures.held ∙ passes_kept place n held below ∙ was.passes place (omega arith);
       count = rw (c.in_ok-push.ensures.items, length-append, c.drain_at.ensures.bags) (omega (arith, was.count));
+      rest = λ place below. c.drain_at.ensures.others place (omega arith) ∙ was.rest place (omega arith);
+      whole =
+          whole_more n (lists_of c.args.held.items) c.args.entries.now
+          (λ entry there. record {
+            entry_is = c.drain_at.ensures.entry entry (was.rest n (omega arith) ∙ there);
+            all = subst (AreAllOf entry) here (c.in_ok-drain_at.ensures.all entry (was.rest n (omega arith) ∙ there));
+          }) (rw next at was.whole);
       drained =
           rw parts
           (drained_more n (lists_of c.args.held.items) (reverse (lists_of c.loop-place.parts.items)) c.in_ok-drain_at.field-0.items (rw next at was.drained)
           (subst (λ (passes : List PassSeen). AreSettled passes c.in_ok-drain_at.field-0.items) here c.in_ok-drain_at.ensures.settled));
     }
+
+pub returns-clause-whole : goal.returns-clause-whole
+returns-clause-whole g c place entry from there =
+    c.loop-place.invariant.whole place entry (omega (arith, c.loop-place-test.false)) there
+
+-- the passes of this entry's bag aren't all
+pub returns-in_err-drain_at-clause-missing : goal.returns-in_err-drain_at-clause-missing
+returns-in_err-drain_at-clause-missing g c =
+    let was = c.loop-place.invariant in
+    let n = c.loop-place.place - 1 in
+    let found = some_at c.loop-place.entries.list n (omega (arith, was.count, count_of c.loop-place.entries, c.loop-place-test.true)) in
+    let here = c.in_ok-passes.ensures.passes ∙ was.passes n (omega arith) in
+    let lacks : c.in_err-drain_at.field-0.0 ≡ Missing → LackSome (lists_of c.args.held.items) c.args.entries.now =
+    (λ missing. record {
+      place = n;
+      entry = found.0;
+      there = sym (was.rest n (omega arith)) ∙ found.1;
+      entry_is = c.drain_at.ensures.entry found.0 found.1;
+      missing = λ all. c.in_err-drain_at.ensures.missing missing found.0 found.1 (subst (AreAllOf found.0) (sym here) all);
+    }) in
+    err_and c.from_residual-in_err-drain_at.result _ _ c.from_residual-in_err-drain_at.ensures.1 (λ fault is missing. lacks (sym is ∙ missing))

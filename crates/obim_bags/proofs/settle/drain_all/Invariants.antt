@@ -1,9 +1,9 @@
 -- The bags from a place on are drained, and the lists end before it.
 use Rattle.std.proofs.Common.{◌≡◌, ℕ, ◌+◌, ◌<◌, ◌≤◌, List, length, reverse}
-use Rattle.std.specs.Prelude.{All}
+use Rattle.std.specs.Prelude.{All, slice_get}
 use Rattle.obim_bags.specs.Logs.{PlaceSeen}
 use Rattle.obim_bags.specs.Entries.{bags_of}
-use Rattle.obim_bags.specs.Settling.{AreDrainedFrom, AreOf, lists_of, passes_in}
+use Rattle.obim_bags.specs.Settling.{AreDrainedFrom, AreOf, AreWholeFrom, lists_of, passes_in}
 use Rattle.obim_bags.proofs.settle.drain_all.Given as goal
 
 abbrev pub invariant-loop-place : goal.invariant-loop-place
@@ -13,6 +13,8 @@ invariant-loop-place g l = record {
   short : All (λ (places : List PlaceSeen). length places ≤ l.place) (lists_of l.held.items);
   passes : (place : ℕ) → place < l.place → passes_in place (lists_of l.held.items) ≡ passes_in place (lists_of l.fn.held.items);
   count : length l.parts.items + l.place ≡ length (bags_of l.entries);
+  rest : (place : ℕ) → place < l.place → slice_get l.entries.list place ≡ slice_get l.initial.entries.list place;
+  whole : AreWholeFrom l.place (lists_of l.fn.held.items) l.initial.entries;
   drained : AreDrainedFrom l.place (lists_of l.fn.held.items) (reverse (lists_of l.parts.items));
 }
 
