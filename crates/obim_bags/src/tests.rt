@@ -1,4 +1,5 @@
 mod bags;
+mod callers;
 mod chunks;
 mod ends;
 mod faults;

@@ -1,0 +1,26 @@
+-- Both mirrors have a beginning of one list of bags, in which no metric stands twice.
+use Rattle.std.proofs.Common.{◌≡◌, ℕ, List, [], ◌∷◌, Some}
+use Rattle.std.specs.Prelude.{All, slice_get}
+use Rattle.std.proofs.lemmas.List.Elements.{All-head, All-tail}
+use mathlib.Core.List.{IsPrefix}
+use Rattle.obim_bags.specs.Chunks.{ChunkSeen}
+use Rattle.obim_bags.specs.Bags.{BagSeen}
+use Rattle.obim_bags.specs.Logs.{IsLogSettled, MirrorSeen, bags_in, metrics_in, metrics_of}
+use Rattle.obim_bags.proofs.Prefixes.{prefix_get, prefix_map}
+use Rattle.obim_bags.proofs.tests.callers.ask_by_two.Goals as goal
+
+one_place : (first second : MirrorSeen) (left : List ChunkSeen) (metric place other : ℕ) → IsLogSettled (first ∷ second ∷ []) left
+    → slice_get (metrics_in first.places) place ≡ Some metric → slice_get (metrics_in second.places) other ≡ Some metric → place ≡ other
+one_place first second left metric place other settled was is =
+    let P = λ (mirror : MirrorSeen). IsPrefix (bags_in mirror.places) settled.bags in
+    let metric_of = λ (bag : BagSeen). bag.metric in
+    let one = prefix_map metric_of (bags_in first.places) settled.bags (All-head P first (second ∷ []) settled.prefixes) in
+    let two = prefix_map metric_of (bags_in second.places) settled.bags
+    (All-head P second [] (All-tail P first (second ∷ []) settled.prefixes)) in
+    settled.distinct other place metric
+    (prefix_get (metrics_in second.places) (metrics_of settled.bags) other metric two is)
+    (prefix_get (metrics_in first.places) (metrics_of settled.bags) place metric one was)
+
+pub returns : goal.returns
+returns g c =
+    one_place _ _ _ c.args.metric c.in_ok-place.place c.in_ok-other.other (rw c.in_ok-vec.ensures.items at c.in_ok-drain.ensures.settled) c.in_ok-place.ensures.place c.in_ok-other.ensures.place
