@@ -25,7 +25,7 @@ use std::time::Clock;
 const MOST_RESUMES: u32 = 100_000;
 
 /// The labels of the six vertices when only vertex 0 was visited.
-const ONE_VISIT: [u64; 6] = [0, 17, 10, INF, INF, INF];
+pub(crate) const ONE_VISIT: [u64; 6] = [0, 17, 10, INF, INF, INF];
 
 /// The marked ones of `n` vertices.
 fn marked(alloc: Global, n: u32, rest: &Paused) -> Result<Vec<u32>, Memory>
@@ -41,7 +41,7 @@ fn marked(alloc: Global, n: u32, rest: &Paused) -> Result<Vec<u32>, Memory>
 }
 
 /// A pause has these labels and these marked vertices.
-fn expect_pause(
+pub(crate) fn expect_pause(
     rt: &impl Abort,
     alloc: Global,
     csr: &Csr,

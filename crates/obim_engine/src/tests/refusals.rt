@@ -2,19 +2,19 @@
 //! of the pool, and made once more it gives the labels that were worked by hand. `tests/refusals` refuses each in
 //! turn; `tests/refusals.tsv` has the calls.
 
-ghost use Rattle.std.specs.Prelude.{IfOk};
+ghost use Rattle.std.specs.Prelude.{◌≡◌, length, All, IfOk};
 ghost use Rattle.route_walks.specs.Walk.{AreSeeds};
 ghost use Rattle.label_words.specs.Paused.{IsPause};
 
 use crate::tests::graphs::{SIX_LABELS, six};
-use crate::tests::pauses::{resume_to_end, run_a_little};
+use crate::tests::pauses::{ONE_VISIT, expect_pause, resume_to_end, run_a_little};
 use crate::tests::settings;
 use crate::{
     Closed, OpenGate, Paused, RunFault, Settings, components, distances, least_labels, levels,
     resume, run, run_for,
 };
 use csr_graph::Csr;
-use obim_pool::{LockedPool, ObimPool};
+use obim_pool::{LockedPool, ObimPool, WorkPool};
 use route_walks::{Seed, tried_again};
 use std::alloc::Global;
 use std::process::Abort;
@@ -53,6 +53,42 @@ fn of_run(rt: HostRuntime) -> Result<(), Fail> {
     Ok(())
 }
 
+// Runs with a budget of one visit and goes on to the end, over one pool. Made once more after a refusal the run leaves
+// what one worker's first visit leaves.
+fn run_for_again<H, P>(
+    rt: &H,
+    alloc: Global,
+    csr: &Csr,
+    seeds: &[Seed],
+    settings: &Settings,
+    pool: &P,
+    sides: &mut [P::Side],
+) -> Result<(), Fail>
+where
+    H: Threads + Wait + Clock + Abort + Sync,
+    P: WorkPool + Sync,
+    P::Side: Send,
+    requires seeds { AreSeeds csr.now.n seeds.now }
+    requires workers { length sides.old ≡ settings.now.workers }
+    requires sides { All (P.is_side pool.now) sides.old }
+{
+    let closed = tried_again!(
+        rt,
+        alloc,
+        RunFault::Memory,
+        run_for(rt, alloc, csr, seeds, settings, pool, sides, &OpenGate, 1)
+    );
+    if settings.workers == 1 {
+        expect_pause(rt, alloc, csr, seeds, &closed, &ONE_VISIT, &[1, 2])?;
+    }
+    let labels = resume_to_end(rt, alloc, csr, seeds, closed, settings, pool, sides, 1)?;
+    assert_eq!(rt;
+        labels.expect(rt, "settled").as_slice(),
+        SIX_LABELS.as_slice()
+    );
+    Ok(())
+}
+
 #[test]
 fn of_run_for(rt: HostRuntime) -> Result<(), Fail> {
     let alloc = rt.alloc();
@@ -60,21 +96,9 @@ fn of_run_for(rt: HostRuntime) -> Result<(), Fail> {
     for workers in [1, 2] {
         let settings = settings(&rt, workers, 4);
         let (pool, mut sides) = LockedPool::open(alloc, workers)?;
-        let closed = tried_again!(
-            rt,
-            alloc,
-            RunFault::Memory,
-            run_for(
-                &rt, alloc, &csr, &FROM_0, &settings, &pool, &mut sides, &OpenGate, 1
-            )
-        );
-        let labels = resume_to_end(
-            &rt, alloc, &csr, &FROM_0, closed, &settings, &pool, &mut sides, 1,
-        )?;
-        assert_eq!(rt;
-            labels.expect(&rt, "settled").as_slice(),
-            SIX_LABELS.as_slice()
-        );
+        run_for_again(&rt, alloc, &csr, &FROM_0, &settings, &pool, &mut sides)?;
+        let (pool, mut sides) = ObimPool::open(alloc, workers, 1)?;
+        run_for_again(&rt, alloc, &csr, &FROM_0, &settings, &pool, &mut sides)?;
     }
     Ok(())
 }
@@ -96,31 +120,54 @@ fn paused<H: Threads + Wait + Clock + Abort + Sync>(
     }
 }
 
-// After a refusal the pause is gone: the run goes on from another one.
+// Goes on to the end from a pause. After a refusal the pause is gone: the run goes on from another one.
+fn resume_again<H, P>(
+    rt: &H,
+    alloc: Global,
+    csr: &Csr,
+    seeds: &[Seed],
+    settings: &Settings,
+    pool: &P,
+    sides: &mut [P::Side],
+) -> Result<(), Fail>
+where
+    H: Threads + Wait + Clock + Abort + Sync,
+    P: WorkPool + Sync,
+    P::Side: Send,
+    requires seeds { AreSeeds csr.now.n seeds.now }
+    requires workers { length sides.old ≡ settings.now.workers }
+    requires sides { All (P.is_side pool.now) sides.old }
+{
+    let rest = paused(rt, alloc, csr, seeds, settings)?;
+    let same = paused(rt, alloc, csr, seeds, settings)?;
+    let closed = tried_again!(
+        rt,
+        alloc,
+        RunFault::Memory,
+        resume(
+            rt, alloc, csr, seeds, rest, settings, pool, sides, &OpenGate, ENOUGH
+        ),
+        resume(
+            rt, alloc, csr, seeds, same, settings, pool, sides, &OpenGate, ENOUGH
+        )
+    );
+    match closed {
+        Closed::Settled(labels) => assert_eq!(rt; labels.as_slice(), SIX_LABELS.as_slice()),
+        Closed::Paused(_rest) => assert!(rt; false, "paused"),
+    }
+    Ok(())
+}
+
 #[test]
 fn of_resume(rt: HostRuntime) -> Result<(), Fail> {
     let alloc = rt.alloc();
     let csr = six(alloc)?;
     for workers in [1, 2] {
         let settings = settings(&rt, workers, 4);
-        let rest = paused(&rt, alloc, &csr, &FROM_0, &settings)?;
-        let same = paused(&rt, alloc, &csr, &FROM_0, &settings)?;
         let (pool, mut sides) = LockedPool::open(alloc, workers)?;
-        let closed = tried_again!(
-            rt,
-            alloc,
-            RunFault::Memory,
-            resume(
-                &rt, alloc, &csr, &FROM_0, rest, &settings, &pool, &mut sides, &OpenGate, ENOUGH
-            ),
-            resume(
-                &rt, alloc, &csr, &FROM_0, same, &settings, &pool, &mut sides, &OpenGate, ENOUGH
-            )
-        );
-        match closed {
-            Closed::Settled(labels) => assert_eq!(rt; labels.as_slice(), SIX_LABELS.as_slice()),
-            Closed::Paused(_rest) => assert!(rt; false, "paused"),
-        }
+        resume_again(&rt, alloc, &csr, &FROM_0, &settings, &pool, &mut sides)?;
+        let (pool, mut sides) = ObimPool::open(alloc, workers, 1)?;
+        resume_again(&rt, alloc, &csr, &FROM_0, &settings, &pool, &mut sides)?;
     }
     Ok(())
 }
