@@ -1,3 +1,4 @@
+mod callers;
 mod helpers;
 mod locked;
 mod obim;

@@ -1,0 +1,111 @@
+//! What does a caller learn of its side? Each clause is proved from the contract of the pool alone.
+
+ghost use Rattle.std.specs.Prelude.{◌≡◌, ◌<◌, ℕ, [], ◌∷◌, None, Some, IfOk, IfSome, length, get_or};
+ghost use Rattle.std.specs.Bool.{OnFalse, OnTrue};
+ghost use Rattle.obim_pool.specs.Accounts.{Puts};
+ghost use Rattle.obim_pool.specs.Sides.{HasLowered, IsOwn, IsSideOf, PushesNone, account_at, new_side};
+
+use crate::tests::helpers::{open_pool, take_side};
+use crate::{ObimPool, ObimSide};
+use obim_bags::SettleFault;
+use std::alloc::Global;
+use std::sync::Wait;
+use std::test::Fail;
+
+// Tries a push twice. Where one is accepted the vertex is in the bag of its metric once, and the lower of its
+// metric and the current one before is current; else nothing is.
+fn push_stubbornly<R: Wait>(
+    rt: &R,
+    pool: &ObimPool,
+    side: &mut ObimSide,
+    v: u32,
+    metric: u64,
+) -> bool
+    requires { IsSideOf pool.now side.old }
+    ensures side { IsSideOf pool.now side.new }
+    ensures pushed { OnTrue result ((place : ℕ) × IsOwn place metric side.new
+        × Puts (v ∷ []) (account_at place side.old) (account_at place side.new)) }
+    ensures current { OnTrue result (HasLowered metric side.old.current side.new.current) }
+    ensures refused { OnFalse result (PushesNone side.old side.new) }
+    ensures unchanged { OnFalse result (side.new.current ≡ side.old.current) }
+{
+    if pool.push(rt, side, v, metric) {
+        return true;
+    }
+    pool.push(rt, side, v, metric)
+}
+
+// A pop that leaves the current metric for a higher one leaves nothing of its bag that the side holds.
+fn pop_onwards<R: Wait>(rt: &R, pool: &ObimPool, side: &mut ObimSide) -> Option<u32>
+    requires { IsSideOf pool.now side.old }
+    ensures side { IsSideOf pool.now side.new }
+    ensures bare { IfSome result (λ v. (place metric higher : ℕ) → IsOwn place metric side.old
+        → side.old.current ≡ Some metric → side.new.current ≡ Some higher → metric < higher
+        → get_or side.new.held place [] ≡ []) }
+{
+    pool.pop(rt, side)
+}
+
+// Pops until there is none, so many times at most: then the side holds no vertex of any bag of its own.
+fn pop_to_end<R: Wait>(rt: &R, pool: &ObimPool, side: &mut ObimSide, most: u32) -> bool
+    requires { IsSideOf pool.now side.old }
+    ensures side { IsSideOf pool.now side.new }
+    ensures bare { OnTrue result ((place : ℕ) → place < length side.new.held → get_or side.new.held place [] ≡ []) }
+    ensures current { OnTrue result (side.new.current ≡ None) }
+{
+    for _ in 0..most {
+        match pool.pop(rt, side) {
+            None => return true,
+            Some(_) => {}
+        }
+    }
+    false
+}
+
+// What one side of a new pool pushes, another may pop. If the pool can be settled then, that was the very vertex: no
+// other comes out of the pool.
+fn pass_on<R: Wait>(
+    rt: &R,
+    alloc: Global,
+    pool: ObimPool,
+    mut from: ObimSide,
+    mut to: ObimSide,
+    v: u32,
+    metric: u64,
+) -> Result<Option<u32>, SettleFault>
+    requires from { from ≡ new_side pool }
+    requires to { to ≡ new_side pool }
+    ensures { IfOk result (λ popped. IfSome popped (λ vertex. vertex ≡ v)) }
+{
+    if pool.push(rt, &mut from, v, metric) {
+        let popped = pool.pop(rt, &mut to);
+        let sides = vec![in alloc; from, to]?;
+        let _left = pool.settle(rt, alloc, sides)?;
+        return Ok(popped);
+    }
+    Ok(None)
+}
+
+#[test]
+fn a_side_that_is_alone(rt: HostRuntime) -> Result<(), Fail> {
+    let (pool, mut sides) = open_pool(rt.alloc(), 1, 16)?;
+    let mut side = take_side(&rt, &pool, &mut sides);
+    assert!(rt; push_stubbornly(&rt, &pool, &mut side, 50, 5));
+    assert!(rt; push_stubbornly(&rt, &pool, &mut side, 20, 2));
+    assert_eq!(rt; pop_onwards(&rt, &pool, &mut side), Some(20));
+    assert_eq!(rt; pop_onwards(&rt, &pool, &mut side), Some(50));
+    assert!(rt; push_stubbornly(&rt, &pool, &mut side, 70, 7));
+    assert!(rt; !pop_to_end(&rt, &pool, &mut side, 1));
+    assert!(rt; pop_to_end(&rt, &pool, &mut side, 1));
+    Ok(())
+}
+
+#[test]
+fn two_sides(rt: HostRuntime) -> Result<(), Fail> {
+    let alloc = rt.alloc();
+    let (pool, mut sides) = ObimPool::open(alloc, 2, 1)?;
+    let to = sides.pop().expect(&rt, "two sides");
+    let from = sides.pop().expect(&rt, "two sides");
+    assert_eq!(rt; pass_on(&rt, alloc, pool, from, to, 7, 3)?, Some(7));
+    Ok(())
+}
