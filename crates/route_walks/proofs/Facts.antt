@@ -5,8 +5,13 @@ pub use Rattle.route_walks.proofs.Attained.{attained-start, attained-over, attai
 pub use Rattle.route_walks.proofs.Attained.{attained-by_walk, walk-of_attained}
 -- among n vertices a walk can be cut to fewer than n arcs, at no more cost
 pub use Rattle.route_walks.proofs.Cuts.{walks_can_be_cut}
--- labels that are settled and sound are least
-pub use Rattle.route_walks.proofs.Labels.{settled_and_sound_are_least}
+-- labels that are settled and sound are least, and the other way round
+pub use Rattle.route_walks.proofs.Labels.{settled_and_sound_are_least, least_labels_are_settled}
+-- what is attained along some arcs is attained along more
+pub use Rattle.route_walks.proofs.SameArcs.{attained-among}
+-- lists of arcs, and other arcs after them
+pub use Rattle.route_walks.proofs.Added.{unit_weights-append, both_ways-append, graph-append}
+pub use Rattle.route_walks.proofs.Added.{same_arcs-append, same_arcs-trans, same_arcs-grown, least_labels-grown}
 -- labels as seeds: which they are, and that what is attained and least from them is so from the seeds
 -- that they meet
 pub use Rattle.route_walks.proofs.Reseeding.{labels-have_seed, labels-meet_their_seeds}

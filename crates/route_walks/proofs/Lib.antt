@@ -4,6 +4,7 @@ pub mod Cuts
 pub mod Labels
 pub mod Lowering
 pub mod SameArcs
+pub mod Added
 pub mod Components
 pub mod Reseeding
 mod Existence

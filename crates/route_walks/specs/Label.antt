@@ -56,6 +56,15 @@ SettledAndSoundAreLeast =
     → IsSound n arcs seeds label
     → AreLeast n arcs seeds label
 
+-- least labels are settled and sound
+abbrev pub LeastLabelsAreSettled : Type 0
+LeastLabelsAreSettled =
+    (n : ℕ) (arcs : List ArcRec) (seeds : List Seed) (label : ℕ → ℕ)
+    → IsGraph n arcs
+    → AreSeeds n seeds
+    → AreLeast n arcs seeds label
+    → AreCapped n label × IsSettled arcs seeds label × IsSound n arcs seeds label
+
 -- a vertex has only one least label
 abbrev pub LeastLabelsAreUnique : Type 0
 LeastLabelsAreUnique =

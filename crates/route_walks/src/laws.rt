@@ -1,7 +1,8 @@
 //! Which laws hold of walks, labels and components? Each is the contract of a function that does nothing.
 
 ghost use Rattle.route_walks.specs.Walk.{WalksCanBeCut};
-ghost use Rattle.route_walks.specs.Label.{SettledAndSoundAreLeast, LeastLabelsAreUnique};
+ghost use Rattle.route_walks.specs.Label.{SettledAndSoundAreLeast, LeastLabelsAreSettled};
+ghost use Rattle.route_walks.specs.Label.{LeastLabelsAreUnique};
 ghost use Rattle.route_walks.specs.Label.{LeastLabelsFollowTheArcs, InfMeansNoWalk, LabelsServeAsSeeds};
 ghost use Rattle.route_walks.specs.Component.{LeastLabelsAreComponents};
 ghost use Rattle.route_walks.specs.Existence.{LeastLabelsExist};
@@ -16,6 +17,12 @@ pub fn walks_can_be_cut()
 /// engine may lower labels in any order, until they are settled.
 pub fn settled_and_sound_are_least()
     ensures { SettledAndSoundAreLeast }
+{}
+
+/// And least labels are settled and sound: no seed and no arc can lower one. So labels are least exactly
+/// where they are settled and sound.
+pub fn least_labels_are_settled()
+    ensures { LeastLabelsAreSettled }
 {}
 
 /// A vertex has only one least label, so two programs that give least labels give the same ones.
