@@ -86,6 +86,27 @@ fn arcs_that_enter(rt: HostRuntime) -> Result<(), Fail> {
     Ok(())
 }
 
+// The arc 0 → 5 comes after the arcs that leave 0, and the other rows stay.
+#[test]
+fn an_arc_is_added(rt: HostRuntime) -> Result<(), Fail> {
+    let given = given();
+    let added = [ArcRec::new(0, 5, 4)];
+    assert!(rt; is_graph(6, &given) && is_graph(6, &added));
+    let csr = Csr::build(rt.alloc(), 6, &given)?;
+    let grown = csr.with_arcs(rt.alloc(), &added)?;
+    assert_eq!(rt; (grown.n(), grown.arc_count()), (6, 9));
+    for (u, first) in [(0, 0), (1, 3), (2, 4), (3, 5), (4, 7), (5, 9)] {
+        assert_eq!(rt; grown.first(u), first, "first of {u}");
+    }
+    let want = [(0, 1, 17), (0, 2, 10), (0, 5, 4), (1, 3, 2)];
+    for (k, want) in want.iter().enumerate() {
+        let arc = grown.arc(k);
+        assert_eq!(rt; (arc.tail, arc.head, arc.weight), *want, "at {k}");
+    }
+    assert!(rt; csr.arcs(rt.alloc())?.as_slice() == by_tail().as_slice());
+    Ok(())
+}
+
 #[test]
 fn a_graph_without_vertices(rt: HostRuntime) -> Result<(), Fail> {
     let csr = Csr::build(rt.alloc(), 0, &[])?;
@@ -130,6 +151,33 @@ fn built_from_a_list_that_is_given_up(rt: HostRuntime) -> Result<(), Fail> {
         assert_eq!(rt; given_up.n(), n);
         assert_eq!(rt; given_up.arc_count(), count);
         assert!(rt; given_up.arcs(alloc)?.as_slice() == kept.arcs(alloc)?.as_slice());
+    }
+    Ok(())
+}
+
+// The rows are those of the arcs and then the added ones: of none and one, of none added, of arcs that stand
+// twice, and of many.
+#[test]
+fn with_arcs_beside_the_whole_list(rt: HostRuntime) -> Result<(), Fail> {
+    let alloc = rt.alloc();
+    for (n, count, more) in [
+        (1, 0, 1),
+        (3, 5, 0),
+        (2, 9, 9),
+        (10, 64, 20),
+        (500, 9_000, 3_000),
+    ] {
+        let whole = drawn(alloc, n, count + more)?;
+        assert!(rt; count <= whole.len());
+        let (arcs, added) = whole.split_at(count);
+        assert!(rt; is_graph(n, arcs) && is_graph(n, added) && is_graph(n, &whole));
+        let csr = Csr::build(alloc, n, arcs)?;
+        assert!(rt; csr.arc_count() + added.len() <= MAX_ARCS);
+        let grown = csr.with_arcs(alloc, added)?;
+        let built = Csr::build(alloc, n, &whole)?;
+        assert_eq!(rt; grown.n(), n);
+        assert_eq!(rt; grown.arc_count(), count + more);
+        assert!(rt; grown.arcs(alloc)?.as_slice() == built.arcs(alloc)?.as_slice());
     }
     Ok(())
 }

@@ -3,7 +3,7 @@
 
 use crate::tests::{by_tail, drawn, given, is_graph};
 use crate::{Csr, MAX_ARCS};
-use route_walks::{Memory, both_ways, tried_again};
+use route_walks::{ArcRec, Memory, both_ways, tried_again};
 use std::test::Fail;
 
 // Few arcs, which are sorted as they stand, and as many as are grouped by blocks first.
@@ -85,5 +85,23 @@ fn of_csr_reversed(rt: HostRuntime) -> Result<(), Fail> {
         assert_eq!(rt; (arc.tail, arc.head, arc.weight), *want);
     }
     assert_eq!(rt; (reversed.n(), reversed.arc_count()), (6, 8));
+    Ok(())
+}
+
+// After a refusal the graph is as it was.
+#[test]
+fn of_csr_with_arcs(rt: HostRuntime) -> Result<(), Fail> {
+    let alloc = rt.alloc();
+    let given = given();
+    let added = [ArcRec::new(0, 5, 4)];
+    assert!(rt; is_graph(6, &given) && is_graph(6, &added));
+    let csr = Csr::build(alloc, 6, &given)?;
+    let grown = tried_again!(rt, alloc, Memory, csr.with_arcs(alloc, &added));
+    let want = [(0, 1, 17), (0, 2, 10), (0, 5, 4)];
+    for (arc, want) in grown.arcs(alloc)?.iter().zip(&want) {
+        assert_eq!(rt; (arc.tail, arc.head, arc.weight), *want);
+    }
+    assert_eq!(rt; (grown.n(), grown.arc_count()), (6, 9));
+    assert!(rt; csr.arcs(alloc)?.as_slice() == by_tail().as_slice());
     Ok(())
 }
