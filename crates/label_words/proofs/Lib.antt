@@ -5,3 +5,4 @@ pub mod Ties
 pub mod Sowing
 pub mod Ends
 pub mod Resumes
+pub mod Pauses

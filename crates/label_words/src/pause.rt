@@ -1,11 +1,19 @@
 //! What is left of a run that is paused.
 
-ghost use Rattle.std.specs.Prelude.{◌≡◌, ◌<◌, length};
+ghost use Rattle.std.specs.Prelude.{◌≡◌, ◌<◌, ℕ, List, true, false, length, slice_set, All, IfOk};
+ghost use Rattle.route_walks.specs.declared.graph.Seed.{Seed};
+ghost use Rattle.route_walks.specs.Walk.{AreSeeds};
+ghost use Rattle.route_walks.specs.Label.{AreLeastLabels};
+ghost use Rattle.csr_graph.specs.Graph.{Graph, IsInRows};
 ghost use Rattle.relax_core.specs.State.{mark_of};
+ghost use Rattle.label_words.specs.Paused.{IsPause};
 
+use route_walks::Memory;
+use std::alloc::Global;
 use std::marker::Model;
 
-/// Labels and marks as a run left them, before it was done.
+/// Labels and marks as a run left them, before it was done; or labels that are settled, where a graph is to
+/// get more arcs and the run is to go on.
 #[derive(Drop)]
 pub struct Paused {
     pub(crate) labels: Vec<u64>,
@@ -21,6 +29,23 @@ impl Model for Paused {
 }
 
 impl Paused {
+    /// These labels, and no mark. Where they are the least labels of a graph and seeds, that is a pause of
+    /// them in which nothing is left to do: a run that goes on from it visits no vertex, but for those that
+    /// are marked since. Takes a byte a vertex; at `Memory` the labels are gone.
+    pub fn settled(alloc: Global, labels: Vec<u64>) -> Result<Paused, Memory>
+        ensures labels { IfOk result (λ rest. rest.labels ≡ labels.items) }
+        ensures marks { IfOk result (λ rest. length rest.marks ≡ length labels.items) }
+        ensures unmarked { IfOk result (λ rest. All (λ mark. mark ≡ false) rest.marks) }
+        ensures pause { (graph : Graph) (seeds : List Seed)
+            → IsInRows graph
+            → AreSeeds graph.n seeds
+            → AreLeastLabels graph.n graph.arcs seeds labels.items
+            → IfOk result (λ rest. IsPause graph seeds rest) }
+    {
+        let marks = vec![in alloc; false; labels.len()]?;
+        Ok(Paused { labels, marks })
+    }
+
     /// The label of each vertex: a cost, or `INF` where no walk was found yet.
     pub fn labels(&self) -> &[u64]
         ensures { result.now ≡ self.now.labels }
@@ -34,5 +59,15 @@ impl Paused {
         ensures { result ≡ mark_of self.now.marks v }
     {
         self.marks[v as usize]
+    }
+
+    /// Marks a vertex: its arcs are to be relaxed again. One that is marked stays so. A pause stays one,
+    /// since a mark too many costs a visit and nothing else.
+    pub fn mark(&mut self, v: u32)
+        requires { v < length self.old.marks }
+        ensures { self.new ≡ record self.old { marks = slice_set self.old.marks v true } }
+    {
+        let place = v as usize;
+        self.marks[place] = true;
     }
 }

@@ -1,8 +1,9 @@
-//! Two seats go through a schedule that was worked out by hand, and callers sweep a graph.
+//! Two seats go through a schedule that was worked out by hand, callers sweep a graph, and labels are taken as a pause.
 
 ghost use Rattle.std.specs.Prelude.{◌≡◌, ◌<◌, IfOk};
 
 mod callers;
+mod pauses;
 mod refusals;
 
 use crate::{Closed, Step, Words, WorkSeat};

@@ -84,7 +84,7 @@ fn sweep(words: &Words, seat: &mut WorkSeat, csr: &Csr)
 }
 
 // Sweeps until the seat sees the total at 0, a thousand times at most.
-fn sweep_until_seen(words: &Words, seat: &mut WorkSeat, csr: &Csr)
+pub(crate) fn sweep_until_seen(words: &Words, seat: &mut WorkSeat, csr: &Csr)
     requires words { seat.old.words ≡ words.now }
     requires graph { csr.now ≡ seat.old.known.graph }
     requires idle { seat.old.known.view.hand ≡ Idle }
@@ -252,14 +252,14 @@ const SIX: [(u32, u32, u32); 8] = [
     (4, 5, 20),
 ];
 
-const LEAST: [u64; 6] = [0, 10, 10, 12, 10, 15];
+pub(crate) const LEAST: [u64; 6] = [0, 10, 10, 12, 10, 15];
 
-const SEEDS: [Seed; 1] = [Seed {
+pub(crate) const SEEDS: [Seed; 1] = [Seed {
     vertex: 0,
     start: 0,
 }];
 
-fn six(alloc: Global) -> Result<Csr, Fail>
+pub(crate) fn six(alloc: Global) -> Result<Csr, Fail>
     ensures { IfOk result (λ csr. csr.n ≡ 6) }
 {
     let arcs = SIX.map(|(tail, head, weight)| ArcRec::new(tail, head, weight));

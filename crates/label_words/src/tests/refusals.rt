@@ -116,3 +116,21 @@ fn of_words_close(rt: HostRuntime) -> Result<(), Fail> {
     assert_eq!(rt; labels.as_slice(), [0, 2, 1, 3].as_slice());
     Ok(())
 }
+
+// After a refusal the labels are gone: other ones are taken.
+#[test]
+fn of_paused_settled(rt: HostRuntime) -> Result<(), Fail> {
+    let alloc = rt.alloc();
+    let labels = Vec::from_slice(alloc, &OPENING)?;
+    let same = Vec::from_slice(alloc, &OPENING)?;
+    let rest = tried_again!(
+        rt,
+        alloc,
+        Memory,
+        Paused::settled(alloc, labels),
+        Paused::settled(alloc, same)
+    );
+    assert_eq!(rt; rest.labels(), OPENING.as_slice());
+    assert!(rt; !rest.marked(0) && !rest.marked(3));
+    Ok(())
+}
