@@ -8,6 +8,9 @@
 //! A pool, a gate and the settings are hints. `run` ensures that the labels are least whatever the
 //! pool drops, repeats or invents, whatever the gate does, and in whichever order threads step.
 //!
+//! `run_for` and `resume` do the same in pieces, with a pause between two of them; there the graph may get
+//! more arcs, by `grow`.
+//!
 //! `distances`, `levels` and `components` choose seeds and arcs, and bring a pool of their own.
 //!
 //! Stands on `label_words` for the steps of a worker and on `obim_pool` for the pool. It starts
@@ -16,6 +19,7 @@
 
 mod gate;
 mod group;
+mod growing;
 mod operators;
 mod pace;
 mod pauses;
@@ -24,6 +28,7 @@ mod settings;
 mod worker;
 
 pub use gate::{Gate, OpenGate};
+pub use growing::grow;
 pub use label_words::{Closed, Paused};
 pub use obim_pool::Worklist;
 pub use operators::{components, distances, least_labels, levels};

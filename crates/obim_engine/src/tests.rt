@@ -3,6 +3,7 @@
 mod draws;
 mod gates;
 mod graphs;
+mod growths;
 mod hostile;
 mod pauses;
 mod pools;

@@ -209,18 +209,19 @@ fn expect_no_higher(rt: &impl Abort, new: &[u64], old: &[u64]) {
     }
 }
 
-/// The labels from these seeds, in pieces: after each, settings, pool and budget are drawn anew.
-fn labels_in_pieces<H: Threads + Wait + Clock + Abort + Sync>(
+/// The labels at the end of a run that goes on in pieces: for each, settings, pool and budget are drawn
+/// anew.
+pub(crate) fn labels_in_pieces<H: Threads + Wait + Clock + Abort + Sync>(
     rt: &H,
     alloc: Global,
     csr: &Csr,
     seeds: &[Seed],
+    mut closed: Closed,
     draws: &mut Draws,
 ) -> Result<Vec<u64>, Fail>
-    requires { AreSeeds csr.now.n seeds.now }
+    requires seeds { AreSeeds csr.now.n seeds.now }
+    requires end { IsEnd csr.now seeds.now closed }
 {
-    let settings = draws.settings(rt);
-    let mut closed = run_a_little(rt, alloc, csr, seeds, &settings, draws.budget())?;
     for _ in 0..MOST_RESUMES {
         match closed {
             Closed::Settled(labels) => return Ok(labels),
@@ -250,7 +251,9 @@ fn budgets_at_random(rt: HostRuntime) -> Result<(), Fail> {
     let plain = plainly(&rt, alloc, n, &arcs, &seeds)?;
     let mut draws = Draws::new();
     for round in 0..200_u32 {
-        let labels = labels_in_pieces(&rt, alloc, &csr, &seeds, &mut draws)?;
+        let settings = draws.settings(&rt);
+        let closed = run_a_little(&rt, alloc, &csr, &seeds, &settings, draws.budget())?;
+        let labels = labels_in_pieces(&rt, alloc, &csr, &seeds, closed, &mut draws)?;
         assert!(rt; labels.as_slice() == plain.as_slice(), "round {round}");
     }
     Ok(())

@@ -1,0 +1,31 @@
+//! A pause whose graph gets more arcs.
+
+ghost use Rattle.std.specs.Prelude.{◌≡◌, ◌<◌, ℕ, List, length, All};
+ghost use Rattle.route_walks.specs.declared.graph.Seed.{Seed};
+ghost use Rattle.csr_graph.specs.Graph.{Graph};
+ghost use Rattle.label_words.specs.Paused.{IsPause};
+ghost use Rattle.obim_engine.specs.Grown.{IsGrown, TailsAreMarked};
+
+use label_words::Paused;
+use route_walks::ArcRec;
+
+/// Turns a pause of a graph into one of the graph with these arcs added, which `with_arcs` of `Csr` gives:
+/// the tail of each added arc is marked, so that a run which goes on from it relaxes the added arcs, and
+/// the labels stay. `resume` over the grown graph then ends with the labels that a run from the seeds would
+/// give there. Only what the added arcs change is visited, and each marked vertex once.
+///
+/// Labels that a run gave are a pause by `Paused::settled`. Takes no memory.
+pub fn grow(mut rest: Paused, added: &[ArcRec]) -> Paused
+    requires { All (λ arc. arc.tail < length rest.marks) added.now }
+    ensures labels { result.labels ≡ rest.labels }
+    ensures marks { TailsAreMarked added.now rest.marks result.marks }
+    ensures pause { (graph grown : Graph) (seeds : List Seed)
+        → IsPause graph seeds rest
+        → IsGrown graph added.now grown
+        → IsPause grown seeds result }
+{
+    for arc in added {
+        rest.mark(arc.tail);
+    }
+    rest
+}
