@@ -1,5 +1,5 @@
 -- How the labels of pairs are filled in, and which lines they make.
-use Rattle.std.proofs.Common.{◌≡◌, ◌≢◌, ℕ, suc, ◌+◌, ◌<◌, ◌≤◌, false, List, [], ◌∷◌, ◌++◌, length, get_or, set, drop, take}
+use Rattle.std.proofs.Common.{◌≡◌, ℕ, suc, ◌+◌, ◌<◌, ◌≤◌, false, List, [], ◌∷◌, ◌++◌, length, get_or, set, drop, take}
 use Rattle.std.proofs.Common.{drop-cons, refl, sym, subst, ap, ◌∙◌, inl, inr, arith}
 use Rattle.std.specs.List.{All, Contains}
 use Rattle.std.specs.List.Sorted.{IsPermutation}
@@ -20,9 +20,6 @@ use Rattle.obim_query.specs.Solves.{pair_at, pair_lines, AreBySource, AreFilled,
 pub record ArePlaced (pairs : List (ℕ × ℕ)) (count : ℕ) (order : List (ℕ × ℕ)) : Type 0 where
   pub each : All (λ entry. (entry.1 < count) × (entry.0 ≡ (pair_at pairs entry.1).0)) order
   pub all : (k : ℕ) → k < count → Contains order ((pair_at pairs k).0, k)
-
-pub none_placed : (pairs : List (ℕ × ℕ)) → ArePlaced pairs 0 []
-none_placed pairs = record { each = All-nil _; all = λ k below. absurd (omega arith) }
 
 pub placed_more : (pairs : List (ℕ × ℕ)) (i : ℕ) (order : List (ℕ × ℕ))
     → ArePlaced pairs i order

@@ -1,4 +1,4 @@
-use Rattle.std.proofs.Common.{◌∙◌, ap, length, sym, arith}
+use Rattle.std.proofs.Common.{◌∙◌, ap, length, arith}
 use Rattle.obim_query.proofs.PairLabels.{all_filled, written_back}
 use Rattle.obim_query.proofs.pairs.pair_labels.Goals as goal
 

@@ -1,7 +1,7 @@
-use Rattle.std.proofs.Common.{◌≡◌, ◌+◌, drop, ◌∙◌, ap, sym, arith}
+use Rattle.std.proofs.Common.{◌≡◌, ◌∙◌, ap, sym, arith}
 use Rattle.dimacs_text.specs.declared.form.Section.TheVariants.{Problem}
 use Rattle.dimacs_text.specs.declared.stage.Stage.TheVariants.{Within}
-use Rattle.dimacs_text.specs.reader.Drafts.{Progress, progress_of, progress_by, ReadsTo}
+use Rattle.dimacs_text.specs.reader.Drafts.{Progress, progress_of, progress_by}
 use Rattle.dimacs_text.proofs.draft.Draft.read_arcs.Goals as goal
 
 pub returns-clause-reads : goal.returns-clause-reads
