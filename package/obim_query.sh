@@ -1,0 +1,14 @@
+#!/bin/sh
+# Runs the installed program. It asks the C library for large pages, which save looking up where a page is; a
+# caller's own setting stays. Where the job would come from a terminal it says how to give it one.
+wants_job=yes
+for word; do
+    case $word in -h | --help | -V | --version) wants_job= ;; esac
+done
+if [ -n "$wants_job" ] && [ -t 0 ]; then
+    echo "usage: obim_query [OPTIONS] < JOB (see obim_query --help)" >&2
+    exit 1
+fi
+GLIBC_TUNABLES=${GLIBC_TUNABLES:-glibc.malloc.hugetlb=1}
+export GLIBC_TUNABLES
+exec "$(dirname "$(readlink -f "$0")")/../libexec/hollowbowl/obim_query" "$@"
