@@ -56,6 +56,16 @@ fn a_side_that_is_many_bags_behind(rt: HostRuntime) -> Result<(), Fail> {
     Ok(())
 }
 
+// A side has room for each bag that it asks for, however many there are.
+#[test]
+fn a_side_of_many_bags(rt: HostRuntime) -> Result<(), Fail> {
+    let (pool, mut sides) = open_pool(rt.alloc(), 1, 1)?;
+    let mut side = take_side(&rt, &pool, &mut sides);
+    push_each(&rt, &pool, &mut side, 3_000, 3);
+    pop_each(&rt, &pool, &mut side, 3_000, false);
+    Ok(())
+}
+
 // Pushes and pops a vertex so many times, by a chunk of its own each time, and pushes one more.
 fn push_and_pop_often<R: Wait + Abort>(rt: &R, pool: &ObimPool, side: &mut ObimSide, times: u32)
     requires { IsSideOf pool.now side.old }
