@@ -31,7 +31,7 @@ pub use gate::{Gate, OpenGate};
 pub use growing::grow;
 pub use label_words::{Closed, Paused};
 pub use obim_pool::Worklist;
-pub use operators::{components, distances, least_labels, levels};
+pub use operators::{components, distances, least_labels, least_labels_resumed, levels};
 pub use runs::{RunFault, resume, run, run_for};
 pub use settings::{MAX_CHUNK, MAX_SHIFT, MAX_WORKERS, Settings};
 

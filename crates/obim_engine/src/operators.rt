@@ -1,15 +1,20 @@
 //! The operators: which arcs and which seeds give distances, hop levels and components.
 
-ghost use Rattle.std.specs.Prelude.{◌≡◌, ◌<◌, ◌≤◌, ◌^◌, length, IfOk};
+ghost use Rattle.std.specs.Prelude.{◌≡◌, ◌<◌, ◌≤◌, ◌^◌, List, length, IfOk};
 ghost use Rattle.route_walks.specs.Label.{AreLeastLabels};
 ghost use Rattle.route_walks.specs.Operators.{seeds_from, seeds_all, unit_weights, both_ways};
+ghost use Rattle.route_walks.specs.declared.graph.Seed.{Seed};
 ghost use Rattle.route_walks.specs.Walk.{AreSeeds, HaveSameArcs};
+ghost use Rattle.relax_core.specs.declared.views.TheConstants.{SHARES};
+ghost use Rattle.label_words.specs.Paused.{CanGoOn, IsPause};
+ghost use Rattle.obim_engine.specs.Workers.{CanLead};
 
 use crate::gate::Gate;
 use crate::runs::{RunFault, solve};
-use crate::settings::Settings;
+use crate::settings::{MAX_WORKERS, Settings};
 use csr_graph::Csr;
-use label_words::Words;
+use label_words::laws::resumed_runs_end_alike;
+use label_words::{Paused, Words, WorkSeat};
 use obim_pool::{ObimPool, WideningPool, Worklist};
 use route_walks::laws::least_labels_follow_the_arcs;
 use route_walks::{Memory, Seed, seeds_all, seeds_from, unit_weights};
@@ -34,6 +39,49 @@ pub fn least_labels<H: Threads + Wait + Clock + Sync, G: Gate + Sync>(
 {
     let (words, seat) = Words::open(alloc, csr, &seeds)?;
     drop(seeds);
+    solve_alone(rt, alloc, csr, words, seat, settings, gate)
+}
+
+/// The least label of each vertex of a graph from the seeds of a pause: workers go on from the pause, which
+/// is of this graph, to the end, over a pool of their own as for `least_labels`. Only what the marked
+/// vertices change is visited. After a fault the pause is gone.
+pub fn least_labels_resumed<H: Threads + Wait + Clock + Sync, G: Gate + Sync>(
+    rt: &H,
+    alloc: Global,
+    csr: &Csr,
+    rest: Paused,
+    settings: &Settings,
+    gate: &G,
+) -> Result<Vec<u64>, RunFault>
+    requires { CanGoOn csr.now rest }
+    ensures { (seeds : List Seed)
+        → AreSeeds csr.now.n seeds
+        → IsPause csr.now seeds rest
+        → IfOk result (λ labels. AreLeastLabels csr.now.n csr.now.arcs seeds labels.items) }
+{
+    let (words, seat) = Words::reopen(alloc, csr, &rest)?;
+    drop(rest);
+    // The words have the labels as their seeds, and what is least from these is least from the others.
+    resumed_runs_end_alike();
+    solve_alone(rt, alloc, csr, words, seat, settings, gate)
+}
+
+/// Settles open words over a pool of its own.
+fn solve_alone<H: Threads + Wait + Clock + Sync, G: Gate + Sync>(
+    rt: &H,
+    alloc: Global,
+    csr: &Csr,
+    words: Words,
+    seat: WorkSeat,
+    settings: &Settings,
+    gate: &G,
+) -> Result<Vec<u64>, RunFault>
+    requires words { seat.words ≡ words }
+    requires seat { CanLead csr.now MAX_WORKERS seat }
+    requires shares { seat.known.view.share ≡ SHARES }
+    ensures { IfOk result
+        (λ labels. AreLeastLabels csr.now.n csr.now.arcs seat.known.seeds labels.items) }
+{
     if settings.widening {
         let (pool, mut sides) = WideningPool::open(alloc, settings.workers, settings.chunk)?;
         let labels = solve(

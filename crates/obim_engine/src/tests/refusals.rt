@@ -10,8 +10,8 @@ use crate::tests::graphs::{SIX_LABELS, six};
 use crate::tests::pauses::{ONE_VISIT, expect_pause, resume_to_end, run_a_little};
 use crate::tests::settings;
 use crate::{
-    Closed, OpenGate, Paused, RunFault, Settings, components, distances, least_labels, levels,
-    resume, run, run_for,
+    Closed, OpenGate, Paused, RunFault, Settings, components, distances, least_labels,
+    least_labels_resumed, levels, resume, run, run_for,
 };
 use csr_graph::Csr;
 use obim_pool::{LockedPool, ObimPool, WorkPool};
@@ -240,6 +240,26 @@ fn of_least_labels(rt: HostRuntime) -> Result<(), Fail> {
             RunFault::Memory,
             least_labels(&rt, alloc, &csr, seeds, &settings, &OpenGate),
             least_labels(&rt, alloc, &csr, same, &settings, &OpenGate)
+        );
+        assert_eq!(rt; labels.as_slice(), SIX_LABELS.as_slice());
+    }
+    Ok(())
+}
+
+#[test]
+fn of_least_labels_resumed(rt: HostRuntime) -> Result<(), Fail> {
+    let alloc = rt.alloc();
+    let csr = six(alloc)?;
+    for workers in [1, 2] {
+        let settings = settings(&rt, workers, 4).with_widening_buckets();
+        let rest = paused(&rt, alloc, &csr, &FROM_0, &settings)?;
+        let same = paused(&rt, alloc, &csr, &FROM_0, &settings)?;
+        let labels = tried_again!(
+            rt,
+            alloc,
+            RunFault::Memory,
+            least_labels_resumed(&rt, alloc, &csr, rest, &settings, &OpenGate),
+            least_labels_resumed(&rt, alloc, &csr, same, &settings, &OpenGate)
         );
         assert_eq!(rt; labels.as_slice(), SIX_LABELS.as_slice());
     }
