@@ -9,7 +9,7 @@ use Rattle.route_walks.specs.declared.graph.TheConstants.{MAX_VERTICES}
 use Rattle.dimacs_text.specs.declared.form.Item.{Item}
 use Rattle.dimacs_text.specs.declared.form.Limit.{Limit}
 use Rattle.dimacs_text.specs.declared.form.Section.{Section}
-use Rattle.dimacs_text.specs.declared.form.Section.TheVariants.{Problem, Sources, Pairs}
+use Rattle.dimacs_text.specs.declared.form.Section.TheVariants.{Problem, Sources, Pairs, Added}
 use Rattle.dimacs_text.specs.declared.form.Item.TheVariants.{Arc, Source, Pair}
 use Rattle.dimacs_text.specs.declared.fault.LineKind.{LineKind}
 use Rattle.dimacs_text.specs.declared.fault.LineKind.TheVariants.{TooFew, NoProblem}
@@ -23,14 +23,14 @@ use Rattle.dimacs_text.specs.declared.stage.Stage.{Stage}
 use Rattle.dimacs_text.specs.declared.stage.Stage.TheVariants.{Start, Within}
 use Rattle.dimacs_text.specs.reader.Machine.{run, misfit_at}
 use Rattle.dimacs_text.specs.Jobs.{Content, Question, absent, from_sources, of_pairs, arc_record, source_record}
-use Rattle.dimacs_text.specs.Jobs.{pair_record, problem_record, sources_record, pairs_record, records_of}
-use Rattle.dimacs_text.specs.Jobs.{records_of_question, records_among, IsJobText}
+use Rattle.dimacs_text.specs.Jobs.{pair_record, problem_record, sources_record, pairs_record, added_record}
+use Rattle.dimacs_text.specs.Jobs.{records_of, records_of_question, records_of_added, records_among, IsJobText}
 use Rattle.dimacs_text.specs.Faults.{tokens_among, IsFirstAmong, unfinished, IsFirstFault}
 use Rattle.dimacs_text.specs.reader.Drafts.{token_in, after_line, Progress, Fits, IsReadAmong, IsLackAt}
 use Rattle.dimacs_text.proofs.FormLemmas.{are_within}
 use Rattle.dimacs_text.proofs.Limits.{IsShaped, AreShaped, all_shaped, all_within}
 use Rattle.dimacs_text.proofs.Machine.{run_begins, complete}
-use Rattle.dimacs_text.proofs.TextLaws.{arc_back, source_back, pair_back}
+use Rattle.dimacs_text.proofs.TextLaws.{arc_back, source_back, pair_back, graph_first}
 use Rattle.dimacs_text.proofs.ReaderLemmas.{incomplete, form-token, all_said, line_leads, line_wrong}
 
 -- the readings have a first fault, or all say something, and that is legal
@@ -92,6 +92,7 @@ abbrev numbers_back : Form → List ℕ → List ℕ
 numbers_back (Head Problem) vs = get_or vs 0 0 ∷ get_or vs 1 0 ∷ []
 numbers_back (Head Sources) vs = get_or vs 0 0 ∷ []
 numbers_back (Head Pairs) vs = get_or vs 0 0 ∷ []
+numbers_back (Head Added) vs = get_or vs 0 0 ∷ []
 numbers_back (Counted Arc) vs = (get_or vs 0 0 - 1 + 1) ∷ (get_or vs 1 0 - 1 + 1) ∷ get_or vs 2 0 ∷ []
 numbers_back (Counted Source) vs = (get_or vs 0 0 - 1 + 1) ∷ []
 numbers_back (Counted Pair) vs = (get_or vs 0 0 - 1 + 1) ∷ (get_or vs 1 0 - 1 + 1) ∷ []
@@ -103,6 +104,8 @@ numbers_same n (Head Sources) vs e =
     let count = numbers_count (limits n (Head Sources)) vs e in grind (arith, common_steps)
 numbers_same n (Head Pairs) vs e =
     let count = numbers_count (limits n (Head Pairs)) vs e in grind (arith, common_steps)
+numbers_same n (Head Added) vs e =
+    let count = numbers_count (limits n (Head Added)) vs e in grind (arith, common_steps)
 numbers_same n (Counted Arc) vs e =
     let count = numbers_count (limits n (Counted Arc)) vs e in
     let limit = are_within (limits n (Counted Arc)) vs e in
@@ -160,6 +163,12 @@ pairs_by r c shaped m =
     let last : opens Pairs (get_or r.numbers 0 0) ≡ opens Pairs c = ap token_in (sym same) ∙ m in
     let count : get_or r.numbers 0 0 ≡ c = cc in same ∙ ap (λ x. pairs_record x) count
 
+added_by : (r : Record) (c : ℕ) → IsShaped r → token_in r ≡ opens Added c → r ≡ added_record c
+added_by r c shaped m =
+    let same = record_back r (opens Added c) shaped m in
+    let last : opens Added (get_or r.numbers 0 0) ≡ opens Added c = ap token_in (sym same) ∙ m in
+    let count : get_or r.numbers 0 0 ≡ c = cc in same ∙ ap (λ x. added_record x) count
+
 -- the records of so many items, and those after them
 items_in : {X : Type 0} (rec : X → Record) (i : Item) (k : ℕ) (rs : List Record) (rest : List Token)
     → ((r : Record) → IsShaped r → token_in r ≡ adds i → (x : X) × (r ≡ rec x))
@@ -184,49 +193,92 @@ no_records [] e = refl
 no_records (r ∷ rs) e = absurd (cc)
 
 -- after the last place no section follows
-last_place : (s : Section) → place s ≤ 1
+last_place : (s : Section) → place s ≤ 2
 last_place Problem = omega arith
 last_place Sources = omega arith
 last_place Pairs = omega arith
+last_place Added = omega arith
 
-none_follows : (s : Section) (ps : List Part) → 0 < place s → AreInTurn s ps → ps ≡ []
+none_follows : (s : Section) (ps : List Part) → 1 < place s → AreInTurn s ps → ps ≡ []
 none_follows s [] after turn = refl
 none_follows s (p ∷ ps) after turn =
     absurd (omega (arith, last_place p.section, ltb-true (place s) (place p.section) turn.0))
 
--- the section of a question, which is at place 1
-query_in : (s : Section) (k : ℕ) (r : Record) (rs : List Record)
-    → 0 < place s → token_in r ≡ opens s k → map token_in rs ≡ replicate k (adds (item_of s)) ++ []
+-- the section at place 2, after which nothing comes
+added_of_part : (s : Section) (k : ℕ) (ps : List Part) (r : Record) (rs : List Record)
+    → 1 < place s → AreInTurn s ps → token_in r ≡ opens s k
+    → map token_in rs ≡ replicate k (adds (item_of s)) ++ flat_map tokens_of ps
     → IsShaped r → AreShaped rs
-    → (q : Question) × (r ∷ rs ≡ records_of_question q)
-query_in Problem k r rs after m e top shaped = absurd (omega arith)
-query_in Sources k r rs after m e top shaped =
-    let (vs, others, count, same, none, more) = items_in source_record Source k rs [] source_by e shaped in (
-      from_sources vs,
-      ap₂ (λ x xs. x ∷ xs) (sources_by r k top m ∙ ap (λ n. sources_record n) (sym count))
-          (same ∙ ap (λ l. map source_record vs ++ l) (no_records others none) ∙ append-nil (map source_record vs)),
-    )
-query_in Pairs k r rs after m e top shaped =
-    let (ps, others, count, same, none, more) = items_in pair_record Pair k rs [] pair_by e shaped in (
-      of_pairs ps,
-      ap₂ (λ x xs. x ∷ xs) (pairs_by r k top m ∙ ap (λ n. pairs_record n) (sym count))
-          (same ∙ ap (λ l. map pair_record ps ++ l) (no_records others none) ∙ append-nil (map pair_record ps)),
+    → (arcs : List ArcRec) × (r ∷ rs ≡ records_of_added (Some arcs))
+added_of_part Problem k ps r rs late turn m e top shaped = absurd (omega arith)
+added_of_part Sources k ps r rs late turn m e top shaped = absurd (omega arith)
+added_of_part Pairs k ps r rs late turn m e top shaped = absurd (omega arith)
+added_of_part Added k ps r rs late turn m e top shaped =
+    let (arcs, others, count, same, tokens, more) = items_in arc_record Arc k rs (flat_map tokens_of ps) arc_by e shaped in
+    let none = no_records others (tokens ∙ ap (λ l. flat_map tokens_of l) (none_follows Added ps late turn)) in (
+      arcs,
+      ap₂ (λ x xs. x ∷ xs) (added_by r k top m ∙ ap (λ n. added_record n) (sym count))
+          (same ∙ ap (λ l. map arc_record arcs ++ l) none ∙ append-nil (map arc_record arcs)),
     )
 
-question_in : (s : Section) (ps : List Part) (rs : List Record)
-    → place s ≡ 0 → AreInTurn s ps → map token_in rs ≡ flat_map tokens_of ps → AreShaped rs
-    → (q : Question) × (rs ≡ records_of_question q)
-question_in s [] rs first turn e shaped = (absent, no_records rs e)
-question_in s (p ∷ ps) [] first turn e shaped = absurd (cc)
-question_in s (p ∷ ps) (r ∷ rs) first turn e shaped =
+-- the records of the parts that may follow a section at place 1
+added_in : (s : Section) (ps : List Part) (rs : List Record)
+    → 0 < place s → AreInTurn s ps → map token_in rs ≡ flat_map tokens_of ps → AreShaped rs
+    → (added : Option (List ArcRec)) × (rs ≡ records_of_added added)
+added_in s [] rs late turn e shaped = (None, no_records rs e)
+added_in s (p ∷ ps) [] late turn e shaped = absurd (cc)
+added_in s (p ∷ ps) (r ∷ rs) late turn e shaped =
     let next = ltb-true (place s) (place p.section) turn.0 in
-    let after : 0 < place p.section = omega arith in
-    let none = none_follows p.section ps after turn.1 in
     let top : token_in r ≡ opens p.section p.count = cc in
     let later : map token_in rs ≡ replicate p.count (adds (item_of p.section)) ++ flat_map tokens_of ps = cc in
-    query_in p.section p.count r rs after top
-    (later ∙ ap (λ l. replicate p.count (adds (item_of p.section)) ++ flat_map tokens_of l) none) shaped.0
-    shaped.1
+    let (arcs, is) = added_of_part p.section p.count ps r rs (omega arith) turn.1 top later shaped.0 shaped.1 in
+    (Some arcs, is)
+
+-- what is asked and what is added by records
+abbrev AsksAndAdds : List Record → Type 0
+AsksAndAdds rs =
+    (q : Question)
+    × (added : Option (List ArcRec))
+    × (rs ≡ records_of_question q ++ records_of_added added)
+
+-- the section after the problem
+question_of_part : (s : Section) (k : ℕ) (ps : List Part) (r : Record) (rs : List Record)
+    → 0 < place s → AreInTurn s ps → token_in r ≡ opens s k
+    → map token_in rs ≡ replicate k (adds (item_of s)) ++ flat_map tokens_of ps
+    → IsShaped r → AreShaped rs
+    → AsksAndAdds (r ∷ rs)
+question_of_part Problem k ps r rs after turn m e top shaped = absurd (omega arith)
+question_of_part Sources k ps r rs after turn m e top shaped =
+    let (vs, others, count, same, tokens, more) =
+    items_in source_record Source k rs (flat_map tokens_of ps) source_by e shaped in
+    let (added, rest) = added_in Sources ps others (omega arith) turn tokens more in (
+      from_sources vs,
+      added,
+      ap₂ (λ x xs. x ∷ xs) (sources_by r k top m ∙ ap (λ n. sources_record n) (sym count))
+          (same ∙ ap (λ l. map source_record vs ++ l) rest),
+    )
+question_of_part Pairs k ps r rs after turn m e top shaped =
+    let (qs, others, count, same, tokens, more) =
+    items_in pair_record Pair k rs (flat_map tokens_of ps) pair_by e shaped in
+    let (added, rest) = added_in Pairs ps others (omega arith) turn tokens more in (
+      of_pairs qs,
+      added,
+      ap₂ (λ x xs. x ∷ xs) (pairs_by r k top m ∙ ap (λ n. pairs_record n) (sym count))
+          (same ∙ ap (λ l. map pair_record qs ++ l) rest),
+    )
+question_of_part Added k ps r rs after turn m e top shaped =
+    let (arcs, is) = added_of_part Added k ps r rs (omega arith) turn m e top shaped in (absent, Some arcs, is)
+
+question_in : (ps : List Part) (rs : List Record)
+    → AreInTurn Problem ps → map token_in rs ≡ flat_map tokens_of ps → AreShaped rs
+    → AsksAndAdds rs
+question_in [] rs turn e shaped = (absent, None, no_records rs e)
+question_in (p ∷ ps) [] turn e shaped = absurd (cc)
+question_in (p ∷ ps) (r ∷ rs) turn e shaped =
+    let next = ltb-true (place Problem) (place p.section) turn.0 in
+    let top : token_in r ≡ opens p.section p.count = cc in
+    let later : map token_in rs ≡ replicate p.count (adds (item_of p.section)) ++ flat_map tokens_of ps = cc in
+    question_of_part p.section p.count ps r rs next turn.1 top later shaped.0 shaped.1
 
 abbrev JobOf : List Record → Type 0
 JobOf rs = (job : Content) × (rs ≡ records_of job)
@@ -239,13 +291,15 @@ job_of_parts : (s : Section) (k : ℕ) (ps : List Part) (r : Record) (rs : List 
     → JobOf (r ∷ rs)
 job_of_parts Sources k ps r rs first turn m e top shaped = absurd (cc)
 job_of_parts Pairs k ps r rs first turn m e top shaped = absurd (cc)
+job_of_parts Added k ps r rs first turn m e top shaped = absurd (cc)
 job_of_parts Problem k ps r rs first turn m e top shaped =
     let (arcs, others, count, same, tokens, more) = items_in arc_record Arc k rs (flat_map tokens_of ps) arc_by e shaped in
     let problem = problem_by r k top m in
-    let asked = question_in Problem ps others refl turn tokens more in (
-      record { n = problem.0; arcs = arcs; question = asked.0 },
+    let (asked, added, after) = question_in ps others turn tokens more in (
+      record { n = problem.0; arcs = arcs; question = asked; added = added },
       ap₂ (λ x xs. x ∷ xs) (problem.1 ∙ ap (λ c. problem_record problem.0 c) (sym count))
-          (same ∙ ap (λ l. map arc_record arcs ++ l) asked.1),
+          (same ∙ ap (λ l. map arc_record arcs ++ l) after)
+          ∙ sym (graph_first (record { n = problem.0; arcs = arcs; question = asked; added = added })),
     )
 
 job_of_legal : (rs : List Record) → IsLegal (map token_in rs) → AreShaped rs → JobOf rs

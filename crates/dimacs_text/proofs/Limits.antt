@@ -1,19 +1,20 @@
 -- The records of a text are within their limits, and so is its job.
 use Rattle.std.proofs.Common.{◌≡◌, ℕ, ◌<◌, Bool, true, false, eqb, cond, List, [], ◌∷◌, ◌++◌, length, map, drop}
-use Rattle.std.proofs.Common.{get_or, Option, Some, None, Result, Ok, Err, All, refl, subst, arith}
+use Rattle.std.proofs.Common.{get_or, Option, Some, None, Result, Ok, Err, All, refl, sym, subst, append-nil, ◌∙◌, arith}
 use Rattle.std.proofs.lemmas.Bool.Decides.{nat_tests}
 use Rattle.std.proofs.lemmas.List.Elements.{All-nil, All-cons}
 use Rattle.route_walks.specs.declared.graph.ArcRec.{ArcRec}
 use Rattle.route_walks.specs.declared.graph.TheConstants.{MAX_VERTICES}
 use Rattle.dimacs_text.specs.declared.fault.LineKind.{LineKind}
 use Rattle.dimacs_text.proofs.FormLemmas.{said_within}
+use Rattle.dimacs_text.proofs.TextLaws.{rest_of, graph_first}
 use Rattle.dimacs_text.specs.Lines.{lines, fields, without_cr}
 use Rattle.dimacs_text.specs.declared.form.Form.{Form}
 use Rattle.dimacs_text.specs.Forms.{Record, leading, limits, in_limits, numbers_within, in_form, form_of}
 use Rattle.dimacs_text.specs.Forms.{record_reading, fields_reading, reading, readings, vertices_next, vertices_after}
 use Rattle.dimacs_text.specs.Jobs.{Content, Question, absent, from_sources, of_pairs, arc_record, source_record}
-use Rattle.dimacs_text.specs.Jobs.{pair_record, records_of_question, records_among, IsJobText, IsArcWithin}
-use Rattle.dimacs_text.specs.Jobs.{IsPairWithin, IsQuestionWithin, IsWithinLimits}
+use Rattle.dimacs_text.specs.Jobs.{pair_record, records_of_question, records_of_added, records_among, IsJobText}
+use Rattle.dimacs_text.specs.Jobs.{IsArcWithin, IsPairWithin, IsQuestionWithin, IsAddedWithin, IsWithinLimits}
 
 -- each number of the record is within its limit
 abbrev pub IsWithin : ℕ → Record → Type 0
@@ -89,32 +90,57 @@ arcs_within n (arc ∷ arcs) rest w =
     record { tail = grind (arith, nat_tests); head = grind (arith, nat_tests); weight = grind (arith, nat_tests) } in
     (All-cons (IsArcWithin n) arc arcs here later.0, later.1)
 
-sources_within : (n : ℕ) (vs : List ℕ) → AreWithin n (map source_record vs) → All (λ v. v < n) vs
-sources_within n [] w = All-nil (λ v. v < n)
-sources_within n (v ∷ vs) w =
+sources_within : (n : ℕ) (vs : List ℕ) (rest : List Record)
+    → AreWithin n (map source_record vs ++ rest)
+    → All (λ v. v < n) vs × AreWithin n rest
+sources_within n [] rest w = (All-nil (λ v. v < n), w)
+sources_within n (v ∷ vs) rest w =
+    let later = sources_within n vs rest w.1 in
     let first = w.0 in
-    All-cons (λ v. v < n) v vs (grind (arith, nat_tests)) (sources_within n vs w.1)
+    (All-cons (λ v. v < n) v vs (grind (arith, nat_tests)) later.0, later.1)
 
-pairs_within : (n : ℕ) (ps : List (ℕ × ℕ)) → AreWithin n (map pair_record ps) → All (IsPairWithin n) ps
-pairs_within n [] w = All-nil (IsPairWithin n)
-pairs_within n (p ∷ ps) w =
+pairs_within : (n : ℕ) (ps : List (ℕ × ℕ)) (rest : List Record)
+    → AreWithin n (map pair_record ps ++ rest)
+    → All (IsPairWithin n) ps × AreWithin n rest
+pairs_within n [] rest w = (All-nil (IsPairWithin n), w)
+pairs_within n (p ∷ ps) rest w =
+    let later = pairs_within n ps rest w.1 in
     let first = w.0 in
-    All-cons (IsPairWithin n) p ps (grind (arith, nat_tests), grind (arith, nat_tests)) (pairs_within n ps w.1)
+    (All-cons (IsPairWithin n) p ps (grind (arith, nat_tests), grind (arith, nat_tests)) later.0, later.1)
 
-question_within : (n : ℕ) (q : Question) → AreWithin n (records_of_question q) → IsQuestionWithin n q
-question_within n absent w = tt
-question_within n (from_sources vs) w = let first = w.0 in (grind (arith, nat_tests), sources_within n vs w.1)
-question_within n (of_pairs ps) w = let first = w.0 in (grind (arith, nat_tests), pairs_within n ps w.1)
+question_within : (n : ℕ) (q : Question) (rest : List Record)
+    → AreWithin n (records_of_question q ++ rest)
+    → IsQuestionWithin n q × AreWithin n rest
+question_within n absent rest w = (tt, w)
+question_within n (from_sources vs) rest w =
+    let first = w.0 in
+    let both = sources_within n vs rest w.1 in
+    ((grind (arith, nat_tests), both.0), both.1)
+question_within n (of_pairs ps) rest w =
+    let first = w.0 in
+    let both = pairs_within n ps rest w.1 in
+    ((grind (arith, nat_tests), both.0), both.1)
+
+added_within : (n : ℕ) (added : Option (List ArcRec)) → AreWithin n (records_of_added added) → IsAddedWithin n added
+added_within n None w = tt
+added_within n (Some arcs) w =
+    let first = w.0 in
+    let all = subst (λ rs. AreWithin n rs) (sym (append-nil (map arc_record arcs))) w.1 in
+    (grind (arith, nat_tests), (arcs_within n arcs [] all).0)
 
 pub job_within : (text : List ℕ) (job : Content) → IsJobText text job → IsWithinLimits job
 unfolding IsJobText
 job_within text job (said, reads, is) =
-    let all = subst (λ rs. AreWithin MAX_VERTICES rs) is (all_within MAX_VERTICES (lines text) said reads) in
+    let all =
+    subst (λ rs. AreWithin MAX_VERTICES rs) (is ∙ graph_first job) (all_within MAX_VERTICES (lines text) said reads) in
     let first = all.0 in
-    let both = arcs_within job.n job.arcs (records_of_question job.question) all.1 in
+    let both =
+    arcs_within job.n job.arcs (rest_of job) all.1 in
+    let asked = question_within job.n job.question (records_of_added job.added) both.1 in
     record {
       vertices = grind (arith, nat_tests);
       arc_count = grind (arith, nat_tests);
       arcs = both.0;
-      question = question_within job.n job.question both.1;
+      question = asked.0;
+      added = added_within job.n job.added asked.1;
     }

@@ -7,7 +7,7 @@ use Rattle.std.proofs.lemmas.List.Elements.{filter_map-append}
 use Rattle.route_walks.specs.declared.graph.ArcRec.{ArcRec}
 use Rattle.route_walks.specs.declared.graph.TheConstants.{MAX_VERTICES}
 use Rattle.dimacs_text.specs.declared.draft.Draft.{Draft}
-use Rattle.dimacs_text.specs.declared.form.Section.TheVariants.{Problem, Sources, Pairs}
+use Rattle.dimacs_text.specs.declared.form.Section.TheVariants.{Problem, Sources, Pairs, Added}
 use Rattle.dimacs_text.specs.declared.fault.LineKind.{LineKind}
 use Rattle.dimacs_text.specs.declared.fault.TextFault.{TextFault}
 use Rattle.dimacs_text.specs.declared.fault.TextFault.TheVariants.{Memory, Line}
@@ -22,7 +22,7 @@ use Rattle.dimacs_text.specs.reader.Machine.{run, misfit_at}
 use Rattle.dimacs_text.specs.Jobs.{content_of, arc_record, problem_record, Content, records_of, records_among}
 use Rattle.dimacs_text.specs.Jobs.{IsJobText}
 use Rattle.dimacs_text.specs.Faults.{tokens_among, unread, misfit, unfinished, IsFirstAmong, IsFirstFault, IsFaultOf}
-use Rattle.dimacs_text.specs.reader.Drafts.{Progress, progress_of, records_by, token_in, after_line, progress_by}
+use Rattle.dimacs_text.specs.reader.Drafts.{Progress, progress_of, records_by, token_in, after_line, arcs_progress}
 use Rattle.dimacs_text.specs.reader.Drafts.{ReadsArcs, Fits, ReadsLine, IsReadAmong, IsReadTo, ReadsTo, IsFaultAt}
 use Rattle.dimacs_text.specs.reader.Drafts.{IsLackAt, IsLackOf}
 use Rattle.dimacs_text.specs.reader.FastArc.{IsArcLine, HasNoFeed}
@@ -110,14 +110,12 @@ line_reads old new whole rest text after line split r p =
     (subst (λ ls. IsReadAmong (lines whole) ls line old) split p))
 
 -- arcs that are read lead on
-one_arc : (n j : ℕ) (arcs : List ArcRec) (sources : List ℕ) (pairs : List (ℕ × ℕ)) (arc : ArcRec) (rest after : List ℕ) (line : ℕ)
+one_arc : (n j : ℕ) (arcs : List ArcRec) (arc : ArcRec) (rest after : List ℕ) (line : ℕ)
     → IsArcLine n rest arc after
-    → ReadsTo (progress_by (Within Problem (suc j)) n arcs sources pairs) line rest
-    (progress_by (Within Problem j) n (arcs ++ arc ∷ []) sources pairs) (line + 1) after
-one_arc n j arcs sources pairs arc rest after line r text more p =
-    line_reads (progress_by (Within Problem (suc j)) n arcs sources pairs)
-    (progress_by (Within Problem j) n (arcs ++ arc ∷ []) sources pairs) text (rest ++ more) r.line (after ++ more) line
-    (r.split more)
+    → ReadsTo (arcs_progress n (suc j) arcs) line rest (arcs_progress n j (arcs ++ arc ∷ [])) (line + 1) after
+one_arc n j arcs arc rest after line r text more p =
+    line_reads (arcs_progress n (suc j) arcs) (arcs_progress n j (arcs ++ arc ∷ [])) text (rest ++ more) r.line
+    (after ++ more) line (r.split more)
     (record {
       said = Some (arc_record arc);
       reads = r.reads;
@@ -130,15 +128,12 @@ one_arc n j arcs sources pairs arc rest after line r text more p =
 pub one_arc_more : (n : ℕ) (rest : List ℕ) (old new : List ArcRec) (count : ℕ) (between after : List ℕ) (arc : ArcRec)
     → ReadsArcs n rest old new count between → IsArcLine n between arc after
     → ReadsArcs n rest old (new ++ arc ∷ []) (count + 1) after
-one_arc_more n rest old new count between after arc reads is missing line sources pairs few text more p =
-    let here = reads missing line sources pairs (omega arith) text more p in
+one_arc_more n rest old new count between after arc reads is missing line few text more p =
+    let here = reads missing line (omega arith) text more p in
     let left : missing - count ≡ suc (missing - (count + 1)) = omega arith in
-    subst
-    (λ x. IsReadTo text (after ++ more) x
-    (progress_by (Within Problem (missing - (count + 1))) n (new ++ arc ∷ []) sources pairs)) (omega arith)
-    (one_arc n (missing - (count + 1)) new sources pairs arc between after (line + count) is text more
-    (subst (λ m. IsReadTo text (between ++ more) (line + count) (progress_by (Within Problem m) n new sources pairs)) left
-    here))
+    subst (λ x. IsReadTo text (after ++ more) x (arcs_progress n (missing - (count + 1)) (new ++ arc ∷ []))) (omega arith)
+    (one_arc n (missing - (count + 1)) new arc between after (line + count) is text more
+    (subst (λ m. IsReadTo text (between ++ more) (line + count) (arcs_progress n m new)) left here))
 
 -- a line that is wrong is the first
 pub line_wrong : (old : Progress) (all after : List (List ℕ)) (text : List ℕ) (line : ℕ) (kind : LineKind)
@@ -187,14 +182,16 @@ incomplete ms a kind e lack legal =
     let same : a ≡ Within runs.0 0 = let r = runs.1 in cc in
     subst (λ (x : Stage). IsLackAt x kind) same lack
 
-lack_by : (stage : Stage) (n : ℕ) (arcs : List ArcRec) (sources : List ℕ) (pairs : List (ℕ × ℕ)) (kind : LineKind)
+lack_by : (stage before : Stage) (n : ℕ) (arcs : List ArcRec) (sources : List ℕ) (pairs : List (ℕ × ℕ))
+    (added : List ArcRec) (kind : LineKind)
     → IsLackAt stage kind
-    → kind ≡ lack_of (map token_in (records_by stage n arcs sources pairs))
-lack_by Start n arcs sources pairs kind e = e
-lack_by (Within s zero) n arcs sources pairs kind bad = absurd bad
-lack_by (Within Problem (suc j)) n arcs sources pairs kind e = e
-lack_by (Within Sources (suc j)) n arcs sources pairs kind e = e
-lack_by (Within Pairs (suc j)) n arcs sources pairs kind e = e
+    → kind ≡ lack_of (map token_in (records_by stage before n arcs sources pairs added))
+lack_by Start before n arcs sources pairs added kind e = e
+lack_by (Within s zero) before n arcs sources pairs added kind bad = absurd bad
+lack_by (Within Problem (suc j)) before n arcs sources pairs added kind e = e
+lack_by (Within Sources (suc j)) before n arcs sources pairs added kind e = e
+lack_by (Within Pairs (suc j)) before n arcs sources pairs added kind e = e
+lack_by (Within Added (suc j)) before n arcs sources pairs added kind e = e
 
 pub lacking : (text : List ℕ) (line : ℕ) (draft : Draft) (fault : TextFault)
     → IsReadTo text [] line (progress_of draft) → IsLackOf draft line fault
@@ -205,7 +202,8 @@ lacking text line draft (Line number kind) p (same, lack) =
     unfinished p.said (all_said (lines text) line (progress_of draft) p)
     (run_begins (tokens_among p.said) draft.stage p.stage)
     (incomplete (tokens_among p.said) draft.stage kind p.stage lack)
-    (lack_by draft.stage draft.vertices draft.arcs.items draft.sources.items draft.pairs.items kind lack
+    (lack_by draft.stage draft.before_added draft.vertices draft.arcs.items draft.sources.items draft.pairs.items
+    draft.added.items kind lack
     ∙ sym (ap (λ l. lack_of (map token_in l)) p.records)) (same ∙ p.count)
 
 -- what a reader of lines has read

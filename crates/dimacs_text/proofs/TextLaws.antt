@@ -1,6 +1,6 @@
 -- Why a text has one job or one first fault, and not both.
 use Rattle.std.proofs.Common.{take, drop, get_or, ◌-◌, ◌≡◌, ℕ, zero, suc, ◌+◌, List, [], ◌∷◌, ◌++◌, length}
-use Rattle.std.proofs.Common.{map, replicate, inl, inr, Option, Some, None, Ok, Err, refl, sym, ap, ap₂}
+use Rattle.std.proofs.Common.{map, replicate, IsTrue, append_assoc, inl, inr, Option, Some, None, Ok, Err, refl, sym, ap, ap₂}
 use Rattle.std.proofs.Common.{subst, ◌∙◌, append-nil, arith, flat_map}
 use Rattle.std.proofs.lemmas.List.{take_at, drop_at, length-map, map-append}
 use Rattle.route_walks.specs.declared.graph.ArcRec.{ArcRec}
@@ -8,12 +8,13 @@ use Rattle.route_walks.specs.declared.graph.TheConstants.{MAX_VERTICES}
 use Rattle.dimacs_text.specs.declared.form.Form.TheVariants.{Head, Counted}
 use Rattle.dimacs_text.specs.declared.form.Item.{Item}
 use Rattle.dimacs_text.specs.declared.form.Section.{Section}
-use Rattle.dimacs_text.specs.declared.form.Section.TheVariants.{Problem, Sources, Pairs}
-use Rattle.dimacs_text.specs.declared.form.Item.TheVariants.{Arc, Source, Pair}
+use Rattle.dimacs_text.specs.declared.form.Section.TheVariants.{Problem, Sources, Pairs, Added}
+use Rattle.dimacs_text.specs.declared.form.Item.TheVariants.{Arc}
 use Rattle.dimacs_text.specs.declared.fault.LineKind.{LineKind}
 use Rattle.dimacs_text.specs.declared.fault.LineKind.TheVariants.{TooFew, NoProblem}
 use Rattle.dimacs_text.specs.declared.form.Form.{Form}
 use Rattle.dimacs_text.specs.Grammar.{Part, tokens_of, AreInTurn, Token, opens, adds, form_of_token}
+use Rattle.dimacs_text.specs.Grammar.{item_of, may_follow}
 use Rattle.dimacs_text.specs.Grammar.{IsLegal, BeginsLegal, IsMisfit, MisfitKind, lack_of}
 use Rattle.dimacs_text.specs.Lines.{lines}
 use Rattle.dimacs_text.specs.Forms.{Record, Reading, readings}
@@ -21,8 +22,8 @@ use Rattle.dimacs_text.specs.declared.stage.Stage.{Stage}
 use Rattle.dimacs_text.specs.declared.stage.Stage.TheVariants.{Start, Within}
 use Rattle.dimacs_text.specs.reader.Machine.{run, unless_wrong, misfit_at, next_at}
 use Rattle.dimacs_text.specs.Jobs.{Content, Question, absent, from_sources, of_pairs}
-use Rattle.dimacs_text.specs.Jobs.{arc_record, source_record, pair_record}
-use Rattle.dimacs_text.specs.Jobs.{records_of, records_of_question, records_among, IsJobText}
+use Rattle.dimacs_text.specs.Jobs.{arc_record, source_record, pair_record, problem_record, sources_record, pairs_record, added_record}
+use Rattle.dimacs_text.specs.Jobs.{records_of, records_of_question, records_of_added, records_among, IsJobText}
 use Rattle.dimacs_text.specs.Faults.{tokens_among, IsFirstAmong, unread, misfit, unfinished, IsFirstFault}
 use Rattle.dimacs_text.specs.reader.Drafts.{token_in}
 use Rattle.dimacs_text.proofs.ReaderLemmas.{form-token}
@@ -57,52 +58,111 @@ source_back r = get_or r.numbers 0 0 - 1
 abbrev pub pair_back : Record → ℕ × ℕ
 pair_back r = (get_or r.numbers 0 0 - 1, get_or r.numbers 1 0 - 1)
 
-abbrev asked_by : Form → List Record → Question
-asked_by (Head Problem) rs = absent
-asked_by (Head Sources) rs = from_sources (map source_back rs)
-asked_by (Head Pairs) rs = of_pairs (map pair_back rs)
-asked_by (Counted i) rs = absent
-
-abbrev asked_in : List Record → Question
-asked_in [] = absent
-asked_in (r ∷ rs) = asked_by r.form rs
-
-asked_back : (q : Question) → asked_in (records_of_question q) ≡ q
-asked_back absent = refl
-asked_back (from_sources vs) =
-    ap (λ l. from_sources l) (items_back source_record source_back vs (λ v. omega arith))
-asked_back (of_pairs ps) = ap (λ l. of_pairs l) (items_back pair_record pair_back ps same_pair)
-  where
-    same_pair : (p : ℕ × ℕ) → pair_back (pair_record p) ≡ p
-    same_pair (s, t) =
-        let source : s + 1 - 1 ≡ s = omega arith in
-        let target : t + 1 - 1 ≡ t = omega arith in
-        ap₂ (λ x y. (x, y)) source target
-
-abbrev content_by : List Record → Content
-content_by [] = record { n = 0; arcs = []; question = absent }
-content_by (r ∷ rs) =
-    record {
-      n = get_or r.numbers 0 0;
-      arcs = map arc_back (take (get_or r.numbers 1 0) rs);
-      question = asked_in (drop (get_or r.numbers 1 0) rs);
-    }
-
 same_arc : (arc : ArcRec) → arc_back (arc_record arc) ≡ arc
 same_arc arc =
     let tail : arc.tail + 1 - 1 ≡ arc.tail = omega arith in
     let hd : arc.head + 1 - 1 ≡ arc.head = omega arith in
     ap₂ (λ t h. record { tail = t; head = h; weight = arc.weight }) tail hd
 
+-- the records of a job, with those of the graph apart
+abbrev pub rest_of : Content → List Record
+rest_of job = records_of_question job.question ++ records_of_added job.added
+
+pub graph_first : (job : Content)
+    → records_of job ≡ problem_record job.n (length job.arcs) ∷ (map arc_record job.arcs ++ rest_of job)
+graph_first job =
+    append_assoc (problem_record job.n (length job.arcs) ∷ map arc_record job.arcs) (records_of_question job.question)
+    (records_of_added job.added)
+
+-- what the records after the problem's arcs ask
+abbrev asked_by : Form → ℕ → List Record → Question
+asked_by (Head Problem) k rs = absent
+asked_by (Head Sources) k rs = from_sources (map source_back (take k rs))
+asked_by (Head Pairs) k rs = of_pairs (map pair_back (take k rs))
+asked_by (Head Added) k rs = absent
+asked_by (Counted i) k rs = absent
+
+abbrev asked_in : List Record → Question
+asked_in [] = absent
+asked_in (r ∷ rs) = asked_by r.form (get_or r.numbers 0 0) rs
+
+-- the records that are left after those of the question
+abbrev left_by : Form → ℕ → Record → List Record → List Record
+left_by (Head Problem) k r rs = r ∷ rs
+left_by (Head Sources) k r rs = drop k rs
+left_by (Head Pairs) k r rs = drop k rs
+left_by (Head Added) k r rs = r ∷ rs
+left_by (Counted i) k r rs = r ∷ rs
+
+abbrev left_in : List Record → List Record
+left_in [] = []
+left_in (r ∷ rs) = left_by r.form (get_or r.numbers 0 0) r rs
+
+-- the arcs that the last records add
+abbrev added_in : List Record → Option (List ArcRec)
+added_in [] = None
+added_in (r ∷ rs) = Some (map arc_back rs)
+
+same_pair : (p : ℕ × ℕ) → pair_back (pair_record p) ≡ p
+same_pair (s, t) =
+    let source : s + 1 - 1 ≡ s = omega arith in
+    let target : t + 1 - 1 ≡ t = omega arith in
+    ap₂ (λ x y. (x, y)) source target
+
+-- the items of a section are known from their records, and what comes after them
+items_taken : {X : Type 0} (rec : X → Record) (back : Record → X) (xs : List X) (rest : List Record)
+    → ((x : X) → back (rec x) ≡ x)
+    → map back (take (length xs) (map rec xs ++ rest)) ≡ xs
+items_taken rec back xs rest each =
+    ap (λ l. map back l) (take_at (map rec xs) rest (length xs) (length-map xs rec)) ∙ items_back rec back xs each
+
+items_dropped : {X : Type 0} (rec : X → Record) (xs : List X) (rest : List Record)
+    → drop (length xs) (map rec xs ++ rest) ≡ rest
+items_dropped rec xs rest = drop_at (map rec xs) rest (length xs) (length-map xs rec)
+
+added_back : (added : Option (List ArcRec)) → added_in (records_of_added added) ≡ added
+added_back None = refl
+added_back (Some arcs) = ap (λ l. Some l) (items_back arc_record arc_back arcs same_arc)
+
+-- an added section asks nothing
+asks_nothing : (added : Option (List ArcRec)) → asked_in (records_of_added added) ≡ absent
+asks_nothing None = refl
+asks_nothing (Some arcs) = refl
+
+all_left : (added : Option (List ArcRec)) → left_in (records_of_added added) ≡ records_of_added added
+all_left None = refl
+all_left (Some arcs) = refl
+
+asked_back : (q : Question) (added : Option (List ArcRec))
+    → asked_in (records_of_question q ++ records_of_added added) ≡ q
+asked_back absent added = asks_nothing added
+asked_back (from_sources vs) added =
+    ap (λ l. from_sources l) (items_taken source_record source_back vs (records_of_added added) (λ v. omega arith))
+asked_back (of_pairs ps) added =
+    ap (λ l. of_pairs l) (items_taken pair_record pair_back ps (records_of_added added) same_pair)
+
+left_back : (q : Question) (added : Option (List ArcRec))
+    → left_in (records_of_question q ++ records_of_added added) ≡ records_of_added added
+left_back absent added = all_left added
+left_back (from_sources vs) added = items_dropped source_record vs (records_of_added added)
+left_back (of_pairs ps) added = items_dropped pair_record ps (records_of_added added)
+
+abbrev content_after : ℕ → List ArcRec → List Record → Content
+content_after n arcs rs =
+    record { n = n; arcs = arcs; question = asked_in rs; added = added_in (left_in rs) }
+
+abbrev content_by : List Record → Content
+content_by [] = content_after 0 [] []
+content_by (r ∷ rs) =
+    content_after (get_or r.numbers 0 0) (map arc_back (take (get_or r.numbers 1 0) rs)) (drop (get_or r.numbers 1 0) rs)
+
 content_back : (job : Content) → content_by (records_of job) ≡ job
 content_back job =
-    let arcs = map arc_record job.arcs in
-    let asked = records_of_question job.question in
-    let m = length job.arcs in
-    let count = length-map job.arcs arc_record in
-    ap₂ (λ l q. record { n = job.n; arcs = l; question = q })
-    (ap (λ l. map arc_back l) (take_at arcs asked m count) ∙ items_back arc_record arc_back job.arcs same_arc)
-    (ap (λ l. asked_in l) (drop_at arcs asked m count) ∙ asked_back job.question)
+    ap (λ rs. content_by rs) (graph_first job)
+    ∙ ap₂ (λ arcs rs. content_after job.n arcs rs) (items_taken arc_record arc_back job.arcs (rest_of job) same_arc)
+    (items_dropped arc_record job.arcs (rest_of job))
+    ∙ ap₂ (λ q a. record { n = job.n; arcs = job.arcs; question = q; added = a }) (asked_back job.question job.added)
+    (ap (λ rs. added_in rs) (left_back job.question job.added) ∙ added_back job.added)
 
 job_by : (text : List ℕ) (job : Content)
     → IsJobText text job
@@ -123,31 +183,49 @@ tokens_of_items : {X : Type 0} (rec : X → Record) (i : Item) (xs : List X)
 tokens_of_items rec i [] each = refl
 tokens_of_items rec i (x ∷ xs) each = ap₂ (λ m l. m ∷ l) (each x) (tokens_of_items rec i xs each)
 
-parts_of_question : (q : Question)
-    → (ps : List Part) × AreInTurn Problem ps × (map token_in (records_of_question q) ≡ flat_map tokens_of ps)
-parts_of_question absent = ([], tt, refl)
-parts_of_question (from_sources vs) = (
-  record { section = Sources; count = length vs } ∷ [],
-  (refl, tt),
-  ap (λ l. opens Sources (length vs) ∷ l)
-      (tokens_of_items source_record Source vs (λ v. refl) ∙ sym (append-nil (replicate (length vs) (adds Source)))),
+-- a section of items is one part
+abbrev PartsAfter : Section → List Record → Type 0
+PartsAfter s rs = (ps : List Part) × AreInTurn s ps × (map token_in rs ≡ flat_map tokens_of ps)
+
+one_part_more : {X : Type 0} (rec : X → Record) (s t : Section) (xs : List X) (head : Record) (rest : List Record)
+    → ((x : X) → token_in (rec x) ≡ adds (item_of t))
+    → token_in head ≡ opens t (length xs) → IsTrue (may_follow s t) → PartsAfter t rest
+    → PartsAfter s (head ∷ (map rec xs ++ rest))
+one_part_more rec s t xs head rest each is may (ps, turn, same) = (
+  record { section = t; count = length xs } ∷ ps,
+  (may, turn),
+  ap₂ (λ x l. x ∷ l) is
+      (map-append token_in (map rec xs) rest ∙ ap₂ (λ l m. l ++ m) (tokens_of_items rec (item_of t) xs each) same),
 )
-parts_of_question (of_pairs ps) = (
-  record { section = Pairs; count = length ps } ∷ [],
-  (refl, tt),
-  ap (λ l. opens Pairs (length ps) ∷ l)
-      (tokens_of_items pair_record Pair ps (λ p. refl) ∙ sym (append-nil (replicate (length ps) (adds Pair)))),
-)
+
+parts_of_added : (s : Section) (added : Option (List ArcRec))
+    → IsTrue (may_follow s Added)
+    → PartsAfter s (records_of_added added)
+parts_of_added s None may = ([], tt, refl)
+parts_of_added s (Some arcs) may =
+    subst (λ rs. PartsAfter s (added_record (length arcs) ∷ rs)) (append-nil (map arc_record arcs))
+    (one_part_more arc_record s Added arcs (added_record (length arcs)) [] (λ a. refl) refl may ([], tt, refl))
+
+parts_of_question : (q : Question) (added : Option (List ArcRec))
+    → PartsAfter Problem (records_of_question q ++ records_of_added added)
+parts_of_question absent added = parts_of_added Problem added refl
+parts_of_question (from_sources vs) added =
+    one_part_more source_record Problem Sources vs (sources_record (length vs)) (records_of_added added) (λ v. refl)
+    refl refl (parts_of_added Sources added refl)
+parts_of_question (of_pairs ps) added =
+    one_part_more pair_record Problem Pairs ps (pairs_record (length ps)) (records_of_added added) (λ p. refl) refl
+    refl (parts_of_added Pairs added refl)
 
 legal_by : (job : Content) → IsLegal (map token_in (records_of job))
 unfolding IsLegal
 legal_by job =
-    let asked = parts_of_question job.question in (
-      record { section = Problem; count = length job.arcs } ∷ asked.0,
-      (refl, asked.1),
-      ap (λ l. opens Problem (length job.arcs) ∷ l)
-          (map-append token_in (map arc_record job.arcs) (records_of_question job.question)
-          ∙ ap₂ (λ l m. l ++ m) (tokens_of_items arc_record Arc job.arcs (λ a. refl)) asked.2),
+    let (ps, turn, same) = parts_of_question job.question job.added in (
+      record { section = Problem; count = length job.arcs } ∷ ps,
+      (refl, turn),
+      ap (λ rs. map token_in rs) (graph_first job)
+          ∙ ap (λ l. opens Problem (length job.arcs) ∷ l)
+          (map-append token_in (map arc_record job.arcs) (rest_of job)
+          ∙ ap₂ (λ l m. l ++ m) (tokens_of_items arc_record Arc job.arcs (λ a. refl)) same),
     )
 
 pub misfit-form : (a : Stage) (r : Record) → misfit_at a (form_of_token (token_in r)) ≡ misfit_at a r.form

@@ -1,6 +1,6 @@
 -- Which form a line has, by its leading fields.
 use Rattle.std.proofs.Common.{Option, ◌≡◌, ℕ, ◌+◌, ◌<◌, Bool, false, not, ◌&&◌, List, [], ◌∷◌, length, drop, get_or}
-use Rattle.std.proofs.Common.{bytes_eq, Bor, refl, sym, ap, ◌∙◌}
+use Rattle.std.proofs.Common.{bytes_eq, find, Bor, refl, sym, ap, ◌∙◌}
 use Rattle.std.proofs.lemmas.Bool.{ne_eqb}
 use Rattle.std.proofs.Math.Bool.{not-not}
 use Rattle.std.proofs.lemmas.List.{at_drop_more, drop-drop}
@@ -28,6 +28,12 @@ pub drop_further : (i : ℕ) (f : List ℕ) (fs gs hs : List (List ℕ))
     → hs ≡ drop i gs → hs ≡ f ∷ fs
     → fs ≡ drop (i + 1) gs
 drop_further i f fs gs hs e g = ap (λ l. drop 1 l) (sym g ∙ e) ∙ drop-drop 1 i gs
+
+-- a form that the line does not have is passed by
+pub find_further : (test : Form → Bool) (forms : List Form) (i : ℕ) (d : Form)
+    → i < length forms → test (get_or forms i d) ≡ false
+    → find test (drop i forms) ≡ find test (drop (i + 1) forms)
+find_further test forms i d h other = at_drop_more (λ l. find test l) forms i d h ∙ rw other refl
 
 -- a line that is neither blank nor a comment says what its form does
 pub says_form : (n : ℕ) (line text f : List ℕ) (fs : List (List ℕ)) (o : Option Form)

@@ -27,6 +27,10 @@ pair_line s t text = codes "q " ++ decimal (s + 1) ++ codes " " ++ decimal (t + 
 abbrev pub pair_text : ℕ → ℕ → ℕ → List ℕ
 pair_text s t label = pair_line s t (cost_text label)
 
+-- 'g K': how many arcs were added, which is the number itself and no vertex
+abbrev pub grown_text : ℕ → List ℕ
+grown_text k = codes "g " ++ decimal k ++ codes "\n"
+
 -- the lines of the labels, the first of which is that of the vertex v
 abbrev pub label_lines : ℕ → List ℕ → List ℕ
 label_lines v [] = []

@@ -3,25 +3,34 @@ use Rattle.std.specs.Prelude.{ℕ, ◌-◌, ◌^◌, ◌==◌, ◌&&◌, nat_le,
 use Rattle.std.specs.Prelude.{length, drop, Option, Some, None, Result, Ok, Err, option_map}
 use Rattle.std.specs.Prelude.{option_and_then, find, codes, bytes_eq, if◌then◌else◌, slice_index}
 use Rattle.route_walks.specs.declared.graph.TheConstants.{MAX_VERTICES}
-use Rattle.dimacs_text.specs.declared.form.Section.TheVariants.{Problem, Sources, Pairs}
+use Rattle.dimacs_text.specs.declared.form.Section.TheVariants.{Problem, Sources, Pairs, Added}
 use Rattle.dimacs_text.specs.declared.form.Item.TheVariants.{Arc, Source, Pair}
 use Rattle.dimacs_text.specs.declared.form.Form.{Form}
 use Rattle.dimacs_text.specs.declared.form.Form.TheVariants.{Head, Counted}
 use Rattle.dimacs_text.specs.declared.form.Limit.{Limit}
 use Rattle.dimacs_text.specs.declared.fault.LineKind.{LineKind}
 use Rattle.dimacs_text.specs.declared.fault.LineKind.TheVariants.{Unknown, Fields, Number, Range}
-use Rattle.dimacs_text.specs.declared.form.TheConstants.{MAX_TEXT_ARCS, MAX_QUERIES}
+use Rattle.dimacs_text.specs.declared.form.TheConstants.{MAX_TEXT_ARCS, MAX_QUERIES, MAX_ADDED}
 use Rattle.dimacs_text.specs.Lines.{letter_c, fields, number, without_cr}
 
 -- the forms, in the order in which a line is compared with them
 abbrev pub forms : List Form
-forms = Head Problem ∷ Head Sources ∷ Head Pairs ∷ Counted Arc ∷ Counted Source ∷ Counted Pair ∷ []
+forms =
+    Head Problem
+    ∷ Head Sources
+    ∷ Head Pairs
+    ∷ Head Added
+    ∷ Counted Arc
+    ∷ Counted Source
+    ∷ Counted Pair
+    ∷ []
 
 -- the fields by which a form is known
 abbrev pub leading : Form → List (List ℕ)
 leading (Head Problem) = codes "p" ∷ codes "sp" ∷ []
 leading (Head Sources) = codes "p" ∷ codes "aux" ∷ codes "sp" ∷ codes "ss" ∷ []
 leading (Head Pairs) = codes "p" ∷ codes "aux" ∷ codes "sp" ∷ codes "p2p" ∷ []
+leading (Head Added) = codes "p" ∷ codes "aux" ∷ codes "sp" ∷ codes "add" ∷ []
 leading (Counted Arc) = codes "a" ∷ []
 leading (Counted Source) = codes "s" ∷ []
 leading (Counted Pair) = codes "q" ∷ []
@@ -38,6 +47,7 @@ abbrev pub limits : ℕ → Form → List Limit
 limits vertices (Head Problem) = up_to MAX_VERTICES ∷ up_to MAX_TEXT_ARCS ∷ []
 limits vertices (Head Sources) = up_to MAX_QUERIES ∷ []
 limits vertices (Head Pairs) = up_to MAX_QUERIES ∷ []
+limits vertices (Head Added) = up_to MAX_ADDED ∷ []
 limits vertices (Counted Arc) = vertex_limit vertices ∷ vertex_limit vertices ∷ up_to (2 ^ 32 - 1) ∷ []
 limits vertices (Counted Source) = vertex_limit vertices ∷ []
 limits vertices (Counted Pair) = vertex_limit vertices ∷ vertex_limit vertices ∷ []
@@ -108,6 +118,7 @@ abbrev pub vertices_next : ℕ → Form → ℕ → ℕ
 vertices_next vertices (Head Problem) first = first
 vertices_next vertices (Head Sources) first = vertices
 vertices_next vertices (Head Pairs) first = vertices
+vertices_next vertices (Head Added) first = vertices
 vertices_next vertices (Counted item) first = vertices
 
 -- vertices are counted to N after the problem line

@@ -3,7 +3,7 @@
 use Rattle.std.specs.Prelude.{◌≡◌, ◌⊎◌, ℕ, ◌-◌, Bool, nat_lt, List, [], ◌∷◌, ◌++◌, length}
 use Rattle.std.specs.Prelude.{map, flat_map, replicate, slice_index, IsTrue}
 use Rattle.dimacs_text.specs.declared.form.Section.{Section}
-use Rattle.dimacs_text.specs.declared.form.Section.TheVariants.{Problem, Sources, Pairs}
+use Rattle.dimacs_text.specs.declared.form.Section.TheVariants.{Problem, Sources, Pairs, Added}
 use Rattle.dimacs_text.specs.declared.form.Item.{Item}
 use Rattle.dimacs_text.specs.declared.form.Item.TheVariants.{Arc, Source, Pair}
 use Rattle.dimacs_text.specs.declared.fault.LineKind.{LineKind}
@@ -16,12 +16,14 @@ abbrev pub item_of : Section → Item
 item_of Problem = Arc
 item_of Sources = Source
 item_of Pairs = Pair
+item_of Added = Arc
 
 -- the place of a section in a text
 abbrev pub place : Section → ℕ
 place Problem = 0
 place Sources = 1
 place Pairs = 1
+place Added = 2
 
 -- a section may follow one at an earlier place
 abbrev pub may_follow : Section → Section → Bool

@@ -1,11 +1,12 @@
 -- The job of a text.
 use Rattle.std.specs.Prelude.{◌≡◌, ℕ, ◌+◌, ◌^◌, ◌<◌, ◌≤◌, List, [], ◌∷◌, ◌++◌}
-use Rattle.std.specs.Prelude.{length, map, filter_map, All, Option, Ok}
+use Rattle.std.specs.Prelude.{length, map, filter_map, option_map, All, Option, Some, None, Ok}
+use Rattle.std.specs.Global.{Vec}
 use Rattle.route_walks.specs.declared.graph.ArcRec.{ArcRec}
 use Rattle.route_walks.specs.declared.graph.TheConstants.{MAX_VERTICES}
-use Rattle.dimacs_text.specs.declared.form.Section.TheVariants.{Problem, Sources, Pairs}
+use Rattle.dimacs_text.specs.declared.form.Section.TheVariants.{Problem, Sources, Pairs, Added}
 use Rattle.dimacs_text.specs.declared.form.Item.TheVariants.{Arc, Source, Pair}
-use Rattle.dimacs_text.specs.declared.form.TheConstants.{MAX_TEXT_ARCS, MAX_QUERIES}
+use Rattle.dimacs_text.specs.declared.form.TheConstants.{MAX_TEXT_ARCS, MAX_QUERIES, MAX_ADDED}
 use Rattle.dimacs_text.specs.declared.job.Job.{Job}
 use Rattle.dimacs_text.specs.declared.job.Ask as rust
 use Rattle.dimacs_text.specs.declared.job.Ask.TheVariants as ask
@@ -25,14 +26,25 @@ pub record Content : Type 0 where
   pub n : ℕ
   pub arcs : List ArcRec
   pub question : Question
+  -- the arcs of the added section, where there is one
+  pub added : Option (List ArcRec)
 
 abbrev pub question_of : rust.Ask → Question
 question_of ask.Absent = absent
 question_of (ask.Sources sources) = from_sources sources.items
 question_of (ask.Pairs pairs) = of_pairs pairs.items
 
+abbrev pub added_of : Option (Vec ArcRec) → Option (List ArcRec)
+added_of added = option_map (λ arcs. arcs.items) added
+
 abbrev pub content_of : Job → Content
-content_of job = record { n = job.n; arcs = job.arcs.items; question = question_of job.ask }
+content_of job =
+    record {
+      n = job.n;
+      arcs = job.arcs.items;
+      question = question_of job.ask;
+      added = added_of job.added;
+    }
 
 -- an arc's line; vertices are counted from 1 in a text
 abbrev pub arc_record : ArcRec → Record
@@ -57,17 +69,25 @@ sources_record k = record { form = Head Sources; numbers = k ∷ [] }
 abbrev pub pairs_record : ℕ → Record
 pairs_record k = record { form = Head Pairs; numbers = k ∷ [] }
 
+abbrev pub added_record : ℕ → Record
+added_record k = record { form = Head Added; numbers = k ∷ [] }
+
 abbrev pub records_of_question : Question → List Record
 records_of_question absent = []
 records_of_question (from_sources vertices) =
     sources_record (length vertices) ∷ map source_record vertices
 records_of_question (of_pairs pairs) = pairs_record (length pairs) ∷ map pair_record pairs
 
--- the lines of a job: the problem line, its arcs, and the section of what is asked
+abbrev pub records_of_added : Option (List ArcRec) → List Record
+records_of_added None = []
+records_of_added (Some arcs) = added_record (length arcs) ∷ map arc_record arcs
+
+-- the lines of a job: the problem line, its arcs, the section of what is asked, and the added section
 abbrev pub records_of : Content → List Record
 records_of job =
     (problem_record job.n (length job.arcs) ∷ map arc_record job.arcs)
     ++ records_of_question job.question
+    ++ records_of_added job.added
 
 -- the records among what lines say
 abbrev pub records_among : List (Option Record) → List Record
@@ -100,9 +120,14 @@ IsQuestionWithin n (of_pairs pairs) =
     (length pairs ≤ MAX_QUERIES)
     × All (IsPairWithin n) pairs
 
+abbrev pub IsAddedWithin : ℕ → Option (List ArcRec) → Type 0
+IsAddedWithin n None = Unit {0}
+IsAddedWithin n (Some arcs) = (length arcs ≤ MAX_ADDED) × All (IsArcWithin n) arcs
+
 -- the limits of a job
 pub record IsWithinLimits (job : Content) : Type 0 where
   pub vertices : job.n ≤ MAX_VERTICES
   pub arc_count : length job.arcs ≤ MAX_TEXT_ARCS
   pub arcs : All (IsArcWithin job.n) job.arcs
   pub question : IsQuestionWithin job.n job.question
+  pub added : IsAddedWithin job.n job.added

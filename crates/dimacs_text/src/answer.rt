@@ -7,7 +7,7 @@ ghost use Rattle.std.specs.Prelude.{◌≡◌, ℕ, ◌+◌, ◌<◌, ◌≤◌,
 ghost use Rattle.std.specs.Prelude.{drop, decimal, codes, All, OnOk, OnErr, vec_len, slice_index};
 ghost use Rattle.dimacs_text.specs.AnswerLines.{source_text, label_text, cost_text};
 ghost use Rattle.dimacs_text.specs.AnswerLines.{distances_text, components_text, component_text};
-ghost use Rattle.dimacs_text.specs.AnswerLines.{pair_text, vertices_text, walk_text};
+ghost use Rattle.dimacs_text.specs.AnswerLines.{grown_text, pair_text, vertices_text, walk_text};
 
 use itoa::write_digits;
 use route_walks::{INF, MAX_VERTICES, Memory};
@@ -103,6 +103,18 @@ pub fn put_pair(out: &mut Vec<u8>, s: u32, t: u32, label: u64) -> Result<(), Mem
     let end = put_number(&mut line, end, u64::from(t) + 1);
     let end = put_byte(&mut line, end, b' ');
     let start = put_start(&mut line, end, b'q', u64::from(s) + 1);
+    out.extend_from_slice(&line[start..])?;
+    Ok(())
+}
+
+/// Appends the line `g K` for the number of arcs that were added, which is that number itself.
+pub fn put_grown(out: &mut Vec<u8>, k: u32) -> Result<(), Memory>
+    ensures ok { OnOk result (out.new.items ≡ out.old.items ++ grown_text k) }
+    ensures err { OnErr result (out.new.items ≡ out.old.items) }
+{
+    let mut line = [0u8; ROOM];
+    let end = put_byte(&mut line, ROOM, b'\n');
+    let start = put_start(&mut line, end, b'g', u64::from(k));
     out.extend_from_slice(&line[start..])?;
     Ok(())
 }

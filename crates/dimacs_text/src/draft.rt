@@ -4,6 +4,10 @@ ghost use Rattle.std.specs.Prelude.{◌≡◌, ◌+◌, ◌≤◌, ◌<◌, ◌^
 ghost use Rattle.std.specs.Prelude.{None};
 ghost use Rattle.dimacs_text.specs.reader.Machine.{misfit_at};
 ghost use Rattle.dimacs_text.specs.reader.Entries.{record_of};
+ghost use Rattle.dimacs_text.specs.reader.Drafts.{question_at};
+ghost use Rattle.dimacs_text.specs.Jobs.{arc_record, question_of};
+ghost use Rattle.dimacs_text.specs.declared.form.Form.TheVariants.{Counted};
+ghost use Rattle.dimacs_text.specs.declared.form.Item.TheVariants.{Arc};
 
 use crate::fast_arc::read_run;
 use crate::fault::{LineKind, TextFault};
@@ -25,6 +29,27 @@ pub struct Draft {
     pub arcs: Vec<ArcRec>,
     pub sources: Vec<u32>,
     pub pairs: Vec<(u32, u32)>,
+    /// The arcs of the added section; those of the problem are apart.
+    pub added: Vec<ArcRec>,
+    /// Where the reader stood before the added section, once that has begun.
+    pub before_added: Stage,
+}
+
+/// What is asked by the section that the reader is in.
+fn ask_at(stage: Stage, sources: Vec<u32>, pairs: Vec<(u32, u32)>) -> Ask
+    ensures { question_of result ≡ question_at stage sources.items pairs.items }
+{
+    match stage {
+        Stage::Within {
+            section: Section::Sources,
+            ..
+        } => Ask::Sources(sources),
+        Stage::Within {
+            section: Section::Pairs,
+            ..
+        } => Ask::Pairs(pairs),
+        _ => Ask::Absent,
+    }
 }
 
 impl Draft {
@@ -45,7 +70,26 @@ impl Draft {
             arcs: Vec::new(alloc),
             sources: Vec::new(alloc),
             pairs: Vec::new(alloc),
+            added: Vec::new(alloc),
+            before_added: Stage::Start,
         }
+    }
+
+    /// Takes an arc that fits, of the section that the reader is in.
+    fn take_arc(&mut self, arc: ArcRec) -> Result<(), AllocError>
+        requires fits { misfit_at self.old.stage (Counted Arc) ≡ None }
+        ensures takes { OnOk result
+            (progress_of self.new ≡ after_line (progress_of self.old) (Some (arc_record arc))) }
+    {
+        match self.stage {
+            Stage::Within {
+                section: Section::Added,
+                ..
+            } => self.added.push(arc)?,
+            _ => self.arcs.push(arc)?,
+        }
+        self.stage = self.stage.one_less();
+        Ok(())
     }
 
     /// Takes an entry that fits.
@@ -63,10 +107,7 @@ impl Draft {
                 };
                 self.arcs.clear();
             }
-            Entry::Arc(arc) => {
-                self.arcs.push(arc)?;
-                self.stage = self.stage.one_less();
-            }
+            Entry::Arc(arc) => self.take_arc(arc)?,
             Entry::Sources(count) => {
                 self.stage = Stage::Within {
                     section: Section::Sources,
@@ -88,6 +129,14 @@ impl Draft {
             Entry::Pair(source, target) => {
                 self.pairs.push((source, target))?;
                 self.stage = self.stage.one_less();
+            }
+            Entry::Added(count) => {
+                self.before_added = self.stage;
+                self.stage = Stage::Within {
+                    section: Section::Added,
+                    missing: count,
+                };
+                self.added.clear();
             }
         }
         Ok(())
@@ -195,22 +244,21 @@ impl Draft {
             arcs,
             sources,
             pairs,
+            added,
+            before_added,
         } = self;
-        let ask = match stage {
+        let (asked, added) = match stage {
             Stage::Within {
-                section: Section::Sources,
+                section: Section::Added,
                 ..
-            } => Ask::Sources(sources),
-            Stage::Within {
-                section: Section::Pairs,
-                ..
-            } => Ask::Pairs(pairs),
-            _ => Ask::Absent,
+            } => (before_added, Some(added)),
+            _ => (stage, None),
         };
         Ok(Job {
             n: vertices,
             arcs,
-            ask,
+            ask: ask_at(asked, sources, pairs),
+            added,
         })
     }
 }

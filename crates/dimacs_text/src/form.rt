@@ -15,6 +15,9 @@ pub const MAX_TEXT_ARCS: u32 = 1073741824;
 /// The largest number of sources, or of pairs, that a text can ask for, 2^20.
 pub const MAX_QUERIES: u32 = 1048576;
 
+/// The largest number of arcs that an added section can count, 2^20.
+pub const MAX_ADDED: u32 = 1048576;
+
 /// A part of a text: a head with a count, and then as many items as it counts.
 #[derive(Clone, Copy, Debug, PartialEq, Eq)]
 pub enum Section {
@@ -24,6 +27,8 @@ pub enum Section {
     Sources,
     /// The line `p aux sp p2p K`, and its K pairs.
     Pairs,
+    /// The line `p aux sp add K`, and its K arcs.
+    Added,
 }
 
 impl Section {
@@ -37,6 +42,7 @@ impl Section {
             Section::Problem => Item::Arc,
             Section::Sources => Item::Source,
             Section::Pairs => Item::Pair,
+            Section::Added => Item::Arc,
         }
     }
 
@@ -48,6 +54,7 @@ impl Section {
             Section::Problem => 0,
             Section::Sources => 1,
             Section::Pairs => 1,
+            Section::Added => 2,
         }
     }
 
@@ -78,10 +85,11 @@ pub enum Form {
 }
 
 /// The forms, in the order in which a line is compared with them.
-const FORMS: [Form; 6] = [
+const FORMS: [Form; 7] = [
     Form::Head(Section::Problem),
     Form::Head(Section::Sources),
     Form::Head(Section::Pairs),
+    Form::Head(Section::Added),
     Form::Counted(Item::Arc),
     Form::Counted(Item::Source),
     Form::Counted(Item::Pair),
@@ -96,6 +104,7 @@ impl Form {
             Form::Head(Section::Problem) => &[b"p", b"sp"],
             Form::Head(Section::Sources) => &[b"p", b"aux", b"sp", b"ss"],
             Form::Head(Section::Pairs) => &[b"p", b"aux", b"sp", b"p2p"],
+            Form::Head(Section::Added) => &[b"p", b"aux", b"sp", b"add"],
             Form::Counted(Item::Arc) => &[b"a"],
             Form::Counted(Item::Source) => &[b"s"],
             Form::Counted(Item::Pair) => &[b"q"],
@@ -148,6 +157,7 @@ pub enum Entry {
     Source(u32),
     Pairs(u32),
     Pair(u32, u32),
+    Added(u32),
 }
 
 impl Entry {
@@ -164,6 +174,7 @@ impl Entry {
             Entry::Source(_) => Form::Counted(Item::Source),
             Entry::Pairs(_) => Form::Head(Section::Pairs),
             Entry::Pair(_, _) => Form::Counted(Item::Pair),
+            Entry::Added(_) => Form::Head(Section::Added),
         }
     }
 }
@@ -248,6 +259,10 @@ fn read_form(form: Form, args: &[u8], vertices: u32) -> Result<Entry, LineKind>
         Form::Head(Section::Pairs) => {
             let [count] = read_numbers(args, [Limit::up_to(MAX_QUERIES)])?;
             Ok(Entry::Pairs(count))
+        }
+        Form::Head(Section::Added) => {
+            let [count] = read_numbers(args, [Limit::up_to(MAX_ADDED)])?;
+            Ok(Entry::Added(count))
         }
         Form::Counted(Item::Arc) => {
             let limits = [vertex, vertex, Limit::up_to(u32::MAX)];

@@ -13,10 +13,15 @@ pub enum Ask {
     Pairs(Vec<(u32, u32)>),
 }
 
-/// A job: a graph of `n` vertices, counted from 0, its arcs in the order of the text, and what is asked.
+/// A job: a graph, what is asked of it, and perhaps arcs with which it is asked once more.
 #[derive(Debug, Drop)]
 pub struct Job {
+    /// The number of vertices, which are counted from 0.
     pub n: u32,
+    /// The arcs of the graph in the order of the text.
     pub arcs: Vec<ArcRec>,
+    /// Which labels are asked for.
     pub ask: Ask,
+    /// The arcs of the added section in the order of the text; `None` where the text has none.
+    pub added: Option<Vec<ArcRec>>,
 }

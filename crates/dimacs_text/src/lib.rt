@@ -1,9 +1,10 @@
 //! Which job is this text, or which line is wrong; which bytes is this answer?
 //!
 //! A job is a graph file (`.gr`) followed by an auxiliary file of sources (`.ss`) or of pairs (`.p2p`), in
-//! the formats of the 9th DIMACS Implementation Challenge on shortest paths. `read_job` gives the job of a text, or
-//! the number of the first line that is wrong and what is wrong with it, and `JobReader` the same of a
-//! text that comes in pieces. The `put_` calls append the lines of an answer: each appends exactly its
+//! the formats of the 9th DIMACS Implementation Challenge on shortest paths, and perhaps by arcs that are
+//! added to the graph, a section of this project's own. `read_job` gives the job of a text, or the number
+//! of the first line that is wrong and what is wrong with it, and `JobReader` the same of a text that
+//! comes in pieces. The `put_` calls append the lines of an answer: each appends exactly its
 //! bytes, or leaves the vector as it was and returns `Memory`.
 //!
 //! It stands on `route_walks`, whose arcs a job holds, and on `itoa` for digits. In the interfaces
@@ -22,10 +23,11 @@ mod reader;
 mod stage;
 
 pub use answer::{
-    put_component, put_components, put_distances, put_label, put_pair, put_source, put_walk,
+    put_component, put_components, put_distances, put_grown, put_label, put_pair, put_source,
+    put_walk,
 };
 pub use fault::{LineKind, TextFault};
-pub use form::{MAX_QUERIES, MAX_TEXT_ARCS};
+pub use form::{MAX_ADDED, MAX_QUERIES, MAX_TEXT_ARCS};
 pub use job::{Ask, Job};
 pub use reader::{JobReader, read_job};
 

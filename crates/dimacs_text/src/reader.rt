@@ -167,8 +167,9 @@ impl JobReader {
     }
 }
 
-/// The job of a text: the text of a graph file (`.gr`) followed by that of a file of sources (`.ss`), in
-/// the formats of the 9th DIMACS Implementation Challenge on shortest paths.
+/// The job of a text: the text of a graph file (`.gr`), perhaps followed by that of a file of sources
+/// (`.ss`) or of pairs (`.p2p`), in the formats of the 9th DIMACS Implementation Challenge on shortest
+/// paths, and perhaps by an added section, the line `p aux sp add K` and K arcs.
 ///
 /// A text that is no job's is refused with the number of its first wrong line and what is wrong there.
 /// `Memory` comes only where the system refused to let the job grow. The text is gone through once, and

@@ -3,8 +3,8 @@
 mod refusals;
 
 use crate::{
-    Ask, Job, JobReader, LineKind, TextFault, put_components, put_distances, put_label, put_pair,
-    put_source, put_walk, read_job,
+    Ask, Job, JobReader, LineKind, TextFault, put_components, put_distances, put_grown, put_label,
+    put_pair, put_source, put_walk, read_job,
 };
 use route_walks::{ArcRec, INF};
 use std::alloc::Global;
@@ -88,6 +88,8 @@ fn faults_of_whole_texts(rt: HostRuntime) {
         ("p sp 3 2\na 1 2 -1\n", 2, LineKind::Number),
         ("a 268435456 1 0\n", 1, LineKind::Misplaced),
         ("p aux sp ss 1048576\n", 1, LineKind::Misplaced),
+        ("p aux sp add 1048577\n", 1, LineKind::Range),
+        ("p aux sp add 1048576\n", 1, LineKind::Misplaced),
         ("p sp 2 1\np sp 2 1\n", 2, LineKind::Misplaced),
         ("p sp 0 1\n", 2, LineKind::TooFew),
         ("p sp 1 1073741824", 2, LineKind::TooFew),
@@ -101,6 +103,7 @@ fn faults_of_whole_texts(rt: HostRuntime) {
             5,
             LineKind::TooMany,
         ),
+        ("p sp 2 2\na 1 2 1\np aux sp add 1\n", 3, LineKind::TooFew),
     ];
     for (text, line, kind) in rows {
         assert!(rt;
@@ -115,7 +118,7 @@ fn faults_after_a_graph(rt: HostRuntime) {
     let rows = [
         ("p", 10, LineKind::Unknown),
         ("p aux sp", 10, LineKind::Unknown),
-        ("p aux sp add 1\n", 10, LineKind::Unknown),
+        ("p aux sp add1\n", 10, LineKind::Unknown),
         ("s 1\n", 10, LineKind::Misplaced),
         ("a 1 1 1\n", 10, LineKind::TooMany),
         ("p aux sp ss", 10, LineKind::Fields),
@@ -146,6 +149,71 @@ fn faults_after_a_graph(rt: HostRuntime) {
         ("p aux sp p2p 0\np aux sp ss 0\n", 11, LineKind::Misplaced),
         ("p aux sp ss 1\np aux sp p2p 1\n", 11, LineKind::Misplaced),
         ("p aux sp p2p 1\np aux sp p2p 1\n", 11, LineKind::Misplaced),
+    ];
+    for (tail, line, kind) in rows {
+        assert!(rt;
+            fails(rt.alloc(), GRAPH, tail.as_bytes(), line, kind),
+            "{tail}"
+        );
+    }
+}
+
+#[test]
+fn faults_of_added_sections(rt: HostRuntime) {
+    let rows = [
+        ("p aux sp add\n", 10, LineKind::Fields),
+        ("p aux sp add 1 1\n", 10, LineKind::Fields),
+        ("p aux sp add -1\n", 10, LineKind::Number),
+        ("p aux sp add 1048577\n", 10, LineKind::Range),
+        ("p aux sp add 1048576\n", 11, LineKind::TooFew),
+        ("p aux sp add 1\n", 11, LineKind::TooFew),
+        ("p aux sp add 2\na 1 6 1", 12, LineKind::TooFew),
+        ("p aux sp add 0\na 1 6 1\n", 11, LineKind::TooMany),
+        ("p aux sp add 1\na 1 6\n", 11, LineKind::Fields),
+        ("p aux sp add 1\na 1 6 -1\n", 11, LineKind::Number),
+        ("p aux sp add 1\na 1 6 4294967296\n", 11, LineKind::Range),
+        ("p aux sp add 1\na 7 1 1\n", 11, LineKind::Range),
+        ("p aux sp add 1\na 1 0 1\n", 11, LineKind::Range),
+        ("p aux sp ss 1\ns 1\np aux sp add 1\n", 13, LineKind::TooFew),
+        (
+            "p aux sp ss 1\ns 1\np aux sp add 1\na 1 6 1\na 1 6 1\n",
+            14,
+            LineKind::TooMany,
+        ),
+        // It comes after all queries, and queries never come after it, also where it lacks arcs.
+        ("p aux sp ss 1\np aux sp add 1\n", 11, LineKind::TooFew),
+        (
+            "p aux sp p2p 2\nq 1 6\np aux sp add 1\n",
+            12,
+            LineKind::TooFew,
+        ),
+        ("p aux sp add 0\np aux sp ss 1\n", 11, LineKind::Misplaced),
+        ("p aux sp add 1\np aux sp ss 1\n", 11, LineKind::Misplaced),
+        ("p aux sp add 0\np aux sp p2p 1\n", 11, LineKind::Misplaced),
+        ("p aux sp add 1\np aux sp p2p 1\n", 11, LineKind::Misplaced),
+        ("p aux sp add 0\ns 1\n", 11, LineKind::Misplaced),
+        ("p aux sp add 0\nq 1 6\n", 11, LineKind::Misplaced),
+        (
+            "p aux sp ss 1\ns 1\np aux sp add 0\ns 1\n",
+            13,
+            LineKind::Misplaced,
+        ),
+        (
+            "p aux sp p2p 1\nq 1 6\np aux sp add 1\nq 1 6\n",
+            13,
+            LineKind::Misplaced,
+        ),
+        ("p aux sp add 0\np aux sp add 0\n", 11, LineKind::Misplaced),
+        ("p aux sp add 1\np aux sp add 1\n", 11, LineKind::Misplaced),
+        ("p aux sp add 0\np sp 1 0\n", 11, LineKind::Misplaced),
+        // After the line of a query section no arc comes before that of the added section.
+        ("p aux sp ss 0\na 1 6 1\n", 11, LineKind::Misplaced),
+        ("p aux sp ss 1\ns 1\na 1 6 1\n", 12, LineKind::Misplaced),
+        (
+            "p aux sp p2p 1\nq 1 6\na 1 6 1\np aux sp add 1\n",
+            12,
+            LineKind::Misplaced,
+        ),
     ];
     for (tail, line, kind) in rows {
         assert!(rt;
@@ -210,6 +278,54 @@ fn jobs_of_pairs(rt: HostRuntime) -> Result<(), Fail> {
 }
 
 #[test]
+fn jobs_with_added_arcs(rt: HostRuntime) -> Result<(), Fail> {
+    let alloc = rt.alloc();
+    let (short, back) = (ArcRec::new(0, 5, 4), ArcRec::new(5, 0, 0));
+    let rows: [(&[u8], &str, &[ArcRec]); 8] = [
+        (b"p aux sp add 0", "Absent", &[]),
+        (b"p aux sp add 1\na 1 6 4", "Absent", &[short]),
+        (
+            b"p aux sp ss 2\ns 3\ns 1\np aux sp add 1\na 1 6 4\n",
+            "Sources([2, 0])",
+            &[short],
+        ),
+        (b"p aux sp ss 1\ns 3\np aux sp add 0\n", "Sources([2])", &[]),
+        // No sources and no pairs are asked for all the same.
+        (
+            b"p aux sp ss 0\np aux sp add 1\na 1 6 4\n",
+            "Sources([])",
+            &[short],
+        ),
+        (b"p aux sp p2p 0\np aux sp add 0\n", "Pairs([])", &[]),
+        (
+            b"p aux sp p2p 1\nq 1 6\np aux sp add 2\na 1 6 4\n\ta  06 1 0\r\n",
+            "Pairs([(0, 5)])",
+            &[short, back],
+        ),
+        (
+            b"\np aux sp p2p 2\nq 6 6\nq 1 6\nc\np\taux sp add 3\na 6 1 0\nc\na 1 6 4\na 6 1 0",
+            "Pairs([(5, 5), (0, 5)])",
+            &[back, short, back],
+        ),
+    ];
+    for (tail, ask, added) in rows {
+        let text = joined(alloc, GRAPH, tail)?;
+        for job in [
+            read(alloc, GRAPH, tail)?,
+            read_pieces(alloc, &text, 1)?,
+            read_pieces(alloc, &text, 7)?,
+        ] {
+            assert_eq!(rt; format!(in alloc; "{:?}", job.ask)?.as_str(), ask);
+            assert_eq!(rt; job.arcs.len(), 8);
+            assert_eq!(rt; job.arcs.last().copied(), Some(ArcRec::new(4, 5, 20)));
+            assert_eq!(rt; job.added.as_deref(), Some(added));
+        }
+    }
+    assert!(rt; read(alloc, GRAPH, b"p aux sp ss 1\ns 1\n")?.added.is_none());
+    Ok(())
+}
+
+#[test]
 fn jobs(rt: HostRuntime) -> Result<(), Fail> {
     let last = ArcRec::new(4, 5, 20);
     assert_job(&rt, &read(rt.alloc(), GRAPH, b"")?, 6, last, &[]);
@@ -241,9 +357,12 @@ fn answers(rt: HostRuntime) -> Result<(), Fail> {
     put_pair(&mut out, 0, 5, 15)?;
     put_pair(&mut out, 268435455, 268435454, INF - 1)?;
     put_pair(&mut out, 5, 0, INF)?;
+    put_grown(&mut out, 0)?;
+    put_grown(&mut out, 1048576)?;
     let lines = "s 268435456\nd 10 inf\nd 1 18446744073709551614\ns 3\nd 1 inf\nd 2 0\nd 3 10\n\
          k 1 1\nk 2 1\nk 3 3\nw 6 15 1 3 5 2 4 6\nw 4 0 4\n\
-         q 1 6 15\nq 268435456 268435455 18446744073709551614\nq 6 1 inf\n";
+         q 1 6 15\nq 268435456 268435455 18446744073709551614\nq 6 1 inf\n\
+         g 0\ng 1048576\n";
     assert_eq!(rt; out.as_slice(), lines.as_bytes());
     Ok(())
 }

@@ -1,10 +1,11 @@
 -- Least labels say the costs of walks: the labels of a block, as its lines write them.
-use Rattle.std.proofs.Common.{◌≡◌, ◌∙◌, Bool, true, false, ℕ, ◌+◌, ◌<◌, ◌≤◌, ◌^◌, List, [], ◌∷◌, ◌++◌}
+use Rattle.std.proofs.Common.{◌≡◌, ◌≢◌, ◌∙◌, Bool, true, false, ℕ, ◌+◌, ◌<◌, ◌≤◌, ◌^◌, List, [], ◌∷◌, ◌++◌}
 use Rattle.std.proofs.Common.{length, get_or, slice_index, suc, refl, subst, sym, ap, ap₂, arith, inl, inr}
+use Rattle.std.proofs.Common.{Option, Some, None}
 use Rattle.std.specs.List.{All}
 use Rattle.std.specs.Prelude.{◌==◌, decimal}
 use Rattle.std.proofs.lemmas.List.{append-nil}
-use Rattle.std.proofs.lemmas.List.Elements.{All-weaker, All-map, All-head, All-tail, All-nil, All-cons}
+use Rattle.std.proofs.lemmas.List.Elements.{All-append, All-weaker, All-map, All-head, All-tail, All-nil, All-cons}
 use Rattle.std.proofs.lemmas.Bool.{cases_eq}
 use Rattle.std.proofs.lemmas.Bool.Decides.{nat_tests}
 use Rattle.route_walks.specs.declared.graph.ArcRec.{ArcRec}
@@ -13,17 +14,19 @@ use Rattle.route_walks.specs.declared.graph.TheConstants.{INF, MAX_VERTICES}
 use Rattle.route_walks.specs.Walk.{IsArcBelow, IsGraph, IsWalk, cost}
 use Rattle.route_walks.specs.Component.{IsComponentLabel, LeastLabelsAreComponents}
 use Rattle.route_walks.specs.Label.{AreLeastLabels, InfMeansNoWalk}
-use Rattle.route_walks.specs.Operators.{seeds_from, unit_weight, unit_weights}
+use Rattle.route_walks.specs.Operators.{both_ways, seeds_from, unit_weight, unit_weights}
+use Rattle.obim_query.specs.declared.asked.Answer.{Answer}
 use Rattle.route_walks.proofs.Facts.{attained-by_walk, walk-of_attained}
 use Rattle.dimacs_text.specs.AnswerLines.{cost_text, label_text, label_lines, pair_text, walk_text}
 use Rattle.dimacs_text.specs.Jobs.{Content, Question, from_sources, of_pairs}
-use Rattle.dimacs_text.specs.Jobs.{IsArcWithin, IsPairWithin, IsQuestionWithin, IsWithinLimits}
+use Rattle.dimacs_text.specs.Jobs.{IsAddedWithin, IsArcWithin, IsPairWithin, IsQuestionWithin, IsWithinLimits}
 use Rattle.dimacs_text.specs.AnswerLines.{component_lines}
 use Rattle.walk_report.specs.Hop.{AreHops}
 use Rattle.walk_report.specs.Parent.{AreParents}
 use Rattle.walk_report.specs.Printed.{printed_walk, PrintedWalksAreWalks}
 use Rattle.obim_query.specs.declared.asked.Answer.TheVariants.{Distances, Levels, Components}
 use Rattle.obim_query.specs.AnswerText.{AreAskedBlocks, AreBlocks, IsBlock, IsPairBlock, vertex_lines, walk_line}
+use Rattle.obim_query.specs.AnswerText.{IsComponentsBlock, IsGrownBlock, IsGrownPair, IsGrownText, arcs_for, growth_for, growth_from}
 use Rattle.obim_query.specs.Costs.{AnswersSayCosts, AnswersSayPairCosts, AreCostLines, IsCostText, SaysCosts}
 use Rattle.obim_query.specs.Costs.{SaysPairCost, unreached, reached}
 use Rattle.obim_query.specs.Costs.{IsWalkLine, unasked, no_walk, shortest, AnswersSayComponents, AreComponentLines}
@@ -198,13 +201,33 @@ blocks_say IsWithin IsBlockOf Says each (query ∷ queries) text within blocks =
   blocks.4,
 )
 
--- a job's arcs are light, and so are those of levels
-light_arcs : (job : Content) → IsWithinLimits job → AreLight job.n job.arcs
-light_arcs job limits = record {
-  few = limits.vertices;
-  graph = All-weaker (IsArcWithin job.n) (IsArcBelow job.n) (λ arc within. (within.tail, within.head)) job.arcs limits.arcs;
-  light =
-      All-weaker (IsArcWithin job.n) (λ (arc : ArcRec). arc.weight < 2 ^ 32) (λ arc within. within.weight) job.arcs limits.arcs;
+-- what is said of some arcs is said of all arcs, if some are added
+abbrev AreAllSo : (List ArcRec → Type 0) → List ArcRec → Option (List ArcRec) → Type 0
+AreAllSo IsSo arcs None = Unit {0}
+AreAllSo IsSo arcs (Some added) = IsSo (arcs ++ added)
+
+-- what the text of arcs says, it says of the arcs before and of all arcs
+grown_says : (along other : List ArcRec → List ArcRec) (IsSo : List ArcRec → Type 0)
+    (IsTextOf Says : List ArcRec → List ℕ → Type 0)
+    → ((arcs : List ArcRec) → IsSo arcs → (text : List ℕ) → IsTextOf (along arcs) text → Says (other arcs) text)
+    → (arcs : List ArcRec) (added : Option (List ArcRec)) → IsSo arcs → AreAllSo IsSo arcs added
+    → (text : List ℕ) → IsGrownText IsTextOf (along arcs) (growth_from along arcs added) text
+    → IsGrownText Says (other arcs) (growth_from other arcs added) text
+grown_says along other IsSo IsTextOf Says each arcs None so all text is = each arcs so text is
+grown_says along other IsSo IsTextOf Says each arcs (Some added) so all text is = record {
+  before = is.before;
+  after = is.after;
+  first = each arcs so is.before is.first;
+  second = each (arcs ++ added) all is.after is.second;
+  written = is.written;
+}
+
+-- arcs within the limits are light, and so are those of levels
+light_arcs : (n : ℕ) (arcs : List ArcRec) → n ≤ MAX_VERTICES → All (IsArcWithin n) arcs → AreLight n arcs
+light_arcs n arcs few within = record {
+  few = few;
+  graph = All-weaker (IsArcWithin n) (IsArcBelow n) (λ arc are. (are.tail, are.head)) arcs within;
+  light = All-weaker (IsArcWithin n) (λ (arc : ArcRec). arc.weight < 2 ^ 32) (λ arc are. are.weight) arcs within;
 }
 
 light_units : (n : ℕ) (arcs : List ArcRec) → AreLight n arcs → AreLight n (unit_weights arcs)
@@ -214,37 +237,76 @@ light_units n arcs light = record {
   light = All-map (λ (arc : ArcRec). arc.weight < 2 ^ 32) unit_weight arcs (λ k d below. omega arith);
 }
 
-module _ (law : InfMeansNoWalk) (printed : PrintedWalksAreWalks) (walks : Bool) (n : ℕ) (arcs : List ArcRec)
-    (light : AreLight n arcs) (question : Question) (text : List ℕ) (limits : IsQuestionWithin n question)
-    (answered : AreAskedBlocks walks n arcs question text) where
-  sources_say : (sources : List ℕ) → question ≡ from_sources sources → AreBlocks (SaysCosts walks n arcs) sources text
-  sources_say sources asked =
-      blocks_say (λ v. v < n) (IsBlock walks n arcs) (SaysCosts walks n arcs)
-      (block_says_costs law printed walks n arcs light) sources text (subst (IsQuestionWithin n) asked limits).1
-      (subst (λ (q : Question). AreAskedBlocks walks n arcs q text) asked answered)
+light_kind : (kind : Answer) (n : ℕ) (arcs : List ArcRec) → kind ≢ Components → AreLight n arcs
+    → AreLight n (arcs_for kind arcs)
+light_kind Distances n arcs other light = light
+light_kind Levels n arcs other light = light_units n arcs light
+light_kind Components n arcs other light = absurd (other refl)
 
-  pairs_say : (pairs : List (ℕ × ℕ)) → question ≡ of_pairs pairs → AreBlocks (SaysPairCost walks arcs) pairs text
-  pairs_say pairs asked =
-      blocks_say (IsPairWithin n) (IsPairBlock walks n arcs) (SaysPairCost walks arcs)
-      (pair_says_cost law printed walks n arcs light) pairs text (subst (IsQuestionWithin n) asked limits).1
-      (subst (λ (q : Question). AreAskedBlocks walks n arcs q text) asked answered)
+light_all : (n : ℕ) (arcs : List ArcRec) (added : Option (List ArcRec)) → n ≤ MAX_VERTICES → All (IsArcWithin n) arcs
+    → IsAddedWithin n added → AreAllSo (AreLight n) arcs added
+light_all n arcs None few within more = tt
+light_all n arcs (Some added) few within more =
+    light_arcs n (arcs ++ added) few (All-append (IsArcWithin n) arcs added within more.1)
+
+module _ (law : InfMeansNoWalk) (printed : PrintedWalksAreWalks) (kind : Answer) (walks : Bool) (job : Content)
+    (other : kind ≢ Components) (limits : IsWithinLimits job) (text : List ℕ) where
+  light : AreLight job.n job.arcs
+  light = light_arcs job.n job.arcs limits.vertices limits.arcs
+
+  all_light : AreAllSo (AreLight job.n) job.arcs job.added
+  all_light = light_all job.n job.arcs job.added limits.vertices limits.arcs limits.added
+
+  sources_say : (sources : List ℕ) → job.question ≡ from_sources sources
+      → AreAskedBlocks walks job.n (arcs_for kind job.arcs) (growth_for kind job) job.question text
+      → AreBlocks
+      (λ source. IsGrownText (λ arcs. SaysCosts walks job.n arcs source) (arcs_for kind job.arcs) (growth_for kind job))
+      sources text
+  sources_say sources asked answered =
+      blocks_say (λ v. v < job.n) (IsGrownBlock walks job.n (arcs_for kind job.arcs) (growth_for kind job))
+      (λ source. IsGrownText (λ arcs. SaysCosts walks job.n arcs source) (arcs_for kind job.arcs) (growth_for kind job))
+      (λ source block within.
+      grown_says (arcs_for kind) (arcs_for kind) (AreLight job.n) (λ along. IsBlock walks job.n along source)
+      (λ arcs. SaysCosts walks job.n arcs source)
+      (λ arcs are lines.
+      block_says_costs law printed walks job.n (arcs_for kind arcs) (light_kind kind job.n arcs other are) source lines
+      within) job.arcs job.added light all_light block)
+      sources text (subst (IsQuestionWithin job.n) asked limits.question).1
+      (subst
+      (λ (q : Question). AreAskedBlocks walks job.n (arcs_for kind job.arcs) (growth_for kind job) q text) asked
+      answered)
+
+  pairs_say : (pairs : List (ℕ × ℕ)) → job.question ≡ of_pairs pairs
+      → AreAskedBlocks walks job.n (arcs_for kind job.arcs) (growth_for kind job) job.question text
+      → AreBlocks
+      (λ pair. IsGrownText (λ arcs. SaysPairCost walks arcs pair) (arcs_for kind job.arcs) (growth_for kind job))
+      pairs text
+  pairs_say pairs asked answered =
+      blocks_say (IsPairWithin job.n) (IsGrownPair walks job.n (arcs_for kind job.arcs) (growth_for kind job))
+      (λ pair. IsGrownText (λ arcs. SaysPairCost walks arcs pair) (arcs_for kind job.arcs) (growth_for kind job))
+      (λ pair block within.
+      grown_says (arcs_for kind) (arcs_for kind) (AreLight job.n) (λ along. IsPairBlock walks job.n along pair)
+      (λ arcs. SaysPairCost walks arcs pair)
+      (λ arcs are lines.
+      pair_says_cost law printed walks job.n (arcs_for kind arcs) (light_kind kind job.n arcs other are) pair lines
+      within) job.arcs job.added light all_light block)
+      pairs text (subst (IsQuestionWithin job.n) asked limits.question).1
+      (subst
+      (λ (q : Question). AreAskedBlocks walks job.n (arcs_for kind job.arcs) (growth_for kind job) q text) asked
+      answered)
 
 pub answers_say_costs : InfMeansNoWalk → PrintedWalksAreWalks → AnswersSayCosts
 answers_say_costs law printed Distances walks job sources text other asked limits answered =
-    sources_say law printed walks job.n job.arcs (light_arcs job limits) job.question text limits.question answered sources
-    asked
+    sources_say law printed Distances walks job other limits text sources asked answered
 answers_say_costs law printed Levels walks job sources text other asked limits answered =
-    sources_say law printed walks job.n (unit_weights job.arcs) (light_units job.n job.arcs (light_arcs job limits))
-    job.question text limits.question answered sources asked
+    sources_say law printed Levels walks job other limits text sources asked answered
 answers_say_costs law printed Components walks job sources text other asked limits answered = absurd (other refl)
 
 pub answers_say_pair_costs : InfMeansNoWalk → PrintedWalksAreWalks → AnswersSayPairCosts
 answers_say_pair_costs law printed Distances walks job pairs text other asked limits answered =
-    pairs_say law printed walks job.n job.arcs (light_arcs job limits) job.question text limits.question answered pairs
-    asked
+    pairs_say law printed Distances walks job other limits text pairs asked answered
 answers_say_pair_costs law printed Levels walks job pairs text other asked limits answered =
-    pairs_say law printed walks job.n (unit_weights job.arcs) (light_units job.n job.arcs (light_arcs job limits))
-    job.question text limits.question answered pairs asked
+    pairs_say law printed Levels walks job other limits text pairs asked answered
 answers_say_pair_costs law printed Components walks job pairs text other asked limits answered = absurd (other refl)
 
 -- ---- components
@@ -261,15 +323,23 @@ component_lines_say arcs v (label ∷ labels) each = (
   refl,
 )
 
-pub answers_say_components : LeastLabelsAreComponents → AnswersSayComponents
-answers_say_components law walks job text limits block =
-    let light = light_arcs job limits in
-    let lines : AreComponentLines job.arcs 0 (length block.labels) text =
+components_say : LeastLabelsAreComponents → (n : ℕ) (arcs : List ArcRec) → AreLight n arcs
+    → (text : List ℕ) → IsComponentsBlock n (both_ways arcs) text
+    → AreComponentLines arcs 0 n text
+components_say law n arcs light text block =
+    let lines : AreComponentLines arcs 0 (length block.labels) text =
     rw block.written
-    (component_lines_say job.arcs 0 block.labels
+    (component_lines_say arcs 0 block.labels
     (λ k w below is.
     let same : k ≡ w = omega arith in
-    subst (λ (x : ℕ). IsComponentLabel job.arcs x (get_or block.labels k 0)) same
-    (law job.n job.arcs (slice_index block.labels) light.graph (omega (arith, light.few)) block.least.least k
+    subst (λ (x : ℕ). IsComponentLabel arcs x (get_or block.labels k 0)) same
+    (law n arcs (slice_index block.labels) light.graph (omega (arith, light.few)) block.least.least k
     (omega (arith, block.least.count))))) in
-    subst (λ (m : ℕ). AreComponentLines job.arcs 0 m text) block.least.count lines
+    subst (λ (m : ℕ). AreComponentLines arcs 0 m text) block.least.count lines
+
+pub answers_say_components : LeastLabelsAreComponents → AnswersSayComponents
+answers_say_components law walks job text limits answered =
+    grown_says both_ways (λ arcs. arcs) (AreLight job.n) (IsComponentsBlock job.n)
+    (λ arcs. AreComponentLines arcs 0 job.n) (components_say law job.n) job.arcs job.added
+    (light_arcs job.n job.arcs limits.vertices limits.arcs)
+    (light_all job.n job.arcs job.added limits.vertices limits.arcs limits.added) text answered

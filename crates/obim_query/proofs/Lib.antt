@@ -5,5 +5,7 @@ pub mod Replies
 pub mod Costs
 pub mod Uniqueness
 pub mod Prefixes
+pub mod Starts
 pub mod Existence
 pub mod PairLabels
+pub mod Growing

@@ -1,9 +1,9 @@
 -- How the labels of pairs are filled in, and which lines they make.
-use Rattle.std.proofs.Common.{◌≡◌, ℕ, suc, ◌+◌, ◌<◌, ◌≤◌, false, List, [], ◌∷◌, ◌++◌, length, get_or, set, drop, take}
-use Rattle.std.proofs.Common.{drop-cons, refl, sym, subst, ap, ◌∙◌, inl, inr, arith}
+use Rattle.std.proofs.Common.{◌≡◌, ℕ, ◌+◌, ◌<◌, ◌≤◌, List, [], ◌∷◌, ◌++◌, length, get_or, set, take}
+use Rattle.std.proofs.Common.{Option, Some, None, IfSome, refl, sym, subst, ◌∙◌, inl, inr, arith}
 use Rattle.std.specs.List.{All, Contains}
 use Rattle.std.specs.List.Sorted.{IsPermutation}
-use Rattle.std.proofs.lemmas.List.{append-nil, drop_all, get_or-set_same, get_or-set_other, length-set, take_all, take_more}
+use Rattle.std.proofs.lemmas.List.{get_or-set_same, get_or-set_other, length-set, take_all, take_more}
 use Rattle.std.proofs.lemmas.List.Elements.{All-append, All-cons, All-contains, All-get_or, All-nil, All-weaker}
 use Rattle.std.proofs.lemmas.List.Elements.{Contains-append_left, Contains-push}
 use Rattle.std.proofs.lemmas.List.Sorted.{All-permutation, Contains-permutation}
@@ -11,10 +11,10 @@ use Rattle.std.proofs.lemmas.Bool.{cases_eq}
 use Rattle.route_walks.specs.declared.graph.ArcRec.{ArcRec}
 use Rattle.route_walks.specs.Label.{AreLeastLabels}
 use Rattle.route_walks.specs.Operators.{seeds_from}
-use Rattle.dimacs_text.specs.AnswerLines.{pair_text}
-use Rattle.obim_query.specs.AnswerText.{ArePairBlocks}
 use Rattle.obim_query.specs.declared.solves.Solve.{Solve}
-use Rattle.obim_query.specs.Solves.{pair_at, pair_lines, AreBySource, AreFilled, ArePairLabels, IsForQueries, IsPairLabel}
+use Rattle.obim_query.specs.Solves.{pair_at, AreBySource, AreFilled, ArePairLabels, IsForQueries, IsPairLabel}
+use Rattle.obim_query.specs.Solves.{AreFilledAfter, AreLabelsAfter, HasLabelAfter}
+use Rattle.obim_query.specs.declared.graphs.Grown.{Grown}
 
 -- the first pairs are in the order, with their sources
 pub record ArePlaced (pairs : List (ℕ × ℕ)) (count : ℕ) (order : List (ℕ × ℕ)) : Type 0 where
@@ -102,32 +102,20 @@ all_filled n arcs pairs order i labels past by filled = record {
       filled.filled) (by.all k below);
 }
 
--- the lines of pairs, from one on
-pub pair_lines-next : (k : ℕ) (pairs : List (ℕ × ℕ)) (labels : List ℕ)
-    → k < length pairs → length labels ≡ length pairs
-    → pair_lines (drop k pairs) (drop k labels)
-    ≡ pair_text (pair_at pairs k).0 (pair_at pairs k).1 (get_or labels k 0)
-    ++ pair_lines (drop (k + 1) pairs) (drop (k + 1) labels)
-pair_lines-next k pairs labels below same =
-    let one : suc k ≡ k + 1 = omega arith in
-    let inside : k < length labels = omega (arith, same) in
-    rw (drop-cons pairs k (0, 0) below, drop-cons labels k 0 inside, ← one) refl
+-- the same in the grown graph, if there is one
+pub all_filled_after : (grown : Option Grown) (pairs order : List (ℕ × ℕ)) (i : ℕ) (labels : List ℕ)
+    → length order ≤ i → AreBySource pairs order → AreFilledAfter grown pairs order i labels
+    → AreLabelsAfter grown pairs labels
+all_filled_after None pairs order i labels past by filled = tt
+all_filled_after (Some grown) pairs order i labels past by filled =
+    all_filled grown.rows.n grown.rows.arcs pairs order i labels past by filled
 
--- lines of these labels are the blocks of the pairs
-pub lines_are_blocks : (n : ℕ) (arcs : List ArcRec) (pairs : List (ℕ × ℕ)) (labels : List ℕ)
-    → length labels ≡ length pairs
-    → ((k : ℕ) → k < length pairs → IsPairLabel n arcs (pair_at pairs k) (get_or labels k 0))
-    → ArePairBlocks false n arcs pairs (pair_lines pairs labels)
-lines_are_blocks n arcs [] labels same each = refl
-lines_are_blocks n arcs (pair ∷ pairs) [] same each = absurd (omega (arith, same))
-lines_are_blocks n arcs (pair ∷ pairs) (label ∷ labels) same each =
-    let first = each 0 (omega arith) in (
-      pair_text pair.0 pair.1 label,
-      pair_lines pairs labels,
-      record { labels = first.labels; least = first.least; written = ap (pair_text pair.0 pair.1) first.is },
-      lines_are_blocks n arcs pairs labels (omega (arith, same)) (λ k below. each (suc k) (omega arith)),
-      refl,
-    )
+-- a place of a pair is one of its label in the grown graph
+pub has_label_after : (grown : Option Grown) (pairs : List (ℕ × ℕ)) (labels : List ℕ) (k : ℕ)
+    → AreLabelsAfter grown pairs labels → k < length pairs
+    → HasLabelAfter grown k labels
+has_label_after None pairs labels k are here = tt
+has_label_after (Some grown) pairs labels k are here = omega (arith, are.places, here)
 
 -- the queries of a solve have one source
 pub one_source : (queries : List (ℕ × ℕ)) (solve : Solve) (k : ℕ)
@@ -136,11 +124,3 @@ pub one_source : (queries : List (ℕ × ℕ)) (solve : Solve) (k : ℕ)
 one_source queries solve k is from below =
     let first = is.alike solve.first (omega arith) is.some in
     let here = is.alike k from below in cc
-
--- what a slice of a whole vector holds is what the vector holds then
-pub written_back : (len : ℕ) (new old : List ℕ) → length new ≡ length old → len ≡ length old
-    → take len (new ++ drop (length new) old) ≡ new
-written_back len new old same count =
-    ap (λ l. take len (new ++ l)) (drop_all (length new) old (omega (arith, same)))
-    ∙ ap (take len) (append-nil new)
-    ∙ take_all len new (omega (arith, same, count))

@@ -16,7 +16,7 @@ at-err (Ok x) p = tt
 at-err (Err y) p = p
 
 -- what is a prefix of bytes that wait and more is, after those that went before, one of the whole
-prefix-after : (given waiting text more next : List ℕ)
+pub prefix-after : (given waiting text more next : List ℕ)
     → text ≡ given ++ waiting → IsPrefix next (waiting ++ more) → IsPrefix (given ++ next) (text ++ more)
 prefix-after given waiting text more next whole prefix = (
   prefix.0,
@@ -26,7 +26,7 @@ prefix-after given waiting text more next whole prefix = (
       ∙ sym (append_assoc given next prefix.0),
 )
 
-prefix-longer : (bytes text more : List ℕ) → IsPrefix bytes text → IsPrefix bytes (text ++ more)
+pub prefix-longer : (bytes text more : List ℕ) → IsPrefix bytes text → IsPrefix bytes (text ++ more)
 prefix-longer bytes text more prefix =
     (prefix.0 ++ more, ap (λ (xs : List ℕ). xs ++ more) prefix.1 ∙ append_assoc bytes prefix.0 more)
 

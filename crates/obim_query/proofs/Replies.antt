@@ -1,26 +1,25 @@
 -- Labels and blocks that are right along the rows are right along the job's arcs, of which the rows were
 -- built.
-use Rattle.std.proofs.Common.{◌≡◌, ◌≢◌, ◌↔◌, Bool, true, false, ℕ, ◌<◌, ◌^◌, List, [], ◌∷◌, Option, slice_index, refl, subst, sym, ◌∙◌, arith}
-use Rattle.std.specs.List.{All}
-use Rattle.std.proofs.lemmas.List.Elements.{All-from_get_or}
+use Rattle.std.proofs.Common.{◌≡◌, ◌↔◌, Bool, true, false, ℕ, List, [], ◌∷◌, ◌++◌, Option, Some, None, refl, sym, ap, ◌∙◌}
 use Rattle.route_walks.specs.declared.graph.ArcRec.{ArcRec}
-use Rattle.route_walks.specs.declared.graph.TheConstants.{INF}
-use Rattle.route_walks.specs.Walk.{IsGraph, HaveSameArcs}
-use Rattle.route_walks.specs.Label.{AreLeastLabels, LeastLabelsFollowTheArcs}
-use Rattle.route_walks.specs.Operators.{seeds_from, seeds_all, both_ways, unit_weights}
-use Rattle.route_walks.specs.Component.{LeastLabelsAreComponents}
+use Rattle.route_walks.specs.Walk.{HaveSameArcs}
+use Rattle.route_walks.specs.Label.{LeastLabelsFollowTheArcs}
+use Rattle.route_walks.specs.Operators.{seeds_from, seeds_all}
 use Rattle.walk_report.specs.Parent.{HopsAndParentsFollowTheArcs}
 use Rattle.dimacs_text.specs.Jobs.{Content, Question, absent, from_sources, of_pairs}
+use Rattle.dimacs_text.specs.AnswerLines.{grown_text}
 use Rattle.std.specs.Prelude.{Result, Ok, Err, IfErr, OnErr}
-use Rattle.dimacs_text.specs.AnswerLines.{components_text}
 use Rattle.obim_query.specs.declared.fault.Fault.{Fault}
 use Rattle.obim_query.specs.declared.fault.Fault.TheVariants.{Read, TooLong, Text, NoAsk, Memory, Spawn, Write}
 use Rattle.obim_query.specs.declared.asked.Answer.{Answer}
 use Rattle.obim_query.specs.declared.asked.Answer.TheVariants.{Distances, Levels, Components}
+use Rattle.obim_query.specs.declared.graphs.Graphs.{Graphs}
 use Rattle.obim_query.specs.Bytes.{WritesPrefix}
-use Rattle.obim_query.specs.Outcome.{IsReplyFault, IsUnasked, IsWritingFault}
+use Rattle.obim_query.specs.Graphs.{AreGraphsFor, GrowAlike, growth_of}
+use Rattle.obim_query.specs.Outcome.{IsReplyFault, IsUnasked, IsWritingFault, is_unasked}
 use Rattle.obim_query.specs.AnswerText.{IsBlock, IsPairBlock, AreWalksFrom, AreBlocks, AreAskedBlocks}
-use Rattle.obim_query.specs.AnswerText.{IsAnswerText, arcs_for}
+use Rattle.obim_query.specs.AnswerText.{Growth, IsComponentsBlock, IsGrownBlock, IsGrownPair, IsGrownText}
+use Rattle.obim_query.specs.AnswerText.{IsAnswerText, IsTextFor, arcs_for, growth_for}
 
 module _ (law : LeastLabelsFollowTheArcs) (walked : HopsAndParentsFollowTheArcs) (n : ℕ) (one other : List ArcRec)
     (same : HaveSameArcs one other) where
@@ -60,6 +59,15 @@ module _ (law : LeastLabelsFollowTheArcs) (walked : HopsAndParentsFollowTheArcs)
     written = block.written;
   }
 
+components-over : LeastLabelsFollowTheArcs → (n : ℕ) (one other : List ArcRec) → HaveSameArcs one other
+    → (text : List ℕ) → IsComponentsBlock n one text
+    → IsComponentsBlock n other text
+components-over law n one other same text block = record {
+  labels = block.labels;
+  least = law n one other (seeds_all n) block.labels same block.least;
+  written = block.written;
+}
+
 blocks-over : {Query : Type 0} (IsOne IsOther : Query → List ℕ → Type 0)
     → ((query : Query) (text : List ℕ) → IsOne query text → IsOther query text)
     → (queries : List Query) (text : List ℕ) → AreBlocks IsOne queries text
@@ -73,98 +81,90 @@ blocks-over IsOne IsOther each (query ∷ queries) text blocks = (
   blocks.4,
 )
 
--- what is asked along the rows is what is asked along the arcs
-asked-over : LeastLabelsFollowTheArcs → HopsAndParentsFollowTheArcs
-    → (walks : Bool) (n : ℕ) (one other : List ArcRec) → HaveSameArcs one other
-    → (question : Question) (text : List ℕ) → AreAskedBlocks walks n one question text
-    → AreAskedBlocks walks n other question text
-asked-over law walked walks n one other same absent text blocks = blocks
-asked-over law walked walks n one other same (from_sources sources) text blocks =
-    blocks-over (IsBlock walks n one) (IsBlock walks n other) (block-over law walked n one other same walks) sources text
-    blocks
-asked-over law walked walks n one other same (of_pairs pairs) text blocks =
-    blocks-over (IsPairBlock walks n one) (IsPairBlock walks n other) (pair-over law walked n one other same walks) pairs
-    text blocks
-
-asked_answered : LeastLabelsFollowTheArcs → HopsAndParentsFollowTheArcs
-    → (walks : Bool) (job : Content) (n : ℕ) (one other : List ArcRec) (question : Question) (text : List ℕ)
-    → job.question ≡ question → n ≡ job.n → HaveSameArcs one other
-    → (AreAskedBlocks walks n one question text) ↔ (AreAskedBlocks walks job.n other job.question text)
-asked_answered law walked walks job n one other question text asked count same =
-    rw (asked, ← count) (
-      asked-over law walked walks n one other same question text,
-      asked-over law walked walks n other one (λ arc. ((same arc).1, (same arc).0)) question text,
-    )
-
--- the blocks of all queries along the rows are the answer
-pub queries_answered : LeastLabelsFollowTheArcs → HopsAndParentsFollowTheArcs
-    → (kind : Answer) (walks : Bool) (job : Content) (n : ℕ) (one : List ArcRec) (question : Question) (text : List ℕ)
-    → kind ≢ Components → job.question ≡ question → n ≡ job.n → HaveSameArcs one (arcs_for kind job.arcs)
-    → (AreAskedBlocks walks n one question text) ↔ (IsAnswerText kind walks job text)
-queries_answered law walked Distances walks job n one question text other asked count same =
-    asked_answered law walked walks job n one job.arcs question text asked count same
-queries_answered law walked Levels walks job n one question text other asked count same =
-    asked_answered law walked walks job n one (unit_weights job.arcs) question text asked count same
-queries_answered law walked Components walks job n one question text other asked count same = absurd (other refl)
-
--- a prefix of the blocks along the rows is one of the answer
-pub queries_begun : LeastLabelsFollowTheArcs → HopsAndParentsFollowTheArcs
-    → (kind : Answer) (walks : Bool) (job : Content) (n : ℕ) (one : List ArcRec) (question : Question)
-    (before after : Option (List ℕ))
-    → kind ≢ Components → job.question ≡ question → n ≡ job.n → HaveSameArcs one (arcs_for kind job.arcs)
-    → WritesPrefix (AreAskedBlocks walks n one question) before after
-    → WritesPrefix (IsAnswerText kind walks job) before after
-queries_begun law walked kind walks job n one question before after other asked count same cut = record {
-  given = cut.given;
-  is_prefix =
-      λ text answered.
-      cut.is_prefix text
-      ((queries_answered law walked kind walks job n one question text other asked count same).1 answered);
-  appended = cut.appended;
+-- a text along the same arcs, growing alike, is the same
+grown-over : (IsTextOf : List ArcRec → List ℕ → Type 0)
+    → ((one other : List ArcRec) → HaveSameArcs one other → (text : List ℕ) → IsTextOf one text → IsTextOf other text)
+    → (one other : List ArcRec) (first second : Option Growth) → HaveSameArcs one other → GrowAlike first second
+    → (text : List ℕ) → IsGrownText IsTextOf one first text
+    → IsGrownText IsTextOf other second text
+grown-over IsTextOf each one other None None same alike text is = each one other same text is
+grown-over IsTextOf each one other None (Some second) same alike text is = absurd alike
+grown-over IsTextOf each one other (Some first) None same alike text is = absurd alike
+grown-over IsTextOf each one other (Some first) (Some second) same alike text is = record {
+  before = is.before;
+  after = is.after;
+  first = each one other same is.before is.first;
+  second = each first.arcs second.arcs alike.1 is.after is.second;
+  written = is.written ∙ ap (λ (k : ℕ). is.before ++ grown_text k ++ is.after) alike.0;
 }
 
--- the component labels, from those along the rows
-pub components_least : LeastLabelsFollowTheArcs
-    → (n m : ℕ) (one arcs : List ArcRec) (labels : List ℕ)
-    → m ≡ n → HaveSameArcs one (both_ways arcs) → AreLeastLabels m one (seeds_all m) labels
-    → AreLeastLabels n (both_ways arcs) (seeds_all n) labels
-components_least law n m one arcs labels count same least =
-    law n one (both_ways arcs) (seeds_all n) labels same
-    (subst (λ (k : ℕ). AreLeastLabels k one (seeds_all k) labels) count least)
+module _ (law : LeastLabelsFollowTheArcs) (walked : HopsAndParentsFollowTheArcs) (walks : Bool) (n : ℕ)
+    (one other : List ArcRec) (first second : Option Growth) (same : HaveSameArcs one other)
+    (alike : GrowAlike first second) where
+  asked-over : (question : Question) (text : List ℕ) → AreAskedBlocks walks n one first question text
+      → AreAskedBlocks walks n other second question text
+  asked-over absent text blocks = blocks
+  asked-over (from_sources sources) text blocks =
+      blocks-over (IsGrownBlock walks n one first) (IsGrownBlock walks n other second)
+      (λ source.
+      grown-over (λ along. IsBlock walks n along source)
+      (λ these those are. block-over law walked n these those are walks source) one other first second same alike)
+      sources text blocks
+  asked-over (of_pairs pairs) text blocks =
+      blocks-over (IsGrownPair walks n one first) (IsGrownPair walks n other second)
+      (λ pair.
+      grown-over (λ along. IsPairBlock walks n along pair)
+      (λ these those are. pair-over law walked n these those are walks pair) one other first second same alike)
+      pairs text blocks
 
--- the lines of those labels are the answer
-pub components_answered : LeastLabelsFollowTheArcs
-    → (kind : Answer) (walks : Bool) (job : Content) (n : ℕ) (one : List ArcRec) (labels : List ℕ)
-    → kind ≡ Components → n ≡ job.n → HaveSameArcs one (both_ways job.arcs)
-    → AreLeastLabels n one (seeds_all n) labels
-    → IsAnswerText kind walks job (components_text labels)
-components_answered law kind walks job n one labels components count same least =
-    rw components
-    (record {
-      labels = labels;
-      least = components_least law job.n n one job.arcs labels count same least;
-      written = refl;
-    })
+  text-over : (kind : Answer) (question : Question) (text : List ℕ) → IsTextFor kind walks n one first question text
+      → IsTextFor kind walks n other second question text
+  text-over Distances question text is = asked-over question text is
+  text-over Levels question text is = asked-over question text is
+  text-over Components question text is =
+      grown-over (IsComponentsBlock n) (components-over law n) one other first second same alike text is
 
--- where each vertex is a seed that starts at its number, each label is below INF
-pub components_found : LeastLabelsAreComponents
-    → (n : ℕ) (arcs : List ArcRec) (labels : List ℕ)
-    → n < 2 ^ 32 → IsGraph n arcs → AreLeastLabels n (both_ways arcs) (seeds_all n) labels
-    → All (λ label. label < INF) labels
-components_found law n arcs labels few graph found =
-    All-from_get_or (λ label. label < INF) labels 0
-    (λ v below.
-    let inside : v < n = omega (arith, below, found.count) in
-    let low = (law n arcs (slice_index labels) graph few found.least v inside).least v ([], refl) in
-    omega (arith, low, inside, few))
+same-sym : (one other : List ArcRec) → HaveSameArcs one other → HaveSameArcs other one
+same-sym one other same arc = ((same arc).1, (same arc).0)
 
--- where queries are there, or components are asked for, the job is asked
-pub is_asked-queries : (kind : Answer) (job : Content) (question : Question) → job.question ≡ question → question ≢ absent
-    → ¬ (IsUnasked kind job)
-is_asked-queries kind job question asked some unasked = some (sym asked ∙ unasked.unasked)
+alike-sym : (first second : Option Growth) → GrowAlike first second → GrowAlike second first
+alike-sym None None alike = alike
+alike-sym None (Some second) alike = absurd alike
+alike-sym (Some first) None alike = absurd alike
+alike-sym (Some first) (Some second) alike = (sym alike.0, same-sym first.arcs second.arcs alike.1)
 
-pub is_asked-components : (kind : Answer) (job : Content) → kind ≡ Components → ¬ (IsUnasked kind job)
-is_asked-components kind job components unasked = unasked.needed components
+-- the text along the rows of a job is the job's answer
+module _ (law : LeastLabelsFollowTheArcs) (walked : HopsAndParentsFollowTheArcs) (kind : Answer) (walks : Bool)
+    (job : Content) (graphs : Graphs) (question : Question)
+    (are : AreGraphsFor kind job.n job.arcs (growth_for kind job) graphs) (asked : question ≡ job.question) where
+  pub text_answered : (text : List ℕ)
+      → (IsTextFor kind walks graphs.rows.n graphs.rows.arcs (growth_of graphs.grown) question text)
+      ↔ (IsAnswerText kind walks job text)
+  text_answered text =
+      rw (are.vertices, asked) (
+        text-over law walked walks job.n graphs.rows.arcs (arcs_for kind job.arcs) (growth_of graphs.grown)
+            (growth_for kind job) are.along are.alike kind job.question text,
+        text-over law walked walks job.n (arcs_for kind job.arcs) graphs.rows.arcs (growth_for kind job)
+            (growth_of graphs.grown) (same-sym graphs.rows.arcs (arcs_for kind job.arcs) are.along)
+            (alike-sym (growth_of graphs.grown) (growth_for kind job) are.alike) kind job.question text,
+      )
+
+  pub text_begun : (before after : Option (List ℕ))
+      → WritesPrefix (IsTextFor kind walks graphs.rows.n graphs.rows.arcs (growth_of graphs.grown) question) before after
+      → WritesPrefix (IsAnswerText kind walks job) before after
+  text_begun before after cut = record {
+    given = cut.given;
+    is_prefix = λ text answered. cut.is_prefix text ((text_answered text).1 answered);
+    appended = cut.appended;
+  }
+
+-- the test says whether a job is asked
+pub asked-if : (kind : Answer) (job : Content) → is_unasked kind job.question ≡ false → ¬ (IsUnasked kind job)
+asked-if Distances job asked unasked =
+    let clash : false ≡ true = sym asked ∙ ap (is_unasked Distances) unasked.unasked in cc
+asked-if Levels job asked unasked =
+    let clash : false ≡ true = sym asked ∙ ap (is_unasked Levels) unasked.unasked in cc
+asked-if Components job asked unasked = unasked.needed refl
 
 -- what is said of a fault while blocks are written is said of a fault of the reply
 pub reply-fault : (kind : Answer) (walks : Bool) (job : Content) (before after : Option (List ℕ)) (fault : Fault)

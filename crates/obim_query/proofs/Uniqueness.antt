@@ -1,17 +1,18 @@
 -- Least labels are unique, so a job has only one answer text of a kind.
-use Rattle.std.proofs.Common.{◌≡◌, Bool, true, false, ℕ, ◌<◌, List, [], ◌∷◌, ◌++◌, get_or, slice_index, subst, sym, ap, ◌∙◌, arith}
+use Rattle.std.proofs.Common.{◌≡◌, Bool, true, false, ℕ, ◌<◌, List, [], ◌∷◌, ◌++◌, Option, Some, None, get_or, slice_index, subst, sym, ap, ap₂, ◌∙◌, arith}
 use Rattle.std.proofs.lemmas.Grind.{same_number_lists}
 use Rattle.route_walks.specs.declared.graph.ArcRec.{ArcRec}
 use Rattle.route_walks.specs.declared.graph.Seed.{Seed}
 use Rattle.route_walks.specs.Label.{AreLeastLabels, LeastLabelsAreUnique}
-use Rattle.route_walks.specs.Operators.{seeds_from, seeds_all, unit_weights, both_ways}
+use Rattle.route_walks.specs.Operators.{seeds_from, seeds_all}
 use Rattle.walk_report.specs.Hop.{AreHops}
 use Rattle.walk_report.specs.Parent.{AreParents, HopsAndParentsAreUnique}
-use Rattle.dimacs_text.specs.AnswerLines.{distances_text, components_text, pair_text}
+use Rattle.dimacs_text.specs.AnswerLines.{distances_text, components_text, grown_text, pair_text}
 use Rattle.dimacs_text.specs.Jobs.{Question, absent, from_sources, of_pairs}
 use Rattle.obim_query.specs.declared.asked.Answer.TheVariants.{Distances, Levels, Components}
-use Rattle.obim_query.specs.AnswerText.{AnswerTextsAreUnique, BlocksAreUnique, IsOneBlock, IsBlock, IsPairBlock}
+use Rattle.obim_query.specs.AnswerText.{AnswerTextsAreUnique, BlocksAreUnique, IsOneBlock, IsOneText, IsBlock, IsPairBlock}
 use Rattle.obim_query.specs.AnswerText.{AreWalksFrom, AreBlocks, AreAskedBlocks, walks_text, pair_walk_text}
+use Rattle.obim_query.specs.AnswerText.{Growth, IsComponentsBlock, IsGrownBlock, IsGrownPair, IsGrownText, growth_for, arcs_for}
 
 labels-same : LeastLabelsAreUnique
     → (n : ℕ) (arcs : List ArcRec) (seeds : List Seed) (xs ys : List ℕ) → AreLeastLabels n arcs seeds xs
@@ -66,8 +67,31 @@ module _ (law : LeastLabelsAreUnique) (walked : HopsAndParentsAreUnique) (n : �
       ∙ ap (λ (parents : List ℕ). pair_walk_text pair two.labels (slice_index two.hops) (slice_index parents)) same.2
       ∙ sym two.written
 
+components-same : LeastLabelsAreUnique → (n : ℕ) (arcs : List ArcRec) → IsOneText (IsComponentsBlock n arcs)
+components-same law n arcs first second one two =
+    one.written
+    ∙ ap components_text (labels-same law n arcs (seeds_all n) one.labels two.labels one.least two.least)
+    ∙ sym two.written
+
+-- where arcs have one text, those of a graph and of what it grows to have one
+grown-same : (IsTextOf : List ArcRec → List ℕ → Type 0) → ((arcs : List ArcRec) → IsOneText (IsTextOf arcs))
+    → (arcs : List ArcRec) (growth : Option Growth) → IsOneText (IsGrownText IsTextOf arcs growth)
+grown-same IsTextOf only arcs None first second one two = only arcs first second one two
+grown-same IsTextOf only arcs (Some growth) first second one two =
+    one.written
+    ∙ ap₂ (λ (before after : List ℕ). before ++ grown_text growth.count ++ after)
+    (only arcs one.before two.before one.first two.first)
+    (only growth.arcs one.after two.after one.second two.second)
+    ∙ sym two.written
+
 pub blocks_are_unique : LeastLabelsAreUnique → HopsAndParentsAreUnique → BlocksAreUnique
-blocks_are_unique law walked walks n arcs = (block-same law walked n arcs walks, pair-same law walked n arcs walks)
+blocks_are_unique law walked walks n arcs growth = (
+  λ source.
+      grown-same (λ along. IsBlock walks n along source) (λ along. block-same law walked n along walks source) arcs growth,
+  λ pair.
+      grown-same (λ along. IsPairBlock walks n along pair) (λ along. pair-same law walked n along walks pair) arcs growth,
+  grown-same (IsComponentsBlock n) (components-same law n) arcs growth,
+)
 
 pub blocks-same : {Query : Type 0} (IsBlockOf : Query → List ℕ → Type 0) → IsOneBlock IsBlockOf
     → (queries : List Query) (first second : List ℕ) → AreBlocks IsBlockOf queries first
@@ -81,23 +105,18 @@ blocks-same IsBlockOf only (query ∷ queries) first second one two =
     ∙ sym two.4
 
 asked-same : BlocksAreUnique
-    → (walks : Bool) (n : ℕ) (arcs : List ArcRec) (question : Question) (first second : List ℕ)
-    → AreAskedBlocks walks n arcs question first → AreAskedBlocks walks n arcs question second
-    → first ≡ second
-asked-same law walks n arcs absent first second one two = absurd one
-asked-same law walks n arcs (from_sources sources) first second one two =
-    blocks-same (IsBlock walks n arcs) (law walks n arcs).0 sources first second one two
-asked-same law walks n arcs (of_pairs pairs) first second one two =
-    blocks-same (IsPairBlock walks n arcs) (law walks n arcs).1 pairs first second one two
+    → (walks : Bool) (n : ℕ) (arcs : List ArcRec) (growth : Option Growth) (question : Question)
+    → IsOneText (AreAskedBlocks walks n arcs growth question)
+asked-same law walks n arcs growth absent first second one two = absurd one
+asked-same law walks n arcs growth (from_sources sources) first second one two =
+    blocks-same (IsGrownBlock walks n arcs growth) (law walks n arcs growth).0 sources first second one two
+asked-same law walks n arcs growth (of_pairs pairs) first second one two =
+    blocks-same (IsGrownPair walks n arcs growth) (law walks n arcs growth).1 pairs first second one two
 
-pub answer_texts_are_unique : LeastLabelsAreUnique → BlocksAreUnique → AnswerTextsAreUnique
-answer_texts_are_unique law blocks Distances walks job first second one two =
-    asked-same blocks walks job.n job.arcs job.question first second one two
-answer_texts_are_unique law blocks Levels walks job first second one two =
-    asked-same blocks walks job.n (unit_weights job.arcs) job.question first second one two
-answer_texts_are_unique law blocks Components walks job first second one two =
-    one.written
-    ∙ ap components_text
-    (labels-same law job.n (both_ways job.arcs) (seeds_all job.n) one.labels two.labels one.least
-    two.least)
-    ∙ sym two.written
+pub answer_texts_are_unique : BlocksAreUnique → AnswerTextsAreUnique
+answer_texts_are_unique blocks Distances walks job =
+    asked-same blocks walks job.n (arcs_for Distances job.arcs) (growth_for Distances job) job.question
+answer_texts_are_unique blocks Levels walks job =
+    asked-same blocks walks job.n (arcs_for Levels job.arcs) (growth_for Levels job) job.question
+answer_texts_are_unique blocks Components walks job =
+    (blocks walks job.n (arcs_for Components job.arcs) (growth_for Components job)).2

@@ -1,13 +1,13 @@
 -- The text that answers a job, by least labels alone: no worker, worklist or order of visits is in it.
 use Rattle.std.specs.Prelude.{◌≡◌, ℕ, ◌+◌, ◌<◌, ◌==◌, ◌↔◌, Bool, true, false, if◌then◌else◌}
-use Rattle.std.specs.Prelude.{List, [], ◌∷◌, ◌++◌, length, slice_index}
+use Rattle.std.specs.Prelude.{List, [], ◌∷◌, ◌++◌, length, slice_index, Option, Some, None, option_map}
 use Rattle.route_walks.specs.declared.graph.ArcRec.{ArcRec}
 use Rattle.route_walks.specs.declared.graph.TheConstants.{INF}
 use Rattle.route_walks.specs.Label.{AreLeastLabels}
 use Rattle.route_walks.specs.Operators.{seeds_from, seeds_all, unit_weights, both_ways}
 use Rattle.dimacs_text.specs.Jobs.{Content, Question, absent, from_sources, of_pairs}
 use Rattle.dimacs_text.specs.AnswerLines.{source_text, label_text, pair_text, walk_text}
-use Rattle.dimacs_text.specs.AnswerLines.{distances_text, components_text}
+use Rattle.dimacs_text.specs.AnswerLines.{distances_text, components_text, grown_text}
 use Rattle.walk_report.specs.declared.hop.TheConstants.{NONE}
 use Rattle.walk_report.specs.Hop.{AreHops}
 use Rattle.walk_report.specs.Parent.{AreParents}
@@ -102,52 +102,98 @@ AreBlocks IsBlockOf (query ∷ queries) text =
     × AreBlocks IsBlockOf queries rest
     × (text ≡ block ++ rest)
 
+-- the graph of a job after its added arcs: how many were added, and all arcs
+pub record Growth : Type 0 where
+  pub count : ℕ
+  pub arcs : List ArcRec
+
+-- the text of the arcs before, the line of how many were added, and the text of all arcs
+pub record AreBothTexts (IsTextOf : List ArcRec → List ℕ → Type 0) (arcs : List ArcRec) (growth : Growth)
+    (text : List ℕ) : Type 0 where
+  pub before : List ℕ
+  pub after : List ℕ
+  pub first : IsTextOf arcs before
+  pub second : IsTextOf growth.arcs after
+  pub written : text ≡ before ++ grown_text growth.count ++ after
+
+-- where a relation says which text is that of a graph's arcs: that text, and where the graph grows both
+abbrev pub IsGrownText : (List ArcRec → List ℕ → Type 0) → List ArcRec → Option Growth → List ℕ → Type 0
+IsGrownText IsTextOf arcs None text = IsTextOf arcs text
+IsGrownText IsTextOf arcs (Some growth) text = AreBothTexts IsTextOf arcs growth text
+
+-- the lines of one source, in the graph and after it grows
+abbrev pub IsGrownBlock : Bool → ℕ → List ArcRec → Option Growth → ℕ → List ℕ → Type 0
+IsGrownBlock walks n arcs growth source text = IsGrownText (λ along. IsBlock walks n along source) arcs growth text
+
+-- the lines of one pair, in the graph and after it grows
+abbrev pub IsGrownPair : Bool → ℕ → List ArcRec → Option Growth → ℕ × ℕ → List ℕ → Type 0
+IsGrownPair walks n arcs growth pair text = IsGrownText (λ along. IsPairBlock walks n along pair) arcs growth text
+
 -- the blocks of the sources, in their order
-abbrev pub AreSourceBlocks : Bool → ℕ → List ArcRec → List ℕ → List ℕ → Type 0
-AreSourceBlocks walks n arcs sources text = AreBlocks (IsBlock walks n arcs) sources text
+abbrev pub AreSourceBlocks : Bool → ℕ → List ArcRec → Option Growth → List ℕ → List ℕ → Type 0
+AreSourceBlocks walks n arcs growth sources text = AreBlocks (IsGrownBlock walks n arcs growth) sources text
 
 -- the blocks of the pairs, in their order
-abbrev pub ArePairBlocks : Bool → ℕ → List ArcRec → List (ℕ × ℕ) → List ℕ → Type 0
-ArePairBlocks walks n arcs pairs text = AreBlocks (IsPairBlock walks n arcs) pairs text
+abbrev pub ArePairBlocks : Bool → ℕ → List ArcRec → Option Growth → List (ℕ × ℕ) → List ℕ → Type 0
+ArePairBlocks walks n arcs growth pairs text = AreBlocks (IsGrownPair walks n arcs growth) pairs text
 
 -- the answer to what is asked; without a section of queries there is none
-abbrev pub AreAskedBlocks : Bool → ℕ → List ArcRec → Question → List ℕ → Type 0
-AreAskedBlocks walks n arcs absent text = ⊥
-AreAskedBlocks walks n arcs (from_sources sources) text = AreSourceBlocks walks n arcs sources text
-AreAskedBlocks walks n arcs (of_pairs pairs) text = ArePairBlocks walks n arcs pairs text
+abbrev pub AreAskedBlocks : Bool → ℕ → List ArcRec → Option Growth → Question → List ℕ → Type 0
+AreAskedBlocks walks n arcs growth absent text = ⊥
+AreAskedBlocks walks n arcs growth (from_sources sources) text = AreSourceBlocks walks n arcs growth sources text
+AreAskedBlocks walks n arcs growth (of_pairs pairs) text = ArePairBlocks walks n arcs growth pairs text
 
--- the lines of the components: the least labels from all vertices, along the arcs both ways and free
+-- the lines of the components: the least labels from all vertices, along arcs that stand both ways and free
 pub record IsComponentsBlock (n : ℕ) (arcs : List ArcRec) (text : List ℕ) : Type 0 where
   pub labels : List ℕ
-  pub least : AreLeastLabels n (both_ways arcs) (seeds_all n) labels
+  pub least : AreLeastLabels n arcs (seeds_all n) labels
   pub written : text ≡ components_text labels
 
+-- how a graph of these arcs grows by the added ones, in the arcs that are made of a list of arcs
+abbrev pub growth_from : (List ArcRec → List ArcRec) → List ArcRec → Option (List ArcRec) → Option Growth
+growth_from along arcs added =
+    option_map (λ more. record { count = length more; arcs = along (arcs ++ more) }) added
+
+-- how a job's graph grows, in the arcs along which an answer's labels are least
+abbrev pub growth_for : Answer → Content → Option Growth
+growth_for kind job = growth_from (arcs_for kind) job.arcs job.added
+
+-- the text of an answer kind, for the graph in which its labels are least: distances and levels answer what
+-- is asked, and components ask nothing
+abbrev pub IsTextFor : Answer → Bool → ℕ → List ArcRec → Option Growth → Question → List ℕ → Type 0
+IsTextFor answer.Distances walks n arcs growth question text = AreAskedBlocks walks n arcs growth question text
+IsTextFor answer.Levels walks n arcs growth question text = AreAskedBlocks walks n arcs growth question text
+IsTextFor answer.Components walks n arcs growth question text = IsGrownText (IsComponentsBlock n) arcs growth text
+
 -- the text answers the job: distances along its arcs or hop levels along the same arcs of weight 1, with
--- their walks or without; or components
+-- their walks or without; or components along its arcs both ways and free; and after each block, where the
+-- job adds arcs, how many, and the same block with them
 abbrev pub IsAnswerText : Answer → Bool → Content → List ℕ → Type 0
-IsAnswerText answer.Distances walks job text = AreAskedBlocks walks job.n job.arcs job.question text
-IsAnswerText answer.Levels walks job text =
-    AreAskedBlocks walks job.n (unit_weights job.arcs) job.question text
-IsAnswerText answer.Components walks job text = IsComponentsBlock job.n job.arcs text
+IsAnswerText kind walks job text =
+    IsTextFor kind walks job.n (arcs_for kind job.arcs) (growth_for kind job) job.question text
+
+-- there are no two texts of a kind
+abbrev pub IsOneText : (List ℕ → Type 0) → Type 0
+IsOneText IsText =
+    (first second : List ℕ)
+    → IsText first
+    → IsText second
+    → first ≡ second
 
 -- no query has two blocks
 abbrev pub IsOneBlock : {Query : Type 0} → (Query → List ℕ → Type 0) → Type 0
-IsOneBlock {Query} IsBlockOf =
-    (query : Query) (first second : List ℕ)
-    → IsBlockOf query first
-    → IsBlockOf query second
-    → first ≡ second
+IsOneBlock {Query} IsBlockOf = (query : Query) → IsOneText (IsBlockOf query)
 
--- a source has only one block of a kind, and so has a pair
+-- a source has only one block of a kind, and so have a pair and the components
 abbrev pub BlocksAreUnique : Type 0
 BlocksAreUnique =
-    (walks : Bool) (n : ℕ) (arcs : List ArcRec)
-    → IsOneBlock (IsBlock walks n arcs) × IsOneBlock (IsPairBlock walks n arcs)
+    (walks : Bool) (n : ℕ) (arcs : List ArcRec) (growth : Option Growth)
+    → IsOneBlock (IsGrownBlock walks n arcs growth)
+    × IsOneBlock (IsGrownPair walks n arcs growth)
+    × IsOneText (IsGrownText (IsComponentsBlock n) arcs growth)
 
 -- a job has only one answer text of a kind
 abbrev pub AnswerTextsAreUnique : Type 0
 AnswerTextsAreUnique =
-    (kind : Answer) (walks : Bool) (job : Content) (first second : List ℕ)
-    → IsAnswerText kind walks job first
-    → IsAnswerText kind walks job second
-    → first ≡ second
+    (kind : Answer) (walks : Bool) (job : Content)
+    → IsOneText (IsAnswerText kind walks job)

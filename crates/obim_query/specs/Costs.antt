@@ -6,7 +6,7 @@ use Rattle.route_walks.specs.Component.{IsComponentLabel}
 use Rattle.route_walks.specs.Walk.{IsWalk, cost}
 use Rattle.dimacs_text.specs.AnswerLines.{source_text, cost_line, pair_line, walk_text, component_text}
 use Rattle.dimacs_text.specs.Jobs.{Content, from_sources, of_pairs, IsWithinLimits}
-use Rattle.obim_query.specs.AnswerText.{AreBlocks, IsAnswerText, arcs_for}
+use Rattle.obim_query.specs.AnswerText.{AreBlocks, IsAnswerText, IsGrownText, arcs_for, growth_for, growth_from}
 use Rattle.obim_query.specs.declared.asked.Answer.{Answer}
 use Rattle.obim_query.specs.declared.asked.Answer.TheVariants.{Components}
 
@@ -57,7 +57,7 @@ SaysCosts walks n arcs source block =
     × (block ≡ source_text source ++ lines)
 
 -- the blocks of distances and levels say the costs from the sources of the job along its arcs, where each
--- counts 1 for levels
+-- counts 1 for levels; and where the job adds arcs, after each block the costs along all arcs
 abbrev pub AnswersSayCosts : Type 0
 AnswersSayCosts =
     (kind : Answer) (walks : Bool) (job : Content) (sources text : List ℕ)
@@ -65,7 +65,9 @@ AnswersSayCosts =
     → job.question ≡ from_sources sources
     → IsWithinLimits job
     → IsAnswerText kind walks job text
-    → AreBlocks (SaysCosts walks job.n (arcs_for kind job.arcs)) sources text
+    → AreBlocks
+    (λ source. IsGrownText (λ arcs. SaysCosts walks job.n arcs source) (arcs_for kind job.arcs) (growth_for kind job))
+    sources text
 
 -- the lines of a pair say the cost from its source to its target, with the walk
 abbrev pub SaysPairCost : Bool → List ArcRec → ℕ × ℕ → List ℕ → Type 0
@@ -84,7 +86,9 @@ AnswersSayPairCosts =
     → job.question ≡ of_pairs pairs
     → IsWithinLimits job
     → IsAnswerText kind walks job text
-    → AreBlocks (SaysPairCost walks (arcs_for kind job.arcs)) pairs text
+    → AreBlocks
+    (λ pair. IsGrownText (λ arcs. SaysPairCost walks arcs pair) (arcs_for kind job.arcs) (growth_for kind job))
+    pairs text
 
 -- the lines of so many vertices from v on: 'k V LABEL' for each, of the least vertex connected with it
 abbrev pub AreComponentLines : List ArcRec → ℕ → ℕ → List ℕ → Type 0
@@ -96,10 +100,11 @@ AreComponentLines arcs v (suc count) text =
     × AreComponentLines arcs (v + 1) count rest
     × (text ≡ component_text v least ++ rest)
 
--- the lines of components say the least vertex that is connected with each one along the job's arcs
+-- the lines of components say the least vertex that is connected with each one along the job's arcs, and
+-- where arcs are added, after them along all arcs
 abbrev pub AnswersSayComponents : Type 0
 AnswersSayComponents =
     (walks : Bool) (job : Content) (text : List ℕ)
     → IsWithinLimits job
     → IsAnswerText Components walks job text
-    → AreComponentLines job.arcs 0 job.n text
+    → IsGrownText (λ arcs. AreComponentLines arcs 0 job.n) job.arcs (growth_from (λ arcs. arcs) job.arcs job.added) text

@@ -1,6 +1,7 @@
 pub mod Choices
 pub mod Bytes
 pub mod AnswerText
+pub mod Graphs
 pub mod Outcome
 pub mod Costs
 pub mod Existence

@@ -1,8 +1,8 @@
 -- What a run of the program has read and written, for each outcome.
-use Rattle.std.specs.Prelude.{◌≡◌, ◌≢◌, ◌<◌, ◌≤◌, ◌⊎◌, ℕ, Bool, List, length, Option, ⊤}
+use Rattle.std.specs.Prelude.{◌≡◌, ◌≢◌, ◌<◌, ◌≤◌, ◌⊎◌, ℕ, Bool, true, false, List, length, Option, ⊤}
 use Rattle.std.specs.Io.KnownBytes.{Keeps}
 use Rattle.dimacs_text.specs.declared.fault.LineKind.{LineKind}
-use Rattle.dimacs_text.specs.Jobs.{Content, absent, IsJobText, IsWithinLimits}
+use Rattle.dimacs_text.specs.Jobs.{Content, Question, absent, from_sources, of_pairs, IsJobText, IsWithinLimits}
 use Rattle.dimacs_text.specs.Faults.{IsFirstFault}
 use Rattle.obim_query.specs.declared.asked.Answer.{Answer}
 use Rattle.obim_query.specs.declared.asked.Answer.TheVariants as answer
@@ -25,6 +25,16 @@ pub record IsAnswered (limit : ℕ) (kind : Answer) (walks : Bool)
   pub job : Content
   pub request : IsRequest limit taken_from taken_to job
   pub reply : Writes (IsAnswerText kind walks job) given_from given_to
+
+-- without a section of queries nothing is asked, but for components, which need none
+abbrev pub is_unasked : Answer → Question → Bool
+is_unasked answer.Distances absent = true
+is_unasked answer.Distances (from_sources sources) = false
+is_unasked answer.Distances (of_pairs pairs) = false
+is_unasked answer.Levels absent = true
+is_unasked answer.Levels (from_sources sources) = false
+is_unasked answer.Levels (of_pairs pairs) = false
+is_unasked answer.Components question = false
 
 -- the job has no section of queries, and only components need none
 pub record IsUnasked (kind : Answer) (job : Content) : Type 0 where

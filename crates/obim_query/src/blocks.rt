@@ -1,25 +1,27 @@
 //! Which lines make the blocks of an answer?
 
 ghost use Rattle.std.specs.Prelude.{◌≡◌, ◌<◌, ◌≤◌, ◌++◌, ◌↔◌, length, slice_index};
-ghost use Rattle.std.specs.Prelude.{All, IfErr, OnErr, OnOk};
-ghost use Rattle.std.specs.Io.KnownBytes.{Appends};
+ghost use Rattle.std.specs.Prelude.{All, IfErr, OnErr, OnOk, Some};
 ghost use Rattle.dimacs_text.specs.AnswerLines.{distances_text, components_text};
 ghost use Rattle.route_walks.specs.Label.{AreLeastLabels};
 ghost use Rattle.route_walks.specs.Operators.{seeds_from};
 ghost use Rattle.walk_report.specs.Parent.{LeadBack};
-ghost use Rattle.obim_query.specs.AnswerText.{AreSourceBlocks, IsBlock, vertex_text, walks_text};
-ghost use Rattle.obim_query.specs.AnswerText.{walk_line, AreReached};
+ghost use Rattle.obim_query.specs.AnswerText.{AreSourceBlocks, IsBlock, IsComponentsBlock, IsGrownText};
+ghost use Rattle.obim_query.specs.AnswerText.{AreReached, vertex_text, walk_line, walks_text};
 ghost use Rattle.obim_query.specs.Bytes.{GivesPrefix, Puts, PutsPrefix, Waits, Writes, WritesPrefix};
+ghost use Rattle.obim_query.specs.Graphs.{AreGraphs, GrowsTo, growth_of};
 ghost use Rattle.obim_query.specs.Outcome.{IsWritingFault};
+ghost use Rattle.obim_query.specs.Solves.{IsGrownStart, IsRest, IsStartBlock, IsStartWithin, seeds_at};
 
 use crate::asked::Asked;
 use crate::fault::Fault;
 use crate::figures::{Figures, Phase};
+use crate::graphs::{Graphs, Grown};
 use crate::laws::blocks_are_unique;
 use crate::outlet::Waiting;
-use crate::solves::Solve;
+use crate::solves::{Solve, Start};
 use csr_graph::Csr;
-use dimacs_text::{put_component, put_label, put_source, put_walk};
+use dimacs_text::{put_component, put_grown, put_label, put_source, put_walk};
 use obim_engine::Gate;
 use route_walks::{INF, MAX_VERTICES, Memory};
 use std::alloc::Global;
@@ -30,71 +32,217 @@ use std::time::Clock;
 use walk_report::{NONE, hops, parents, walk_to};
 
 /// Writes the block of each source in turn: the least labels from it along the rows, with their walks
-/// where they are asked for.
+/// where they are asked for. Where the rows grow, the same in the grown graph comes after each block.
 pub fn write_sources<H: Threads + Wait + Clock + Sync, W: Write, G: Gate + Sync>(
     rt: &H,
     alloc: Global,
     writer: &mut W,
-    csr: &Csr,
+    graphs: &Graphs,
     sources: &[u32],
     asked: &Asked,
     gate: &G,
     figures: &mut Figures,
 ) -> Result<(), Fault>
-    requires vertices { csr.now.n ≤ MAX_VERTICES }
-    requires sources { All (λ source. source < csr.now.n) sources.now }
-    ensures blocks { OnOk result (Writes
-        (AreSourceBlocks asked.now.walks csr.now.n csr.now.arcs sources.now)
+    requires graphs { AreGraphs graphs.now }
+    requires sources { All (λ source. source < graphs.now.rows.n) sources.now }
+    ensures blocks { OnOk result (Writes (AreSourceBlocks asked.now.walks graphs.now.rows.n
+        graphs.now.rows.arcs (growth_of graphs.now.grown) sources.now)
         (W.contents writer.old) (W.contents writer.new)) }
-    ensures prefix { OnErr result (WritesPrefix
-        (AreSourceBlocks asked.now.walks csr.now.n csr.now.arcs sources.now)
+    ensures prefix { OnErr result (WritesPrefix (AreSourceBlocks asked.now.walks graphs.now.rows.n
+        graphs.now.rows.arcs (growth_of graphs.now.grown) sources.now)
         (W.contents writer.old) (W.contents writer.new)) }
     ensures kinds { IfErr result IsWritingFault }
 {
     // So what is a prefix of these blocks is one of the blocks that another run would write.
     blocks_are_unique();
     let mut waiting = Waiting::new(alloc);
-    for (place, source) in sources.iter().enumerate() {
+    for place in 0..sources.len() {
         let solve = Solve::of_source(sources, place);
-        let labels = solve.run(rt, alloc, csr, &asked.settings, gate, figures)?;
-        put_block(
+        put_solved(
+            rt,
             alloc,
             writer,
             &mut waiting,
-            csr,
-            asked.walks,
-            *source,
-            &labels,
+            graphs,
+            solve.start,
+            asked,
+            gate,
+            figures,
         )?;
-        figures.end(rt, Phase::Writing);
     }
     waiting.finish(writer)
 }
 
-/// Writes the block of the components.
-pub fn write_components<W: Write>(
+/// Writes the block of the components, and where the rows grow that of the grown graph.
+pub fn write_components<H: Threads + Wait + Clock + Sync, W: Write, G: Gate + Sync>(
+    rt: &H,
     alloc: Global,
     writer: &mut W,
+    graphs: &Graphs,
+    asked: &Asked,
+    gate: &G,
+    figures: &mut Figures,
+) -> Result<(), Fault>
+    requires graphs { AreGraphs graphs.now }
+    ensures block { OnOk result (Writes (IsGrownText (IsComponentsBlock graphs.now.rows.n)
+        graphs.now.rows.arcs (growth_of graphs.now.grown)) (W.contents writer.old) (W.contents writer.new)) }
+    ensures prefix { OnErr result (WritesPrefix (IsGrownText (IsComponentsBlock graphs.now.rows.n)
+        graphs.now.rows.arcs (growth_of graphs.now.grown)) (W.contents writer.old) (W.contents writer.new)) }
+    ensures kinds { IfErr result IsWritingFault }
+{
+    blocks_are_unique();
+    let mut waiting = Waiting::new(alloc);
+    let start = Solve::of_components().start;
+    put_solved(
+        rt,
+        alloc,
+        writer,
+        &mut waiting,
+        graphs,
+        start,
+        asked,
+        gate,
+        figures,
+    )?;
+    waiting.finish(writer)
+}
+
+/// Solves from a start, and puts the block of the labels after what waits. Where the rows grow, what comes
+/// after it is put too.
+fn put_solved<H: Threads + Wait + Clock + Sync, W: Write, G: Gate + Sync>(
+    rt: &H,
+    alloc: Global,
+    writer: &mut W,
+    waiting: &mut Waiting,
+    graphs: &Graphs,
+    start: Start,
+    asked: &Asked,
+    gate: &G,
+    figures: &mut Figures,
+) -> Result<(), Fault>
+    requires graphs { AreGraphs graphs.now }
+    requires start { IsStartWithin graphs.now.rows.n start }
+    ensures block { OnOk result (Puts (IsGrownStart asked.now.walks graphs.now.rows.n
+        graphs.now.rows.arcs (growth_of graphs.now.grown) start)
+        (W.contents writer.old) (W.contents writer.new) waiting.old.bytes.items waiting.new.bytes.items) }
+    ensures prefix { OnErr result (PutsPrefix (IsGrownStart asked.now.walks graphs.now.rows.n
+        graphs.now.rows.arcs (growth_of graphs.now.grown) start)
+        (W.contents writer.old) (W.contents writer.new) waiting.old.bytes.items) }
+    ensures kinds { IfErr result IsWritingFault }
+{
+    blocks_are_unique();
+    let rows = &graphs.rows;
+    let labels = start.solve(rt, alloc, rows, &asked.settings, gate, figures)?;
+    put_block(alloc, writer, waiting, rows, asked.walks, start, &labels)?;
+    figures.end(rt, Phase::Writing);
+    match &graphs.grown {
+        None => Ok(()),
+        Some(grown) => put_grown_block(
+            rt, alloc, writer, waiting, rows, grown, start, labels, asked, gate, figures,
+        ),
+    }
+}
+
+/// Puts the line of how many arcs are added, and the block of the grown graph. The labels are those along
+/// the rows before.
+fn put_grown_block<H: Threads + Wait + Clock + Sync, W: Write, G: Gate + Sync>(
+    rt: &H,
+    alloc: Global,
+    writer: &mut W,
+    waiting: &mut Waiting,
+    rows: &Csr,
+    grown: &Grown,
+    start: Start,
+    labels: Vec<u64>,
+    asked: &Asked,
+    gate: &G,
+    figures: &mut Figures,
+) -> Result<(), Fault>
+    requires vertices { rows.now.n ≤ MAX_VERTICES }
+    requires start { IsStartWithin rows.now.n start }
+    requires least { AreLeastLabels rows.now.n rows.now.arcs (seeds_at rows.now.n start) labels.items }
+    requires grows { GrowsTo rows.now (Some grown.now) }
+    ensures block { OnOk result (Puts (IsRest grown.now.count
+        (IsStartBlock asked.now.walks start rows.now.n grown.now.rows.arcs))
+        (W.contents writer.old) (W.contents writer.new) waiting.old.bytes.items waiting.new.bytes.items) }
+    ensures prefix { OnErr result (PutsPrefix (IsRest grown.now.count
+        (IsStartBlock asked.now.walks start rows.now.n grown.now.rows.arcs))
+        (W.contents writer.old) (W.contents writer.new) waiting.old.bytes.items) }
+    ensures kinds { IfErr result IsWritingFault }
+{
+    let labels = start.solve_grown(
+        rt,
+        alloc,
+        rows,
+        grown,
+        labels,
+        &asked.settings,
+        gate,
+        figures,
+    )?;
+    put_grown(&mut waiting.bytes, grown.count)?;
+    put_block(
+        alloc,
+        writer,
+        waiting,
+        &grown.rows,
+        asked.walks,
+        start,
+        &labels,
+    )?;
+    figures.end(rt, Phase::Writing);
+    Ok(())
+}
+
+/// Puts the block of a start after what waits, and writes what is full of it.
+fn put_block<W: Write>(
+    alloc: Global,
+    writer: &mut W,
+    waiting: &mut Waiting,
+    csr: &Csr,
+    walks: bool,
+    start: Start,
+    labels: &[u64],
+) -> Result<(), Fault>
+    requires vertices { csr.now.n ≤ MAX_VERTICES }
+    requires start { IsStartWithin csr.now.n start }
+    requires least { AreLeastLabels csr.now.n csr.now.arcs (seeds_at csr.now.n start) labels.now }
+    ensures block { OnOk result (Puts (IsStartBlock walks start csr.now.n csr.now.arcs)
+        (W.contents writer.old) (W.contents writer.new) waiting.old.bytes.items waiting.new.bytes.items) }
+    ensures prefix { OnErr result (PutsPrefix (IsStartBlock walks start csr.now.n csr.now.arcs)
+        (W.contents writer.old) (W.contents writer.new) waiting.old.bytes.items) }
+    ensures kinds { IfErr result IsWritingFault }
+{
+    blocks_are_unique();
+    match start {
+        Start::At(source) => put_source_block(alloc, writer, waiting, csr, walks, source, labels),
+        Start::Everywhere => put_components(writer, waiting, labels),
+    }
+}
+
+/// Puts the lines of the components.
+fn put_components<W: Write>(
+    writer: &mut W,
+    waiting: &mut Waiting,
     labels: &[u64],
 ) -> Result<(), Fault>
     requires vertices { length labels.now ≤ MAX_VERTICES }
     requires finite { All (λ label. label < INF) labels.now }
-    ensures block { OnOk result (Appends
-        (W.contents writer.old) (W.contents writer.new) (components_text labels.now)) }
-    ensures prefix { OnErr result (GivesPrefix
-        (W.contents writer.old) (W.contents writer.new) (components_text labels.now)) }
+    ensures sent { OnOk result (Waits (W.contents writer.old) (W.contents writer.new)
+        waiting.new.bytes.items (waiting.old.bytes.items ++ components_text labels.now)) }
+    ensures prefix { OnErr result (GivesPrefix (W.contents writer.old) (W.contents writer.new)
+        (waiting.old.bytes.items ++ components_text labels.now)) }
     ensures kinds { IfErr result IsWritingFault }
 {
-    let mut waiting = Waiting::new(alloc);
     for (v, label) in labels.iter().enumerate() {
         put_component(&mut waiting.bytes, v as u32, *label)?;
         waiting.send_if_full(writer)?;
     }
-    waiting.finish(writer)
+    Ok(())
 }
 
 /// Puts the block of a source after what waits, and writes what is full of it.
-fn put_block<W: Write>(
+fn put_source_block<W: Write>(
     alloc: Global,
     writer: &mut W,
     waiting: &mut Waiting,

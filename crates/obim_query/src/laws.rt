@@ -11,7 +11,7 @@ use walk_report::laws::{
     hops_and_parents_are_unique, hops_and_parents_exist, printed_walks_are_walks,
 };
 
-/// A source has only one block of a kind, and so has a pair.
+/// A source has only one block of a kind, and so have a pair and the components.
 pub fn blocks_are_unique()
     ensures { BlocksAreUnique }
 {
@@ -24,7 +24,6 @@ pub fn blocks_are_unique()
 pub fn answer_texts_are_unique()
     ensures { AnswerTextsAreUnique }
 {
-    least_labels_are_unique();
     blocks_are_unique();
 }
 

@@ -1,24 +1,24 @@
 //! How do the bytes of a job text become the bytes of its answer?
 
-ghost use Rattle.std.specs.Prelude.{◌≤◌, ◌^◌, IfOk, IfErr, OnOk};
-ghost use Rattle.dimacs_text.specs.Jobs.{content_of, IsWithinLimits};
-ghost use Rattle.obim_query.specs.AnswerText.{IsAnswerText};
-ghost use Rattle.obim_query.specs.Bytes.{Writes};
+ghost use Rattle.std.specs.Prelude.{◌≡◌, ◌≤◌, ◌^◌, false, IfOk, IfErr, OnErr, OnOk};
+ghost use Rattle.dimacs_text.specs.Jobs.{content_of, question_of, IsQuestionWithin, IsWithinLimits};
+ghost use Rattle.obim_query.specs.AnswerText.{IsAnswerText, IsTextFor};
+ghost use Rattle.obim_query.specs.Bytes.{Writes, WritesPrefix};
+ghost use Rattle.obim_query.specs.Graphs.{AreGraphs, growth_of};
 ghost use Rattle.obim_query.specs.Outcome.{HasTaken, HasWritten, IsAnswerOf, IsAnswered, IsReplyFault};
 ghost use Rattle.obim_query.specs.Outcome.{IsRequest, IsRequestFault, IsTrueOfBytes, IsTrueOfText};
+ghost use Rattle.obim_query.specs.Outcome.{IsWritingFault, is_unasked};
 
 use crate::asked::{Answer, Asked};
 use crate::blocks::{write_components, write_sources};
 use crate::fault::Fault;
 use crate::figures::{Figures, Phase};
+use crate::graphs::{Graphs, graphs_for};
 use crate::intake::read_request;
-use crate::laws::answer_texts_are_unique;
-use crate::operators::rows_for;
 use crate::pairs::write_pairs;
-use crate::solves::Solve;
 use dimacs_text::{Ask, Job};
 use obim_engine::Gate;
-use route_walks::laws::{least_labels_are_components, least_labels_follow_the_arcs};
+use route_walks::laws::least_labels_follow_the_arcs;
 use std::alloc::Global;
 use std::io::{Read, Write};
 use std::sync::Wait;
@@ -120,35 +120,69 @@ fn respond<H: Threads + Wait + Clock + Sync, W: Write, G: Gate + Sync>(
     ensures says { IfErr result (IsReplyFault asked.now.answer asked.now.walks (content_of job)
         (W.contents writer.old) (W.contents writer.new)) }
 {
-    let Job { n, arcs, ask } = job;
     // What is least in the rows is least for the arcs that they were built of, and so are its walks.
     least_labels_follow_the_arcs();
     hops_and_parents_follow_the_arcs();
-    answer_texts_are_unique();
+    if is_unasked(asked.answer, &job.ask) {
+        return Err(Fault::NoAsk);
+    }
+    let Job {
+        n,
+        arcs,
+        ask,
+        added,
+    } = job;
+    let graphs = graphs_for(alloc, asked.answer, n, arcs, added)?;
+    figures.see_rows(&graphs.rows);
+    figures.end(rt, Phase::Rows);
+    write_text(rt, alloc, writer, &graphs, &ask, asked, gate, figures)
+}
+
+/// Whether the job asks for nothing: it has no section of queries, and the answer needs one.
+fn is_unasked(answer: Answer, ask: &Ask) -> bool
+    ensures { result ≡ is_unasked answer (question_of ask.now) }
+{
+    match answer {
+        Answer::Components => false,
+        Answer::Distances | Answer::Levels => match ask {
+            Ask::Absent => true,
+            Ask::Sources(_) | Ask::Pairs(_) => false,
+        },
+    }
+}
+
+/// Writes the text of what is asked along the rows.
+fn write_text<H: Threads + Wait + Clock + Sync, W: Write, G: Gate + Sync>(
+    rt: &H,
+    alloc: Global,
+    writer: &mut W,
+    graphs: &Graphs,
+    ask: &Ask,
+    asked: &Asked,
+    gate: &G,
+    figures: &mut Figures,
+) -> Result<(), Fault>
+    requires graphs { AreGraphs graphs.now }
+    requires question { IsQuestionWithin graphs.now.rows.n (question_of ask.now) }
+    requires asked { is_unasked asked.now.answer (question_of ask.now) ≡ false }
+    ensures text { OnOk result (Writes (IsTextFor asked.now.answer asked.now.walks graphs.now.rows.n
+        graphs.now.rows.arcs (growth_of graphs.now.grown) (question_of ask.now))
+        (W.contents writer.old) (W.contents writer.new)) }
+    ensures prefix { OnErr result (WritesPrefix (IsTextFor asked.now.answer asked.now.walks graphs.now.rows.n
+        graphs.now.rows.arcs (growth_of graphs.now.grown) (question_of ask.now))
+        (W.contents writer.old) (W.contents writer.new)) }
+    ensures kinds { IfErr result IsWritingFault }
+{
     match (asked.answer, ask) {
         (Answer::Components, _) => {
-            let csr = rows_for(alloc, Answer::Components, n, arcs)?;
-            figures.see_rows(&csr);
-            figures.end(rt, Phase::Rows);
-            let solve = Solve::of_components();
-            let labels = solve.run(rt, alloc, &csr, &asked.settings, gate, figures)?;
-            drop(csr);
-            // So each label is the number of a vertex, and none is INF.
-            least_labels_are_components();
-            write_components(alloc, writer, &labels)
+            write_components(rt, alloc, writer, graphs, asked, gate, figures)
         }
-        (_, Ask::Absent) => Err(Fault::NoAsk),
-        (answer, Ask::Sources(sources)) => {
-            let csr = rows_for(alloc, answer, n, arcs)?;
-            figures.see_rows(&csr);
-            figures.end(rt, Phase::Rows);
-            write_sources(rt, alloc, writer, &csr, &sources, asked, gate, figures)
+        (_, Ask::Sources(sources)) => {
+            write_sources(rt, alloc, writer, graphs, sources, asked, gate, figures)
         }
-        (answer, Ask::Pairs(pairs)) => {
-            let csr = rows_for(alloc, answer, n, arcs)?;
-            figures.see_rows(&csr);
-            figures.end(rt, Phase::Rows);
-            write_pairs(rt, alloc, writer, &csr, &pairs, asked, gate, figures)
+        (_, Ask::Pairs(pairs)) => {
+            write_pairs(rt, alloc, writer, graphs, pairs, asked, gate, figures)
         }
+        (_, Ask::Absent) => unreachable!(),
     }
 }

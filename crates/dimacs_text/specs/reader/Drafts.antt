@@ -4,7 +4,7 @@ use Rattle.std.specs.Prelude.{Option, Some, None, Ok, Err, ◌⊎◌, slice_inde
 use Rattle.route_walks.specs.declared.graph.ArcRec.{ArcRec}
 use Rattle.route_walks.specs.declared.graph.TheConstants.{MAX_VERTICES}
 use Rattle.dimacs_text.specs.declared.draft.Draft.{Draft}
-use Rattle.dimacs_text.specs.declared.form.Section.TheVariants.{Problem, Sources, Pairs}
+use Rattle.dimacs_text.specs.declared.form.Section.TheVariants.{Problem, Sources, Pairs, Added}
 use Rattle.dimacs_text.specs.declared.fault.LineKind.{LineKind}
 use Rattle.dimacs_text.specs.declared.fault.LineKind.TheVariants.{TooFew, NoProblem}
 use Rattle.dimacs_text.specs.declared.fault.TextFault.{TextFault}
@@ -13,8 +13,9 @@ use Rattle.dimacs_text.specs.Forms.{Record, reading, readings, vertices_next}
 use Rattle.dimacs_text.specs.Lines.{lines}
 use Rattle.dimacs_text.specs.Grammar.{Token, token_of}
 use Rattle.dimacs_text.specs.Faults.{IsFaultOf, tokens_among}
-use Rattle.dimacs_text.specs.Jobs.{arc_record, source_record, pair_record, problem_record}
-use Rattle.dimacs_text.specs.Jobs.{sources_record, pairs_record, records_among}
+use Rattle.dimacs_text.specs.Jobs.{Question, absent, from_sources, of_pairs, arc_record, source_record}
+use Rattle.dimacs_text.specs.Jobs.{pair_record, problem_record, sources_record, pairs_record}
+use Rattle.dimacs_text.specs.Jobs.{added_record, records_of_question, records_among}
 use Rattle.dimacs_text.specs.reader.Machine.{next_at, run, misfit_at}
 use Rattle.dimacs_text.specs.declared.stage.Stage.{Stage}
 use Rattle.dimacs_text.specs.declared.stage.Stage.TheVariants.{Start, Within}
@@ -25,25 +26,48 @@ pub record Progress : Type 0 where
   pub stage : Stage
   pub vertices : ℕ
 
--- the records that were read
-abbrev pub records_by : Stage → ℕ → List ArcRec → List ℕ → List (ℕ × ℕ) → List Record
-records_by Start n arcs sources pairs = []
-records_by (Within Problem missing) n arcs sources pairs =
-    problem_record n (length arcs + missing) ∷ map arc_record arcs
-records_by (Within Sources missing) n arcs sources pairs =
-    (problem_record n (length arcs) ∷ map arc_record arcs)
-    ++ sources_record (length sources + missing) ∷ map source_record sources
-records_by (Within Pairs missing) n arcs sources pairs =
-    (problem_record n (length arcs) ∷ map arc_record arcs)
-    ++ pairs_record (length pairs + missing) ∷ map pair_record pairs
+-- what is asked by the section that the reader is in
+abbrev pub question_at : Stage → List ℕ → List (ℕ × ℕ) → Question
+question_at Start sources pairs = absent
+question_at (Within Problem missing) sources pairs = absent
+question_at (Within Sources missing) sources pairs = from_sources sources
+question_at (Within Pairs missing) sources pairs = of_pairs pairs
+question_at (Within Added missing) sources pairs = absent
 
-abbrev pub progress_by : Stage → ℕ → List ArcRec → List ℕ → List (ℕ × ℕ) → Progress
-progress_by stage n arcs sources pairs =
-    record { records = records_by stage n arcs sources pairs; stage = stage; vertices = n }
+-- the problem line, and its arcs, of which so many are still to come
+abbrev pub graph_records : ℕ → ℕ → List ArcRec → List Record
+graph_records n missing arcs = problem_record n (length arcs + missing) ∷ map arc_record arcs
+
+-- the records that were read, where the first stage is that of the reader, and the second the one before
+-- the added section
+abbrev pub records_by : Stage → Stage → ℕ → List ArcRec → List ℕ → List (ℕ × ℕ) → List ArcRec → List Record
+records_by Start before n arcs sources pairs added = []
+records_by (Within Problem missing) before n arcs sources pairs added = graph_records n missing arcs
+records_by (Within Sources missing) before n arcs sources pairs added =
+    graph_records n 0 arcs
+    ++ sources_record (length sources + missing) ∷ map source_record sources
+records_by (Within Pairs missing) before n arcs sources pairs added =
+    graph_records n 0 arcs
+    ++ pairs_record (length pairs + missing) ∷ map pair_record pairs
+records_by (Within Added missing) before n arcs sources pairs added =
+    graph_records n 0 arcs
+    ++ records_of_question (question_at before sources pairs)
+    ++ added_record (length added + missing) ∷ map arc_record added
+
+-- where the arcs of the problem are read, of which so many are still to come
+abbrev pub arcs_progress : ℕ → ℕ → List ArcRec → Progress
+arcs_progress n missing arcs =
+    record { records = graph_records n missing arcs; stage = Within Problem missing; vertices = n }
 
 abbrev pub progress_of : Draft → Progress
 progress_of draft =
-    progress_by draft.stage draft.vertices draft.arcs.items draft.sources.items draft.pairs.items
+    record {
+      records =
+          records_by draft.stage draft.before_added draft.vertices draft.arcs.items draft.sources.items
+          draft.pairs.items draft.added.items;
+      stage = draft.stage;
+      vertices = draft.vertices;
+    }
 
 abbrev pub token_in : Record → Token
 token_in r = token_of r.form r.numbers
@@ -91,10 +115,9 @@ ReadsTo old line rest new next after =
 -- arcs that were added to the old ones, a line each
 abbrev pub ReadsArcs : ℕ → List ℕ → List ArcRec → List ArcRec → ℕ → List ℕ → Type 0
 ReadsArcs n rest old new count after =
-    (missing line : ℕ) (sources : List ℕ) (pairs : List (ℕ × ℕ))
+    (missing line : ℕ)
     → count ≤ missing
-    → ReadsTo (progress_by (Within Problem missing) n old sources pairs) line rest
-    (progress_by (Within Problem (missing - count)) n new sources pairs) (line + count) after
+    → ReadsTo (arcs_progress n missing old) line rest (arcs_progress n (missing - count) new) (line + count) after
 
 -- the first line that is wrong is one of the rest, whatever the text is in which it stands
 abbrev pub IsFaultIn : Progress → ℕ → List ℕ → TextFault → Type 0

@@ -7,7 +7,7 @@ use Rattle.dimacs_text.specs.declared.form.Limit.{Limit}
 use Rattle.dimacs_text.specs.declared.fault.LineKind.{LineKind}
 use Rattle.dimacs_text.specs.Forms.{Record, Reading, begins_with}
 use Rattle.dimacs_text.specs.Jobs.{arc_record, source_record, pair_record}
-use Rattle.dimacs_text.specs.Jobs.{problem_record, sources_record, pairs_record}
+use Rattle.dimacs_text.specs.Jobs.{problem_record, sources_record, pairs_record, added_record}
 use Rattle.dimacs_text.specs.declared.form.Entry.TheVariants as entry
 
 abbrev pub record_of : Entry → Record
@@ -17,6 +17,7 @@ record_of (entry.Sources count) = sources_record count
 record_of (entry.Source vertex) = source_record vertex
 record_of (entry.Pairs count) = pairs_record count
 record_of (entry.Pair source target) = pair_record (source, target)
+record_of (entry.Added count) = added_record count
 
 -- what was read of a line, as what the line says
 abbrev pub said_by : Result (Option Entry) LineKind → Reading

@@ -1,5 +1,5 @@
 -- Where the reader stands, and what can come there. Not part of what a caller is promised:
--- proofs/Machine.antt ties it to the legal lists of Shapes.antt.
+-- proofs/Machine.antt ties it to the legal lists of Grammar.antt.
 use Rattle.std.specs.Prelude.{ℕ, zero, suc, Bool, false, cond, nat_eq, List, [], ◌∷◌, Option, Some, None}
 use Rattle.dimacs_text.specs.declared.form.Section.{Section}
 use Rattle.dimacs_text.specs.declared.form.Item.{Item}

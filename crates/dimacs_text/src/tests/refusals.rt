@@ -4,8 +4,8 @@
 
 use crate::tests::{GRAPH, assert_job, joined};
 use crate::{
-    JobReader, LineKind, TextFault, put_component, put_components, put_distances, put_label,
-    put_pair, put_source, put_walk, read_job,
+    JobReader, LineKind, TextFault, put_component, put_components, put_distances, put_grown,
+    put_label, put_pair, put_source, put_walk, read_job,
 };
 use route_walks::{ArcRec, INF, Memory, refusable, tried_again};
 use std::alloc::Global;
@@ -13,6 +13,9 @@ use std::test::Fail;
 
 // What stands in a vector before a call puts its lines there.
 const FRONT: &[u8] = b"c\n";
+
+// Sources and an added arc, for the graph of 6 vertices.
+const QUERIES: &[u8] = b"p aux sp ss 3\ns 3\ns 5\ns 3\np aux sp add 1\na 1 6 4";
 
 // More vertices than a walk's line has room for at first.
 const WALK: [u32; 12] = [0, 2, 4, 1, 3, 5, 3, 2, 4, 1, 3, 5];
@@ -39,11 +42,15 @@ fn feed_both(reader: &mut JobReader, front: &[u8], back: &[u8]) -> Result<(), Me
 #[test]
 fn of_read_job(rt: HostRuntime) -> Result<(), Fail> {
     let alloc = rt.alloc();
-    let text = joined(alloc, GRAPH, b"p aux sp ss 3\ns 3\ns 5\ns 3")?;
+    let text = joined(alloc, GRAPH, QUERIES)?;
     assert!(rt; text.len() < 1000);
     let job = tried_again!(rt, alloc, TextFault::Memory, read_job(alloc, &text));
     assert_eq!(rt; job.arcs.len(), 8);
     assert_job(&rt, &job, 6, ArcRec::new(4, 5, 20), &[2, 4, 2]);
+    assert_eq!(rt;
+        job.added.as_deref(),
+        Some([ArcRec::new(0, 5, 4)].as_slice())
+    );
     Ok(())
 }
 
@@ -51,7 +58,7 @@ fn of_read_job(rt: HostRuntime) -> Result<(), Fail> {
 #[test]
 fn of_job_reader_feed(rt: HostRuntime) -> Result<(), Fail> {
     let alloc = rt.alloc();
-    let text = joined(alloc, GRAPH, b"p aux sp ss 3\ns 3\ns 5\ns 3")?;
+    let text = joined(alloc, GRAPH, QUERIES)?;
     for cut in [0, 5, 30, 90] {
         let (front, back) = text.split_at(text.len().min(cut));
         let mut reader = JobReader::new(alloc);
@@ -61,6 +68,10 @@ fn of_job_reader_feed(rt: HostRuntime) -> Result<(), Fail> {
         }
         let job = reader.finish()?;
         assert_job(&rt, &job, 6, ArcRec::new(4, 5, 20), &[2, 4, 2]);
+        assert_eq!(rt;
+            job.added.as_deref(),
+            Some([ArcRec::new(0, 5, 4)].as_slice())
+        );
     }
     Ok(())
 }
@@ -147,5 +158,11 @@ fn of_put_walk(rt: HostRuntime) -> Result<(), Fail> {
 #[test]
 fn of_put_pair(rt: HostRuntime) -> Result<(), Fail> {
     expect_put!(rt, out, put_pair(&mut out, 0, 5, INF), "c\nq 1 6 inf\n");
+    Ok(())
+}
+
+#[test]
+fn of_put_grown(rt: HostRuntime) -> Result<(), Fail> {
+    expect_put!(rt, out, put_grown(&mut out, 1), "c\ng 1\n");
     Ok(())
 }

@@ -1,41 +1,25 @@
-use Rattle.std.proofs.Common.{refl, slice_index}
+use Rattle.std.proofs.Common.{None, refl, arith}
 use Rattle.std.proofs.lemmas.Result.{on_err_weaker}
-use Rattle.dimacs_text.specs.AnswerLines.{distances_text}
-use Rattle.obim_query.specs.AnswerText.{IsBlock, walks_text}
+use Rattle.dimacs_text.specs.AnswerLines.{components_text}
+use Rattle.obim_query.specs.AnswerText.{IsComponentsBlock}
 use Rattle.obim_query.proofs.Prefixes.{only-text}
+use Rattle.obim_query.proofs.Starts.{labels-finite}
 use Rattle.obim_query.proofs.blocks.put_block.Goals as goal
 
-pub returns-else-walks-clause-prefix : goal.returns-else-walks-clause-prefix
-returns-else-walks-clause-prefix g c =
+pub put_components-requires-clause-finite : goal.put_components-requires-clause-finite
+put_components-requires-clause-finite g c =
     let csr = c.args.csr.now in
-    let text = distances_text c.args.source c.args.labels.now in
-    let is_block : IsBlock c.args.walks csr.n csr.arcs c.args.source text =
-    rw c.if-walks.false (record { labels = c.args.labels.now; least = c.requires.least; written = refl }) in
-    on_err_weaker c.put_labels.result
-    (only-text (IsBlock c.args.walks csr.n csr.arcs c.args.source) _ _ c.args.waiting.now.bytes.items text
-    (λ other. (c.blocks_are_unique.ensures c.args.walks csr.n csr.arcs).0 c.args.source text other is_block))
-    c.put_labels.ensures.prefix
+    labels-finite csr.n csr.arcs c.args.labels.now (omega (arith, c.requires.vertices))
+    (rw c.in-Everywhere.is at c.requires.least)
 
-pub returns-in_ok-parents-clause-prefix : goal.returns-in_ok-parents-clause-prefix
-returns-in_ok-parents-clause-prefix g c =
+pub returns-in-Everywhere-clause-prefix : goal.returns-in-Everywhere-clause-prefix
+returns-in-Everywhere-clause-prefix g c =
     let csr = c.args.csr.now in
-    let hops = c.in_ok-hops.hops.items in
-    let parents = c.in_ok-parents.parents.items in
-    let text = walks_text c.args.source (slice_index hops) (slice_index parents) c.args.labels.now in
-    let is_block : IsBlock c.args.walks csr.n csr.arcs c.args.source text =
-    rw c.if-walks.true
-    (record {
-      labels = c.args.labels.now;
-      hops = hops;
-      parents = parents;
-      walked = record {
-        least = c.requires.least;
-        fewest = c.in_ok-hops.ensures.exact;
-        before = rw c.deref.ensures.value at c.in_ok-parents.ensures.exact;
-      };
-      written = refl;
-    }) in
-    on_err_weaker c.put_walks.result
-    (only-text (IsBlock c.args.walks csr.n csr.arcs c.args.source) _ _ c.args.waiting.now.bytes.items text
-    (λ other. (c.blocks_are_unique.ensures c.args.walks csr.n csr.arcs).0 c.args.source text other is_block))
-    (rw (c.deref-then-walks.ensures.value, c.deref-then-walks-2.ensures.value) at c.put_walks.ensures.prefix)
+    let text = components_text c.args.labels.now in
+    let is_block : IsComponentsBlock csr.n csr.arcs text =
+    record { labels = c.args.labels.now; least = rw c.in-Everywhere.is at c.requires.least; written = refl } in
+    rw c.in-Everywhere.is
+    (on_err_weaker c.put_components.result
+    (only-text (IsComponentsBlock csr.n csr.arcs) _ _ c.args.waiting.now.bytes.items text
+    (λ other. (c.blocks_are_unique.ensures c.args.walks csr.n csr.arcs None).2 text other is_block))
+    c.put_components.ensures.prefix)

@@ -1,39 +1,21 @@
-use Rattle.std.proofs.Common.{◌+◌, [], drop, get_or, subst, sym}
-use Rattle.std.proofs.lemmas.List.{append-nil}
+use Rattle.std.proofs.Common.{[]}
 use Rattle.std.proofs.lemmas.Result.{on_err_weaker}
-use Rattle.dimacs_text.specs.AnswerLines.{component_text, component_lines, components_text}
-use Rattle.obim_query.specs.Bytes.{GivesPrefix, Waits}
-use Rattle.obim_query.proofs.Sending.{put-more, component_lines-next}
-use Rattle.obim_query.proofs.Prefixes.{at-err, put-cut}
+use Rattle.obim_query.specs.AnswerText.{IsComponentsBlock, IsGrownText}
+use Rattle.obim_query.specs.Graphs.{growth_of}
+use Rattle.obim_query.proofs.Growing.{put-cut-short}
+use Rattle.obim_query.proofs.Prefixes.{at-err}
 use Rattle.obim_query.proofs.blocks.write_components.Goals as goal
 
-pub loop-v-preserved : goal.loop-v-preserved
-loop-v-preserved g c =
-    let v = c.loop-v.v in
-    let labels = c.args.labels.now in
-    put-more _ (g.W.Write.contents c.loop-v.writer) _ c.loop-v.waiting.bytes.items (component_text v (get_or labels v 0))
-    c.send_if_full.new.self.bytes.items (component_lines (v + 1) (drop (v + 1) labels)) (components_text labels)
-    (rw (component_lines-next v labels c.loop-v-test.true) at c.loop-v.invariant)
-    (subst (Waits (g.W.Write.contents c.loop-v.writer) (g.W.Write.contents c.send_if_full.new.writer)
-    c.send_if_full.new.self.bytes.items) c.in_ok-put_component.ensures.ok c.in_ok-send_if_full.ensures.sent)
-
-pub returns-in_err-send_if_full-clause-prefix : goal.returns-in_err-send_if_full-clause-prefix
-returns-in_err-send_if_full-clause-prefix g c =
-    let v = c.loop-v.v in
-    let labels = c.args.labels.now in
-    at-err _
-    (put-cut _ _ _ c.loop-v.waiting.bytes.items (component_text v (get_or labels v 0))
-    (component_lines (v + 1) (drop (v + 1) labels)) _
-    (rw (component_lines-next v labels c.loop-v-test.true) at c.loop-v.invariant)
-    (subst (GivesPrefix (g.W.Write.contents c.loop-v.writer) (g.W.Write.contents c.send_if_full.new.writer))
-    c.in_ok-put_component.ensures.ok c.in_err-send_if_full.ensures.prefix))
+pub returns-in_err-put_solved-clause-prefix : goal.returns-in_err-put_solved-clause-prefix
+returns-in_err-put_solved-clause-prefix g c =
+    at-err _ (rw (c.of_components-start.ensures, c.new-waiting.ensures) at c.in_err-put_solved.ensures.prefix)
 
 pub returns-clause-prefix : goal.returns-clause-prefix
 returns-clause-prefix g c =
+    let graphs = c.args.graphs.now in
+    let growth = growth_of graphs.grown in
     on_err_weaker c.finish.result
-    (λ cut.
-    put-cut _ _ _ c.loop-v.waiting.bytes.items [] (component_lines c.loop-v.v (drop c.loop-v.v c.args.labels.now)) _
-    c.loop-v.invariant
-    (subst (GivesPrefix (g.W.Write.contents c.loop-v.writer) (g.W.Write.contents c.finish.new.writer))
-    (sym (append-nil c.loop-v.waiting.bytes.items)) cut))
+    (put-cut-short (IsGrownText (IsComponentsBlock graphs.rows.n) graphs.rows.arcs growth)
+    (c.blocks_are_unique.ensures c.args.asked.now.walks graphs.rows.n graphs.rows.arcs growth).2 _ _ _ [] _
+    (rw (c.of_components-start.ensures, c.new-waiting.ensures) at c.in_ok-put_solved.ensures.block))
     c.finish.ensures.prefix

@@ -1,8 +1,9 @@
-use Rattle.obim_query.specs.AnswerText.{IsBlock}
+use Rattle.obim_query.specs.AnswerText.{IsGrownBlock}
+use Rattle.obim_query.specs.Graphs.{growth_of}
 use Rattle.obim_query.specs.Sent.{AreSent}
 use Rattle.obim_query.proofs.blocks.write_sources.Given as goal
 
 abbrev pub invariant-loop-place : goal.invariant-loop-place
 invariant-loop-place g l =
-    AreSent (IsBlock l.asked.walks l.csr.n l.csr.arcs) l.sources l.place (g.W.Write.contents l.initial.writer)
-    (g.W.Write.contents l.writer) l.waiting.bytes.items
+    AreSent (IsGrownBlock l.asked.walks l.graphs.rows.n l.graphs.rows.arcs (growth_of l.graphs.grown)) l.sources l.place
+    (g.W.Write.contents l.initial.writer) (g.W.Write.contents l.writer) l.waiting.bytes.items

@@ -1,93 +1,105 @@
-use Rattle.std.proofs.Common.{◌≡◌, ℕ, List, Option, refl, slice_index, subst, true, arith}
-use Rattle.route_walks.specs.declared.graph.ArcRec.{ArcRec}
-use Rattle.obim_query.specs.AnswerText.{ArePairBlocks, AreWalksFrom, IsPairBlock, pair_walk_text}
+use Rattle.std.proofs.Common.{◌≡◌, ℕ, List, Option, subst, true, arith}
+use Rattle.obim_query.specs.AnswerText.{ArePairBlocks, IsGrownPair}
 use Rattle.obim_query.specs.Bytes.{GivesPrefix, Waits, WritesPrefix}
+use Rattle.obim_query.specs.Graphs.{growth_of}
 use Rattle.obim_query.specs.Sent.{AreSent}
-use Rattle.obim_query.specs.Solves.{pair_at}
+use Rattle.obim_query.specs.Solves.{pair_at, walked_text, walked_after_text, with_growth}
+use Rattle.obim_query.proofs.Growing.{walked-blocks}
 use Rattle.obim_query.proofs.PairLabels.{one_source}
 use Rattle.obim_query.proofs.Prefixes.{at-err, block-cut, only-text, puts-nothing}
 use Rattle.obim_query.proofs.Sending.{sent-more}
 use Rattle.obim_query.proofs.pairs.put_walked.Goals as goal
 
--- what is put for a pair is its block
-is_block : (n : ℕ) (arcs : List ArcRec) (source : ℕ) (pair : ℕ × ℕ) (labels hops parents : List ℕ)
-    → source ≡ pair.0 → AreWalksFrom n arcs source labels hops parents
-    → IsPairBlock true n arcs pair (pair_walk_text pair labels (slice_index hops) (slice_index parents))
-is_block n arcs source pair labels hops parents same walked = record {
-  labels = labels;
-  hops = hops;
-  parents = parents;
-  walked = subst (λ (s : ℕ). AreWalksFrom n arcs s labels hops parents) same walked;
-  written = refl;
-}
+pub put_walked_lines-requires-clause-walked : goal.put_walked_lines-requires-clause-walked
+put_walked_lines-requires-clause-walked g c =
+    let same =
+    one_source c.args.pairs.now c.args.solve c.loop-at.at c.requires.solve (omega (arith, c.loop-at.auto.at))
+    c.loop-at-test.true in
+    rw same at c.requires.walked
+
+pub put_walked_lines-requires-clause-after : goal.put_walked_lines-requires-clause-after
+put_walked_lines-requires-clause-after g c =
+    let same =
+    one_source c.args.pairs.now c.args.solve c.loop-at.at c.requires.solve (omega (arith, c.loop-at.auto.at))
+    c.loop-at-test.true in
+    rw same at c.requires.after
 
 pub loop-at-preserved : goal.loop-at-preserved
-loop-at-preserved g c n arcs before walked sent =
+loop-at-preserved g c before sent =
+    let graphs = c.args.graphs.now in
+    let growth = growth_of graphs.grown in
     let k = c.loop-at.at in
     let pairs = c.args.pairs.now in
-    let labels = c.args.labels.now in
-    let hops = c.args.hops.now in
-    let parents = c.args.parents.now in
+    let walked = c.args.walked.now in
     let solve = c.requires.solve in
     let here = c.loop-at-test.true in
     let same = one_source pairs c.args.solve k solve (omega (arith, c.loop-at.auto.at)) here in
-    sent-more (IsPairBlock true n arcs) pairs k (0, 0) before (g.W.Write.contents c.loop-at.writer) _
-    c.loop-at.waiting.bytes.items c.send_if_full.new.self.bytes.items (omega (arith, here, solve.within))
-    (c.loop-at.invariant n arcs before walked sent)
+    sent-more (IsGrownPair true graphs.rows.n graphs.rows.arcs growth) pairs k (0, 0) before
+    (g.W.Write.contents c.loop-at.writer) _ c.loop-at.waiting.bytes.items c.send_if_full.new.self.bytes.items
+    (omega (arith, here, solve.within)) (c.loop-at.invariant before sent)
     (record {
-      text = pair_walk_text (pair_at pairs k) labels (slice_index hops) (slice_index parents);
-      is_text = is_block n arcs (pair_at pairs c.args.solve.first).0 (pair_at pairs k) labels hops parents same walked;
+      text = with_growth growth (walked_text (pair_at pairs k) walked) (walked_after_text (pair_at pairs k) c.args.after.now);
+      is_text =
+          walked-blocks graphs.rows graphs.grown (pair_at pairs k) walked c.args.after.now c.requires.graphs.grows
+          (rw same at c.requires.walked) (rw same at c.requires.after);
       waits =
           subst (Waits (g.W.Write.contents c.loop-at.writer) (g.W.Write.contents c.send_if_full.new.writer)
-          c.send_if_full.new.self.bytes.items) c.in_ok-put_walked_pair.ensures.put c.in_ok-send_if_full.ensures.sent;
+          c.send_if_full.new.self.bytes.items) c.in_ok-put_walked_lines.ensures.put c.in_ok-send_if_full.ensures.sent;
     })
 
 pub returns-clause-sent : goal.returns-clause-sent
-returns-clause-sent g c n arcs before walked sent =
+returns-clause-sent g c before sent =
+    let graphs = c.args.graphs.now in
     let ended : c.loop-at.at ≡ c.args.solve.end =
     omega (arith, c.loop-at-test.false, c.loop-at.auto.at-end, c.requires.solve.some) in
     subst
     (λ k.
-    AreSent (IsPairBlock true n arcs) c.args.pairs.now k before (g.W.Write.contents c.loop-at.writer)
-    c.loop-at.waiting.bytes.items) ended (c.loop-at.invariant n arcs before walked sent)
+    AreSent (IsGrownPair true graphs.rows.n graphs.rows.arcs (growth_of graphs.grown)) c.args.pairs.now k before
+    (g.W.Write.contents c.loop-at.writer) c.loop-at.waiting.bytes.items) ended (c.loop-at.invariant before sent)
 
-pub returns-in_err-put_walked_pair-clause-prefix : goal.returns-in_err-put_walked_pair-clause-prefix
-returns-in_err-put_walked_pair-clause-prefix g c =
-    let cut : (n : ℕ) (arcs : List ArcRec) (before : Option (List ℕ))
-    → AreWalksFrom n arcs (pair_at c.args.pairs.now c.args.solve.first).0 c.args.labels.now c.args.hops.now c.args.parents.now
-    → AreSent (IsPairBlock true n arcs) c.args.pairs.now c.args.solve.first before (g.W.Write.contents c.args.writer.now)
-    c.args.waiting.now.bytes.items
-    → WritesPrefix (ArePairBlocks true n arcs c.args.pairs.now) before (g.W.Write.contents c.loop-at.writer) =
-    λ n arcs before walked sent.
-    block-cut (IsPairBlock true n arcs) (c.blocks_are_unique.ensures true n arcs).1 c.args.pairs.now c.loop-at.at (0, 0)
-    before (g.W.Write.contents c.loop-at.writer) _ c.loop-at.waiting.bytes.items
-    (omega (arith, c.loop-at-test.true, c.requires.solve.within)) (c.loop-at.invariant n arcs before walked sent)
+pub returns-in_err-put_walked_lines-clause-prefix : goal.returns-in_err-put_walked_lines-clause-prefix
+returns-in_err-put_walked_lines-clause-prefix g c =
+    let graphs = c.args.graphs.now in
+    let growth = growth_of graphs.grown in
+    let cut : (before : Option (List ℕ))
+    → AreSent (IsGrownPair true graphs.rows.n graphs.rows.arcs growth) c.args.pairs.now c.args.solve.first before
+    (g.W.Write.contents c.args.writer.now) c.args.waiting.now.bytes.items
+    → WritesPrefix (ArePairBlocks true graphs.rows.n graphs.rows.arcs growth c.args.pairs.now) before
+    (g.W.Write.contents c.loop-at.writer) =
+    λ before sent.
+    block-cut (IsGrownPair true graphs.rows.n graphs.rows.arcs growth)
+    (c.blocks_are_unique.ensures true graphs.rows.n graphs.rows.arcs growth).1 c.args.pairs.now c.loop-at.at (0, 0) before
+    (g.W.Write.contents c.loop-at.writer) _ c.loop-at.waiting.bytes.items
+    (omega (arith, c.loop-at-test.true, c.requires.solve.within)) (c.loop-at.invariant before sent)
     (puts-nothing _ _ _) in
     at-err _ cut
 
 pub returns-in_err-send_if_full-clause-prefix : goal.returns-in_err-send_if_full-clause-prefix
 returns-in_err-send_if_full-clause-prefix g c =
+    let graphs = c.args.graphs.now in
+    let growth = growth_of graphs.grown in
     let k = c.loop-at.at in
     let pairs = c.args.pairs.now in
-    let labels = c.args.labels.now in
-    let hops = c.args.hops.now in
-    let parents = c.args.parents.now in
-    let text = pair_walk_text (pair_at pairs k) labels (slice_index hops) (slice_index parents) in
+    let walked = c.args.walked.now in
     let same =
     one_source pairs c.args.solve k c.requires.solve (omega (arith, c.loop-at.auto.at)) c.loop-at-test.true in
-    let cut : (n : ℕ) (arcs : List ArcRec) (before : Option (List ℕ))
-    → AreWalksFrom n arcs (pair_at pairs c.args.solve.first).0 labels hops parents
-    → AreSent (IsPairBlock true n arcs) pairs c.args.solve.first before (g.W.Write.contents c.args.writer.now)
-    c.args.waiting.now.bytes.items
-    → WritesPrefix (ArePairBlocks true n arcs pairs) before (g.W.Write.contents c.send_if_full.new.writer) =
-    λ n arcs before walked sent.
-    let only = (c.blocks_are_unique.ensures true n arcs).1 in
-    let is_block = is_block n arcs (pair_at pairs c.args.solve.first).0 (pair_at pairs k) labels hops parents same walked in
-    block-cut (IsPairBlock true n arcs) only pairs k (0, 0) before (g.W.Write.contents c.loop-at.writer) _
-    c.loop-at.waiting.bytes.items (omega (arith, c.loop-at-test.true, c.requires.solve.within))
-    (c.loop-at.invariant n arcs before walked sent)
-    (only-text (IsPairBlock true n arcs (pair_at pairs k)) _ _ c.loop-at.waiting.bytes.items text
-    (λ other. only (pair_at pairs k) text other is_block)
+    let text =
+    with_growth growth (walked_text (pair_at pairs k) walked) (walked_after_text (pair_at pairs k) c.args.after.now) in
+    let is_block =
+    walked-blocks graphs.rows graphs.grown (pair_at pairs k) walked c.args.after.now c.requires.graphs.grows
+    (rw same at c.requires.walked) (rw same at c.requires.after) in
+    let only = (c.blocks_are_unique.ensures true graphs.rows.n graphs.rows.arcs growth).1 in
+    let cut : (before : Option (List ℕ))
+    → AreSent (IsGrownPair true graphs.rows.n graphs.rows.arcs growth) pairs c.args.solve.first before
+    (g.W.Write.contents c.args.writer.now) c.args.waiting.now.bytes.items
+    → WritesPrefix (ArePairBlocks true graphs.rows.n graphs.rows.arcs growth pairs) before
+    (g.W.Write.contents c.send_if_full.new.writer) =
+    λ before sent.
+    block-cut (IsGrownPair true graphs.rows.n graphs.rows.arcs growth) only pairs k (0, 0) before
+    (g.W.Write.contents c.loop-at.writer) _ c.loop-at.waiting.bytes.items
+    (omega (arith, c.loop-at-test.true, c.requires.solve.within)) (c.loop-at.invariant before sent)
+    (only-text (IsGrownPair true graphs.rows.n graphs.rows.arcs growth (pair_at pairs k)) _ _
+    c.loop-at.waiting.bytes.items text (λ other. only (pair_at pairs k) text other is_block)
     (subst (GivesPrefix (g.W.Write.contents c.loop-at.writer) (g.W.Write.contents c.send_if_full.new.writer))
-    c.in_ok-put_walked_pair.ensures.put c.in_err-send_if_full.ensures.prefix)) in
+    c.in_ok-put_walked_lines.ensures.put c.in_err-send_if_full.ensures.prefix)) in
     at-err _ cut

@@ -1,9 +1,10 @@
-use Rattle.std.proofs.Common.{drop}
-use Rattle.obim_query.specs.Solves.{pair_lines}
-use Rattle.obim_query.proofs.Sending.{IsPut}
+use Rattle.std.proofs.Common.{false}
+use Rattle.obim_query.specs.AnswerText.{IsGrownPair}
+use Rattle.obim_query.specs.Graphs.{growth_of}
+use Rattle.obim_query.specs.Sent.{AreSent}
 use Rattle.obim_query.proofs.pairs.write_lines.Given as goal
 
 abbrev pub invariant-loop-place : goal.invariant-loop-place
 invariant-loop-place g l =
-    IsPut (g.W.Write.contents l.fn.writer) (g.W.Write.contents l.writer) l.waiting.bytes.items
-    (pair_lines (drop l.place l.pairs) (drop l.place l.labels)) (pair_lines l.pairs l.labels)
+    AreSent (IsGrownPair false l.graphs.rows.n l.graphs.rows.arcs (growth_of l.graphs.grown)) l.pairs l.place
+    (g.W.Write.contents l.fn.writer) (g.W.Write.contents l.writer) l.waiting.bytes.items

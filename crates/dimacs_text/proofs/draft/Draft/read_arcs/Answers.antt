@@ -1,7 +1,7 @@
 use Rattle.std.proofs.Common.{◌≡◌, ◌∙◌, ap, sym, arith}
 use Rattle.dimacs_text.specs.declared.form.Section.TheVariants.{Problem}
 use Rattle.dimacs_text.specs.declared.stage.Stage.TheVariants.{Within}
-use Rattle.dimacs_text.specs.reader.Drafts.{Progress, progress_of, progress_by}
+use Rattle.dimacs_text.specs.reader.Drafts.{Progress, progress_of, records_by, arcs_progress}
 use Rattle.dimacs_text.proofs.draft.Draft.read_arcs.Goals as goal
 
 pub returns-clause-reads : goal.returns-clause-reads
@@ -9,9 +9,17 @@ returns-clause-reads c line =
     let ready = c.room_for_arcs-room.new.self in
     let same = c.room_for_arcs-room.ensures.same in
     let stage : ready.stage ≡ Within Problem c.in-Some.missing = ap (λ (p : Progress). p.stage) same ∙ c.in-Some.ensures in
-    let start : progress_by (Within Problem c.in-Some.missing) ready.vertices ready.arcs.items ready.sources.items ready.pairs.items
-    ≡ progress_of c.args.self.now =
-    ap (λ s. progress_by s ready.vertices ready.arcs.items ready.sources.items ready.pairs.items) (sym stage) ∙ same in
+    let start : arcs_progress ready.vertices c.in-Some.missing ready.arcs.items ≡ progress_of c.args.self.now =
+    ap
+    (λ s.
+    record {
+      records =
+          records_by s ready.before_added ready.vertices ready.arcs.items ready.sources.items ready.pairs.items
+          ready.added.items;
+      stage = s;
+      vertices = ready.vertices;
+    }) (sym stage)
+    ∙ same in
     rw (c.from.ensures, ← start)
-    (c.read_run-count.ensures.reads c.in-Some.missing line ready.sources.items ready.pairs.items
+    (c.read_run-count.ensures.reads c.in-Some.missing line
     (omega (arith, c.read_run-count.ensures.few, c.room_for_arcs-room.ensures.missing)))

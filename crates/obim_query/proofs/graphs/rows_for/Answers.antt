@@ -1,6 +1,6 @@
 use Rattle.std.proofs.Common.{◌≡◌, ◌∙◌, ap}
 use Rattle.route_walks.specs.Operators.{unit_weights}
-use Rattle.obim_query.proofs.operators.rows_for.Goals as goal
+use Rattle.obim_query.proofs.graphs.rows_for.Goals as goal
 
 pub build_from-requires-in-Levels-clause-ends : goal.build_from-requires-in-Levels-clause-ends
 build_from-requires-in-Levels-clause-ends c =
