@@ -1,8 +1,8 @@
 //! What does a caller learn of its side? Each clause is proved from the contract of the pool alone.
 
-ghost use Rattle.std.specs.Prelude.{◌≡◌, ◌<◌, ℕ, [], ◌∷◌, None, Some, IfOk, IfSome, length, get_or};
+ghost use Rattle.std.specs.Prelude.{◌≡◌, ◌<◌, ◌⊎◌, ℕ, [], ◌∷◌, None, Some, IfNone, IfOk, IfSome, length, get_or};
 ghost use Rattle.std.specs.Bool.{OnFalse, OnTrue};
-ghost use Rattle.obim_pool.specs.Accounts.{Puts};
+ghost use Rattle.obim_pool.specs.Accounts.{FindsMore, OnlyLooks, Puts};
 ghost use Rattle.obim_pool.specs.Sides.{HasLowered, IsOwn, IsSideOf, PushesNone, account_at, new_side};
 
 use crate::tests::helpers::{open_pool, take_side};
@@ -62,6 +62,32 @@ fn pop_to_end<R: Wait>(rt: &R, pool: &ObimPool, side: &mut ObimSide, most: u32) 
     false
 }
 
+// A pop that gives none found each of the side's bags empty, once or twice, and counted it.
+fn pop_in_vain<R: Wait>(rt: &R, pool: &ObimPool, side: &mut ObimSide) -> Option<u32>
+    requires { IsSideOf pool.now side.old }
+    ensures side { IsSideOf pool.now side.new }
+    ensures counted { IfNone result ((place : ℕ) → place < length side.new.held
+        → FindsMore 1 (account_at place side.old) (account_at place side.new)
+        ⊎ FindsMore 2 (account_at place side.old) (account_at place side.new)) }
+{
+    pool.pop(rt, side)
+}
+
+// By two pops that give none no chunk is put or got, and no vertex comes or goes, in any bag.
+fn pop_twice_in_vain<R: Wait>(rt: &R, pool: &ObimPool, side: &mut ObimSide) -> bool
+    requires { IsSideOf pool.now side.old }
+    ensures side { IsSideOf pool.now side.new }
+    ensures looks { OnTrue result ((place : ℕ) → OnlyLooks (account_at place side.old) (account_at place side.new)) }
+{
+    match pool.pop(rt, side) {
+        Some(_) => false,
+        None => match pool.pop(rt, side) {
+            Some(_) => false,
+            None => true,
+        },
+    }
+}
+
 // What one side of a new pool pushes, another may pop. If the pool can be settled then, that was the very vertex: no
 // other comes out of the pool.
 fn pass_on<R: Wait>(
@@ -97,6 +123,8 @@ fn a_side_that_is_alone(rt: HostRuntime) -> Result<(), Fail> {
     assert!(rt; push_stubbornly(&rt, &pool, &mut side, 70, 7));
     assert!(rt; !pop_to_end(&rt, &pool, &mut side, 1));
     assert!(rt; pop_to_end(&rt, &pool, &mut side, 1));
+    assert_eq!(rt; pop_in_vain(&rt, &pool, &mut side), None);
+    assert!(rt; pop_twice_in_vain(&rt, &pool, &mut side));
     Ok(())
 }
 
