@@ -105,10 +105,10 @@ fn chunks_are_named_in_turn(rt: HostRuntime) -> Result<(), Fail> {
 fn many_chunks_are_left(rt: HostRuntime) -> Result<(), Fail> {
     let (pool, mut sides) = open_pool(rt.alloc(), 1, 1)?;
     let mut side = take_side(&rt, &pool, &mut sides);
-    push_each(&rt, &pool, &mut side, 100_000, 0);
+    push_each(&rt, &pool, &mut side, 110_000, 0);
     put_back(&rt, &pool, &mut sides, side);
     let left = pool.settle(&rt, rt.alloc(), sides)?;
-    assert_eq!(rt; left.len(), 100_000);
+    assert_eq!(rt; left.len(), 110_000);
     Ok(())
 }
 
