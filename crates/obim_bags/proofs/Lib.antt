@@ -9,3 +9,4 @@ mod PlaceSteps
 mod Prefixes
 mod Ties
 mod Totals
+mod Written

@@ -1,10 +1,13 @@
 //! What does a caller learn of what it put? Each clause is proved from the contracts of bags and logs alone.
 
-ghost use Rattle.std.specs.Prelude.{◌≡◌, ◌≢◌, ◌+◌, ℕ, [], All, IfErr, IfOk, IfSome};
+ghost use Rattle.std.specs.Prelude.{◌≡◌, ◌≢◌, ◌+◌, ◌<◌, ◌≤◌, ℕ, [], Some, length, slice_get};
+ghost use Rattle.std.specs.Prelude.{All, IfErr, IfNone, IfOk, IfSome, OnErr, OnOk};
 ghost use Rattle.obim_bags.specs.declared.fault.SettleFault.TheVariants.{Memory};
 ghost use Rattle.obim_bags.specs.Chunks.{ChunkSeen};
 ghost use Rattle.obim_bags.specs.Accounts.{weight_of};
 ghost use Rattle.obim_bags.specs.Bags.{new_pass};
+ghost use Rattle.obim_bags.specs.Logs.{ChangesAt, IsNew, PlaceSeen, new_mirror};
+ghost use Rattle.obim_bags.specs.Logs.{place_after_put, place_after_get, place_after_empty_find};
 
 use crate::tests::helpers::chunk_of;
 use crate::{Bag, BagLog, BagPass, Chunk, LogFault, Mirror, SettleFault};
@@ -108,5 +111,116 @@ fn a_metric_has_one_place(rt: HostRuntime) -> Result<(), Fail> {
     assert_eq!(rt; ask_twice(&rt, alloc, &log, &mut first, 9)?, (0, 0));
     assert_eq!(rt; ask_twice(&rt, alloc, &log, &mut first, 5)?, (1, 1));
     assert_eq!(rt; ask_by_two(&rt, alloc, &log, first, second, 5)?, (1, 1));
+    Ok(())
+}
+
+// A chunk is put at a place and one is got there: nothing else of the mirror changes. A chunk that is refused comes
+// back, and the mirror is as it was.
+fn put_and_get_at<R: Wait>(
+    rt: &R,
+    log: &BagLog,
+    mirror: &mut Mirror,
+    place: usize,
+    chunk: Chunk,
+) -> Result<Option<Chunk>, Chunk>
+    requires log { mirror.old.log ≡ log.now }
+    requires place { place < length mirror.old.places }
+    requires filled { chunk.vertices ≢ [] }
+    ensures log { mirror.new.log ≡ log.now }
+    ensures got { IfOk result (λ found. IfSome found (λ got.
+        ChangesAt place (λ was. place_after_get got (place_after_put chunk was)) mirror.old mirror.new)) }
+    ensures filled { IfOk result (λ found. IfSome found (λ got. got.vertices ≢ [])) }
+    ensures none { IfOk result (λ found. IfNone found
+        (ChangesAt place (λ was. place_after_empty_find (place_after_put chunk was)) mirror.old mirror.new)) }
+    ensures returned { IfErr result (λ back. back ≡ chunk) }
+    ensures refused { OnErr result (mirror.new ≡ mirror.old) }
+{
+    log.put_at(rt, mirror, place, chunk)?;
+    Ok(log.get_at(rt, mirror, place))
+}
+
+// Where a bag has one worker, that one finds the chunk that it put, if nothing was put before.
+fn put_and_find_at<R: Wait>(
+    rt: &R,
+    log: &BagLog,
+    mirror: &mut Mirror,
+    place: usize,
+    chunk: Chunk,
+) -> Result<Option<Chunk>, Chunk>
+    requires log { mirror.old.log ≡ log.now }
+    requires place { place < length mirror.old.places }
+    requires filled { chunk.vertices ≢ [] }
+    ensures log { mirror.new.log ≡ log.now }
+    ensures found { (was : PlaceSeen) → slice_get mirror.old.places place ≡ Some was → IsNew was
+        → was.bag.workers ≡ 1 → IfOk result (λ found. IfNone found ⊥) }
+{
+    log.put_at(rt, mirror, place, chunk)?;
+    Ok(log.get_at(rt, mirror, place))
+}
+
+// In a log into which nothing was put nothing is left.
+fn drain_unused<R: Wait>(
+    rt: &R,
+    alloc: Global,
+    log: &BagLog,
+    mut first: Mirror,
+    second: Mirror,
+    metric: u64,
+) -> Result<Vec<Chunk>, Fail>
+    requires first { first ≡ new_mirror log.now }
+    requires second { second ≡ new_mirror log.now }
+    ensures { IfOk result (λ left. left.items ≡ []) }
+{
+    let _place = log.find_or_append(rt, alloc, &mut first, metric)?;
+    let left = log.drain(rt, alloc, vec![in alloc; first, second]?)?;
+    Ok(left)
+}
+
+// Two mirrors that each have a pass of a bag can be drained only if its workers are two at least.
+fn drain_two<R: Wait>(
+    rt: &R,
+    alloc: Global,
+    log: &BagLog,
+    first: Mirror,
+    second: Mirror,
+    place: usize,
+) -> Result<Vec<Chunk>, SettleFault>
+    requires first { first.log ≡ log.now }
+    requires second { second.log ≡ log.now }
+    ensures { OnOk result ((one two : PlaceSeen) → slice_get first.places place ≡ Some one → slice_get second.places place ≡ Some two
+        → IsNew one → IsNew two → 2 ≤ one.bag.workers) }
+{
+    let _place = place;
+    let left = log.drain(rt, alloc, vec![in alloc; first, second]?)?;
+    Ok(left)
+}
+
+#[test]
+fn what_is_put_at_a_place(rt: HostRuntime) -> Result<(), Fail> {
+    let alloc = rt.alloc();
+    let (log, mut mirrors) = BagLog::open(alloc, 1)?;
+    let mut mirror = mirrors.pop().expect(&rt, "one mirror");
+    let place = log.find_or_append(&rt, alloc, &mut mirror, 9)?;
+    let chunk = chunk_of(&rt, 0, 0, &[4, 5]);
+    let found = put_and_find_at(&rt, &log, &mut mirror, place, chunk);
+    assert!(rt; matches!(found, Ok(Some(_))));
+    let place = log.find_or_append(&rt, alloc, &mut mirror, 9)?;
+    let chunk = chunk_of(&rt, 0, 1, &[6]);
+    let found = put_and_get_at(&rt, &log, &mut mirror, place, chunk);
+    assert!(rt; matches!(found, Ok(Some(_))));
+    Ok(())
+}
+
+#[test]
+fn what_is_left_of_nothing(rt: HostRuntime) -> Result<(), Fail> {
+    let alloc = rt.alloc();
+    let (log, mut mirrors) = BagLog::open(alloc, 2)?;
+    let second = mirrors.pop().expect(&rt, "two mirrors");
+    let first = mirrors.pop().expect(&rt, "two mirrors");
+    assert!(rt; drain_unused(&rt, alloc, &log, first, second, 9)?.is_empty());
+    let (log, mut mirrors) = BagLog::open(alloc, 2)?;
+    let second = mirrors.pop().expect(&rt, "two mirrors");
+    let first = mirrors.pop().expect(&rt, "two mirrors");
+    assert!(rt; drain_two(&rt, alloc, &log, first, second, 0)?.is_empty());
     Ok(())
 }
