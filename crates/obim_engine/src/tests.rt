@@ -8,6 +8,7 @@ mod hostile;
 mod pauses;
 mod pools;
 mod refusals;
+mod watched;
 
 ghost use Rattle.std.specs.Prelude.{◌≡◌, ◌<◌, IfOk};
 ghost use Rattle.route_walks.specs.Label.{AreLeastLabels};
