@@ -1,5 +1,6 @@
 //! Worked jobs with their answers and faults, over readers and writers that fail too.
 
+mod added;
 mod callers;
 mod command_lines;
 mod cuts;

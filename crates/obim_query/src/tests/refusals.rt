@@ -6,6 +6,7 @@ use crate::asked::Answer;
 use crate::fault::Fault;
 use crate::figures::Figures;
 use crate::reply::{answer, answer_bytes, answer_counted};
+use crate::tests::added::{SIX_ADDED, SIX_ADDED_WALKS};
 use crate::tests::pairs::{SIX_PAIRS, SIX_PAIRS_ANSWER, SIX_PAIRS_WALKS};
 use crate::tests::{SIX, SIX_WALKS, asked_for_walks, asked_with};
 use obim_engine::OpenGate;
@@ -28,6 +29,7 @@ fn of_answer(rt: HostRuntime) -> Result<(), Fail> {
         (asked_for_walks(&rt, 1, 1000), SIX, SIX_WALKS),
         (asked_for_walks(&rt, 2, 1000), SIX, SIX_WALKS),
         (asked_for_walks(&rt, 1, 1000), SIX_PAIRS, SIX_PAIRS_WALKS),
+        (asked_for_walks(&rt, 2, 1000), SIX_ADDED, SIX_ADDED_WALKS),
         (labels, SIX_PAIRS, SIX_PAIRS_ANSWER),
     ];
     for (asked, text, want) in table {
