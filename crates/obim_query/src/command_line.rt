@@ -36,13 +36,16 @@ of a source and a target in the .p2p format. Vertices count from 1.
   s V                the source V
   p aux sp p2p K     or K pairs; K lines follow:
   q S T              the pair of the source S and the target T
+  p aux sp add K     perhaps K added arcs, last; K lines `a U V W` follow
 
 For each source the answer has the line `s V`, and for each vertex a line
 `d V COST`: the least cost of a walk, or its arcs for levels, and `inf` where no
 walk leads. For each pair it has the line `q S T COST`. With --walks a line
 `w V COST U .. V` follows where a walk leads: its vertices in order. For
 components the answer has for each vertex `k V LABEL`: the least vertex that
-arcs join to V, whichever way they point.
+arcs join to V, whichever way they point. With added arcs the line `g K` follows
+the lines of each source, each pair or the components, and then the same lines
+for the graph with these arcs.
 
 Example:
   $ printf 'p sp 2 1\\na 1 2 7\\np aux sp ss 1\\ns 1\\n' | obim_query
