@@ -3,6 +3,7 @@ pub mod Feeding
 pub mod Sending
 pub mod Replies
 pub mod Costs
+pub mod Parts
 pub mod Uniqueness
 pub mod Prefixes
 pub mod Starts

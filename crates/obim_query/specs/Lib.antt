@@ -4,6 +4,7 @@ pub mod AnswerText
 pub mod Graphs
 pub mod Outcome
 pub mod Costs
+pub mod Parts
 pub mod Existence
 pub mod Sent
 pub mod Solves

@@ -3,6 +3,7 @@
 ghost use Rattle.obim_query.specs.AnswerText.{AnswerTextsAreUnique, BlocksAreUnique};
 ghost use Rattle.obim_query.specs.Costs.{AnswersSayCosts, AnswersSayPairCosts, AnswersSayComponents};
 ghost use Rattle.obim_query.specs.Existence.{AskedJobsHaveAnswers};
+ghost use Rattle.obim_query.specs.Parts.{AnswersOfPartsJoin};
 
 use route_walks::laws::{
     inf_means_no_walk, least_labels_are_components, least_labels_are_unique, least_labels_exist,
@@ -61,3 +62,10 @@ pub fn answers_say_components()
 {
     least_labels_are_components();
 }
+
+/// Where the sources or the pairs of a job are cut in two, the answers of the two parts, one after the other,
+/// are the answer of the job; so a job can be cut anywhere, and into any number of parts. Each part has the
+/// graph and the added arcs.
+pub fn answers_of_parts_join()
+    ensures { AnswersOfPartsJoin }
+{}
