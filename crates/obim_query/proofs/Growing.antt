@@ -2,7 +2,6 @@
 use Rattle.std.proofs.Common.{◌≡◌, Bool, ℕ, ◌<◌, ◌∙◌, List, [], ◌++◌, Option, Some, None, true, false, length, get_or}
 use Rattle.std.proofs.Common.{refl, sym, subst, ap, append_assoc}
 use Rattle.std.proofs.lemmas.List.{append-nil}
-use Rattle.std.specs.Io.KnownBytes.{Appends}
 use Rattle.csr_graph.specs.Graph.{Graph}
 use Rattle.route_walks.specs.declared.graph.ArcRec.{ArcRec}
 use Rattle.dimacs_text.specs.AnswerLines.{grown_text, pair_text}
@@ -11,7 +10,7 @@ use Rattle.obim_query.specs.declared.pairs.Walked.{Walked}
 use Rattle.obim_query.specs.declared.solves.Start.{Start}
 use Rattle.obim_query.specs.declared.solves.Start.TheVariants.{At, Everywhere}
 use Rattle.obim_query.specs.AnswerText.{AreBothTexts, BlocksAreUnique, Growth, IsGrownPair, IsGrownText, IsOneText, IsPairBlock}
-use Rattle.obim_query.specs.Bytes.{GivesPrefix, IsPrefix, Puts, PutsPrefix, Waits, Writes}
+use Rattle.obim_query.specs.Bytes.{GivesPrefix, IsPrefix, Puts, PutsPrefix, Waits}
 use Rattle.route_walks.specs.Walk.{HaveSameArcs}
 use Rattle.route_walks.proofs.Facts.{both_ways-append, same_arcs-grown, unit_weights-append}
 use Rattle.obim_engine.specs.Grown.{IsGrown}
