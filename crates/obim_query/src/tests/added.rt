@@ -10,7 +10,10 @@ use dimacs_text::LineKind;
 use obim_engine::{OpenGate, Settings};
 use std::alloc::Global;
 use std::process::Abort;
+use std::sync::Wait;
 use std::test::Fail;
+use std::thread::Threads;
+use std::time::Clock;
 
 /// The six vertices with an arc from 1 to 6 that is cheaper than the way there.
 pub const SIX_ADDED: &[u8] =
@@ -45,6 +48,24 @@ fn joined(alloc: Global, texts: &[&[u8]]) -> Result<Vec<u8>, Fail> {
         all.extend_from_slice(text)?;
     }
     Ok(all)
+}
+
+// The answer to a text in two parts, by one worker and by two.
+fn expect_answer<H: Abort + Threads + Wait + Clock + Sync>(
+    rt: &H,
+    alloc: Global,
+    (kind, walks): (Answer, bool),
+    text: [&[u8]; 2],
+    want: [&[u8]; 4],
+) -> Result<(), Fail> {
+    let text = joined(alloc, &text)?;
+    let want = joined(alloc, &want)?;
+    for workers in [1, 2] {
+        let asked = asked(rt, kind, walks, (workers, 4, 16));
+        let bytes = answer_bytes(rt, alloc, &text, &asked, &OpenGate)?;
+        assert_eq!(rt; bytes.as_slice(), want.as_slice());
+    }
+    Ok(())
 }
 
 #[test]
@@ -169,13 +190,7 @@ fn answers_with_added_arcs(rt: HostRuntime) -> Result<(), Fail> {
         ),
     ];
     for (kind, walks, text, want) in table {
-        let text = joined(rt.alloc(), &text)?;
-        let want = joined(rt.alloc(), &want)?;
-        for workers in [1, 2] {
-            let asked = asked(&rt, kind, walks, (workers, 4, 16));
-            let bytes = answer_bytes(&rt, rt.alloc(), &text, &asked, &OpenGate)?;
-            assert_eq!(rt; bytes.as_slice(), want.as_slice());
-        }
+        expect_answer(&rt, rt.alloc(), (kind, walks), text, want)?;
     }
     Ok(())
 }
@@ -261,22 +276,26 @@ fn runs_with_added_arcs(rt: HostRuntime) -> Result<(), Fail> {
 // After the added arcs one worker visits their tails and what they lower, and no other vertex.
 #[test]
 fn visits_of_added_arcs(rt: HostRuntime) -> Result<(), Fail> {
-    let whole = [0, 2, 4, 1, 3, 5].as_slice();
     let table: [(&[u8], &[u32]); 4] = [
-        (b"p aux sp add 0\n", &[]),
-        (b"p aux sp add 1\na 1 6 4\n", &[0, 5]),
+        (
+            b"p aux sp add 0
+",
+            &[0, 2, 4, 1, 3, 5],
+        ),
+        (b"p aux sp add 1\na 1 6 4\n", &[0, 2, 4, 1, 3, 5, 0, 5]),
         // It lowers no label, so its tail alone is visited.
-        (b"p aux sp add 1\na 3 6 5\n", &[2]),
-        (b"p aux sp add 2\na 2 6 1\na 2 6 2\n", &[1, 5]),
+        (b"p aux sp add 1\na 3 6 5\n", &[0, 2, 4, 1, 3, 5, 2]),
+        (
+            b"p aux sp add 2\na 2 6 1\na 2 6 2\n",
+            &[0, 2, 4, 1, 3, 5, 1, 5],
+        ),
     ];
-    for (added, after) in table {
+    for (added, visits) in table {
         let text = joined(rt.alloc(), &[SIX, added])?;
         let gate = Recorder::new(rt.alloc());
         let asked = asked(&rt, Answer::Distances, false, (1, 0, 1));
         answer_bytes(&rt, rt.alloc(), &text, &asked, &gate)?;
-        let passed = gate.into_passed();
-        assert_eq!(rt; &passed[..whole.len()], whole);
-        assert_eq!(rt; &passed[whole.len()..], after);
+        assert_eq!(rt; gate.into_passed().as_slice(), visits);
     }
     Ok(())
 }
