@@ -3,6 +3,7 @@ complete -c obim_query -f
 complete -c obim_query -l answer -x -a "distances levels components" -d "What is answered"
 complete -c obim_query -l walks -d "Print a walk of fewest arcs for each cost"
 complete -c obim_query -l workers -x -d "How many workers, 1 to 64"
+complete -c obim_query -l at-once -x -a auto -d "Sources solved at the same time, 1 to 64, or auto"
 complete -c obim_query -l shift -x -a auto -d "Bucket width 2^BITS, 0 to 63, or auto"
 complete -c obim_query -l chunk -x -d "Vertices handed on at a time, 1 to 256"
 complete -c obim_query -l stats -d "Print figures on standard error after the answer"

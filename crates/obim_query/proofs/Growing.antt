@@ -18,7 +18,7 @@ use Rattle.obim_query.specs.declared.asked.Answer.{Answer}
 use Rattle.obim_query.specs.declared.asked.Answer.TheVariants.{Distances, Levels, Components}
 use Rattle.obim_query.specs.AnswerText.{arcs_for, growth_from}
 use Rattle.obim_query.specs.Graphs.{GrowAlike, GrowsTo, growth_of}
-use Rattle.obim_query.specs.Solves.{AreLabelsAfter, ArePairLabels, IsRest, IsStartBlock, IsWalked, IsWalkedAfter}
+use Rattle.obim_query.specs.Solves.{AreLabelsAfter, ArePairLabels, IsGrownStart, IsRest, IsStartBlock, IsWalked, IsWalkedAfter}
 use Rattle.obim_query.specs.Solves.{pair_at, walked_text, walked_after_text, with_growth}
 use Rattle.obim_query.proofs.Known.{appends-then, waits-put, waits-sent}
 use Rattle.obim_query.proofs.Prefixes.{prefix-after, prefix-longer}
@@ -136,6 +136,12 @@ pub start-one : BlocksAreUnique → (walks : Bool) (n : ℕ) (arcs : List ArcRec
     → IsOneText (IsStartBlock walks start n arcs)
 start-one law walks n arcs (At source) = (law walks n arcs None).0 source
 start-one law walks n arcs Everywhere = (law walks n arcs None).2
+
+-- and where the graph grows only one text
+pub grown-start-one : BlocksAreUnique → (walks : Bool) (n : ℕ) (arcs : List ArcRec) (growth : Option Growth) (start : Start)
+    → IsOneText (IsGrownStart walks n arcs growth start)
+grown-start-one law walks n arcs growth (At source) = (law walks n arcs growth).0 source
+grown-start-one law walks n arcs growth Everywhere = (law walks n arcs growth).2
 
 -- ---- the lines of a pair
 

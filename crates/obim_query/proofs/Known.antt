@@ -1,6 +1,6 @@
 -- Known bytes taken, or given, one piece after another.
-use Rattle.std.proofs.Common.{ℕ, List, ◌++◌, take, drop, Option, Some, None, sym, ap, ◌∙◌, append_assoc}
-use Rattle.std.proofs.lemmas.List.{take-append-drop}
+use Rattle.std.proofs.Common.{ℕ, List, [], ◌++◌, take, drop, Option, Some, None, sym, ap, ◌∙◌, append_assoc}
+use Rattle.std.proofs.lemmas.List.{append-nil, take-append-drop}
 use Rattle.std.specs.Io.KnownBytes.{Consumes, Appends}
 use Rattle.obim_query.specs.Bytes.{Waits}
 
@@ -52,3 +52,13 @@ pub waits-more : (before between after : Option (List ℕ)) (rest bytes : List �
 waits-more before between after rest bytes count waits more =
     waits-sent before between after rest (drop count rest) bytes waits
     (record { given = take count rest; whole = sym (take-append-drop count rest); appended = more })
+
+-- some bytes are given and then more: nothing waits
+pub waits-none : (before between after : Option (List ℕ)) (some more : List ℕ)
+    → Appends before between some → Appends between after more
+    → Waits before after [] (some ++ more)
+waits-none before between after some more one two = record {
+  given = some ++ more;
+  whole = sym (append-nil (some ++ more));
+  appended = appends-then before between after some more one two;
+}

@@ -10,3 +10,4 @@ pub mod Starts
 pub mod Existence
 pub mod PairLabels
 pub mod Growing
+pub mod Kept

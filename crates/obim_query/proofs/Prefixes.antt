@@ -69,6 +69,24 @@ put-cut before between after waiting line lines whole put cut = record {
   appended = appends-then before between after put.waits.given cut.given put.waits.appended cut.appended;
 }
 
+-- the first bytes of some and more are not all given
+pub first-cut-short : (before after : Option (List ℕ)) (some more : List ℕ)
+    → GivesPrefix before after some → GivesPrefix before after (some ++ more)
+first-cut-short before after some more cut = record {
+  given = cut.given;
+  is_prefix = prefix-longer cut.given some more cut.is_prefix;
+  appended = cut.appended;
+}
+
+-- some bytes are given, and not all of more
+pub then-cut-short : (before between after : Option (List ℕ)) (some more : List ℕ)
+    → Appends before between some → GivesPrefix between after more → GivesPrefix before after (some ++ more)
+then-cut-short before between after some more given cut = record {
+  given = some ++ cut.given;
+  is_prefix = prefix-after some [] some more cut.given (sym (append-nil some)) cut.is_prefix;
+  appended = appends-then before between after some cut.given given cut.appended;
+}
+
 -- where there is only one text of a kind, a prefix of it is one of every such text
 pub only-text : (IsText : List ℕ → Type 0) (before after : Option (List ℕ)) (waiting text : List ℕ)
     → ((other : List ℕ) → IsText other → text ≡ other) → GivesPrefix before after (waiting ++ text)

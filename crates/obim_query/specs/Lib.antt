@@ -1,3 +1,4 @@
+pub mod Ahead
 pub mod Choices
 pub mod Bytes
 pub mod AnswerText

@@ -16,6 +16,19 @@ pub enum Answer {
     Components,
 }
 
+/// How many sources are solved at the same time, each by its own share of the workers. No byte of an
+/// answer depends on it.
+#[derive(Clone, Copy, Debug, PartialEq, Eq)]
+pub enum AtOnce {
+    /// As many as there are workers where a vertex has few arcs, and else one.
+    Auto,
+    /// At most so many, and never more than there are workers.
+    Most(u32),
+}
+
+/// The most sources that are solved at the same time.
+pub const MAX_AT_ONCE: u32 = 64;
+
 /// The most bytes of a job text that are ever read: 2^36.
 pub const MAX_BYTES: u64 = 68719476736;
 
@@ -30,6 +43,8 @@ pub struct Asked {
     pub walks: bool,
     /// How many bytes of text are read at most. A longer text is refused.
     pub limit: u64,
+    /// How many sources are solved at the same time.
+    pub at_once: AtOnce,
     ghost within: { IsAsked answer walks limit },
 }
 
@@ -54,6 +69,38 @@ impl Asked {
             settings,
             walks,
             limit,
+            at_once: AtOnce::Auto,
         })
+    }
+
+    /// The same with so many sources at the same time.
+    pub fn with_at_once(self, at_once: AtOnce) -> Asked
+        ensures answer { result.answer ≡ self.answer }
+        ensures walks { result.walks ≡ self.walks }
+        ensures limit { result.limit ≡ self.limit }
+        ensures at_once { result.at_once ≡ at_once }
+    {
+        Asked {
+            answer: self.answer,
+            settings: self.settings,
+            walks: self.walks,
+            limit: self.limit,
+            at_once,
+        }
+    }
+
+    /// The same with other settings.
+    pub fn with_settings(self, settings: Settings) -> Asked
+        ensures answer { result.answer ≡ self.answer }
+        ensures walks { result.walks ≡ self.walks }
+        ensures limit { result.limit ≡ self.limit }
+    {
+        Asked {
+            answer: self.answer,
+            settings,
+            walks: self.walks,
+            limit: self.limit,
+            at_once: self.at_once,
+        }
     }
 }

@@ -6,13 +6,14 @@ ghost use Rattle.dimacs_text.specs.AnswerLines.{distances_text, components_text}
 ghost use Rattle.route_walks.specs.Label.{AreLeastLabels};
 ghost use Rattle.route_walks.specs.Operators.{seeds_from};
 ghost use Rattle.walk_report.specs.Parent.{LeadBack};
-ghost use Rattle.obim_query.specs.AnswerText.{AreSourceBlocks, IsBlock, IsComponentsBlock, IsGrownText};
+ghost use Rattle.obim_query.specs.AnswerText.{AreSourceBlocks, IsBlock, IsGrownText};
 ghost use Rattle.obim_query.specs.AnswerText.{AreReached, vertex_text, walk_line, walks_text};
 ghost use Rattle.obim_query.specs.Bytes.{GivesPrefix, Puts, PutsPrefix, Waits, Writes, WritesPrefix};
 ghost use Rattle.obim_query.specs.Graphs.{AreGraphs, GrowsTo, growth_of};
 ghost use Rattle.obim_query.specs.Outcome.{IsWritingFault};
 ghost use Rattle.obim_query.specs.Solves.{IsGrownStart, IsRest, IsStartBlock, IsStartWithin, seeds_at};
 
+use crate::ahead::{Ahead, Texts};
 use crate::asked::Asked;
 use crate::fault::Fault;
 use crate::figures::{Figures, Phase};
@@ -20,6 +21,7 @@ use crate::graphs::{Graphs, Grown};
 use crate::laws::blocks_are_unique;
 use crate::outlet::Waiting;
 use crate::solves::{Solve, Start};
+use crate::teams::teams_for;
 use csr_graph::Csr;
 use dimacs_text::{put_component, put_grown, put_label, put_source, put_walk};
 use obim_engine::Gate;
@@ -56,7 +58,19 @@ pub fn write_sources<H: Threads + Wait + Clock + Sync, W: Write, G: Gate + Sync>
     // So what is a prefix of these blocks is one of the blocks that another run would write.
     blocks_are_unique();
     let mut waiting = Waiting::new(alloc);
+    let texts = Texts {
+        graphs,
+        sources,
+        asked,
+        gate,
+    };
+    let mut ahead = Ahead::new(alloc, teams_for(asked, &graphs.rows));
     for place in 0..sources.len() {
+        if let Some(text) = ahead.take(rt, alloc, &texts, place, figures) {
+            waiting.send_with(writer, &text)?;
+            figures.end(rt, Phase::Writing);
+            continue;
+        }
         let solve = Solve::of_source(sources, place);
         put_solved(
             rt,
@@ -73,26 +87,29 @@ pub fn write_sources<H: Threads + Wait + Clock + Sync, W: Write, G: Gate + Sync>
     waiting.finish(writer)
 }
 
-/// Writes the block of the components, and where the rows grow that of the grown graph.
-pub fn write_components<H: Threads + Wait + Clock + Sync, W: Write, G: Gate + Sync>(
+/// Writes the block of a start, and where the rows grow what comes after it.
+pub fn write_start<H: Threads + Wait + Clock + Sync, W: Write, G: Gate + Sync>(
     rt: &H,
     alloc: Global,
     writer: &mut W,
     graphs: &Graphs,
+    start: Start,
     asked: &Asked,
     gate: &G,
     figures: &mut Figures,
 ) -> Result<(), Fault>
     requires graphs { AreGraphs graphs.now }
-    ensures block { OnOk result (Writes (IsGrownText (IsComponentsBlock graphs.now.rows.n)
-        graphs.now.rows.arcs (growth_of graphs.now.grown)) (W.contents writer.old) (W.contents writer.new)) }
-    ensures prefix { OnErr result (WritesPrefix (IsGrownText (IsComponentsBlock graphs.now.rows.n)
-        graphs.now.rows.arcs (growth_of graphs.now.grown)) (W.contents writer.old) (W.contents writer.new)) }
+    requires start { IsStartWithin graphs.now.rows.n start }
+    ensures block { OnOk result (Writes (IsGrownStart asked.now.walks graphs.now.rows.n
+        graphs.now.rows.arcs (growth_of graphs.now.grown) start)
+        (W.contents writer.old) (W.contents writer.new)) }
+    ensures prefix { OnErr result (WritesPrefix (IsGrownStart asked.now.walks graphs.now.rows.n
+        graphs.now.rows.arcs (growth_of graphs.now.grown) start)
+        (W.contents writer.old) (W.contents writer.new)) }
     ensures kinds { IfErr result IsWritingFault }
 {
     blocks_are_unique();
     let mut waiting = Waiting::new(alloc);
-    let start = Solve::of_components().start;
     put_solved(
         rt,
         alloc,

@@ -1,6 +1,6 @@
 //! What does the command line ask for?
 
-use crate::asked::{Answer, Asked, MAX_BYTES};
+use crate::asked::{Answer, Asked, AtOnce, MAX_AT_ONCE, MAX_BYTES};
 use clap::{Arg, ArgAction, ArgMatches, Command, Error, value_parser};
 use obim_engine::{MAX_CHUNK, MAX_SHIFT, MAX_WORKERS, Settings};
 use std::alloc::Global;
@@ -20,10 +20,12 @@ const USAGE: &str = "obim_query [OPTIONS] < JOB";
 const ABOUT: &str = "Answers a job: a directed graph with whole-number weights, and queries.";
 
 const AFTER: &str = "\
-Workers, shift and chunk change how long an answer takes, and no byte of it. The
-defaults serve every kind of graph. With --shift auto buckets of vertices widen
-with their labels; with --shift BITS each is 2^BITS labels wide. Without --chunk
-one worker hands on 256 vertices at a time, and several 64.
+Workers, sources at once, shift and chunk change how long an answer takes, and no
+byte of it. The defaults serve every kind of graph. With --at-once auto several
+workers solve a source each where vertices have few arcs, and else share one
+source; each source at once takes memory of its own. With --shift auto buckets of
+vertices widen with their labels; with --shift BITS each is 2^BITS labels wide.
+Without --chunk one worker hands on 256 vertices at a time, and several 64.
 
 A job is one text on standard input: a graph in the .gr format of the 9th DIMACS
 Implementation Challenge, and after it its sources in the .ss format, or pairs
@@ -73,6 +75,8 @@ pub enum Refusal {
     Limits,
     /// The shift is neither a number within its limits nor `auto`.
     Shift,
+    /// How many sources are solved at once is neither a number within its limits nor `auto`.
+    AtOnce,
     /// Walks are asked for with components, which have none.
     Walks,
 }
@@ -91,6 +95,9 @@ pub fn asked_by<'a, S: AsStr>(alloc: Global, arguments: &'a [S]) -> Result<Order
     let Some(shift) = matches.get_one::<Shift>("shift") else {
         return Err(Refusal::Shift);
     };
+    let Some(AtOnceArgument(at_once)) = matches.get_one::<AtOnceArgument>("at-once") else {
+        return Err(Refusal::AtOnce);
+    };
     let Some(settings) = settings_in(&matches, shift) else {
         return Err(Refusal::Limits);
     };
@@ -99,7 +106,7 @@ pub fn asked_by<'a, S: AsStr>(alloc: Global, arguments: &'a [S]) -> Result<Order
         return Err(Refusal::Walks);
     };
     Ok(Order {
-        asked,
+        asked: asked.with_at_once(at_once),
         stats: matches.get_flag("stats"),
     })
 }
@@ -129,10 +136,35 @@ impl FromStr for Shift {
     }
 }
 
+/// The value of `--at-once`.
+#[derive(Clone, Copy, Debug, PartialEq, Eq)]
+struct AtOnceArgument(AtOnce);
+
+/// The text is no number of sources.
+#[derive(Clone, Copy, Debug, PartialEq, Eq)]
+struct NoCount;
+
+impl FromStr for AtOnceArgument {
+    type Err = NoCount;
+
+    fn from_str(text: &str) -> Result<AtOnceArgument, NoCount> {
+        if text == "auto" {
+            return Ok(AtOnceArgument(AtOnce::Auto));
+        }
+        match text.parse::<u32>() {
+            Ok(count) if 1 <= count && count <= MAX_AT_ONCE => {
+                Ok(AtOnceArgument(AtOnce::Most(count)))
+            }
+            _ => Err(NoCount),
+        }
+    }
+}
+
 /// What the help says of each setting.
 #[derive(Drop)]
 struct Limits {
     workers: String,
+    at_once: String,
     shift: String,
     chunk: String,
 }
@@ -141,6 +173,9 @@ impl Limits {
     fn new(alloc: Global) -> Result<Limits, Error> {
         Ok(Limits {
             workers: format!(in alloc; "How many workers, 1 to {MAX_WORKERS}")?,
+            at_once: format!(in alloc;
+                "Sources solved at the same time, 1 to {MAX_AT_ONCE}, or auto"
+            )?,
             shift: format!(in alloc; "Bucket width 2^BITS, 0 to {MAX_SHIFT}, or auto")?,
             chunk: format!(in alloc; "Vertices handed on at a time, 1 to {MAX_CHUNK}")?,
         })
@@ -161,6 +196,11 @@ fn command<'a>(alloc: Global, limits: &'a Limits) -> Result<Command<'a>, Error> 
         .value_parser(value_parser!(u32).range(1..=i64::from(MAX_WORKERS)))
         .default_value("2")
         .help(&limits.workers);
+    let at_once = Arg::new(alloc, "at-once")
+        .long("at-once")
+        .value_name("COUNT")
+        .default_value("auto")
+        .help(&limits.at_once);
     let shift = Arg::new(alloc, "shift")
         .long("shift")
         .value_name("BITS")
@@ -187,6 +227,7 @@ fn command<'a>(alloc: Global, limits: &'a Limits) -> Result<Command<'a>, Error> 
         .arg(answer)?
         .arg(walks)?
         .arg(workers)?
+        .arg(at_once)?
         .arg(shift)?
         .arg(chunk)?
         .arg(stats)?;

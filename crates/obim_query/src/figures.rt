@@ -21,6 +21,8 @@ pub struct Figures {
     pub arcs: usize,
     /// How often labels were worked out: once for each source, and once for components.
     pub runs: usize,
+    /// How many sources were solved at the same time at most.
+    pub at_once: usize,
     pub reading: Duration,
     pub rows: Duration,
     pub solving: Duration,
@@ -36,6 +38,7 @@ impl Figures {
             vertices: 0,
             arcs: 0,
             runs: 0,
+            at_once: 1,
             reading: Duration::ZERO,
             rows: Duration::ZERO,
             solving: Duration::ZERO,
@@ -53,6 +56,16 @@ impl Figures {
     /// Takes in that labels were worked out once more.
     pub fn see_run(&mut self) {
         self.runs = self.runs.saturating_add(1);
+    }
+
+    /// Takes in that labels were worked out so many times more.
+    pub fn see_runs(&mut self, count: usize) {
+        self.runs = self.runs.saturating_add(count);
+    }
+
+    /// Takes in that so many sources are solved at the same time.
+    pub fn see_teams(&mut self, teams: usize) {
+        self.at_once = self.at_once.max(teams);
     }
 
     /// The time since the last phase ended was spent on this one. A clock that fails counts nothing.

@@ -9,6 +9,7 @@
 //! on `clap` for the command line and on `thiserror` for the texts of faults.
 #![tactic(auto)]
 
+mod ahead;
 mod asked;
 mod blocks;
 mod command_line;
@@ -22,6 +23,7 @@ mod pairs;
 mod reply;
 mod solves;
 mod stats;
+mod teams;
 #[cfg(test)]
 mod tests;
 
@@ -69,6 +71,11 @@ fn judged<H: AllocGlobal + Env + Print + Eprint>(rt: &H) -> Result<Order, u8> {
         Err(Refusal::Shift) => Err(complain(
             rt,
             "--shift wants a number from 0 to 63, or auto",
+            USAGE,
+        )),
+        Err(Refusal::AtOnce) => Err(complain(
+            rt,
+            "--at-once wants a number from 1 to 64, or auto",
             USAGE,
         )),
         Err(Refusal::Walks) => Err(complain(rt, "--walks needs distances or levels", USAGE)),

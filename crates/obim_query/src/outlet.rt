@@ -1,12 +1,12 @@
 //! Which bytes wait to be written, and when do they go out?
 
-ghost use Rattle.std.specs.Prelude.{◌≡◌, ◌<◌, ◌≤◌, [], length, IfOk, IfErr, OnOk, OnErr};
+ghost use Rattle.std.specs.Prelude.{◌≡◌, ◌<◌, ◌≤◌, ◌++◌, [], Some, length, IfOk, IfErr, OnOk, OnErr};
 ghost use Rattle.std.specs.Io.KnownBytes.{Appends, WriteAppends};
 ghost use Rattle.obim_query.specs.Bytes.{GivesPrefix, Waits};
 
 use crate::fault::Fault;
 use std::alloc::Global;
-use std::io::Write;
+use std::io::{self, ErrorKind, Write};
 
 /// So many bytes make a piece.
 const PIECE: usize = 1 << 16;
@@ -43,6 +43,19 @@ impl Waiting {
         Ok(())
     }
 
+    /// Writes what waits, and then these bytes.
+    pub fn send_with<W: Write>(&mut self, writer: &mut W, bytes: &[u8]) -> Result<(), Fault>
+        ensures sent { OnOk result (Waits (W.contents writer.old) (W.contents writer.new)
+            self.new.bytes.items (self.old.bytes.items ++ bytes.now)) }
+        ensures prefix { OnErr result (GivesPrefix
+            (W.contents writer.old) (W.contents writer.new) (self.old.bytes.items ++ bytes.now)) }
+        ensures only { IfErr result (λ fault. fault ≡ Fault.Write) }
+    {
+        write_bytes(writer, &self.bytes)?;
+        self.bytes.clear();
+        write_bytes(writer, bytes)
+    }
+
     /// Writes what still waits, and flushes the writer once.
     pub fn finish<W: Write>(self, writer: &mut W) -> Result<(), Fault>
         ensures sent { OnOk result (Appends
@@ -56,6 +69,41 @@ impl Waiting {
             Ok(()) => Ok(()),
             Err(_) => Err(Fault::Write),
         }
+    }
+}
+
+/// A writer into memory that takes at most so many bytes, and fails past them.
+#[derive(Drop)]
+pub struct Held {
+    pub bytes: Vec<u8>,
+    limit: usize,
+}
+
+impl Held {
+    /// Nothing is taken yet.
+    pub fn new(alloc: Global, limit: usize) -> Held
+        ensures { result.bytes.items ≡ [] }
+    {
+        Held {
+            bytes: Vec::new(alloc),
+            limit,
+        }
+    }
+}
+
+impl Write for Held {
+    ghost contents = { λ held. Some held.bytes.items };
+
+    fn write(&mut self, bytes: &[u8]) -> io::Result<usize> {
+        if bytes.len() > self.limit.saturating_sub(self.bytes.len()) {
+            return Err(io::Error::from(ErrorKind::Other));
+        }
+        self.bytes.extend_from_slice(bytes)?;
+        Ok(bytes.len())
+    }
+
+    fn flush(&mut self) -> io::Result<()> {
+        Ok(())
     }
 }
 

@@ -10,12 +10,13 @@ ghost use Rattle.obim_query.specs.Outcome.{IsRequest, IsRequestFault, IsTrueOfBy
 ghost use Rattle.obim_query.specs.Outcome.{IsWritingFault, is_unasked};
 
 use crate::asked::{Answer, Asked};
-use crate::blocks::{write_components, write_sources};
+use crate::blocks::{write_sources, write_start};
 use crate::fault::Fault;
 use crate::figures::{Figures, Phase};
 use crate::graphs::{Graphs, graphs_for};
 use crate::intake::read_request;
 use crate::pairs::write_pairs;
+use crate::solves::Start;
 use dimacs_text::{Ask, Job};
 use obim_engine::Gate;
 use route_walks::laws::least_labels_follow_the_arcs;
@@ -175,7 +176,8 @@ fn write_text<H: Threads + Wait + Clock + Sync, W: Write, G: Gate + Sync>(
 {
     match (asked.answer, ask) {
         (Answer::Components, _) => {
-            write_components(rt, alloc, writer, graphs, asked, gate, figures)
+            let start = Start::Everywhere;
+            write_start(rt, alloc, writer, graphs, start, asked, gate, figures)
         }
         (_, Ask::Sources(sources)) => {
             write_sources(rt, alloc, writer, graphs, sources, asked, gate, figures)

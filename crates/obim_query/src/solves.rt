@@ -100,17 +100,6 @@ impl Solve {
     ghost use Rattle.obim_query.specs.declared.solves.Start.TheVariants.{At, Everywhere};
     ghost use Rattle.std.specs.Prelude.{slice_index};
 
-    /// For the components, which are one query.
-    pub fn of_components() -> Solve
-        ensures { result.start ≡ Everywhere }
-    {
-        Solve {
-            start: Start::Everywhere,
-            first: 0,
-            end: 1,
-        }
-    }
-
     /// For the source at a place.
     pub fn of_source(sources: &[u32], place: usize) -> Solve
         requires { place < length sources.now }

@@ -83,6 +83,7 @@ pub fn print_stats<H: Eprint>(rt: &H, asked: &Asked, figures: &Figures, counter:
     let _ = eprintln!(rt; "vertices: {}", figures.vertices);
     let _ = eprintln!(rt; "arcs: {}", figures.arcs);
     let _ = eprintln!(rt; "sources: {}", figures.runs);
+    let _ = eprintln!(rt; "sources at once: {}", figures.at_once);
     let _ = eprintln!(rt; "reading: {} ms", figures.reading.as_millis());
     let _ = eprintln!(rt; "rows: {} ms", figures.rows.as_millis());
     let _ = eprintln!(rt; "solving: {} ms", figures.solving.as_millis());

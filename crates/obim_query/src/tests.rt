@@ -1,6 +1,7 @@
 //! Worked jobs with their answers and faults, over readers and writers that fail too.
 
 mod added;
+mod at_once;
 mod callers;
 mod command_lines;
 mod cuts;

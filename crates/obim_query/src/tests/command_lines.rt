@@ -1,6 +1,6 @@
 //! Which arguments ask for what, and which are refused?
 
-use crate::asked::{Answer, Asked, MAX_BYTES};
+use crate::asked::{Answer, Asked, AtOnce, MAX_BYTES};
 use crate::command_line::{Order, Refusal, asked_by};
 use clap::error::ErrorKind;
 use obim_engine::Settings;
@@ -82,6 +82,34 @@ fn lines_beside_what_they_leave_to_the_program(rt: HostRuntime) {
         let order = asked_of(line, rt.alloc()).ok();
         let found = order.map(|order| (order.asked.settings.widening, order.stats));
         assert_eq!(rt; found, Some((widening, stats)), "{line}");
+    }
+}
+
+#[test]
+fn lines_beside_sources_at_once(rt: HostRuntime) {
+    for (line, want) in [
+        ("it", AtOnce::Auto),
+        ("it --at-once auto", AtOnce::Auto),
+        ("it --at-once 1", AtOnce::Most(1)),
+        ("it --at-once=64", AtOnce::Most(64)),
+    ] {
+        let order = asked_of(line, rt.alloc()).ok();
+        assert_eq!(rt;
+            order.map(|order| order.asked.at_once),
+            Some(want),
+            "{line}"
+        );
+    }
+    for line in [
+        "it --at-once 0",
+        "it --at-once 65",
+        "it --at-once all",
+        "it --at-once=",
+    ] {
+        assert!(rt;
+            matches!(asked_of(line, rt.alloc()), Err(Refusal::AtOnce)),
+            "{line}"
+        );
     }
 }
 

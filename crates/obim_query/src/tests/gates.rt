@@ -39,6 +39,8 @@ const TURNS: u32 = 10_000_000;
 pub(crate) struct Meeting {
     calls: AtomicU64,
     met: AtomicU64,
+    // A bit for each worker that called.
+    workers: AtomicU64,
 }
 
 impl Meeting {
@@ -46,7 +48,13 @@ impl Meeting {
         Meeting {
             calls: AtomicU64::new(0),
             met: AtomicU64::new(0),
+            workers: AtomicU64::new(0),
         }
+    }
+
+    /// The workers that called, worker 0 as the lowest bit.
+    pub fn workers(&self) -> u64 {
+        self.workers.load(Ordering::SeqCst)
     }
 
     /// Whether the first call saw the second before its turns ran out.
@@ -56,7 +64,8 @@ impl Meeting {
 }
 
 impl Gate for Meeting {
-    fn pass<H: Wait>(&self, _rt: &H, _worker: u32, _vertex: u32) {
+    fn pass<H: Wait>(&self, _rt: &H, worker: u32, _vertex: u32) {
+        self.workers.fetch_or(1 << worker.min(63), Ordering::SeqCst);
         if self.calls.fetch_add(1, Ordering::SeqCst) > 0 {
             return;
         }
@@ -65,6 +74,31 @@ impl Gate for Meeting {
                 self.met.store(1, Ordering::SeqCst);
                 return;
             }
+            yield_now();
+        }
+    }
+}
+
+/// Yields now and then, at random.
+#[derive(Drop)]
+pub(crate) struct Yielding {
+    state: AtomicU64,
+}
+
+impl Yielding {
+    pub fn new(seed: u64) -> Yielding {
+        Yielding {
+            state: AtomicU64::new(seed),
+        }
+    }
+}
+
+impl Gate for Yielding {
+    fn pass<H: Wait>(&self, _rt: &H, _worker: u32, _vertex: u32) {
+        let state = self
+            .state
+            .fetch_add(0x9E37_79B9_7F4A_7C15, Ordering::SeqCst);
+        for _ in 0..state >> 62 {
             yield_now();
         }
     }

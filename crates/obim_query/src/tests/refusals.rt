@@ -2,11 +2,12 @@
 //! the answer, and made once more it writes the answer that was worked by hand. `tests/refusals` refuses each in
 //! turn; `tests/refusals.tsv` has the calls.
 
-use crate::asked::Answer;
+use crate::asked::{Answer, AtOnce};
 use crate::fault::Fault;
 use crate::figures::Figures;
 use crate::reply::{answer, answer_bytes, answer_counted};
 use crate::tests::added::{SIX_ADDED, SIX_ADDED_WALKS};
+use crate::tests::at_once::{SIX_SOURCES, SIX_SOURCES_ANSWER, asked_at_once};
 use crate::tests::pairs::{SIX_PAIRS, SIX_PAIRS_ANSWER, SIX_PAIRS_WALKS};
 use crate::tests::{SIX, SIX_WALKS, asked_for_walks, asked_with};
 use obim_engine::OpenGate;
@@ -25,12 +26,14 @@ fn expect_refused(rt: &impl Abort, fault: Fault) {
 fn of_answer(rt: HostRuntime) -> Result<(), Fail> {
     let alloc = rt.alloc();
     let labels = asked_with(&rt, Answer::Distances, 1000, (2, 4, 16));
+    let three = asked_at_once(&rt, 3, AtOnce::Most(3));
     let table = [
         (asked_for_walks(&rt, 1, 1000), SIX, SIX_WALKS),
         (asked_for_walks(&rt, 2, 1000), SIX, SIX_WALKS),
         (asked_for_walks(&rt, 1, 1000), SIX_PAIRS, SIX_PAIRS_WALKS),
         (asked_for_walks(&rt, 2, 1000), SIX_ADDED, SIX_ADDED_WALKS),
         (labels, SIX_PAIRS, SIX_PAIRS_ANSWER),
+        (three, SIX_SOURCES, SIX_SOURCES_ANSWER),
     ];
     for (asked, text, want) in table {
         let (mut reader, mut same) = (text, text);
