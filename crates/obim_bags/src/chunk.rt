@@ -110,4 +110,11 @@ impl Chunk {
     {
         self.vertices.pop()
     }
+
+    /// The vertex that the `by`th pop from now on takes, if nothing is put before: a hint, for what to ask
+    /// of memory ahead of time.
+    #[inline(always)]
+    pub fn ahead(&self, by: usize) -> Option<u32> {
+        self.vertices.get(self.len().wrapping_sub(by)).copied()
+    }
 }

@@ -72,6 +72,15 @@ impl Kept {
         last
     }
 
+    /// The vertex that the `by`th `take_last` from now on takes, if the draining chunk has so many: a hint.
+    #[inline(always)]
+    pub(crate) fn ahead(&self, by: usize) -> Option<u32> {
+        match &self.draining {
+            Some(chunk) => chunk.ahead(by),
+            None => None,
+        }
+    }
+
     /// Hands the box of the draining chunk, which is empty, to the maker.
     #[inline(never)]
     fn give_up(&mut self, maker: &mut Maker)

@@ -87,6 +87,13 @@ impl ObimPool {
         side.pop(rt, &self.log, self.alloc)
     }
 
+    /// The vertex that the `by`th pop of this side from now on takes, if none is pushed to another bag or got
+    /// from one before: a hint, which ends with the chunk that the side drains.
+    #[inline(always)]
+    pub fn ahead(&self, side: &ObimSide, by: usize) -> Option<u32> {
+        side.ahead(by)
+    }
+
     /// Ends the pool: the chunks left in its bags, by their place in the log and then in the order of the
     /// bag. `Missing` where the sides aren't all. What sides still held in chunks of their own is dropped.
     pub fn settle<R: Wait>(
@@ -121,5 +128,10 @@ impl WorkPool for ObimPool {
     #[inline(always)]
     fn pop<R: Wait>(&self, rt: &R, side: &mut ObimSide) -> Option<u32> {
         ObimPool::pop(self, rt, side)
+    }
+
+    #[inline(always)]
+    fn ahead(&self, side: &ObimSide, by: usize) -> Option<u32> {
+        ObimPool::ahead(self, side, by)
     }
 }

@@ -23,4 +23,10 @@ pub trait WorkPool {
     fn pop<H: Wait>(&self, rt: &H, side: &mut Self::Side) -> Option<u32>
         requires { is_side self.now side.old }
         ensures { is_side self.now side.new };
+
+    /// The vertex that the `by`th pop of this side from now on is likely to draw, as far as the pool can
+    /// tell at little cost: a hint, for what to ask of memory ahead of time.
+    fn ahead(&self, _side: &Self::Side, _by: usize) -> Option<u32> {
+        None
+    }
 }

@@ -150,6 +150,13 @@ impl ObimSide {
         }
     }
 
+    /// `ObimPool::ahead`.
+    #[inline(always)]
+    pub(crate) fn ahead(&self, by: usize) -> Option<u32> {
+        let at = self.current?;
+        self.kept.get(at.place)?.ahead(by)
+    }
+
     /// Takes a vertex out of the current bag.
     #[inline(always)]
     fn pop_current<R: Wait>(&mut self, rt: &R, log: &BagLog) -> Option<u32>

@@ -81,4 +81,9 @@ impl WorkPool for WideningPool {
     fn pop<R: Wait>(&self, rt: &R, side: &mut ObimSide) -> Option<u32> {
         self.pool.pop(rt, side)
     }
+
+    #[inline(always)]
+    fn ahead(&self, side: &ObimSide, by: usize) -> Option<u32> {
+        self.pool.ahead(side, by)
+    }
 }

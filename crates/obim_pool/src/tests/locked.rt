@@ -67,6 +67,9 @@ fn lowest_metric_first_and_last_vertex_first(rt: HostRuntime) -> Result<(), Fail
 #[test]
 fn the_same_through_the_trait(rt: HostRuntime) -> Result<(), Fail> {
     let (pool, mut sides) = LockedPool::open(rt.alloc(), 1)?;
+    assert!(rt; pool.push(&rt, &mut sides[0], 4, 0));
+    assert_eq!(rt; pool.ahead(&sides[0], 1), None);
+    assert_eq!(rt; pool.pop(&rt, &mut sides[0]), Some(4));
     push_and_pop(&rt, &pool, &mut sides[0]);
     Ok(())
 }

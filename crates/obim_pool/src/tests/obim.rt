@@ -34,6 +34,21 @@ fn the_same_through_the_trait(rt: HostRuntime) -> Result<(), Fail> {
     Ok(())
 }
 
+#[test]
+fn looking_ahead_ends_with_the_chunk(rt: HostRuntime) -> Result<(), Fail> {
+    let (pool, mut sides) = open_pool(rt.alloc(), 1, 3)?;
+    let mut side = take_side(&rt, &pool, &mut sides);
+    assert_eq!(rt; pool.ahead(&side, 1), None);
+    push_all(&rt, &pool, &mut side, &[(4, 1), (5, 1), (6, 1), (7, 1)]);
+    assert_eq!(rt; pool.ahead(&side, 1), None);
+    expect_pops(&rt, &pool, &mut side, &[Some(6)]);
+    let next = [1, 2, 3].map(|by| pool.ahead(&side, by));
+    assert_eq!(rt; next, [Some(5), Some(4), None]);
+    expect_pops(&rt, &pool, &mut side, &[Some(5), Some(4), Some(7), None]);
+    assert_eq!(rt; pool.ahead(&side, 1), None);
+    Ok(())
+}
+
 // The chunk is worker 0's, of this serial, and has these two vertices.
 fn expect_chunk<R: Abort>(rt: &R, mut chunk: Chunk, serial: u64, first: u32, second: u32) {
     assert!(rt; chunk.id() == ChunkId { worker: 0, serial });

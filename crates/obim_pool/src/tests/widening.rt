@@ -4,7 +4,7 @@ ghost use Rattle.std.specs.Prelude.{IfOk};
 ghost use Rattle.obim_pool.specs.Sides.{IsSideOf};
 
 use crate::tests::helpers::{expect_pops, push_all};
-use crate::{BUCKETS, ObimSide, WideningPool, Worklist, bucket_of};
+use crate::{BUCKETS, ObimSide, WideningPool, WorkPool, Worklist, bucket_of};
 use route_walks::Memory;
 use std::alloc::Global;
 use std::process::Abort;
@@ -75,7 +75,11 @@ fn the_lowest_bucket_first(rt: HostRuntime) -> Result<(), Fail> {
     let (pool, mut side) = open_one(&rt, rt.alloc())?;
     let pushes = [(1, 1000), (2, 2000), (3, 1001), (4, 999)];
     push_all(&rt, &pool, &mut side, &pushes);
-    let pops = [Some(4), Some(3), Some(1), Some(2), None];
-    expect_pops(&rt, &pool, &mut side, &pops);
+    expect_pops(&rt, &pool, &mut side, &[Some(4), Some(3)]);
+    assert_eq!(rt;
+        [pool.ahead(&side, 1), pool.ahead(&side, 2)],
+        [Some(1), None]
+    );
+    expect_pops(&rt, &pool, &mut side, &[Some(1), Some(2), None]);
     Ok(())
 }
