@@ -23,6 +23,7 @@ mod growing;
 mod operators;
 mod pace;
 mod pauses;
+mod prefetch;
 mod runs;
 mod settings;
 mod worker;

@@ -198,7 +198,7 @@ fn run_workers<H, P, G>(
     alloc: Global,
     csr: &Csr,
     words: Words,
-    mut seat: WorkSeat,
+    seat: WorkSeat,
     settings: &Settings,
     pool: &P,
     sides: &mut [P::Side],
@@ -230,7 +230,7 @@ where
         budget,
     };
     push_marked(rt, &shared, &seat, &mut sides[0]);
-    run_group(rt, &shared, 0, &mut seat, sides);
+    let seat = run_group(rt, &shared, 0, seat, sides);
     Ok(words.close(alloc, seat)?)
 }
 

@@ -11,6 +11,7 @@ ghost use Rattle.obim_engine.specs.Workers.{CanLead, AreDone};
 use crate::gate::Gate;
 use crate::pace::{Pace, Watch};
 use crate::pauses::Pauses;
+use crate::prefetch::prefetch;
 use crate::settings::Settings;
 use csr_graph::Csr;
 use label_words::{Step, Words, WorkSeat};
@@ -37,18 +38,18 @@ pub(crate) struct Shared<'a, P, G> {
 }
 
 /// Works until the seat sees the pending total at 0, or the worker has visited as many vertices as its
-/// budget lets it.
+/// budget lets it. The seat comes and goes by value, so that it lies in registers meanwhile.
 pub(crate) fn work<H: Wait + Clock, P: WorkPool, G: Gate>(
     rt: &H,
     shared: &Shared<'_, P, G>,
     worker: u32,
-    seat: &mut WorkSeat,
+    mut seat: WorkSeat,
     side: &mut P::Side,
-)
-    requires words { seat.old.words ≡ shared.now.words.now }
-    requires seat { CanLead shared.now.csr.now 1 seat.old }
+) -> WorkSeat
+    requires words { seat.words ≡ shared.now.words.now }
+    requires seat { CanLead shared.now.csr.now 1 seat }
     requires side { P.is_side shared.now.pool.now side.old }
-    ensures seat { AreDone shared.now.budget seat.old seat.new }
+    ensures seat { AreDone shared.now.budget seat result }
     ensures side { P.is_side shared.now.pool.now side.new }
 {
     let mut pauses = Pauses::new();
@@ -59,26 +60,26 @@ pub(crate) fn work<H: Wait + Clock, P: WorkPool, G: Gate>(
         if budget == Some(0) {
             shared.pace.leave(worker);
             // The run may be over all the same.
-            shared.words.see(seat);
-            return;
+            shared.words.see(&mut seat);
+            return seat;
         }
         let popped = shared.pool.pop(rt, side);
-        show(shared, worker, seat, popped);
+        show(shared, worker, &seat, popped);
         match popped {
-            Some(u) if u < shared.csr.n() && shared.words.take(seat, u) => {
-                visit(rt, shared, worker, seat, side, u);
+            Some(u) if u < shared.csr.n() && shared.words.take(&mut seat, u) => {
+                visit(rt, shared, worker, &mut seat, side, u);
                 budget = spent(budget);
                 left = FRUITLESS_POPS;
                 pauses.reset();
                 watch.visited(rt, shared.pace);
             }
             _ => {
-                if shared.words.see(seat) {
-                    return;
+                if shared.words.see(&mut seat) {
+                    return seat;
                 }
                 left -= 1;
                 if left == 0 {
-                    budget = sweep(rt, shared, worker, seat, side, budget);
+                    (seat, budget) = sweep(rt, shared, worker, seat, side, budget);
                     left = FRUITLESS_POPS;
                 }
                 pauses.wait(rt, popped, shared.pace.has_lost());
@@ -113,36 +114,37 @@ fn show<P, G>(shared: &Shared<'_, P, G>, worker: u32, seat: &WorkSeat, vertex: O
 }
 
 /// Visits each vertex that is marked, in rising order, until the budget is spent: those too that the pool
-/// has lost. Returns what is left of the budget.
+/// has lost. Returns the seat, and what is left of the budget.
+#[inline(never)]
 fn sweep<H: Wait, P: WorkPool, G: Gate>(
     rt: &H,
     shared: &Shared<'_, P, G>,
     worker: u32,
-    seat: &mut WorkSeat,
+    mut seat: WorkSeat,
     side: &mut P::Side,
     mut budget: Option<u64>,
-) -> Option<u64>
-    requires words { seat.old.words ≡ shared.now.words.now }
-    requires graph { shared.now.csr.now ≡ seat.old.known.graph }
-    requires idle { seat.old.known.view.hand ≡ Idle }
+) -> (WorkSeat, Option<u64>)
+    requires words { seat.words ≡ shared.now.words.now }
+    requires graph { shared.now.csr.now ≡ seat.known.graph }
+    requires idle { seat.known.view.hand ≡ Idle }
     requires side { P.is_side shared.now.pool.now side.old }
-    ensures stays { Stays seat.old seat.new }
-    ensures idle { seat.new.known.view.hand ≡ Idle }
+    ensures stays { Stays seat result.0 }
+    ensures idle { result.0.known.view.hand ≡ Idle }
     ensures side { P.is_side shared.now.pool.now side.new }
-    ensures budget { budget ≡ None → result ≡ None }
+    ensures budget { budget ≡ None → result.1 ≡ None }
 {
     shared.pace.seek();
     for v in 0..shared.csr.n() {
         if budget == Some(0) {
             break;
         }
-        show(shared, worker, seat, Some(v));
-        if shared.words.take(seat, v) {
-            visit(rt, shared, worker, seat, side, v);
+        show(shared, worker, &seat, Some(v));
+        if shared.words.take(&mut seat, v) {
+            visit(rt, shared, worker, &mut seat, side, v);
             budget = spent(budget);
         }
     }
-    budget
+    (seat, budget)
 }
 
 /// Relaxes the row of the vertex that the seat took, and finishes it.
@@ -165,6 +167,7 @@ fn visit<H: Wait, P: WorkPool, G: Gate>(
     ensures side { P.is_side shared.now.pool.now side.new }
 {
     shared.gate.pass(rt, worker, u);
+    prefetch(shared, seat, side);
     shared.words.read(seat, shared.csr);
     while relax_next(rt, shared, seat, side, u) {}
     shared.words.finish(seat, shared.csr);

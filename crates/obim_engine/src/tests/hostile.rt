@@ -8,7 +8,8 @@ use route_walks::Memory;
 use std::alloc::Global;
 use std::sync::{Mutex, Wait};
 
-/// Drops, refuses and repeats vertices, invents some, and gives what another side was handed.
+/// Drops, refuses and repeats vertices, invents some, gives what another side was handed, and hints at vertices
+/// that there are not.
 #[derive(Drop)]
 pub(crate) struct Hostile {
     lists: Vec<Mutex<Vec<u32>>>,
@@ -83,5 +84,9 @@ impl WorkPool for Hostile {
         };
         side.last = given;
         given
+    }
+
+    fn ahead(&self, side: &HostileSide, by: usize) -> Option<u32> {
+        if by == 1 { side.last } else { Some(u32::MAX) }
     }
 }
