@@ -2,8 +2,8 @@
 //!
 //! Each worker has vertices in chunks of its own. Where the system takes the processor of one that has the
 //! lowest labels, the others go on with what is left, and all that they do falls again once the low labels
-//! come. So each worker shows the label that it visits, and one that is far ahead of another sleeps a
-//! little now and then. No label depends on it.
+//! come. So each worker shows the bucket of the label that it visits, and one that is far ahead of another
+//! sleeps a little now and then. No label depends on it.
 
 use crossbeam_utils::CachePadded;
 use obim_pool::bucket_of;
@@ -32,29 +32,39 @@ const NAPS: u32 = 128;
 #[derive(Drop)]
 pub(crate) struct Pace {
     workers: u32,
-    /// By worker, the label of the vertex that it visits; `INF` while it has nothing to do.
-    labels: Vec<CachePadded<AtomicU64>>,
+    /// By worker, the bucket of the label of the vertex that it visits; that of `INF` while it has nothing to
+    /// do.
+    buckets: Vec<CachePadded<AtomicU64>>,
     /// Whether since the last sweep the pool refused a vertex, or a worker left that had spent its budget.
     lost: AtomicBool,
 }
 
 impl Pace {
     pub(crate) fn open(alloc: Global, workers: u32) -> Result<Pace, Memory> {
-        let mut labels = Vec::with_capacity(alloc, workers as usize)?;
+        let mut buckets = Vec::with_capacity(alloc, workers as usize)?;
         for _ in 0..workers {
-            labels.push(CachePadded::new(AtomicU64::new(INF)))?;
+            buckets.push(CachePadded::new(AtomicU64::new(bucket_of(INF))))?;
         }
         Ok(Pace {
             workers,
-            labels,
+            buckets,
             lost: AtomicBool::new(false),
         })
     }
 
-    /// The worker visits a vertex with this label, or rests where it is `INF`.
+    /// Whether the run has one worker, which need not show anything.
+    pub(crate) fn is_alone(&self) -> bool {
+        self.workers == 1
+    }
+
+    /// The worker visits a vertex with this label, or rests where it is `INF`. Most visits have the bucket
+    /// of the visit before, and a store is a locked step.
     pub(crate) fn show(&self, worker: u32, label: u64) {
-        if let Some(shown) = self.labels.get(worker as usize) {
-            shown.store(label, Ordering::Relaxed);
+        let bucket = bucket_of(label);
+        if let Some(shown) = self.buckets.get(worker as usize) {
+            if shown.load(Ordering::Relaxed) != bucket {
+                shown.store(bucket, Ordering::Relaxed);
+            }
         }
     }
 
@@ -81,12 +91,12 @@ impl Pace {
 
     /// Whether the label that the worker shows is far above one that another shows.
     fn is_far_ahead(&self, worker: u32) -> bool {
-        let mut least = INF;
-        for label in self.labels.iter() {
-            least = least.min(label.load(Ordering::Relaxed));
+        let mut least = u64::MAX;
+        for bucket in self.buckets.iter() {
+            least = least.min(bucket.load(Ordering::Relaxed));
         }
-        match self.labels.get(worker as usize) {
-            Some(own) => bucket_of(own.load(Ordering::Relaxed)) > bucket_of(least) + AHEAD,
+        match self.buckets.get(worker as usize) {
+            Some(own) => own.load(Ordering::Relaxed) > least.saturating_add(AHEAD),
             None => false,
         }
     }
@@ -111,12 +121,18 @@ impl Watch {
         }
     }
 
-    /// After a visit: every so often a look at the others, and naps while the worker is far ahead.
+    /// After a visit: every so often a look at the others.
+    #[inline(always)]
     pub(crate) fn visited<C: Clock>(&mut self, clock: &C, pace: &Pace) {
         self.left = self.left.saturating_sub(1);
-        if self.left > 0 {
-            return;
+        if self.left == 0 {
+            self.look(clock, pace);
         }
+    }
+
+    /// A look at the others, and naps while the worker is far ahead.
+    #[inline(never)]
+    fn look<C: Clock>(&mut self, clock: &C, pace: &Pace) {
         if self.nap(clock, pace) {
             self.naps = self.naps.saturating_mul(2).min(NAPS);
             self.left = VISITS;

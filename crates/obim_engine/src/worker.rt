@@ -96,12 +96,15 @@ fn spent(budget: Option<u64>) -> Option<u64>
     budget.map(|visits| visits.saturating_sub(1))
 }
 
-/// Shows the label of the vertex that the worker is about to take, if it is marked, and `INF` where there
-/// is no vertex.
+/// Shows other workers, if there are any, the label of the vertex that the worker is about to take, if it is
+/// marked, and `INF` where there is no vertex.
 fn show<P, G>(shared: &Shared<'_, P, G>, worker: u32, seat: &WorkSeat, vertex: Option<u32>)
     requires words { seat.now.words ≡ shared.now.words.now }
     requires graph { shared.now.csr.now ≡ seat.now.known.graph }
 {
+    if shared.pace.is_alone() {
+        return;
+    }
     let Some(v) = vertex else {
         shared.pace.show(worker, INF);
         return;
