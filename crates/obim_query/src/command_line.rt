@@ -20,12 +20,13 @@ const USAGE: &str = "obim_query [OPTIONS] < JOB";
 const ABOUT: &str = "Answers a job: a directed graph with whole-number weights, and queries.";
 
 const AFTER: &str = "\
-Workers, sources at once, shift and chunk change how long an answer takes, and no
-byte of it. The defaults serve every kind of graph. With --at-once auto several
-workers solve a source each where vertices have few arcs, and else share one
-source; each source at once takes memory of its own. With --shift auto buckets of
-vertices widen with their labels; with --shift BITS each is 2^BITS labels wide.
-Without --chunk one worker hands on 256 vertices at a time, and several 64.
+Workers, sources at once, shift and chunk change how long an answer takes, and
+no byte of it. The defaults serve every kind of graph, but maps of 16 million
+vertices and more want a shift. With --at-once auto several workers solve a
+source each where vertices have few arcs, and else share one source; each source
+takes memory of its own. With --shift auto buckets of vertices widen with their
+labels; with --shift BITS each is 2^BITS labels wide. Without --chunk one worker
+hands on 256 vertices at a time, and several 64.
 
 A job is one text on standard input: a graph in the .gr format of the 9th DIMACS
 Implementation Challenge, and after it its sources in the .ss format, or pairs
@@ -173,9 +174,7 @@ impl Limits {
     fn new(alloc: Global) -> Result<Limits, Error> {
         Ok(Limits {
             workers: format!(in alloc; "How many workers, 1 to {MAX_WORKERS}")?,
-            at_once: format!(in alloc;
-                "Sources solved at the same time, 1 to {MAX_AT_ONCE}, or auto"
-            )?,
+            at_once: format!(in alloc; "Sources at once, 1 to {MAX_AT_ONCE}, or auto")?,
             shift: format!(in alloc; "Bucket width 2^BITS, 0 to {MAX_SHIFT}, or auto")?,
             chunk: format!(in alloc; "Vertices handed on at a time, 1 to {MAX_CHUNK}")?,
         })
