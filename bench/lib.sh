@@ -8,7 +8,9 @@ mkdir "$work/bin"
 PATH=$work/bin:$PATH
 
 # As the launcher does, for both programs: see there.
-export GLIBC_TUNABLES=${GLIBC_TUNABLES:-glibc.malloc.hugetlb=1}
+tunables=glibc.malloc.hugetlb=1:glibc.malloc.arena_max=1
+tunables+=:glibc.malloc.mmap_threshold=33554432:glibc.malloc.trim_threshold=4294967296
+export GLIBC_TUNABLES=${GLIBC_TUNABLES:-$tunables}
 
 # plain FILE NAME ARGUMENT..: builds a program in plain Rust.
 plain() { rustc -O --edition 2024 -A dead_code -o "$work/bin/$2" "${@:3}" "$here/$1"; }

@@ -1,6 +1,7 @@
 #!/bin/sh
-# Runs the installed program. It asks the C library for large pages, which save looking up where a page is; a
-# caller's own setting stays. Where the job would come from a terminal it says how to give it one.
+# Runs the installed program. It asks the C library for large pages, which save looking up where a page is, and to keep
+# pages from one source to the next; a caller's own setting stays. Where the job would come from a terminal it says how
+# to give it one.
 wants_job=yes
 for word; do
     case $word in -h | --help | -V | --version) wants_job= ;; esac
@@ -9,6 +10,8 @@ if [ -n "$wants_job" ] && [ -t 0 ]; then
     echo "usage: obim_query [OPTIONS] < JOB (see obim_query --help)" >&2
     exit 1
 fi
-GLIBC_TUNABLES=${GLIBC_TUNABLES:-glibc.malloc.hugetlb=1}
+tunables=glibc.malloc.hugetlb=1:glibc.malloc.arena_max=1
+tunables=$tunables:glibc.malloc.mmap_threshold=33554432:glibc.malloc.trim_threshold=4294967296
+GLIBC_TUNABLES=${GLIBC_TUNABLES:-$tunables}
 export GLIBC_TUNABLES
 exec "$(dirname "$(readlink -f "$0")")/../libexec/hollowbowl/obim_query" "$@"
