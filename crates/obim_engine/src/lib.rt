@@ -22,10 +22,12 @@ mod group;
 mod growing;
 mod operators;
 mod pace;
+mod patience;
 mod pauses;
 mod prefetch;
 mod runs;
 mod settings;
+mod widths;
 mod worker;
 
 pub use gate::{Gate, OpenGate};

@@ -12,6 +12,7 @@ ghost use Rattle.obim_engine.specs.Workers.{CanLead};
 use crate::gate::Gate;
 use crate::runs::{RunFault, solve};
 use crate::settings::{MAX_WORKERS, Settings};
+use crate::widths::scale_of;
 use csr_graph::Csr;
 use label_words::laws::resumed_runs_end_alike;
 use label_words::{Paused, Words, WorkSeat};
@@ -83,7 +84,8 @@ fn solve_alone<H: Threads + Wait + Clock + Sync, G: Gate + Sync>(
         (λ labels. AreLeastLabels csr.now.n csr.now.arcs seat.known.seeds labels.items) }
 {
     if settings.widening {
-        let (pool, mut sides) = WideningPool::open(alloc, settings.workers, settings.chunk)?;
+        let scale = scale_of(csr);
+        let (pool, mut sides) = WideningPool::open(alloc, settings.workers, settings.chunk, scale)?;
         let labels = solve(
             rt, alloc, csr, words, seat, settings, &pool, &mut sides, gate,
         )?;

@@ -17,8 +17,8 @@ use std::time::{Clock, Duration};
 /// the last look, for all together.
 const VISITS: u32 = 64;
 
-/// A worker is far ahead of another if its label is more than this many buckets of a `WideningPool` above
-/// the other's.
+/// A worker is far ahead of another if its label is more than this many buckets of `bucket_of` above the
+/// other's.
 const AHEAD: u64 = 8;
 
 /// A nap of a worker that is far ahead, in microseconds.

@@ -9,6 +9,7 @@ mod pauses;
 mod pools;
 mod refusals;
 mod watched;
+mod widths;
 
 ghost use Rattle.std.specs.Prelude.{◌≡◌, ◌<◌, IfOk};
 ghost use Rattle.route_walks.specs.Label.{AreLeastLabels};
@@ -24,7 +25,7 @@ use gates::{Holding, Recorder, Yielding};
 use graphs::{SIX, SIX_LABELS, WORKED, arcs_of, are_seeds, grid_arcs, is_graph, random_arcs, six};
 use hostile::Hostile;
 use obim_pool::{LockedPool, ObimPool};
-use pools::{FirstIn, Misleading, Useless};
+use pools::{FirstIn, Misleading, Repeating, Useless};
 use route_walks::{ArcRec, Seed, both_ways, plain_labels, seeds_all, seeds_from, unit_weights};
 use std::alloc::Global;
 use std::process::Abort;
@@ -316,6 +317,35 @@ fn a_sweep_of_a_large_star(rt: HostRuntime) -> Result<(), Fail> {
     )?;
     for (v, label) in labels.iter().enumerate() {
         assert_eq!(rt; *label, v as u64 % 100, "vertex {v}");
+    }
+    Ok(())
+}
+
+// A pool that gives a vertex again and again still has others: up to as many times as there are vertices
+// the worker takes them in the pool's order, and from then on in the order of their numbers.
+#[test]
+fn a_pool_that_repeats_is_borne(rt: HostRuntime) -> Result<(), Fail> {
+    let alloc = rt.alloc();
+    let n = 3000;
+    let mut falling = Vec::new(alloc);
+    for v in 1..n {
+        falling.push(ArcRec::new(0, n - v, 1))?;
+    }
+    let within = is_graph(n, &falling);
+    assert!(rt; within);
+    let csr = Csr::build(alloc, n, &falling)?;
+    for (times, second) in [(0, n - 1), (n - 1, n - 1), (n, 1)] {
+        let gate = Recorder::new(alloc);
+        let mut sides = Repeating::sides(alloc)?;
+        let settings = settings(&rt, 1, 0);
+        let pool = Repeating { times };
+        let seeds = [Seed::new(0, 0)];
+        run(
+            &rt, alloc, &csr, &seeds, &settings, &pool, &mut sides, &gate,
+        )?;
+        let passed = gate.into_passed();
+        assert_eq!(rt; passed.len(), n as usize);
+        assert_eq!(rt; passed.get(1), Some(&second), "{times} times");
     }
     Ok(())
 }

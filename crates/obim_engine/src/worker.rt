@@ -10,6 +10,7 @@ ghost use Rattle.obim_engine.specs.Workers.{CanLead, AreDone};
 
 use crate::gate::Gate;
 use crate::pace::{Pace, Watch};
+use crate::patience::Patience;
 use crate::pauses::Pauses;
 use crate::prefetch::prefetch;
 use crate::settings::Settings;
@@ -19,10 +20,6 @@ use obim_pool::WorkPool;
 use route_walks::INF;
 use std::sync::Wait;
 use std::time::Clock;
-
-/// After so many fruitless pops in a row a worker looks at every vertex itself: the pool may have lost
-/// some, as where it was refused memory.
-const FRUITLESS_POPS: u32 = 1024;
 
 /// What all workers of a run share.
 #[derive(Drop)]
@@ -54,7 +51,7 @@ pub(crate) fn work<H: Wait + Clock, P: WorkPool, G: Gate>(
 {
     let mut pauses = Pauses::new();
     let mut watch = Watch::new(worker);
-    let mut left = FRUITLESS_POPS;
+    let mut patience = Patience::new(shared.csr.n());
     let mut budget = shared.budget;
     for _ in rt.forever() {
         if budget == Some(0) {
@@ -69,7 +66,7 @@ pub(crate) fn work<H: Wait + Clock, P: WorkPool, G: Gate>(
             Some(u) if u < shared.csr.n() && shared.words.take(&mut seat, u) => {
                 visit(rt, shared, worker, &mut seat, side, u);
                 budget = spent(budget);
-                left = FRUITLESS_POPS;
+                patience.renew();
                 pauses.reset();
                 watch.visited(rt, shared.pace);
             }
@@ -77,10 +74,9 @@ pub(crate) fn work<H: Wait + Clock, P: WorkPool, G: Gate>(
                 if shared.words.see(&mut seat) {
                     return seat;
                 }
-                left -= 1;
-                if left == 0 {
+                if patience.ends(popped) {
                     (seat, budget) = sweep(rt, shared, worker, seat, side, budget);
-                    left = FRUITLESS_POPS;
+                    patience.renew();
                 }
                 pauses.wait(rt, popped, shared.pace.has_lost());
             }

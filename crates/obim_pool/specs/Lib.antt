@@ -2,5 +2,6 @@ pub mod Bags
 pub mod Accounts
 pub mod Kept
 pub mod Orders
+pub mod Scales
 pub mod Sides
 pub mod Steps

@@ -25,8 +25,8 @@
 //! its side. So each side pops until it has nothing, or what it holds is dropped with it.
 //!
 //! `WideningPool` is an `ObimPool` that makes a bucket of each metric that it is handed: narrow ones for
-//! small metrics and wider ones for larger metrics, so that there are a thousand or two of them
-//! whatever the labels of a graph are.
+//! small metrics and wider ones for larger metrics, but none wider than its `Scale` lets it for long, so
+//! that there are a thousand or two of them whatever the labels of a graph are.
 //!
 //! `LockedPool` is the plain pool: one lock over one bag of vertices a metric. The bags under the
 //! lock keep a contract of their own: a push puts a vertex last into the bag of its metric, and a
@@ -45,6 +45,7 @@ mod obim;
 mod order;
 mod own;
 mod pool;
+mod scale;
 mod side;
 mod widening;
 mod worklist;
@@ -52,6 +53,7 @@ mod worklist;
 pub use locked::{LockedPool, LockedSide};
 pub use obim::ObimPool;
 pub use pool::WorkPool;
+pub use scale::{MOST_BUCKETS, Scale};
 pub use side::ObimSide;
 pub use widening::{BUCKETS, WideningPool, bucket_of};
 pub use worklist::Worklist;

@@ -1,4 +1,4 @@
-//! A pool whose buckets widen with the label.
+//! A pool whose buckets widen with the label, by a scale.
 
 ghost use Rattle.std.specs.Prelude.{◌≡◌, ◌≤◌, ◌<◌, replicate, IfOk};
 ghost use Rattle.obim_bags.specs.declared.chunk.TheConstants.{MAX_SIZE};
@@ -7,6 +7,7 @@ ghost use Rattle.obim_pool.specs.declared.widening.TheConstants.{BUCKETS};
 
 use crate::obim::ObimPool;
 use crate::pool::WorkPool;
+use crate::scale::Scale;
 use crate::side::ObimSide;
 use obim_bags::MAX_SIZE;
 use route_walks::Memory;
@@ -37,11 +38,12 @@ pub fn bucket_of(label: u64) -> u64
     u64::from(bits) * (NARROW / 2) + (label >> bits)
 }
 
-/// An `ObimPool` with a bag for each bucket of metrics: it needs no shift to be chosen, whatever the
-/// labels are. Handed metrics that are labels, it has at most `BUCKETS` bags.
+/// An `ObimPool` with a bag for each bucket of metrics by a scale: it needs no shift to be chosen,
+/// whatever the labels are. Handed metrics that are labels, it has at most `MOST_BUCKETS` bags.
 #[derive(Drop)]
 pub struct WideningPool {
     pool: ObimPool,
+    scale: Scale,
 }
 
 impl Model for WideningPool {
@@ -53,17 +55,19 @@ impl Model for WideningPool {
 }
 
 impl WideningPool {
-    /// A pool without bags, and a side of it for each worker. A chunk takes `chunk` vertices, 1 to 256.
+    /// A pool without bags and of this scale, and a side of it for each worker. A chunk takes `chunk`
+    /// vertices, 1 to 256.
     pub fn open(
         alloc: Global,
         workers: u32,
         chunk: usize,
+        scale: Scale,
     ) -> Result<(WideningPool, Vec<ObimSide>), Memory>
         requires { (1 ≤ workers) × (1 ≤ chunk) × (chunk ≤ MAX_SIZE) }
         ensures { IfOk result (λ opened. opened.1.items ≡ replicate workers (new_side opened.0)) }
     {
         let (pool, sides) = ObimPool::open(alloc, workers, chunk)?;
-        Ok((WideningPool { pool }, sides))
+        Ok((WideningPool { pool, scale }, sides))
     }
 }
 
@@ -74,7 +78,7 @@ impl WorkPool for WideningPool {
 
     #[inline(always)]
     fn push<R: Wait>(&self, rt: &R, side: &mut ObimSide, v: u32, metric: u64) -> bool {
-        self.pool.push(rt, side, v, bucket_of(metric))
+        self.pool.push(rt, side, v, self.scale.bucket_of(metric))
     }
 
     #[inline(always)]

@@ -6,7 +6,7 @@ use Rattle.csr_graph.specs.Graph.{Graph}
 use Rattle.route_walks.specs.declared.graph.ArcRec.{ArcRec}
 use Rattle.dimacs_text.specs.AnswerLines.{grown_text, pair_text}
 use Rattle.obim_query.specs.declared.graphs.Grown.{Grown}
-use Rattle.obim_query.specs.declared.pairs.Walked.{Walked}
+use Rattle.obim_query.specs.declared.walked_pairs.Walked.{Walked}
 use Rattle.obim_query.specs.declared.solves.Start.{Start}
 use Rattle.obim_query.specs.declared.solves.Start.TheVariants.{At, Everywhere}
 use Rattle.obim_query.specs.AnswerText.{AreBothTexts, BlocksAreUnique, Growth, IsGrownPair, IsGrownText, IsOneText, IsPairBlock}

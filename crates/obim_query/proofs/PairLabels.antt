@@ -3,15 +3,17 @@ use Rattle.std.proofs.Common.{◌≡◌, ℕ, ◌+◌, ◌<◌, ◌≤◌, List,
 use Rattle.std.proofs.Common.{Option, Some, None, refl, sym, subst, ◌∙◌, inl, inr, arith}
 use Rattle.std.specs.List.{All, Contains}
 use Rattle.std.specs.List.Sorted.{IsPermutation}
-use Rattle.std.proofs.lemmas.List.{get_or-set_same, get_or-set_other, length-set, take_all, take_more}
+use Rattle.std.proofs.lemmas.List.{get_or-set_same, get_or-set_other, get_or_append_left, get_or_push}
+use Rattle.std.proofs.lemmas.List.{length-set, length_push, take_all, take_more}
 use Rattle.std.proofs.lemmas.List.Elements.{All-append, All-cons, All-contains, All-get_or, All-nil, All-weaker}
 use Rattle.std.proofs.lemmas.List.Elements.{Contains-append_left, Contains-push}
 use Rattle.std.proofs.lemmas.List.Sorted.{All-permutation, Contains-permutation}
-use Rattle.std.proofs.lemmas.Bool.{cases_eq}
+use Rattle.std.proofs.lemmas.Bool.{cases_eq, cases_lt}
 use Rattle.route_walks.specs.declared.graph.ArcRec.{ArcRec}
 use Rattle.route_walks.specs.Label.{AreLeastLabels}
 use Rattle.route_walks.specs.Operators.{seeds_from}
 use Rattle.obim_query.specs.declared.solves.Solve.{Solve}
+use Rattle.obim_query.specs.Solved.{AreLabelsAt}
 use Rattle.obim_query.specs.Solves.{pair_at, AreBySource, AreFilled, ArePairLabels, IsForQueries, IsPairLabel}
 use Rattle.obim_query.specs.Solves.{AreFilledAfter, AreLabelsAfter, HasLabelAfter}
 use Rattle.obim_query.specs.declared.graphs.Grown.{Grown}
@@ -54,23 +56,46 @@ all_placed pairs i order sorted all placed moved = record {
       Contains-permutation order sorted ((pair_at pairs k).0, k) moved (placed.all k (omega (arith, all)));
 }
 
--- one label more is filled in
-pub filled_more : (n : ℕ) (arcs : List ArcRec) (pairs order : List (ℕ × ℕ)) (i : ℕ) (filled labels : List ℕ)
+-- of the labels from the source of an entry that of its pair
+pub target_label : (n : ℕ) (arcs : List ArcRec) (pairs order : List (ℕ × ℕ)) (i : ℕ) (labels : List ℕ)
     → i < length order → AreBySource pairs order → AreLeastLabels n arcs (seeds_from (pair_at order i).0) labels
-    → AreFilled n arcs pairs order i filled
-    → AreFilled n arcs pairs order (i + 1)
-    (set filled (pair_at order i).1 (get_or labels (pair_at pairs (pair_at order i).1).1 0))
-filled_more n arcs pairs order i filled labels here by least before =
-    let entry = pair_at order i in
-    let label = get_or labels (pair_at pairs entry.1).1 0 in
-    let new = set filled entry.1 label in
+    → IsPairLabel n arcs (pair_at pairs (pair_at order i).1)
+    (get_or labels (pair_at pairs (pair_at order i).1).1 0)
+target_label n arcs pairs order i labels here by least =
     let is = All-get_or (λ e. (e.1 < length pairs) × (e.0 ≡ (pair_at pairs e.1).0)) order i (0, 0) here by.each in
-    let now : IsPairLabel n arcs (pair_at pairs entry.1) (get_or new entry.1 0) =
     record {
       labels = labels;
       least = subst (λ (s : ℕ). AreLeastLabels n arcs (seeds_from s) labels) is.1 least;
-      is = get_or-set_same filled entry.1 label 0 (omega (arith, is.0, before.places));
-    } in
+      is = refl;
+    }
+
+-- one label more is picked
+pub picked_more : (n : ℕ) (arcs : List ArcRec) (pairs order : List (ℕ × ℕ)) (first : ℕ) (picked : List ℕ) (label : ℕ)
+    → AreLabelsAt n arcs pairs order first picked
+    → IsPairLabel n arcs (pair_at pairs (pair_at order (first + length picked)).1) label
+    → AreLabelsAt n arcs pairs order first (picked ++ label ∷ [])
+picked_more n arcs pairs order first picked label before now k below =
+    let pair : ℕ → ℕ × ℕ = λ i. pair_at pairs (pair_at order (first + i)).1 in
+    elim (cases_lt k (length picked)) [
+      | inl here ↦
+          subst (IsPairLabel n arcs (pair k)) (sym (get_or_append_left picked (label ∷ []) 0 k here)) (before k here)
+      | inr past ↦
+          let last : length picked ≡ k = omega (arith, below, length_push picked label, past) in
+          subst (IsPairLabel n arcs (pair k)) (sym (get_or_push picked label 0 k last))
+          (subst (λ (i : ℕ). IsPairLabel n arcs (pair i) label) last now)
+    ]
+
+-- one label more is filled in
+pub filled_more : (n : ℕ) (arcs : List ArcRec) (pairs order : List (ℕ × ℕ)) (i : ℕ) (filled : List ℕ) (label : ℕ)
+    → i < length order → (pair_at order i).1 < length filled
+    → IsPairLabel n arcs (pair_at pairs (pair_at order i).1) label
+    → AreFilled n arcs pairs order i filled
+    → AreFilled n arcs pairs order (i + 1) (set filled (pair_at order i).1 label)
+filled_more n arcs pairs order i filled label here place is before =
+    let entry = pair_at order i in
+    let new = set filled entry.1 label in
+    let now : IsPairLabel n arcs (pair_at pairs entry.1) (get_or new entry.1 0) =
+    subst (IsPairLabel n arcs (pair_at pairs entry.1)) (sym (get_or-set_same filled entry.1 label 0 place)) is in
     let stays : (e : ℕ × ℕ)
     → IsPairLabel n arcs (pair_at pairs e.1) (get_or filled e.1 0)
     → IsPairLabel n arcs (pair_at pairs e.1) (get_or new e.1 0) =

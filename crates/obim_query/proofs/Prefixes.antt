@@ -1,8 +1,9 @@
 -- What was given is a prefix of the whole, also where a write fails.
 use Rattle.std.proofs.Common.{◌≡◌, ℕ, ◌<◌, ◌≤◌, List, [], ◌∷◌, ◌++◌, length, get_or, take}
-use Rattle.std.proofs.Common.{zero, suc, Option, Some, None, refl, sym, subst, ap, ◌∙◌, append_assoc, arith}
+use Rattle.std.proofs.Common.{zero, suc, Option, Some, None, inl, inr, refl, sym, subst, ap, ◌∙◌, append_assoc, arith}
 use Rattle.std.specs.Io.KnownBytes.{Appends}
 use Rattle.std.specs.Prelude.{Result, Ok, Err, OnErr}
+use Rattle.std.proofs.lemmas.Bool.{cases_lt}
 use Rattle.std.proofs.lemmas.List.{append-nil, take_all}
 use Rattle.obim_query.specs.AnswerText.{AreBlocks, IsOneBlock}
 use Rattle.obim_query.specs.Bytes.{GivesPrefix, IsPrefix, PutsPrefix, WritesPrefix}
@@ -157,3 +158,39 @@ module _ {Query : Type 0} (IsBlockOf : Query → List ℕ → Type 0) (only : Is
           (prefix-after sent.waits.given waiting sent.text [] cut.given sent.waits.whole waits);
       appended = appends-then before between after sent.waits.given cut.given sent.waits.appended cut.appended;
     }
+
+    -- what waits is not all given
+    pub sent-cut : (i : ℕ) (d : Query) (before between after : Option (List ℕ)) (waiting : List ℕ)
+        → AreSent IsBlockOf queries i before between waiting → GivesPrefix between after waiting
+        → WritesPrefix (AreBlocks IsBlockOf queries) before after
+    sent-cut i d before between after waiting sent cut =
+        elim (cases_lt i (length queries)) [
+          | inl here ↦
+              block-cut i d before between after waiting here sent
+              (record {
+                given = cut.given;
+                is_prefix = λ text _. prefix-longer cut.given waiting text cut.is_prefix;
+                appended = cut.appended;
+              })
+          | inr past ↦ all-cut i before between after waiting past sent cut
+        ]
+
+    -- nothing more is given
+    pub sent-stands : (i : ℕ) (d : Query) (before after : Option (List ℕ)) (waiting : List ℕ)
+        → AreSent IsBlockOf queries i before after waiting
+        → WritesPrefix (AreBlocks IsBlockOf queries) before after
+    sent-stands i d before after waiting sent =
+        sent-cut i d before after after waiting sent
+        (record {
+          given = [];
+          is_prefix = (waiting, refl);
+          appended = appends-nothing after;
+        })
+
+    -- the same where a call fails before anything is given
+    pub err-stands : {T E : Type 0} (r : Result T E) (i : ℕ) (d : Query) (after : Option (List ℕ)) (waiting : List ℕ)
+        → OnErr r ((before : Option (List ℕ))
+        → AreSent IsBlockOf queries i before after waiting
+        → WritesPrefix (AreBlocks IsBlockOf queries) before after)
+    err-stands (Ok x) i d after waiting = tt
+    err-stands (Err y) i d after waiting = λ before sent. sent-stands i d before after waiting sent

@@ -1,7 +1,8 @@
 -- Blocks, one after another, written as they fill up.
 use Rattle.std.proofs.Common.{◌≡◌, ℕ, ◌+◌, ◌<◌, ◌≤◌, List, [], ◌∷◌, ◌++◌, length, get_or, drop}
-use Rattle.std.proofs.Common.{suc, take, drop-cons, Option, refl, sym, subst, ap, ◌∙◌, append_assoc, arith}
+use Rattle.std.proofs.Common.{suc, take, drop-cons, Option, Some, refl, sym, subst, ap, ◌∙◌, append_assoc, arith}
 use Rattle.std.specs.Io.KnownBytes.{Appends}
+use Rattle.std.proofs.Math.Seq.{take-add}
 use Rattle.std.proofs.lemmas.List.{append-nil, take_all, take_more}
 use Rattle.dimacs_text.specs.AnswerLines.{label_text, label_lines, component_text, component_lines}
 use Rattle.obim_query.specs.AnswerText.{AreBlocks, vertex_text, vertex_lines}
@@ -21,6 +22,20 @@ blocks-push IsBlockOf (first ∷ queries) query text block blocks is_block = (
   blocks.2,
   blocks-push IsBlockOf queries query blocks.1 block blocks.3 is_block,
   ap (λ (xs : List ℕ). xs ++ block) blocks.4 ∙ append_assoc blocks.0 blocks.1 block,
+)
+
+-- the blocks of some queries and those of others, one after the other
+pub blocks-append : {Query : Type 0} (IsBlockOf : Query → List ℕ → Type 0) (first second : List Query) (text more : List ℕ)
+    → AreBlocks IsBlockOf first text → AreBlocks IsBlockOf second more
+    → AreBlocks IsBlockOf (first ++ second) (text ++ more)
+blocks-append IsBlockOf [] second text more one two =
+    subst (λ (xs : List ℕ). AreBlocks IsBlockOf second (xs ++ more)) (sym one) two
+blocks-append IsBlockOf (query ∷ first) second text more one two = (
+  one.0,
+  one.1 ++ more,
+  one.2,
+  blocks-append IsBlockOf first second one.1 more one.3 two,
+  ap (λ (xs : List ℕ). xs ++ more) one.4 ∙ append_assoc one.0 one.1 more,
 )
 
 -- of the whole all is given but what waits and the lines that are not yet put
@@ -98,3 +113,44 @@ module _ {Query : Type 0} (IsBlockOf : Query → List ℕ → Type 0) (queries :
             subst (Appends before after) (sym sent.waits.whole)
             (appends-then before between after sent.waits.given waiting sent.waits.appended written);
       }
+
+  -- the blocks of some queries more wait
+  pub sent-on : (i count : ℕ) (before after : Option (List ℕ)) (waiting text : List ℕ)
+      → AreSent IsBlockOf queries i before after waiting → AreBlocks IsBlockOf (take count (drop i queries)) text
+      → AreSent IsBlockOf queries (i + count) before after (waiting ++ text)
+  sent-on i count before after waiting text sent blocks =
+      record {
+        text = sent.text ++ text;
+        waits = waits-put before after waiting sent.text text sent.waits;
+        blocks =
+            subst (λ (xs : List Query). AreBlocks IsBlockOf xs (sent.text ++ text)) (sym (take-add i count queries))
+            (blocks-append IsBlockOf (take i queries) (take count (drop i queries)) sent.text text sent.blocks blocks);
+      }
+
+  -- what waits is given
+  pub sent-given : (i : ℕ) (before between after : Option (List ℕ)) (waiting left : List ℕ)
+      → AreSent IsBlockOf queries i before between waiting → Waits between after left waiting
+      → AreSent IsBlockOf queries i before after left
+  sent-given i before between after waiting left sent given =
+      record {
+        text = sent.text;
+        waits = waits-sent before between after waiting left sent.text sent.waits given;
+        blocks = sent.blocks;
+      }
+
+  -- into memory that was empty the blocks are written, and nothing else
+  pub sent-whole : (i : ℕ) (between : Option (List ℕ)) (waiting bytes : List ℕ)
+      → AreSent IsBlockOf queries i (Some []) between waiting → Appends between (Some bytes) waiting
+      → AreBlocks IsBlockOf (take i queries) bytes
+  sent-whole i between waiting bytes sent written =
+      let is : bytes ≡ sent.waits.given ++ waiting =
+      appends-then (Some []) between (Some bytes) sent.waits.given waiting sent.waits.appended written in
+      subst (AreBlocks IsBlockOf (take i queries)) (sent.waits.whole ∙ sym is) sent.blocks
+
+  -- nothing is given yet
+  pub sent-nothing : AreSent IsBlockOf queries 0 (Some []) (Some []) []
+  sent-nothing = record {
+    text = [];
+    waits = record { given = []; whole = refl; appended = refl };
+    blocks = refl;
+  }

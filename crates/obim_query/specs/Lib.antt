@@ -1,4 +1,4 @@
-pub mod Ahead
+pub mod Solved
 pub mod Choices
 pub mod Bytes
 pub mod AnswerText

@@ -10,7 +10,7 @@ use Rattle.obim_query.specs.declared.solves.Start.{Start}
 use Rattle.obim_query.specs.declared.solves.Start.TheVariants as start
 use Rattle.obim_query.specs.declared.solves.Solve.{Solve}
 use Rattle.obim_query.specs.declared.graphs.Grown.{Grown}
-use Rattle.obim_query.specs.declared.pairs.Walked.{Walked}
+use Rattle.obim_query.specs.declared.walked_pairs.Walked.{Walked}
 use Rattle.walk_report.specs.Parent.{LeadBack}
 use Rattle.obim_query.specs.AnswerText.{AreReached, AreWalksFrom, Growth, IsBlock, IsComponentsBlock, IsGrownText}
 use Rattle.obim_query.specs.AnswerText.{pair_walk_text}

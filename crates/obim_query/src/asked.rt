@@ -76,6 +76,7 @@ impl Asked {
     /// The same with so many sources at the same time.
     pub fn with_at_once(self, at_once: AtOnce) -> Asked
         ensures answer { result.answer ≡ self.answer }
+        ensures settings { result.settings ≡ self.settings }
         ensures walks { result.walks ≡ self.walks }
         ensures limit { result.limit ≡ self.limit }
         ensures at_once { result.at_once ≡ at_once }
@@ -92,6 +93,7 @@ impl Asked {
     /// The same with other settings.
     pub fn with_settings(self, settings: Settings) -> Asked
         ensures answer { result.answer ≡ self.answer }
+        ensures settings { result.settings ≡ settings }
         ensures walks { result.walks ≡ self.walks }
         ensures limit { result.limit ≡ self.limit }
     {

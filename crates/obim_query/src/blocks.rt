@@ -1,25 +1,26 @@
 //! Which lines make the blocks of an answer?
 
 ghost use Rattle.std.specs.Prelude.{◌≡◌, ◌<◌, ◌≤◌, ◌++◌, ◌↔◌, length, slice_index};
-ghost use Rattle.std.specs.Prelude.{All, IfErr, OnErr, OnOk, Some};
+ghost use Rattle.std.specs.Prelude.{All, IfErr, IfOk, OnErr, OnOk, Some};
 ghost use Rattle.dimacs_text.specs.AnswerLines.{distances_text, components_text};
 ghost use Rattle.route_walks.specs.Label.{AreLeastLabels};
 ghost use Rattle.route_walks.specs.Operators.{seeds_from};
 ghost use Rattle.walk_report.specs.Parent.{LeadBack};
-ghost use Rattle.obim_query.specs.AnswerText.{AreSourceBlocks, IsBlock, IsGrownText};
+ghost use Rattle.obim_query.specs.AnswerText.{AreSourceBlocks, IsBlock, IsGrownBlock, IsGrownText};
 ghost use Rattle.obim_query.specs.AnswerText.{AreReached, vertex_text, walk_line, walks_text};
 ghost use Rattle.obim_query.specs.Bytes.{GivesPrefix, Puts, PutsPrefix, Waits, Writes, WritesPrefix};
 ghost use Rattle.obim_query.specs.Graphs.{AreGraphs, GrowsTo, growth_of};
 ghost use Rattle.obim_query.specs.Outcome.{IsWritingFault};
 ghost use Rattle.obim_query.specs.Solves.{IsGrownStart, IsRest, IsStartBlock, IsStartWithin, seeds_at};
 
-use crate::ahead::{Ahead, Texts};
+use crate::ahead::Ahead;
 use crate::asked::Asked;
 use crate::fault::Fault;
 use crate::figures::{Figures, Phase};
 use crate::graphs::{Graphs, Grown};
 use crate::laws::blocks_are_unique;
-use crate::outlet::Waiting;
+use crate::outlet::{Held, Waiting};
+use crate::solved::{Queries, SolvedText, Solves, most_bytes};
 use crate::solves::{Solve, Start};
 use crate::teams::teams_for;
 use csr_graph::Csr;
@@ -58,16 +59,16 @@ pub fn write_sources<H: Threads + Wait + Clock + Sync, W: Write, G: Gate + Sync>
     // So what is a prefix of these blocks is one of the blocks that another run would write.
     blocks_are_unique();
     let mut waiting = Waiting::new(alloc);
-    let texts = Texts {
+    let solves = Solves {
         graphs,
-        sources,
+        queries: Queries::Sources(sources),
         asked,
         gate,
     };
     let mut ahead = Ahead::new(alloc, teams_for(asked, &graphs.rows));
     for place in 0..sources.len() {
-        if let Some(text) = ahead.take(rt, alloc, &texts, place, figures) {
-            waiting.send_with(writer, &text)?;
+        if let Some(text) = ahead.take_text(rt, alloc, &solves, place, figures) {
+            waiting.send_with(writer, &text.bytes)?;
             figures.end(rt, Phase::Writing);
             continue;
         }
@@ -122,6 +123,30 @@ pub fn write_start<H: Threads + Wait + Clock + Sync, W: Write, G: Gate + Sync>(
         figures,
     )?;
     waiting.finish(writer)
+}
+
+/// The block of a source, in memory. Fails where it is long, too.
+pub fn held_block<H: Threads + Wait + Clock + Sync, G: Gate + Sync>(
+    rt: &H,
+    alloc: Global,
+    graphs: &Graphs,
+    source: u32,
+    asked: &Asked,
+    gate: &G,
+    figures: &mut Figures,
+) -> Result<SolvedText, Fault>
+    requires graphs { AreGraphs graphs.now }
+    requires source { source < graphs.now.rows.n }
+    ensures { IfOk result (λ text. IsGrownBlock asked.now.walks graphs.now.rows.n graphs.now.rows.arcs
+        (growth_of graphs.now.grown) source text.bytes.items) }
+{
+    let mut held = Held::new(alloc, most_bytes(graphs));
+    let start = Start::At(source);
+    write_start(rt, alloc, &mut held, graphs, start, asked, gate, figures)?;
+    Ok(SolvedText {
+        count: 1,
+        bytes: held.bytes,
+    })
 }
 
 /// Solves from a start, and puts the block of the labels after what waits. Where the rows grow, what comes

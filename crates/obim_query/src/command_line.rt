@@ -1,13 +1,43 @@
 //! What does the command line ask for?
 
 use crate::asked::{Answer, Asked, AtOnce, MAX_AT_ONCE, MAX_BYTES};
-use clap::{Arg, ArgAction, ArgMatches, Command, Error, value_parser};
+use clap::error::ErrorKind;
+use clap::{Arg, ArgAction, ArgMatches, Command, Error};
 use obim_engine::{MAX_CHUNK, MAX_SHIFT, MAX_WORKERS, Settings};
-use std::alloc::Global;
+use std::alloc::{AllocError, Global};
 use std::convert::AsStr;
-use std::str::FromStr;
+use std::fmt;
 
-const KINDS: [&str; 3] = ["distances", "levels", "components"];
+/// The values of `--answer`.
+const KINDS: &str = "distances, levels or components";
+
+const WORKERS: Numbers = Numbers {
+    option: "workers",
+    least: 1,
+    most: MAX_WORKERS,
+    has_auto: false,
+};
+
+const AT_ONCE: Numbers = Numbers {
+    option: "at-once",
+    least: 1,
+    most: MAX_AT_ONCE,
+    has_auto: true,
+};
+
+const SHIFT: Numbers = Numbers {
+    option: "shift",
+    least: 0,
+    most: MAX_SHIFT,
+    has_auto: true,
+};
+
+const CHUNK: Numbers = Numbers {
+    option: "chunk",
+    least: 1,
+    most: MAX_CHUNK as u32,
+    has_auto: false,
+};
 
 /// How many vertices several workers hand on at a time, where nothing else is asked for.
 const SHARED_CHUNK: usize = 64;
@@ -21,16 +51,18 @@ const ABOUT: &str = "Answers a job: a directed graph with whole-number weights, 
 
 const AFTER: &str = "\
 Workers, sources at once, shift and chunk change how long an answer takes, and
-no byte of it. The defaults serve every kind of graph, but maps of 16 million
-vertices and more want a shift. With --at-once auto several workers solve a
-source each where vertices have few arcs, and else share one source; each source
-takes memory of its own. With --shift auto buckets of vertices widen with their
-labels; with --shift BITS each is 2^BITS labels wide. Without --chunk one worker
-hands on 256 vertices at a time, and several 64.
+no byte of it. The defaults serve every kind of graph, from paths to maps of 24
+million vertices. With --at-once auto several workers solve a source each where
+vertices have few arcs, and else share one source; each source takes memory of
+its own. With --shift auto buckets of vertices widen with their labels, up to a
+width that fits the graph; with --shift BITS each is 2^BITS labels wide. Without
+--chunk one worker hands on 256 vertices at a time, and several 64. Of an option
+given twice the last counts.
 
-A job is one text on standard input: a graph in the .gr format of the 9th DIMACS
-Implementation Challenge, and after it its sources in the .ss format, or pairs
-of a source and a target in the .p2p format. Vertices count from 1.
+A job is one text on standard input, also where - stands for it: a graph in the
+.gr format of the 9th DIMACS Implementation Challenge, and after it its sources
+in the .ss format, or pairs of a source and a target in the .p2p format.
+Vertices count from 1.
 
   c a comment
   p sp N M           N vertices and M arcs; M lines follow:
@@ -67,24 +99,20 @@ pub struct Order {
     pub stats: bool,
 }
 
-/// Why a command line is refused.
+/// Why a command line asks for no answer.
 #[derive(Drop)]
 pub enum Refusal {
-    /// clap's text of what is wrong with it, which may be the help that it asks for.
-    Clap(Error),
-    /// A setting is outside its limits.
-    Limits,
-    /// The shift is neither a number within its limits nor `auto`.
-    Shift,
-    /// How many sources are solved at once is neither a number within its limits nor `auto`.
-    AtOnce,
-    /// Walks are asked for with components, which have none.
-    Walks,
+    /// It asks for a text: the help or the version.
+    Text(Error),
+    /// It is refused: what is wrong with it, in a sentence.
+    Line(String),
+    /// The system refused memory.
+    Memory,
 }
 
-impl From<Error> for Refusal {
-    fn from(error: Error) -> Refusal {
-        Refusal::Clap(error)
+impl From<AllocError> for Refusal {
+    fn from(_refused: AllocError) -> Refusal {
+        Refusal::Memory
     }
 }
 
@@ -92,19 +120,22 @@ impl From<Error> for Refusal {
 /// program's name.
 pub fn asked_by<'a, S: AsStr>(alloc: Global, arguments: &'a [S]) -> Result<Order, Refusal> {
     let limits = Limits::new(alloc)?;
-    let matches = command(alloc, &limits)?.try_get_matches_from(arguments)?;
-    let Some(shift) = matches.get_one::<Shift>("shift") else {
-        return Err(Refusal::Shift);
+    let matches = match command(alloc, &limits)?.try_get_matches_from(arguments) {
+        Ok(matches) => matches,
+        Err(error) => return Err(refused_by(alloc, error)),
     };
-    let Some(AtOnceArgument(at_once)) = matches.get_one::<AtOnceArgument>("at-once") else {
-        return Err(Refusal::AtOnce);
-    };
-    let Some(settings) = settings_in(&matches, shift) else {
-        return Err(Refusal::Limits);
+    refuse_files(alloc, &matches)?;
+    let answer = answer_in(alloc, &matches)?;
+    let settings = settings_in(alloc, &matches)?;
+    let at_once = match AT_ONCE.asked_in(alloc, &matches)? {
+        Some(count) => AtOnce::Most(count),
+        None => AtOnce::Auto,
     };
     let walks = matches.get_flag("walks");
-    let Some(asked) = Asked::new(answer_in(&matches), settings, walks, MAX_BYTES) else {
-        return Err(Refusal::Walks);
+    let Some(asked) = Asked::new(answer, settings, walks, MAX_BYTES) else {
+        return Err(Refusal::Line(format!(in alloc;
+            "invalid value 'components' for '--answer' with '--walks': distances or levels"
+        )?));
     };
     Ok(Order {
         asked: asked.with_at_once(at_once),
@@ -112,52 +143,102 @@ pub fn asked_by<'a, S: AsStr>(alloc: Global, arguments: &'a [S]) -> Result<Order
     })
 }
 
-/// The value of `--shift`.
-#[derive(Clone, Copy, Debug, PartialEq, Eq)]
-enum Shift {
-    Bits(u32),
-    Auto,
+/// Why clap gave no matches: a text is asked for, or its words in a sentence of ours.
+fn refused_by(alloc: Global, error: Error) -> Refusal {
+    if error.kind() == ErrorKind::OutOfMemory {
+        return Refusal::Memory;
+    }
+    if !error.use_stderr() {
+        return Refusal::Text(error);
+    }
+    match sentence_of(alloc, &error) {
+        Ok(line) => Refusal::Line(line),
+        Err(_) => Refusal::Memory,
+    }
 }
 
-/// The text is no shift.
+/// What clap says is wrong, and what to do: clap's tip of a similar argument, or a look at the help.
+fn sentence_of(alloc: Global, error: &Error) -> Result<String, AllocError> {
+    let text = format!(in alloc; "{error}")?;
+    let wrong = wrong_in(&text);
+    match similar_in(&text) {
+        Some(tip) => format!(in alloc; "{wrong}: {tip}"),
+        None => format!(in alloc; "{wrong}: try '--help'"),
+    }
+}
+
+/// What clap says is wrong: its first line, without the words that begin and end each.
+fn wrong_in(text: &str) -> &str {
+    let first = first_line(text);
+    let wrong = first.strip_prefix("error: ").unwrap_or(first);
+    wrong.strip_suffix(" found").unwrap_or(wrong)
+}
+
+fn first_line(text: &str) -> &str {
+    match text.split_once('\n') {
+        Some((first, _)) => first,
+        None => text,
+    }
+}
+
+/// clap's tip which argument may be meant, where it has one.
+fn similar_in(text: &str) -> Option<&str> {
+    let (_, tip) = text.split_once("\n  tip: ")?;
+    let (tip, _) = tip.split_once('\n')?;
+    if tip.starts_with("a similar argument") {
+        Some(tip)
+    } else {
+        None
+    }
+}
+
+/// Refuses each operand but `-`, which is standard input.
+fn refuse_files(alloc: Global, matches: &ArgMatches) -> Result<(), Refusal> {
+    for operand in matches.get_strs("operand").unwrap_or(&[]) {
+        if *operand != "-" {
+            return Err(Refusal::Line(format!(in alloc;
+                "unexpected argument '{operand}': \
+                 the job comes on standard input: obim_query [OPTIONS] < {operand}"
+            )?));
+        }
+    }
+    Ok(())
+}
+
+/// The numbers that an option takes, and whether it takes `auto`.
 #[derive(Clone, Copy, Debug, PartialEq, Eq)]
-struct NoShift;
+struct Numbers {
+    option: &'static str,
+    least: u32,
+    most: u32,
+    has_auto: bool,
+}
 
-impl FromStr for Shift {
-    type Err = NoShift;
-
-    fn from_str(text: &str) -> Result<Shift, NoShift> {
-        if text == "auto" {
-            return Ok(Shift::Auto);
+impl Numbers {
+    /// The number that the option asks for. There is none where it is left out or `auto`.
+    fn asked_in(self, alloc: Global, matches: &ArgMatches) -> Result<Option<u32>, Refusal> {
+        let Some(text) = matches.get_str(self.option) else {
+            return Ok(None);
+        };
+        if self.has_auto && text == "auto" {
+            return Ok(None);
         }
         match text.parse::<u32>() {
-            Ok(bits) if bits <= MAX_SHIFT => Ok(Shift::Bits(bits)),
-            _ => Err(NoShift),
+            Ok(number) if self.least <= number && number <= self.most => Ok(Some(number)),
+            _ => {
+                let option = self.option;
+                Err(Refusal::Line(format!(in alloc;
+                    "invalid value '{text}' for '--{option}': a number from {self}"
+                )?))
+            }
         }
     }
 }
 
-/// The value of `--at-once`.
-#[derive(Clone, Copy, Debug, PartialEq, Eq)]
-struct AtOnceArgument(AtOnce);
-
-/// The text is no number of sources.
-#[derive(Clone, Copy, Debug, PartialEq, Eq)]
-struct NoCount;
-
-impl FromStr for AtOnceArgument {
-    type Err = NoCount;
-
-    fn from_str(text: &str) -> Result<AtOnceArgument, NoCount> {
-        if text == "auto" {
-            return Ok(AtOnceArgument(AtOnce::Auto));
-        }
-        match text.parse::<u32>() {
-            Ok(count) if 1 <= count && count <= MAX_AT_ONCE => {
-                Ok(AtOnceArgument(AtOnce::Most(count)))
-            }
-            _ => Err(NoCount),
-        }
+impl fmt::Display for Numbers {
+    fn fmt<W: fmt::Write>(&self, f: &mut fmt::Formatter<W>) -> fmt::Result {
+        let auto = if self.has_auto { ", or auto" } else { "" };
+        write!(f, "{} to {}{auto}", self.least, self.most)
     }
 }
 
@@ -171,77 +252,107 @@ struct Limits {
 }
 
 impl Limits {
-    fn new(alloc: Global) -> Result<Limits, Error> {
+    fn new(alloc: Global) -> Result<Limits, AllocError> {
         Ok(Limits {
-            workers: format!(in alloc; "How many workers, 1 to {MAX_WORKERS}")?,
-            at_once: format!(in alloc; "Sources at once, 1 to {MAX_AT_ONCE}, or auto")?,
-            shift: format!(in alloc; "Bucket width 2^BITS, 0 to {MAX_SHIFT}, or auto")?,
-            chunk: format!(in alloc; "Vertices handed on at a time, 1 to {MAX_CHUNK}")?,
+            workers: format!(in alloc; "How many workers, {WORKERS}")?,
+            at_once: format!(in alloc; "Sources at once, {AT_ONCE}")?,
+            shift: format!(in alloc; "Bucket width 2^BITS, {SHIFT}")?,
+            chunk: format!(in alloc; "Vertices handed on at a time, {CHUNK}")?,
         })
     }
 }
 
-fn command<'a>(alloc: Global, limits: &'a Limits) -> Result<Command<'a>, Error> {
-    let answer = Arg::new(alloc, "answer")
-        .long("answer")
-        .value_name("KIND")
-        .value_parser(KINDS.as_slice())
-        .default_value("distances")
-        .hide_possible_values(true)
-        .help("distances, levels or components");
-    let workers = Arg::new(alloc, "workers")
-        .long("workers")
-        .value_name("COUNT")
-        .value_parser(value_parser!(u32).range(1..=i64::from(MAX_WORKERS)))
-        .default_value("2")
-        .help(&limits.workers);
-    let at_once = Arg::new(alloc, "at-once")
-        .long("at-once")
-        .value_name("COUNT")
-        .default_value("auto")
-        .help(&limits.at_once);
-    let shift = Arg::new(alloc, "shift")
-        .long("shift")
-        .value_name("BITS")
-        .default_value("auto")
-        .help(&limits.shift);
-    let chunk = Arg::new(alloc, "chunk")
-        .long("chunk")
-        .value_name("SIZE")
-        .value_parser(value_parser!(usize).range(1..=MAX_CHUNK as i64))
-        .help(&limits.chunk);
-    let walks = Arg::new(alloc, "walks")
-        .long("walks")
-        .action(ArgAction::SetTrue)
-        .help("Print a walk of fewest arcs for each cost");
-    let stats = Arg::new(alloc, "stats")
-        .long("stats")
-        .action(ArgAction::SetTrue)
-        .help("Print figures on standard error after the answer");
+fn command<'a>(alloc: Global, limits: &'a Limits) -> Result<Command<'a>, AllocError> {
+    let answer = option(alloc, "answer", "KIND", KINDS)?.default_value("distances");
+    let walks = flag(alloc, "walks", "Print a walk of fewest arcs for each cost")?;
     let command = Command::new(alloc, "obim_query")
         .version(VERSION)
         .override_usage(USAGE)
         .about(ABOUT)
         .after_help(AFTER)
         .arg(answer)?
-        .arg(walks)?
-        .arg(workers)?
-        .arg(at_once)?
-        .arg(shift)?
-        .arg(chunk)?
-        .arg(stats)?;
+        .arg(walks)?;
+    with_operand(alloc, with_settings(alloc, command, limits)?)
+}
+
+/// The options of the settings.
+fn with_settings<'a>(
+    alloc: Global,
+    command: Command<'a>,
+    limits: &'a Limits,
+) -> Result<Command<'a>, AllocError> {
+    let workers = number(alloc, WORKERS, "COUNT", &limits.workers)?.default_value("2");
+    let at_once = number(alloc, AT_ONCE, "COUNT", &limits.at_once)?.default_value("auto");
+    let shift = number(alloc, SHIFT, "BITS", &limits.shift)?.default_value("auto");
+    let chunk = number(alloc, CHUNK, "SIZE", &limits.chunk)?;
+    let command = command.arg(workers)?.arg(at_once)?.arg(shift)?.arg(chunk)?;
     Ok(command)
 }
 
-fn settings_in(matches: &ArgMatches, shift: Shift) -> Option<Settings> {
-    let workers = matches.get_one::<u32>("workers")?;
-    let chunk = match matches.get_one::<usize>("chunk") {
-        Some(chunk) => chunk,
+/// The flag of the figures, and `-`, which the help says in its text.
+fn with_operand<'a>(alloc: Global, command: Command<'a>) -> Result<Command<'a>, AllocError> {
+    let stats = flag(
+        alloc,
+        "stats",
+        "Print figures on standard error after the answer",
+    )?;
+    let operand = Arg::new(alloc, "operand")
+        .action(ArgAction::Append)
+        .num_args(0..)
+        .hide(true);
+    let command = command.arg(stats)?.arg(operand)?;
+    Ok(command)
+}
+
+/// An option with a value, of which the last counts.
+fn option<'a>(
+    alloc: Global,
+    name: &'a str,
+    value: &'a str,
+    help: &'a str,
+) -> Result<Arg<'a>, AllocError> {
+    let option = Arg::new(alloc, name)
+        .long(name)
+        .overrides_with(name)?
+        .value_name(value)
+        .help(help);
+    Ok(option)
+}
+
+/// An option that takes one of these numbers. What looks like an option but is a number is its value.
+fn number<'a>(
+    alloc: Global,
+    numbers: Numbers,
+    value: &'a str,
+    help: &'a str,
+) -> Result<Arg<'a>, AllocError> {
+    Ok(option(alloc, numbers.option, value, help)?.allow_negative_numbers(true))
+}
+
+/// An option without a value, which may be given more than once.
+fn flag<'a>(alloc: Global, name: &'a str, help: &'a str) -> Result<Arg<'a>, AllocError> {
+    Ok(
+        Arg::new(alloc, name)
+            .long(name)
+            .overrides_with(name)?
+            .action(ArgAction::SetTrue)
+            .help(help),
+    )
+}
+
+fn settings_in(alloc: Global, matches: &ArgMatches) -> Result<Settings, Refusal> {
+    let workers = WORKERS.asked_in(alloc, matches)?.unwrap_or(2);
+    let chunk = match CHUNK.asked_in(alloc, matches)? {
+        Some(chunk) => chunk as usize,
         None => usual_chunk(workers),
     };
+    let shift = SHIFT.asked_in(alloc, matches)?;
+    let Some(settings) = Settings::new(workers, shift.unwrap_or(0), chunk) else {
+        return Err(Refusal::Line(format!(in alloc; "a setting is outside its limits")?));
+    };
     match shift {
-        Shift::Bits(bits) => Settings::new(workers, bits, chunk),
-        Shift::Auto => Some(Settings::new(workers, 0, chunk)?.with_widening_buckets()),
+        Some(_) => Ok(settings),
+        None => Ok(settings.with_widening_buckets()),
     }
 }
 
@@ -255,10 +366,13 @@ fn usual_chunk(workers: u32) -> usize {
     }
 }
 
-fn answer_in(matches: &ArgMatches) -> Answer {
+fn answer_in(alloc: Global, matches: &ArgMatches) -> Result<Answer, Refusal> {
     match matches.get_str("answer") {
-        Some("levels") => Answer::Levels,
-        Some("components") => Answer::Components,
-        _ => Answer::Distances,
+        None | Some("distances") => Ok(Answer::Distances),
+        Some("levels") => Ok(Answer::Levels),
+        Some("components") => Ok(Answer::Components),
+        Some(text) => Err(Refusal::Line(format!(in alloc;
+            "invalid value '{text}' for '--answer': {KINDS}"
+        )?)),
     }
 }

@@ -21,11 +21,13 @@ pub mod laws;
 mod outlet;
 mod pairs;
 mod reply;
+mod solved;
 mod solves;
 mod stats;
 mod teams;
 #[cfg(test)]
 mod tests;
+mod walked_pairs;
 
 use asked::Asked;
 use command_line::{Order, Refusal, asked_by};
@@ -66,30 +68,17 @@ fn judged<H: AllocGlobal + Env + Print + Eprint>(rt: &H) -> Result<Order, u8> {
     };
     match asked_by(rt.alloc(), &arguments) {
         Ok(order) => Ok(order),
-        Err(Refusal::Clap(error)) => Err(shown(rt, &error)),
-        Err(Refusal::Limits) => Err(complain(rt, "a setting is outside its limits", USAGE)),
-        Err(Refusal::Shift) => Err(complain(
-            rt,
-            "--shift wants a number from 0 to 63, or auto",
-            USAGE,
-        )),
-        Err(Refusal::AtOnce) => Err(complain(
-            rt,
-            "--at-once wants a number from 1 to 64, or auto",
-            USAGE,
-        )),
-        Err(Refusal::Walks) => Err(complain(rt, "--walks needs distances or levels", USAGE)),
+        Err(Refusal::Text(text)) => Err(shown(rt, &text)),
+        Err(Refusal::Line(line)) => Err(complain(rt, line, USAGE)),
+        Err(Refusal::Memory) => Err(fail(rt, Fault::Memory)),
     }
 }
 
-/// Prints clap's text, and gives the status to end with.
-fn shown<H: Print + Eprint>(rt: &H, error: &clap::Error) -> u8 {
-    if error.kind() == clap::error::ErrorKind::OutOfMemory {
-        return fail(rt, Fault::Memory);
-    }
-    match error.print(rt) {
-        Err(_) if !error.use_stderr() => fail(rt, Fault::Write),
-        _ => if error.use_stderr() { USAGE } else { 0 },
+/// Prints the text that the command line asks for, and gives the status to end with.
+fn shown<H: Print + Eprint>(rt: &H, text: &clap::Error) -> u8 {
+    match text.print(rt) {
+        Ok(()) => 0,
+        Err(_) => fail(rt, Fault::Write),
     }
 }
 

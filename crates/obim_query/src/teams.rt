@@ -6,7 +6,7 @@ use obim_engine::{Gate, MAX_WORKERS, Settings, Worklist};
 use std::sync::Wait;
 
 /// With fewer arcs a vertex than these, workers gain more from a source each than from one source.
-const FEW_ARCS: usize = 6;
+const FEW_ARCS: usize = 20;
 
 /// How many teams the workers make, each of which solves a source.
 pub fn teams_for(asked: &Asked, rows: &Csr) -> usize {

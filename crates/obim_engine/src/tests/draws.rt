@@ -8,7 +8,7 @@ ghost use Rattle.label_words.specs.Closed.{IsEnd, AreNoHigher, closed_labels};
 use crate::tests::pools::{Misleading, Useless};
 use crate::{Closed, OpenGate, Paused, RunFault, Settings, resume};
 use csr_graph::Csr;
-use obim_pool::{LockedPool, ObimPool, WideningPool};
+use obim_pool::{LockedPool, ObimPool, Scale, WideningPool};
 use route_walks::Seed;
 use std::alloc::Global;
 use std::process::Abort;
@@ -82,7 +82,12 @@ pub(crate) fn resume_somehow<H: Threads + Wait + Clock + Abort + Sync>(
             )
         }
         10..=14 => {
-            let (pool, mut sides) = WideningPool::open(alloc, workers, settings.chunk)?;
+            let (pool, mut sides) = WideningPool::open(
+                alloc,
+                workers,
+                settings.chunk,
+                Scale::new(2, 8),
+            )?;
             resume(
                 rt, alloc, csr, seeds, rest, &settings, &pool, &mut sides, &OpenGate, budget,
             )

@@ -145,17 +145,28 @@ pub(crate) fn random_arcs(alloc: Global, n: u32, count: usize) -> Result<Vec<Arc
 /// A square of `side` by `side` vertices with streets both ways, as a road map has them. Lengths go from
 /// 200 to 3199.
 pub(crate) fn grid_arcs(alloc: Global, side: u32) -> Result<Vec<ArcRec>, Memory> {
+    street_arcs(alloc, side, side, 200, 3000)
+}
+
+/// The same of `width` by `height` vertices, with `lengths` lengths from the `least` on.
+pub(crate) fn street_arcs(
+    alloc: Global,
+    width: u32,
+    height: u32,
+    least: u32,
+    lengths: u32,
+) -> Result<Vec<ArcRec>, Memory> {
     let mut arcs = Vec::new(alloc);
     let mut state = 1_u64;
-    for here in 0..side.saturating_mul(side) {
+    for here in 0..width.saturating_mul(height) {
         for (there, within) in [
             (
                 here.saturating_add(1),
-                here % side.max(1) < side.saturating_sub(1),
+                here % width.max(1) < width.saturating_sub(1),
             ),
             (
-                here.saturating_add(side),
-                here / side.max(1) < side.saturating_sub(1),
+                here.saturating_add(width),
+                here / width.max(1) < height.saturating_sub(1),
             ),
         ] {
             if within {
@@ -163,7 +174,7 @@ pub(crate) fn grid_arcs(alloc: Global, side: u32) -> Result<Vec<ArcRec>, Memory>
                 state = state
                     .wrapping_mul(6364136223846793005)
                     .wrapping_add(1442695040888963407);
-                let length = 200 + (state >> 33) as u32 % 3000;
+                let length = least.saturating_add((state >> 33) as u32 % lengths.max(1));
                 arcs.push(ArcRec::new(here, there, length))?;
                 arcs.push(ArcRec::new(there, here, length))?;
             }

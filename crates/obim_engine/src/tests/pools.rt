@@ -44,6 +44,47 @@ impl WorkPool for FirstIn {
     }
 }
 
+/// Gives the first pushed first, but the very first so many times, to one worker.
+#[derive(Drop)]
+pub(crate) struct Repeating {
+    pub times: u32,
+}
+
+/// What waits, and how many times the first was given.
+#[derive(Drop)]
+pub(crate) struct Repeated {
+    waiting: VecDeque<u32>,
+    given: u32,
+}
+
+impl Repeating {
+    pub fn sides(alloc: Global) -> Result<Vec<Repeated>, Memory>
+        ensures { IfOk result (λ sides. length sides.items ≡ 1) }
+    {
+        let waiting = VecDeque::new(alloc);
+        let repeated = Repeated { waiting, given: 0 };
+        Ok(vec![in alloc; repeated]?)
+    }
+}
+
+impl WorkPool for Repeating {
+    type Side = Repeated;
+
+    ghost is_side = { λ _ _. ⊤ };
+
+    fn push<H: Wait>(&self, _rt: &H, side: &mut Repeated, v: u32, _metric: u64) -> bool {
+        side.waiting.push_back(v).is_ok()
+    }
+
+    fn pop<H: Wait>(&self, _rt: &H, side: &mut Repeated) -> Option<u32> {
+        if side.given < self.times {
+            side.given = side.given.saturating_add(1);
+            return side.waiting.front().copied();
+        }
+        side.waiting.pop_front()
+    }
+}
+
 /// Drops a vertex that waits already, gives each vertex twice, and now and then one that nobody pushed.
 #[derive(Drop)]
 pub(crate) struct Misleading {

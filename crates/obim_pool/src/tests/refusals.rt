@@ -6,7 +6,7 @@ ghost use Rattle.std.specs.Prelude.{◌≤◌, All, IfOk};
 ghost use Rattle.obim_pool.specs.Sides.{IsSideOf};
 
 use crate::tests::helpers::{PUSHES, open_pool, push_all, put_back, take_side};
-use crate::{LockedPool, ObimPool, ObimSide, WideningPool, WorkPool};
+use crate::{LockedPool, ObimPool, ObimSide, Scale, WideningPool, WorkPool};
 use obim_bags::{ChunkId, SettleFault};
 use route_walks::{Memory, refusable, tried_again};
 use std::alloc::Global;
@@ -217,7 +217,7 @@ fn open_widening(alloc: Global, workers: u32) -> Result<(WideningPool, Vec<ObimS
     requires { 1 ≤ workers }
     ensures { IfOk result (λ opened. All (IsSideOf opened.0) opened.1.items) }
 {
-    WideningPool::open(alloc, workers, 1)
+    WideningPool::open(alloc, workers, 1, Scale::widening())
 }
 
 fn take_widening_side<R: Abort>(rt: &R, pool: &WideningPool, sides: &mut Vec<ObimSide>) -> ObimSide

@@ -4,7 +4,7 @@ ghost use Rattle.std.specs.Prelude.{IfOk};
 ghost use Rattle.obim_pool.specs.Sides.{IsSideOf};
 
 use crate::tests::helpers::{expect_pops, push_all};
-use crate::{BUCKETS, ObimSide, WideningPool, WorkPool, Worklist, bucket_of};
+use crate::{BUCKETS, MOST_BUCKETS, ObimSide, Scale, WideningPool, WorkPool, Worklist, bucket_of};
 use route_walks::Memory;
 use std::alloc::Global;
 use std::process::Abort;
@@ -45,11 +45,71 @@ fn buckets_rise_by_one(rt: HostRuntime) {
     }
 }
 
+// Worked by hand: widths of 8 up to 512 of them, then the leading eight bits again; and the ends of scales.
+#[test]
+fn buckets_of_scales(rt: HostRuntime) {
+    let eights = Scale::new(3, 512);
+    let none = Scale::new(3, 0);
+    let most = Scale::new(60, u64::MAX);
+    let table = [
+        (eights, 255, 255),
+        (eights, 257, 256),
+        (eights, 2047, 639),
+        (eights, 2055, 640),
+        (eights, 2056, 641),
+        (eights, 4095, 895),
+        (eights, 4096, 1280),
+        (eights, 4127, 1280),
+        (eights, 4128, 1281),
+        (eights, u64::MAX, BUCKETS + 511),
+        (none, 2047, 639),
+        (none, 2056, 640),
+        (none, 4096, 768),
+        (Scale::widening(), 2056, 640),
+        (Scale::widening(), u64::MAX, BUCKETS - 1),
+        (Scale::new(0, 8192), 8191, 8191),
+        (Scale::new(0, 8192), 8192, 9088),
+        (Scale::new(0, 8193), u64::MAX, MOST_BUCKETS - 1),
+        (most, 1 << 59, 6784),
+        (most, u64::MAX, 14719),
+    ];
+    for (scale, label, bucket) in table {
+        assert_eq!(rt; scale.bucket_of(label), bucket, "{label} of {scale:?}");
+    }
+}
+
+// Around each power of two: buckets rise, and no bucket has labels of two of the buckets that widen.
+#[test]
+fn buckets_of_scales_rise(rt: HostRuntime) {
+    for (shift, even) in [
+        (0, 0),
+        (0, 8192),
+        (3, 100),
+        (12, 4096),
+        (51, 300),
+        (51, 8192),
+    ] {
+        let scale = Scale::new(shift, even);
+        for bits in 0..64_u32 {
+            let middle = 1_u64 << bits;
+            for label in middle.saturating_sub(300)..middle.saturating_add(300) {
+                let next = label.saturating_add(1);
+                let step = scale.bucket_of(next).checked_sub(scale.bucket_of(label));
+                assert!(rt; step.is_some(), "{label} of {scale:?}");
+                assert!(rt;
+                    step != Some(0) || bucket_of(next) == bucket_of(label),
+                    "{label} of {scale:?}"
+                );
+            }
+        }
+    }
+}
+
 // A pool of one side, with a chunk of 256.
 fn open_one<R: Abort>(rt: &R, alloc: Global) -> Result<(WideningPool, ObimSide), Memory>
     ensures { IfOk result (λ opened. IsSideOf opened.0 opened.1) }
 {
-    let (pool, mut sides) = WideningPool::open(alloc, 1, 256)?;
+    let (pool, mut sides) = WideningPool::open(alloc, 1, 256, Scale::widening())?;
     Ok((pool, sides.pop().expect(rt, "a side")))
 }
 

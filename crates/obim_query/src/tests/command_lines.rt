@@ -6,12 +6,11 @@ use clap::error::ErrorKind;
 use obim_engine::Settings;
 use std::alloc::Global;
 use std::process::Abort;
-use std::test::Fail;
 
 fn asked_of(line: &str, alloc: Global) -> Result<Order, Refusal> {
     match line.split(' ').collect::<Vec<&str>>(alloc) {
         Ok(arguments) => asked_by(alloc, &arguments),
-        Err(refused) => Err(Refusal::from(clap::Error::from(refused))),
+        Err(_) => Err(Refusal::Memory),
     }
 }
 
@@ -46,9 +45,24 @@ fn lines_beside_what_they_ask_for(rt: HostRuntime) {
             false,
             (2, None, 64),
         ),
+        ("it -", Answer::Distances, false, (2, None, 64)),
+        ("it - --walks -", Answer::Distances, true, (2, None, 64)),
+        ("it -- -", Answer::Distances, false, (2, None, 64)),
         ("it --walks", Answer::Distances, true, (2, None, 64)),
         (
             "it --walks --answer levels",
+            Answer::Levels,
+            true,
+            (2, None, 64),
+        ),
+        (
+            "it --workers 1 --workers=3 --shift 4 --chunk 7 --chunk 9 --shift auto",
+            Answer::Distances,
+            false,
+            (3, None, 9),
+        ),
+        (
+            "it --answer components --walks --walks --answer levels",
             Answer::Levels,
             true,
             (2, None, 64),
@@ -78,6 +92,7 @@ fn lines_beside_what_they_leave_to_the_program(rt: HostRuntime) {
         ("it --stats --shift 4", false, true),
         ("it --stats --shift=auto", true, true),
         ("it --shift 04", false, false),
+        ("it --stats --shift 4 --stats", false, true),
     ] {
         let order = asked_of(line, rt.alloc()).ok();
         let found = order.map(|order| (order.asked.settings.widening, order.stats));
@@ -92,6 +107,7 @@ fn lines_beside_sources_at_once(rt: HostRuntime) {
         ("it --at-once auto", AtOnce::Auto),
         ("it --at-once 1", AtOnce::Most(1)),
         ("it --at-once=64", AtOnce::Most(64)),
+        ("it --at-once=64 --at-once 3", AtOnce::Most(3)),
     ] {
         let order = asked_of(line, rt.alloc()).ok();
         assert_eq!(rt;
@@ -100,49 +116,128 @@ fn lines_beside_sources_at_once(rt: HostRuntime) {
             "{line}"
         );
     }
-    for line in [
-        "it --at-once 0",
-        "it --at-once 65",
-        "it --at-once all",
-        "it --at-once=",
-    ] {
-        assert!(rt;
-            matches!(asked_of(line, rt.alloc()), Err(Refusal::AtOnce)),
-            "{line}"
-        );
+}
+
+/// The kind of the text that a command line asks for.
+fn kind_of(line: &str, alloc: Global) -> Option<ErrorKind> {
+    match asked_of(line, alloc) {
+        Err(Refusal::Text(text)) => Some(text.kind()),
+        Err(Refusal::Line(_line)) => None,
+        Err(Refusal::Memory) => None,
+        Ok(_order) => None,
+    }
+}
+
+/// The sentence by which a command line is refused.
+fn line_of(line: &str, alloc: Global) -> Option<String> {
+    match asked_of(line, alloc) {
+        Err(Refusal::Line(line)) => Some(line),
+        Err(Refusal::Text(_text)) => None,
+        Err(Refusal::Memory) => None,
+        Ok(_order) => None,
     }
 }
 
 #[test]
-fn lines_beside_their_refusals(rt: HostRuntime) -> Result<(), Fail> {
-    let table = [
-        ("it --workers 0", ErrorKind::ValueValidation),
-        ("it --workers 65", ErrorKind::ValueValidation),
-        ("it --workers two", ErrorKind::ValueValidation),
-        ("it --shift -1", ErrorKind::UnknownArgument),
-        ("it --shift", ErrorKind::InvalidValue),
-        ("it --chunk 0", ErrorKind::ValueValidation),
-        ("it --chunk 257", ErrorKind::ValueValidation),
-        ("it --answer routes", ErrorKind::InvalidValue),
-        ("it --workers 2 --workers 2", ErrorKind::ArgumentConflict),
-        ("it --speed", ErrorKind::UnknownArgument),
-        ("it job.gr", ErrorKind::UnknownArgument),
+fn lines_that_ask_for_a_text(rt: HostRuntime) {
+    for (line, want) in [
         ("it --help", ErrorKind::DisplayHelp),
+        ("it job.gr --help", ErrorKind::DisplayHelp),
         ("it --version", ErrorKind::DisplayVersion),
-    ];
-    for (line, want) in table {
-        match asked_of(line, rt.alloc()) {
-            Err(Refusal::Clap(error)) => assert_eq!(rt; error.kind(), want, "{line}"),
-            _ => assert!(rt; false, "{line}"),
+    ] {
+        assert_eq!(rt; kind_of(line, rt.alloc()), Some(want), "{line}");
+    }
+}
+
+#[test]
+fn lines_beside_their_refusals(rt: HostRuntime) {
+    for (line, want) in [
+        (
+            "it --workers 0",
+            "invalid value '0' for '--workers': a number from 1 to 64",
+        ),
+        (
+            "it --workers 65",
+            "invalid value '65' for '--workers': a number from 1 to 64",
+        ),
+        (
+            "it --workers two",
+            "invalid value 'two' for '--workers': a number from 1 to 64",
+        ),
+        (
+            "it --shift 64",
+            "invalid value '64' for '--shift': a number from 0 to 63, or auto",
+        ),
+        (
+            "it --shift -1",
+            "invalid value '-1' for '--shift': a number from 0 to 63, or auto",
+        ),
+        (
+            "it --shift=",
+            "invalid value '' for '--shift': a number from 0 to 63, or auto",
+        ),
+        (
+            "it --at-once 0",
+            "invalid value '0' for '--at-once': a number from 1 to 64, or auto",
+        ),
+        (
+            "it --at-once=65",
+            "invalid value '65' for '--at-once': a number from 1 to 64, or auto",
+        ),
+        (
+            "it --at-once all",
+            "invalid value 'all' for '--at-once': a number from 1 to 64, or auto",
+        ),
+        (
+            "it --chunk 0",
+            "invalid value '0' for '--chunk': a number from 1 to 256",
+        ),
+        (
+            "it --chunk 257",
+            "invalid value '257' for '--chunk': a number from 1 to 256",
+        ),
+        (
+            "it --chunk auto",
+            "invalid value 'auto' for '--chunk': a number from 1 to 256",
+        ),
+        (
+            "it --answer routes",
+            "invalid value 'routes' for '--answer': distances, levels or components",
+        ),
+        (
+            "it --answer components --walks",
+            "invalid value 'components' for '--answer' with '--walks': distances or levels",
+        ),
+        (
+            "it --shift",
+            "a value is required for '--shift <BITS>' but none was supplied: try '--help'",
+        ),
+        (
+            "it --walks=yes",
+            "unexpected value 'yes' for '--walks' found; no more were expected: try '--help'",
+        ),
+        (
+            "it --walk",
+            "unexpected argument '--walk': a similar argument exists: '--walks'",
+        ),
+        ("it --xyz", "unexpected argument '--xyz': try '--help'"),
+        ("it -x", "unexpected argument '-x': try '--help'"),
+        (
+            "it job.gr",
+            "unexpected argument 'job.gr': the job comes on standard input: obim_query [OPTIONS] < job.gr",
+        ),
+        (
+            "it - --walks a.gr b.ss",
+            "unexpected argument 'a.gr': the job comes on standard input: obim_query [OPTIONS] < a.gr",
+        ),
+        (
+            "it -- --walks",
+            "unexpected argument '--walks': the job comes on standard input: obim_query [OPTIONS] < --walks",
+        ),
+    ] {
+        match line_of(line, rt.alloc()) {
+            Some(text) => assert_eq!(rt; text.as_str(), want, "{line}"),
+            None => assert!(rt; false, "{line}"),
         }
     }
-    for line in ["it --shift 64", "it --shift any", "it --shift="] {
-        assert!(rt;
-            matches!(asked_of(line, rt.alloc()), Err(Refusal::Shift)),
-            "{line}"
-        );
-    }
-    let walks = asked_of("it --answer components --walks", rt.alloc());
-    assert!(rt; matches!(walks, Err(Refusal::Walks)));
-    Ok(())
 }

@@ -53,7 +53,7 @@ fn answers_of_pairs(rt: HostRuntime) -> Result<(), Fail> {
     ];
     for (kind, walks, queries, want) in table {
         let text = six_with(rt.alloc(), queries)?;
-        for workers in [1, 2] {
+        for workers in [1, 2, 5] {
             let asked = asked(&rt, kind, walks, workers);
             let bytes = answer_bytes(&rt, rt.alloc(), &text, &asked, &OpenGate)?;
             assert_eq!(rt; bytes.as_slice(), want);
@@ -62,7 +62,8 @@ fn answers_of_pairs(rt: HostRuntime) -> Result<(), Fail> {
     Ok(())
 }
 
-// Without walks a source is solved once, and with walks once for each run of pairs that it begins.
+// Without walks a source is solved once, and with walks once for each run of pairs that it begins. So it is
+// where three of them are solved at the same time.
 #[test]
 fn runs_of_pairs(rt: HostRuntime) -> Result<(), Fail> {
     let table: [(bool, &[u8], usize); 5] = [
@@ -82,18 +83,20 @@ fn runs_of_pairs(rt: HostRuntime) -> Result<(), Fail> {
     ];
     for (walks, queries, runs) in table {
         let text = six_with(rt.alloc(), queries)?;
-        let mut figures = Figures::new(&rt);
-        let mut out = Vec::new(rt.alloc());
-        answer_counted(
-            &rt,
-            rt.alloc(),
-            &mut text.as_slice(),
-            &mut out,
-            &asked(&rt, Answer::Distances, walks, 1),
-            &OpenGate,
-            &mut figures,
-        )?;
-        assert_eq!(rt; figures.runs, runs);
+        for (workers, at_once) in [(1, 1), (3, runs.max(1))] {
+            let mut figures = Figures::new(&rt);
+            let mut out = Vec::new(rt.alloc());
+            answer_counted(
+                &rt,
+                rt.alloc(),
+                &mut text.as_slice(),
+                &mut out,
+                &asked(&rt, Answer::Distances, walks, workers),
+                &OpenGate,
+                &mut figures,
+            )?;
+            assert_eq!(rt; (figures.runs, figures.at_once), (runs, at_once));
+        }
     }
     Ok(())
 }

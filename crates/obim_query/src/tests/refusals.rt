@@ -30,7 +30,7 @@ fn of_answer(rt: HostRuntime) -> Result<(), Fail> {
     let table = [
         (asked_for_walks(&rt, 1, 1000), SIX, SIX_WALKS),
         (asked_for_walks(&rt, 2, 1000), SIX, SIX_WALKS),
-        (asked_for_walks(&rt, 1, 1000), SIX_PAIRS, SIX_PAIRS_WALKS),
+        (asked_for_walks(&rt, 2, 1000), SIX_PAIRS, SIX_PAIRS_WALKS),
         (asked_for_walks(&rt, 2, 1000), SIX_ADDED, SIX_ADDED_WALKS),
         (labels, SIX_PAIRS, SIX_PAIRS_ANSWER),
         (three, SIX_SOURCES, SIX_SOURCES_ANSWER),

@@ -14,7 +14,7 @@ loop-place-preserved g c =
           sent-more (IsGrownBlock c.args.asked.now.walks graphs.rows.n graphs.rows.arcs growth) c.args.sources.now
           c.loop-place.place 0 _ _ _ _ c.put_solved.new.waiting.bytes.items c.loop-place-test.true
           c.loop-place.invariant.sent (rw c.of_source-solve.ensures at c.in_ok-put_solved.ensures.block);
-      made = c.take.ensures.left;
+      made = c.take_text.ensures.left;
     }
 
 pub loop-place-preserved-in-Some : goal.loop-place-preserved-in-Some
@@ -26,11 +26,11 @@ loop-place-preserved-in-Some g c =
           sent-more (IsGrownBlock c.args.asked.now.walks graphs.rows.n graphs.rows.arcs growth) c.args.sources.now
           c.loop-place.place 0 _ _ _ _ c.send_with.new.self.bytes.items c.loop-place-test.true c.loop-place.invariant.sent
           (record {
-            text = c.in-Some.text.items;
-            is_text = c.in-Some.ensures.text;
+            text = c.in-Some.text.bytes.items;
+            is_text = c.in-Some.ensures.solved;
             waits = rw c.deref.ensures.value at c.in_ok-send_with.ensures.sent;
           });
-      made = c.take.ensures.left;
+      made = c.take_text.ensures.left;
     }
 
 pub returns-in_err-send_with-clause-prefix : goal.returns-in_err-send_with-clause-prefix
@@ -43,8 +43,8 @@ returns-in_err-send_with-clause-prefix g c =
     at-err _
     (block-cut (IsGrownBlock walks graphs.rows.n graphs.rows.arcs growth) only sources c.loop-place.place 0 _ _ _ _
     c.loop-place-test.true c.loop-place.invariant.sent
-    (only-text _ _ _ _ c.in-Some.text.items
-    (λ other is. only _ c.in-Some.text.items other c.in-Some.ensures.text is)
+    (only-text _ _ _ _ c.in-Some.text.bytes.items
+    (λ other is. only _ c.in-Some.text.bytes.items other c.in-Some.ensures.solved is)
     (rw c.deref.ensures.value at c.in_err-send_with.ensures.prefix)))
 
 pub returns-in_err-put_solved-clause-prefix : goal.returns-in_err-put_solved-clause-prefix

@@ -1,7 +1,7 @@
-use Rattle.obim_query.specs.Ahead.{AreMade}
 use Rattle.obim_query.specs.AnswerText.{IsGrownBlock}
 use Rattle.obim_query.specs.Graphs.{growth_of}
 use Rattle.obim_query.specs.Sent.{AreSent}
+use Rattle.obim_query.specs.Solved.{AreMade}
 use Rattle.obim_query.proofs.blocks.write_sources.Given as goal
 
 abbrev pub invariant-loop-place : goal.invariant-loop-place
@@ -9,5 +9,5 @@ invariant-loop-place g l = record {
   sent :
       AreSent (IsGrownBlock l.asked.walks l.graphs.rows.n l.graphs.rows.arcs (growth_of l.graphs.grown)) l.sources
       l.place (g.W.Write.contents l.initial.writer) (g.W.Write.contents l.writer) l.waiting.bytes.items;
-  made : AreMade l.asked.walks l.graphs l.sources l.ahead.made.items;
+  made : AreMade l.asked.walks l.graphs l.solves.queries l.ahead.made.items;
 }

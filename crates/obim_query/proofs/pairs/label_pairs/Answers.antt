@@ -1,15 +1,26 @@
 use Rattle.std.proofs.Common.{arith}
+use Rattle.obim_query.specs.Solved.{AreLabelsFrom}
 use Rattle.obim_query.proofs.PairLabels.{all_filled, all_filled_after}
+use Rattle.obim_query.proofs.pairs.label_pairs.Goals.{in-Some, in-None+in_ok-found-in-None}
 use Rattle.obim_query.proofs.pairs.label_pairs.Goals as goal
 
 pub loop-first-preserved : goal.loop-first-preserved
 loop-first-preserved g c =
-    let rows = c.args.graphs.now.rows in
+    let graphs = c.args.graphs.now in
+    let rows = graphs.rows in
+    let pairs = c.args.pairs.now in
+    let order = c.args.order.now in
+    let found : AreLabelsFrom graphs pairs order c.loop-first.first c.match-take_labels.found =
+    elim c.match-take_labels.branch [
+      | in-Some w ↦ rw w.found-is w.in-Some.ensures.solved
+      | in-None+in_ok-found-in-None w ↦ rw w.found-is w.in_ok-found-in-None.ensures.labels
+    ] in
     record {
       before =
-          c.fill.ensures.filled rows.n rows.arcs (rw c.deref.ensures.value c.in_ok-found.ensures.least)
-          (rw c.of_queries-solve.ensures.first c.loop-first.invariant.before);
-      after = c.in_ok-fill_after.ensures.filled;
+          c.fill.ensures.filled rows.n rows.arcs pairs (rw c.deref-own.ensures.value found.labels)
+          c.loop-first.invariant.before;
+      after = rw c.deref-own.ensures.value c.fill_after.ensures;
+      made = c.take_labels.ensures.left;
     }
 
 pub returns-clause-labels : goal.returns-clause-labels

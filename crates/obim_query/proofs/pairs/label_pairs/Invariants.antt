@@ -1,4 +1,5 @@
 use Rattle.std.proofs.Common.{◌-◌, length}
+use Rattle.obim_query.specs.Solved.{AreMade}
 use Rattle.obim_query.specs.Solves.{AreFilled, AreFilledAfter}
 use Rattle.obim_query.proofs.pairs.label_pairs.Given as goal
 
@@ -6,6 +7,7 @@ abbrev pub invariant-loop-first : goal.invariant-loop-first
 invariant-loop-first g l = record {
   before : AreFilled l.graphs.rows.n l.graphs.rows.arcs l.pairs l.order l.first l.labels;
   after : AreFilledAfter l.graphs.grown l.pairs l.order l.first l.after;
+  made : AreMade l.asked.walks l.graphs l.solves.queries l.ahead.made.items;
 }
 
 abbrev pub decreases-loop-first : goal.decreases-loop-first

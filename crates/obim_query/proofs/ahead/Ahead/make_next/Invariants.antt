@@ -1,12 +1,12 @@
 use Rattle.std.proofs.Common.{All, length}
-use Rattle.obim_query.specs.Ahead.{AreMade}
+use Rattle.obim_query.specs.Solved.{AreMade}
 use Rattle.obim_query.proofs.ahead.Ahead.make_next.Given as goal
 
 abbrev pub invariant-loop-team : goal.invariant-loop-team
 invariant-loop-team g l = record {
-  made : AreMade l.texts.asked.now.walks l.texts.graphs.now l.texts.sources.now l.self.made.items;
+  made : AreMade l.solves.asked.now.walks l.solves.graphs.now l.solves.queries l.self.made.items;
   teams :
-      All (λ team. AreMade l.texts.asked.now.walks l.texts.graphs.now l.texts.sources.now team.made.items)
+      All (λ team. AreMade l.solves.asked.now.walks l.solves.graphs.now l.solves.queries team.made.items)
       l.left_over.items;
 }
 

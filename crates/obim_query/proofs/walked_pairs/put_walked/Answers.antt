@@ -8,7 +8,7 @@ use Rattle.obim_query.proofs.Growing.{walked-blocks}
 use Rattle.obim_query.proofs.PairLabels.{one_source}
 use Rattle.obim_query.proofs.Prefixes.{at-err, block-cut, only-text, puts-nothing}
 use Rattle.obim_query.proofs.Sending.{sent-more}
-use Rattle.obim_query.proofs.pairs.put_walked.Goals as goal
+use Rattle.obim_query.proofs.walked_pairs.put_walked.Goals as goal
 
 pub put_walked_lines-requires-clause-walked : goal.put_walked_lines-requires-clause-walked
 put_walked_lines-requires-clause-walked g c =

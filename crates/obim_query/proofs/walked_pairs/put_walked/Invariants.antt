@@ -2,7 +2,7 @@ use Rattle.std.proofs.Common.{ℕ, List, Option, true}
 use Rattle.obim_query.specs.AnswerText.{IsGrownPair}
 use Rattle.obim_query.specs.Graphs.{growth_of}
 use Rattle.obim_query.specs.Sent.{AreSent}
-use Rattle.obim_query.proofs.pairs.put_walked.Given as goal
+use Rattle.obim_query.proofs.walked_pairs.put_walked.Given as goal
 
 abbrev pub invariant-loop-at : goal.invariant-loop-at
 invariant-loop-at g l =

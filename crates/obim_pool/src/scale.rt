@@ -1,0 +1,64 @@
+//! How wide are buckets, for labels of a graph of this size?
+
+ghost use Rattle.std.specs.Prelude.{◌≡◌, ◌<◌};
+ghost use Rattle.obim_pool.specs.Scales.{AreWidths};
+ghost use Rattle.obim_pool.specs.declared.scale.TheConstants.{MOST_BUCKETS};
+
+use crate::widening::bucket_of;
+
+/// No scale makes more buckets of labels of 64 bits.
+pub const MOST_BUCKETS: u64 = 15_616;
+
+/// Below so many widths of a scale no bucket of `bucket_of` is wider than one width.
+const NARROW: u64 = 256;
+
+/// The most even buckets: the looks into lower ones that these cost take less than a second.
+const MOST_EVEN: u64 = 8192;
+
+/// The greatest shift: what it leaves of a label of 64 bits is below `MOST_EVEN`.
+const WIDEST: u32 = 51;
+
+/// A bucket is as wide as `bucket_of` makes it, but no wider than 2^`shift` while the label is below
+/// `even` times that.
+///
+/// So buckets widen with the label up to a width that fits the weights of a graph, then are even, and
+/// widen again where there would be too many of them. Each lies in one bucket of `bucket_of`.
+#[derive(Clone, Copy, Debug, PartialEq, Eq)]
+pub struct Scale {
+    shift: u32,
+    even: u64,
+    ghost within: { AreWidths shift even },
+}
+
+impl Scale {
+    /// Buckets of at most 2^`shift` labels below `even` times that. A larger shift than 51 counts as 51,
+    /// and a larger number than 8192 as 8192.
+    pub fn new(shift: u32, even: u64) -> Scale {
+        Scale {
+            shift: shift.min(WIDEST),
+            even: even.min(MOST_EVEN),
+        }
+    }
+
+    /// The buckets of `bucket_of`, all of them.
+    pub fn widening() -> Scale {
+        Scale::new(WIDEST, 0)
+    }
+
+    /// The bucket of a label: of a larger label the same or a larger one.
+    #[inline(always)]
+    pub fn bucket_of(self, label: u64) -> u64
+        ensures narrow { label < 256 → result ≡ label }
+        ensures few { result < MOST_BUCKETS }
+    {
+        let widths = label >> self.shift;
+        if widths < NARROW {
+            bucket_of(label)
+        } else if widths < self.even {
+            // `bucket_of` has so many below 256 widths, and 256 of a width each would be as many.
+            u64::from(self.shift) * 128 + widths
+        } else {
+            bucket_of(label) + self.even
+        }
+    }
+}
