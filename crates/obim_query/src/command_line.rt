@@ -1,8 +1,8 @@
 //! What does the command line ask for?
 
-use crate::asked::{Answer, Asked, AtOnce, MAX_AT_ONCE, MAX_BYTES};
 use clap::error::ErrorKind;
 use clap::{Arg, ArgAction, ArgMatches, Command, Error};
+use job_answer::{Answer, Asked, AtOnce, MAX_AT_ONCE, MAX_BYTES};
 use obim_engine::{MAX_CHUNK, MAX_SHIFT, MAX_WORKERS, Settings};
 use std::alloc::{AllocError, Global};
 use std::convert::AsStr;

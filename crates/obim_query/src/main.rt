@@ -1,41 +1,22 @@
-//! Bytes in, bytes out, named faults: the program.
+//! Which job, and where do its bytes go: the program.
 //!
-//! `obim_query` reads a job from standard input and writes its answer to standard output. The contract
-//! of `reply::answer` says of any reader and writer that the bytes written are exactly those that the
-//! least labels of the job make, and what was read and written at each fault.
+//! `obim_query` reads a job from standard input and writes its answer to standard output. What it
+//! writes, and what a fault leaves, is the contract of `answer` of `job_answer`; this crate reads the
+//! command line, prints help, faults and figures, and gives the status.
 //!
-//! It stands on `dimacs_text`, which reads job texts and writes labels, on `csr_graph` for the rows, on
-//! `obim_engine`, whose workers give the labels, and on `route_walks`, which says what least labels are;
-//! on `clap` for the command line and on `thiserror` for the texts of faults.
+//! It stands on `job_answer`, on `obim_engine` for the limits of the settings, and on `clap` for the
+//! command line.
 #![tactic(auto)]
 
-mod ahead;
-mod asked;
-mod blocks;
 mod command_line;
-mod fault;
-mod figures;
-mod graphs;
-mod intake;
-pub mod laws;
-mod outlet;
-mod pairs;
-mod reply;
-mod solved;
-mod solves;
 mod stats;
-mod teams;
 #[cfg(test)]
 mod tests;
-mod walked_pairs;
 
-use asked::Asked;
 use command_line::{Order, Refusal, asked_by};
-use fault::{Fault, status};
-use figures::{Figures, Phase};
+use job_answer::{Asked, Counter, Fault, Figures, Phase, answer, answer_counted, status};
 use obim_engine::OpenGate;
-use reply::{answer, answer_counted};
-use stats::{Counter, print_stats};
+use stats::print_stats;
 use std::env::Env;
 use std::io::{ErrorKind, Read, Write};
 use std::process::ExitCode;

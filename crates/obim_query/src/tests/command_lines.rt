@@ -1,8 +1,8 @@
 //! Which arguments ask for what, and which are refused?
 
-use crate::asked::{Answer, Asked, AtOnce, MAX_BYTES};
 use crate::command_line::{Order, Refusal, asked_by};
 use clap::error::ErrorKind;
+use job_answer::{Answer, Asked, AtOnce, MAX_BYTES};
 use obim_engine::Settings;
 use std::alloc::Global;
 use std::process::Abort;

@@ -1,0 +1,187 @@
+-- Labels and blocks that are right along the rows are right along the job's arcs, of which the rows were
+-- built.
+use Rattle.std.proofs.Common.{◌≡◌, ◌↔◌, Bool, true, false, ℕ, List, [], ◌∷◌, ◌++◌, Option, Some, None, refl, sym, ap, ◌∙◌}
+use Rattle.route_walks.specs.declared.graph.ArcRec.{ArcRec}
+use Rattle.route_walks.specs.Walk.{HaveSameArcs}
+use Rattle.route_walks.specs.Label.{LeastLabelsFollowTheArcs}
+use Rattle.route_walks.specs.Operators.{seeds_from, seeds_all}
+use Rattle.walk_report.specs.Parent.{HopsAndParentsFollowTheArcs}
+use Rattle.dimacs_text.specs.Jobs.{Content, Question, absent, from_sources, of_pairs}
+use Rattle.dimacs_text.specs.AnswerLines.{grown_text}
+use Rattle.std.specs.Prelude.{Result, Ok, Err, IfErr, OnErr}
+use Rattle.job_answer.specs.declared.fault.Fault.{Fault}
+use Rattle.job_answer.specs.declared.fault.Fault.TheVariants.{Read, TooLong, Text, NoAsk, Memory, Spawn, Write}
+use Rattle.job_answer.specs.declared.asked.Answer.{Answer}
+use Rattle.job_answer.specs.declared.asked.Answer.TheVariants.{Distances, Levels, Components}
+use Rattle.job_answer.specs.declared.graphs.Graphs.{Graphs}
+use Rattle.job_answer.specs.Bytes.{WritesPrefix}
+use Rattle.job_answer.specs.Graphs.{AreGraphsFor, GrowAlike, growth_of}
+use Rattle.job_answer.specs.Outcome.{IsReplyFault, IsUnasked, IsWritingFault, is_unasked}
+use Rattle.job_answer.specs.AnswerText.{IsBlock, IsPairBlock, AreWalksFrom, AreBlocks, AreAskedBlocks}
+use Rattle.job_answer.specs.AnswerText.{Growth, IsComponentsBlock, IsGrownBlock, IsGrownPair, IsGrownText}
+use Rattle.job_answer.specs.AnswerText.{IsAnswerText, IsTextFor, arcs_for, growth_for}
+
+module _ (law : LeastLabelsFollowTheArcs) (walked : HopsAndParentsFollowTheArcs) (n : ℕ) (one other : List ArcRec)
+    (same : HaveSameArcs one other) where
+  walks-over : (source : ℕ) (labels hops parents : List ℕ) → AreWalksFrom n one source labels hops parents
+      → AreWalksFrom n other source labels hops parents
+  walks-over source labels hops parents are =
+      let over = walked n one other source labels hops parents same are.fewest are.before in
+      record { least = law n one other (seeds_from source) labels same are.least; fewest = over.0; before = over.1 }
+
+  -- a block along the same arcs is the same
+  block-over : (walks : Bool) (source : ℕ) (text : List ℕ) → IsBlock walks n one source text → IsBlock walks n other source text
+  block-over false source text block = record {
+    labels = block.labels;
+    least = law n one other (seeds_from source) block.labels same block.least;
+    written = block.written;
+  }
+  block-over true source text block = record {
+    labels = block.labels;
+    hops = block.hops;
+    parents = block.parents;
+    walked = walks-over source block.labels block.hops block.parents block.walked;
+    written = block.written;
+  }
+
+  pair-over : (walks : Bool) (pair : ℕ × ℕ) (text : List ℕ) → IsPairBlock walks n one pair text
+      → IsPairBlock walks n other pair text
+  pair-over false pair text block = record {
+    labels = block.labels;
+    least = law n one other (seeds_from pair.0) block.labels same block.least;
+    written = block.written;
+  }
+  pair-over true pair text block = record {
+    labels = block.labels;
+    hops = block.hops;
+    parents = block.parents;
+    walked = walks-over pair.0 block.labels block.hops block.parents block.walked;
+    written = block.written;
+  }
+
+components-over : LeastLabelsFollowTheArcs → (n : ℕ) (one other : List ArcRec) → HaveSameArcs one other
+    → (text : List ℕ) → IsComponentsBlock n one text
+    → IsComponentsBlock n other text
+components-over law n one other same text block = record {
+  labels = block.labels;
+  least = law n one other (seeds_all n) block.labels same block.least;
+  written = block.written;
+}
+
+blocks-over : {Query : Type 0} (IsOne IsOther : Query → List ℕ → Type 0)
+    → ((query : Query) (text : List ℕ) → IsOne query text → IsOther query text)
+    → (queries : List Query) (text : List ℕ) → AreBlocks IsOne queries text
+    → AreBlocks IsOther queries text
+blocks-over IsOne IsOther each [] text blocks = blocks
+blocks-over IsOne IsOther each (query ∷ queries) text blocks = (
+  blocks.0,
+  blocks.1,
+  each query blocks.0 blocks.2,
+  blocks-over IsOne IsOther each queries blocks.1 blocks.3,
+  blocks.4,
+)
+
+-- a text along the same arcs, growing alike, is the same
+grown-over : (IsTextOf : List ArcRec → List ℕ → Type 0)
+    → ((one other : List ArcRec) → HaveSameArcs one other → (text : List ℕ) → IsTextOf one text → IsTextOf other text)
+    → (one other : List ArcRec) (first second : Option Growth) → HaveSameArcs one other → GrowAlike first second
+    → (text : List ℕ) → IsGrownText IsTextOf one first text
+    → IsGrownText IsTextOf other second text
+grown-over IsTextOf each one other None None same alike text is = each one other same text is
+grown-over IsTextOf each one other None (Some second) same alike text is = absurd alike
+grown-over IsTextOf each one other (Some first) None same alike text is = absurd alike
+grown-over IsTextOf each one other (Some first) (Some second) same alike text is = record {
+  before = is.before;
+  after = is.after;
+  first = each one other same is.before is.first;
+  second = each first.arcs second.arcs alike.1 is.after is.second;
+  written = is.written ∙ ap (λ (k : ℕ). is.before ++ grown_text k ++ is.after) alike.0;
+}
+
+module _ (law : LeastLabelsFollowTheArcs) (walked : HopsAndParentsFollowTheArcs) (walks : Bool) (n : ℕ)
+    (one other : List ArcRec) (first second : Option Growth) (same : HaveSameArcs one other)
+    (alike : GrowAlike first second) where
+  asked-over : (question : Question) (text : List ℕ) → AreAskedBlocks walks n one first question text
+      → AreAskedBlocks walks n other second question text
+  asked-over absent text blocks = blocks
+  asked-over (from_sources sources) text blocks =
+      blocks-over (IsGrownBlock walks n one first) (IsGrownBlock walks n other second)
+      (λ source.
+      grown-over (λ along. IsBlock walks n along source)
+      (λ these those are. block-over law walked n these those are walks source) one other first second same alike)
+      sources text blocks
+  asked-over (of_pairs pairs) text blocks =
+      blocks-over (IsGrownPair walks n one first) (IsGrownPair walks n other second)
+      (λ pair.
+      grown-over (λ along. IsPairBlock walks n along pair)
+      (λ these those are. pair-over law walked n these those are walks pair) one other first second same alike)
+      pairs text blocks
+
+  text-over : (kind : Answer) (question : Question) (text : List ℕ) → IsTextFor kind walks n one first question text
+      → IsTextFor kind walks n other second question text
+  text-over Distances question text is = asked-over question text is
+  text-over Levels question text is = asked-over question text is
+  text-over Components question text is =
+      grown-over (IsComponentsBlock n) (components-over law n) one other first second same alike text is
+
+same-sym : (one other : List ArcRec) → HaveSameArcs one other → HaveSameArcs other one
+same-sym one other same arc = ((same arc).1, (same arc).0)
+
+alike-sym : (first second : Option Growth) → GrowAlike first second → GrowAlike second first
+alike-sym None None alike = alike
+alike-sym None (Some second) alike = absurd alike
+alike-sym (Some first) None alike = absurd alike
+alike-sym (Some first) (Some second) alike = (sym alike.0, same-sym first.arcs second.arcs alike.1)
+
+-- the text along the rows of a job is the job's answer
+module _ (law : LeastLabelsFollowTheArcs) (walked : HopsAndParentsFollowTheArcs) (kind : Answer) (walks : Bool)
+    (job : Content) (graphs : Graphs) (question : Question)
+    (are : AreGraphsFor kind job.n job.arcs (growth_for kind job) graphs) (asked : question ≡ job.question) where
+  pub text_answered : (text : List ℕ)
+      → (IsTextFor kind walks graphs.rows.n graphs.rows.arcs (growth_of graphs.grown) question text)
+      ↔ (IsAnswerText kind walks job text)
+  text_answered text =
+      rw (are.vertices, asked) (
+        text-over law walked walks job.n graphs.rows.arcs (arcs_for kind job.arcs) (growth_of graphs.grown)
+            (growth_for kind job) are.along are.alike kind job.question text,
+        text-over law walked walks job.n (arcs_for kind job.arcs) graphs.rows.arcs (growth_for kind job)
+            (growth_of graphs.grown) (same-sym graphs.rows.arcs (arcs_for kind job.arcs) are.along)
+            (alike-sym (growth_of graphs.grown) (growth_for kind job) are.alike) kind job.question text,
+      )
+
+  pub text_begun : (before after : Option (List ℕ))
+      → WritesPrefix (IsTextFor kind walks graphs.rows.n graphs.rows.arcs (growth_of graphs.grown) question) before after
+      → WritesPrefix (IsAnswerText kind walks job) before after
+  text_begun before after cut = record {
+    given = cut.given;
+    is_prefix = λ text answered. cut.is_prefix text ((text_answered text).1 answered);
+    appended = cut.appended;
+  }
+
+-- the test says whether a job is asked
+pub asked-if : (kind : Answer) (job : Content) → is_unasked kind job.question ≡ false → ¬ (IsUnasked kind job)
+asked-if Distances job asked unasked =
+    let clash : false ≡ true = sym asked ∙ ap (is_unasked Distances) unasked.unasked in cc
+asked-if Levels job asked unasked =
+    let clash : false ≡ true = sym asked ∙ ap (is_unasked Levels) unasked.unasked in cc
+asked-if Components job asked unasked = unasked.needed refl
+
+-- what is said of a fault while blocks are written is said of a fault of the reply
+pub reply-fault : (kind : Answer) (walks : Bool) (job : Content) (before after : Option (List ℕ)) (fault : Fault)
+    → ¬ (IsUnasked kind job) → IsWritingFault fault → WritesPrefix (IsAnswerText kind walks job) before after
+    → IsReplyFault kind walks job before after fault
+reply-fault kind walks job before after Read asked never cut = absurd never
+reply-fault kind walks job before after TooLong asked never cut = absurd never
+reply-fault kind walks job before after (Text line what) asked never cut = absurd never
+reply-fault kind walks job before after NoAsk asked never cut = absurd never
+reply-fault kind walks job before after Memory asked writing cut = record { asked = asked; cut = cut }
+reply-fault kind walks job before after Spawn asked writing cut = record { asked = asked; cut = cut }
+reply-fault kind walks job before after Write asked writing cut = record { asked = asked; cut = cut }
+
+pub reply-says : {T : Type 0} (kind : Answer) (walks : Bool) (job : Content) (before after : Option (List ℕ))
+    (r : Result T Fault)
+    → ¬ (IsUnasked kind job) → IfErr r IsWritingFault → OnErr r (WritesPrefix (IsAnswerText kind walks job) before after)
+    → IfErr r (IsReplyFault kind walks job before after)
+reply-says kind walks job before after (Ok x) asked kinds cut = tt
+reply-says kind walks job before after (Err fault) asked kinds cut =
+    reply-fault kind walks job before after fault asked kinds cut

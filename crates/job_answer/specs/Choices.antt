@@ -1,0 +1,35 @@
+-- What may be asked, which fault the program makes of one below it, and which status a fault has.
+use Rattle.std.specs.Prelude.{◌≡◌, ◌≢◌, ℕ, ◌^◌, ◌≤◌, Bool, true}
+use Rattle.dimacs_text.specs.declared.fault.TextFault.{TextFault}
+use Rattle.dimacs_text.specs.declared.fault.TextFault.TheVariants as refused
+use Rattle.obim_engine.specs.declared.runs.RunFault.{RunFault}
+use Rattle.obim_engine.specs.declared.runs.RunFault.TheVariants as stopped
+use Rattle.job_answer.specs.declared.asked.Answer.{Answer}
+use Rattle.job_answer.specs.declared.asked.Answer.TheVariants.{Components}
+use Rattle.job_answer.specs.declared.fault.Fault.{Fault}
+use Rattle.job_answer.specs.declared.fault.Fault.TheVariants as fault
+
+-- what may be asked: walks but of components, and a limit of at most 2^36 bytes
+pub record IsAsked (kind : Answer) (walks : Bool) (limit : ℕ) : Type 0 where
+  pub walked : walks ≡ true → kind ≢ Components
+  pub few : limit ≤ 2 ^ 36
+
+-- the exit status of the program after a fault
+abbrev pub status_of : Fault → ℕ
+status_of fault.Read = 4
+status_of fault.TooLong = 2
+status_of (fault.Text line kind) = 2
+status_of fault.NoAsk = 2
+status_of fault.Memory = 3
+status_of fault.Spawn = 5
+status_of fault.Write = 4
+
+-- what the reader of the text refused, as a fault of the program
+abbrev pub fault_of : TextFault → Fault
+fault_of refused.Memory = fault.Memory
+fault_of (refused.Line line kind) = fault.Text line kind
+
+-- why a run gave no labels, as a fault of the program
+abbrev pub fault_of_run : RunFault → Fault
+fault_of_run stopped.Memory = fault.Memory
+fault_of_run stopped.Spawn = fault.Spawn

@@ -1,0 +1,158 @@
+-- What a run of the program has read and written, for each outcome.
+use Rattle.std.specs.Prelude.{◌≡◌, ◌≢◌, ◌<◌, ◌≤◌, ◌⊎◌, ℕ, Bool, true, false, List, length, Option, ⊤}
+use Rattle.std.specs.Io.KnownBytes.{Keeps}
+use Rattle.dimacs_text.specs.declared.fault.LineKind.{LineKind}
+use Rattle.dimacs_text.specs.Jobs.{Content, Question, absent, from_sources, of_pairs, IsJobText, IsWithinLimits}
+use Rattle.dimacs_text.specs.Faults.{IsFirstFault}
+use Rattle.job_answer.specs.declared.asked.Answer.{Answer}
+use Rattle.job_answer.specs.declared.asked.Answer.TheVariants as answer
+use Rattle.job_answer.specs.declared.fault.Fault.{Fault}
+use Rattle.job_answer.specs.declared.fault.Fault.TheVariants as fault
+use Rattle.job_answer.specs.Bytes.{TakesAtMost, TakesOneMore, TakesWhole, Writes, WritesPrefix}
+use Rattle.job_answer.specs.AnswerText.{IsAnswerText}
+
+-- the whole text was taken, within the limit, and it is the job's
+pub record IsRequest (limit : ℕ) (before after : Option (List ℕ)) (job : Content) : Type 0 where
+  pub text : List ℕ
+  pub whole : TakesWhole before after text
+  pub few : length text ≤ limit
+  pub is_job : IsJobText text job
+  pub limits : IsWithinLimits job
+
+-- the whole text was taken, it is a job's, and the job's answer was written and nothing else
+pub record IsAnswered (limit : ℕ) (kind : Answer) (walks : Bool)
+    (taken_from taken_to given_from given_to : Option (List ℕ)) : Type 0 where
+  pub job : Content
+  pub request : IsRequest limit taken_from taken_to job
+  pub reply : Writes (IsAnswerText kind walks job) given_from given_to
+
+-- without a section of queries nothing is asked, but for components, which need none
+abbrev pub is_unasked : Answer → Question → Bool
+is_unasked answer.Distances absent = true
+is_unasked answer.Distances (from_sources sources) = false
+is_unasked answer.Distances (of_pairs pairs) = false
+is_unasked answer.Levels absent = true
+is_unasked answer.Levels (from_sources sources) = false
+is_unasked answer.Levels (of_pairs pairs) = false
+is_unasked answer.Components question = false
+
+-- the job has no section of queries, and only components need none
+pub record IsUnasked (kind : Answer) (job : Content) : Type 0 where
+  pub unasked : job.question ≡ absent
+  pub needed : kind ≢ answer.Components
+
+-- the job is asked, so it has an answer, and a prefix of that was written and nothing else
+pub record IsReplyBegun (kind : Answer) (walks : Bool) (job : Content) (before after : Option (List ℕ))
+    : Type 0 where
+  pub asked : ¬ (IsUnasked kind job)
+  pub cut : WritesPrefix (IsAnswerText kind walks job) before after
+
+-- the whole text was taken, it is a job's that is asked, and a prefix of its answer was written and
+-- nothing else
+pub record IsBegun (limit : ℕ) (kind : Answer) (walks : Bool)
+    (taken_from taken_to given_from given_to : Option (List ℕ)) : Type 0 where
+  pub job : Content
+  pub request : IsRequest limit taken_from taken_to job
+  pub reply : IsReplyBegun kind walks job given_from given_to
+
+-- the text is a job's, and the bytes are the job's answer
+pub record IsAnswerOf (kind : Answer) (walks : Bool) (text bytes : List ℕ) : Type 0 where
+  pub job : Content
+  pub is_job : IsJobText text job
+  pub is_answer : IsAnswerText kind walks job bytes
+
+-- the whole text was taken, and its first fault is this one
+pub record IsFaulty (before after : Option (List ℕ)) (line : ℕ) (kind : LineKind) : Type 0 where
+  pub text : List ℕ
+  pub whole : TakesWhole before after text
+  pub first : IsFirstFault text line kind
+
+-- the whole text was taken, and it is a job's without a section of queries
+pub record IsRequestUnasked (limit : ℕ) (kind : Answer) (before after : Option (List ℕ)) : Type 0 where
+  pub job : Content
+  pub request : IsRequest limit before after job
+  pub unasked : IsUnasked kind job
+
+-- the text is a job's without a section of queries
+pub record IsTextUnasked (kind : Answer) (text : List ℕ) : Type 0 where
+  pub job : Content
+  pub is_job : IsJobText text job
+  pub unasked : IsUnasked kind job
+
+-- how much was taken before a fault
+abbrev pub HasTaken : ℕ → Option (List ℕ) → Option (List ℕ) → Fault → Type 0
+HasTaken limit before after fault.Read = TakesAtMost limit before after
+HasTaken limit before after fault.TooLong = TakesOneMore limit before after
+HasTaken limit before after (fault.Text line kind) = TakesAtMost limit before after
+HasTaken limit before after fault.NoAsk = TakesAtMost limit before after
+HasTaken limit before after fault.Memory = TakesAtMost limit before after
+HasTaken limit before after fault.Spawn = TakesAtMost limit before after
+HasTaken limit before after fault.Write = TakesAtMost limit before after
+
+-- what a fault says of the text
+abbrev pub IsTrueOfText : ℕ → Answer → Option (List ℕ) → Option (List ℕ) → Fault → Type 0
+IsTrueOfText limit kind before after fault.Read = ⊤
+IsTrueOfText limit kind before after fault.TooLong = ⊤
+IsTrueOfText limit kind before after (fault.Text line what) = IsFaulty before after line what
+IsTrueOfText limit kind before after fault.NoAsk = IsRequestUnasked limit kind before after
+IsTrueOfText limit kind before after fault.Memory = ⊤
+IsTrueOfText limit kind before after fault.Spawn = ⊤
+IsTrueOfText limit kind before after fault.Write = ⊤
+
+-- what a fault says of a text in memory, and of the limit; no writer can fail there
+abbrev pub IsTrueOfBytes : ℕ → Answer → List ℕ → Fault → Type 0
+IsTrueOfBytes limit kind text fault.Read = ⊤
+IsTrueOfBytes limit kind text fault.TooLong = limit < length text
+IsTrueOfBytes limit kind text (fault.Text line what) = IsFirstFault text line what
+IsTrueOfBytes limit kind text fault.NoAsk = IsTextUnasked kind text
+IsTrueOfBytes limit kind text fault.Memory = ⊤
+IsTrueOfBytes limit kind text fault.Spawn = ⊤
+IsTrueOfBytes limit kind text fault.Write = ⊥
+
+-- what was written before a fault: nothing where the text is refused, and else a prefix of the answer;
+-- memory may be refused while the text is read too
+abbrev pub HasWritten : ℕ → Answer → Bool → Option (List ℕ) → Option (List ℕ)
+    → Option (List ℕ) → Option (List ℕ) → Fault → Type 0
+HasWritten limit kind walks taken_from taken_to given_from given_to fault.Read = Keeps given_from given_to
+HasWritten limit kind walks taken_from taken_to given_from given_to fault.TooLong = Keeps given_from given_to
+HasWritten limit kind walks taken_from taken_to given_from given_to (fault.Text line what) =
+    Keeps given_from given_to
+HasWritten limit kind walks taken_from taken_to given_from given_to fault.NoAsk = Keeps given_from given_to
+HasWritten limit kind walks taken_from taken_to given_from given_to fault.Memory =
+    Keeps given_from given_to
+    ⊎ IsBegun limit kind walks taken_from taken_to given_from given_to
+HasWritten limit kind walks taken_from taken_to given_from given_to fault.Spawn =
+    IsBegun limit kind walks taken_from taken_to given_from given_to
+HasWritten limit kind walks taken_from taken_to given_from given_to fault.Write =
+    IsBegun limit kind walks taken_from taken_to given_from given_to
+
+-- the faults of reading a job: a fault of its text is the first one
+abbrev pub IsRequestFault : Option (List ℕ) → Option (List ℕ) → Fault → Type 0
+IsRequestFault before after fault.Read = ⊤
+IsRequestFault before after fault.TooLong = ⊤
+IsRequestFault before after (fault.Text line kind) = IsFaulty before after line kind
+IsRequestFault before after fault.NoAsk = ⊥
+IsRequestFault before after fault.Memory = ⊤
+IsRequestFault before after fault.Spawn = ⊥
+IsRequestFault before after fault.Write = ⊥
+
+-- the faults of answering a job: nothing is written where nothing was asked, and only there it is NoAsk;
+-- and else a prefix
+abbrev pub IsReplyFault : Answer → Bool → Content → Option (List ℕ) → Option (List ℕ) → Fault → Type 0
+IsReplyFault kind walks job before after fault.Read = ⊥
+IsReplyFault kind walks job before after fault.TooLong = ⊥
+IsReplyFault kind walks job before after (fault.Text line what) = ⊥
+IsReplyFault kind walks job before after fault.NoAsk = IsUnasked kind job × Keeps before after
+IsReplyFault kind walks job before after fault.Memory = IsReplyBegun kind walks job before after
+IsReplyFault kind walks job before after fault.Spawn = IsReplyBegun kind walks job before after
+IsReplyFault kind walks job before after fault.Write = IsReplyBegun kind walks job before after
+
+-- the faults of working out blocks and writing them
+abbrev pub IsWritingFault : Fault → Type 0
+IsWritingFault fault.Read = ⊥
+IsWritingFault fault.TooLong = ⊥
+IsWritingFault (fault.Text line kind) = ⊥
+IsWritingFault fault.NoAsk = ⊥
+IsWritingFault fault.Memory = ⊤
+IsWritingFault fault.Spawn = ⊤
+IsWritingFault fault.Write = ⊤

@@ -1,0 +1,108 @@
+//! What may be asked of a job text?
+
+ghost use Rattle.std.specs.Prelude.{◌≡◌, ◌↔◌, IsSome, IfSome};
+ghost use Rattle.job_answer.specs.Choices.{IsAsked};
+
+use obim_engine::Settings;
+
+/// Which labels are asked for.
+#[derive(Clone, Copy, Debug, PartialEq, Eq)]
+pub enum Answer {
+    /// The least cost of a walk from each source.
+    Distances,
+    /// The fewest arcs of a walk from each source.
+    Levels,
+    /// The least number of a vertex that arcs join to each vertex, whichever way they point.
+    Components,
+}
+
+/// How many sources are solved at the same time, each by its own share of the workers. No byte of an
+/// answer depends on it.
+#[derive(Clone, Copy, Debug, PartialEq, Eq)]
+pub enum AtOnce {
+    /// As many as there are workers where a vertex has few arcs, and else one.
+    Auto,
+    /// At most so many, and never more than there are workers.
+    Most(u32),
+}
+
+/// The most sources that are solved at the same time.
+pub const MAX_AT_ONCE: u32 = 64;
+
+/// The most bytes of a job text that are ever read: 2^36.
+pub const MAX_BYTES: u64 = 68719476736;
+
+/// What is asked of a job text.
+#[derive(Clone, Copy, Debug, PartialEq, Eq)]
+pub struct Asked {
+    /// Which labels.
+    pub answer: Answer,
+    /// How to work them out.
+    pub settings: Settings,
+    /// Whether a walk is written for each label that has one. Components have none.
+    pub walks: bool,
+    /// How many bytes of text are read at most. A longer text is refused.
+    pub limit: u64,
+    /// How many sources are solved at the same time.
+    pub at_once: AtOnce,
+    ghost within: { IsAsked answer walks limit },
+}
+
+impl Asked {
+    /// What is asked, or `None` where walks are asked for with components, or where the limit is above
+    /// 2^36 bytes.
+    pub fn new(answer: Answer, settings: Settings, walks: bool, limit: u64) -> Option<Asked>
+        ensures within { IsSome result ↔ IsAsked answer walks limit }
+        ensures answer { IfSome result (λ asked. asked.answer ≡ answer) }
+        ensures settings { IfSome result (λ asked. asked.settings ≡ settings) }
+        ensures walks { IfSome result (λ asked. asked.walks ≡ walks) }
+        ensures limit { IfSome result (λ asked. asked.limit ≡ limit) }
+    {
+        if limit > MAX_BYTES {
+            return None;
+        }
+        if walks && matches!(answer, Answer::Components) {
+            return None;
+        }
+        Some(Asked {
+            answer,
+            settings,
+            walks,
+            limit,
+            at_once: AtOnce::Auto,
+        })
+    }
+
+    /// The same with so many sources at the same time.
+    pub fn with_at_once(self, at_once: AtOnce) -> Asked
+        ensures answer { result.answer ≡ self.answer }
+        ensures settings { result.settings ≡ self.settings }
+        ensures walks { result.walks ≡ self.walks }
+        ensures limit { result.limit ≡ self.limit }
+        ensures at_once { result.at_once ≡ at_once }
+    {
+        Asked {
+            answer: self.answer,
+            settings: self.settings,
+            walks: self.walks,
+            limit: self.limit,
+            at_once,
+        }
+    }
+
+    /// The same with other settings.
+    pub fn with_settings(self, settings: Settings) -> Asked
+        ensures answer { result.answer ≡ self.answer }
+        ensures settings { result.settings ≡ settings }
+        ensures walks { result.walks ≡ self.walks }
+        ensures limit { result.limit ≡ self.limit }
+    {
+        Asked {
+            answer: self.answer,
+            settings,
+            walks: self.walks,
+            limit: self.limit,
+            at_once: self.at_once,
+        }
+    }
+}

@@ -1,0 +1,67 @@
+//! A gate that counts, for `--stats`.
+
+use obim_engine::{Gate, Worklist};
+use route_walks::Memory;
+use std::alloc::Global;
+use std::sync::Wait;
+use std::sync::atomic::{AtomicU64, Ordering};
+
+/// Words between the counts of two workers, so that they share no line of a cache.
+const SPREAD: usize = 16;
+
+/// A gate that counts the visits of each worker, and what the worklist held.
+#[derive(Drop)]
+pub struct Counter {
+    visits: Vec<AtomicU64>,
+    most_buckets: AtomicU64,
+    looks: AtomicU64,
+    chunks: AtomicU64,
+}
+
+impl Counter {
+    /// A count of 0 for each of the workers.
+    pub fn open(alloc: Global, workers: u32) -> Result<Counter, Memory> {
+        let mut visits = Vec::with_capacity(alloc, workers as usize * SPREAD)?;
+        for _ in 0..workers as usize * SPREAD {
+            visits.push(AtomicU64::new(0))?;
+        }
+        Ok(Counter {
+            visits,
+            most_buckets: AtomicU64::new(0),
+            looks: AtomicU64::new(0),
+            chunks: AtomicU64::new(0),
+        })
+    }
+
+    /// How many vertices the worker visited.
+    pub fn visits_of(&self, worker: u32) -> u64 {
+        match self.visits.get(worker as usize * SPREAD) {
+            Some(count) => count.load(Ordering::Relaxed),
+            None => 0,
+        }
+    }
+
+    /// What the worklist held: the most buckets of a run, and the looks and chunks of all runs.
+    pub fn worklist(&self) -> Worklist {
+        Worklist {
+            buckets: self.most_buckets.load(Ordering::Relaxed),
+            looks: self.looks.load(Ordering::Relaxed),
+            chunks: self.chunks.load(Ordering::Relaxed),
+        }
+    }
+}
+
+impl Gate for Counter {
+    fn pass<H: Wait>(&self, _rt: &H, worker: u32, _vertex: u32) {
+        if let Some(count) = self.visits.get(worker as usize * SPREAD) {
+            count.fetch_add(1, Ordering::Relaxed);
+        }
+    }
+
+    fn end<H: Wait>(&self, _rt: &H, worklist: Worklist) {
+        self.most_buckets
+            .fetch_max(worklist.buckets, Ordering::Relaxed);
+        self.looks.fetch_add(worklist.looks, Ordering::Relaxed);
+        self.chunks.fetch_add(worklist.chunks, Ordering::Relaxed);
+    }
+}

@@ -1,0 +1,87 @@
+//! Why is there no answer, and with which status does the program end?
+
+ghost use Rattle.std.specs.Prelude.{◌≡◌};
+ghost use Rattle.job_answer.specs.declared.fault.Fault.TheVariants as fault;
+ghost use Rattle.job_answer.specs.Choices.{fault_of, fault_of_run, status_of};
+
+use dimacs_text::{LineKind, TextFault};
+use obim_engine::RunFault;
+use std::alloc::AllocError;
+use thiserror::Error;
+
+/// Why there is no answer, or only a prefix of one.
+#[derive(Clone, Copy, Debug, PartialEq, Eq, Error)]
+pub enum Fault {
+    /// The reader failed. Nothing was written.
+    #[error("read failed")]
+    Read,
+    /// A byte came after as many as may be read. Nothing was written.
+    #[error("input too long")]
+    TooLong,
+    /// The text is no job's: its first fault, with its line, counted from 1. Nothing was written.
+    #[error("line {line}: {kind}")]
+    Text { line: u64, kind: LineKind },
+    /// Distances or levels were asked for, and the text has no section of queries. Nothing was written.
+    #[error("no sources or pairs")]
+    NoAsk,
+    /// The system refused memory. A prefix of the answer may have been written.
+    #[error("out of memory")]
+    Memory,
+    /// The system refused a thread. A prefix of the answer may have been written.
+    #[error("cannot start a thread")]
+    Spawn,
+    /// The writer failed. A prefix of the answer may have been written.
+    #[error("write failed")]
+    Write,
+}
+
+impl From<TextFault> for Fault {
+    ghost from_gives = { λ refused given. given ≡ fault_of refused };
+
+    fn from(refused: TextFault) -> Fault {
+        match refused {
+            TextFault::Memory => Fault::Memory,
+            TextFault::Line { line, kind } => Fault::Text { line, kind },
+        }
+    }
+}
+
+impl From<RunFault> for Fault {
+    ghost from_gives = { λ refused given. given ≡ fault_of_run refused };
+
+    fn from(refused: RunFault) -> Fault {
+        match refused {
+            RunFault::Memory => Fault::Memory,
+            RunFault::Spawn => Fault::Spawn,
+        }
+    }
+}
+
+impl From<route_walks::Memory> for Fault {
+    ghost from_gives = { λ _ given. given ≡ fault.Memory };
+
+    fn from(_refused: route_walks::Memory) -> Fault {
+        Fault::Memory
+    }
+}
+
+impl From<AllocError> for Fault {
+    ghost from_gives = { λ _ given. given ≡ fault.Memory };
+
+    fn from(_refused: AllocError) -> Fault {
+        Fault::Memory
+    }
+}
+
+/// The status with which the program ends after a fault: 2 for a text that can't be answered, 3 for
+/// memory, 4 for reading and writing, 5 for a thread.
+pub fn status(fault: &Fault) -> u8
+    ensures { result ≡ status_of fault.now }
+{
+    match fault {
+        Fault::TooLong | Fault::Text { .. } | Fault::NoAsk => 2,
+        Fault::Memory => 3,
+        Fault::Read | Fault::Write => 4,
+        Fault::Spawn => 5,
+    }
+}

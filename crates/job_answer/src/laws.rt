@@ -1,0 +1,71 @@
+//! Which laws hold of answers? Each is the contract of a function that does nothing.
+
+ghost use Rattle.job_answer.specs.AnswerText.{AnswerTextsAreUnique, BlocksAreUnique};
+ghost use Rattle.job_answer.specs.Costs.{AnswersSayCosts, AnswersSayPairCosts, AnswersSayComponents};
+ghost use Rattle.job_answer.specs.Existence.{AskedJobsHaveAnswers};
+ghost use Rattle.job_answer.specs.Parts.{AnswersOfPartsJoin};
+
+use route_walks::laws::{
+    inf_means_no_walk, least_labels_are_components, least_labels_are_unique, least_labels_exist,
+};
+use walk_report::laws::{
+    hops_and_parents_are_unique, hops_and_parents_exist, printed_walks_are_walks,
+};
+
+/// A source has only one block of a kind, and so have a pair and the components.
+pub fn blocks_are_unique()
+    ensures { BlocksAreUnique }
+{
+    least_labels_are_unique();
+    hops_and_parents_are_unique();
+}
+
+/// A job has only one answer text of a kind. So what `answer` writes does not depend on how the labels
+/// were worked out.
+pub fn answer_texts_are_unique()
+    ensures { AnswerTextsAreUnique }
+{
+    blocks_are_unique();
+}
+
+/// A job within the limits has an answer text of each kind, unless it asks for nothing. So what is said of
+/// every text that answers a job is never said of none.
+pub fn asked_jobs_have_answers()
+    ensures { AskedJobsHaveAnswers }
+{
+    least_labels_exist();
+    hops_and_parents_exist();
+}
+
+/// In an answer of distances or levels the line of a vertex says `inf` where no walk at all leads there
+/// from the source, and else what the cheapest walk costs. Where walks are asked for, the line after it has
+/// the vertices of such a walk, with no more arcs than another of that cost.
+pub fn answers_say_costs()
+    ensures { AnswersSayCosts }
+{
+    inf_means_no_walk();
+    printed_walks_are_walks();
+}
+
+/// The same of a pair: its line says the cost from its source to its target.
+pub fn answers_say_pair_costs()
+    ensures { AnswersSayPairCosts }
+{
+    inf_means_no_walk();
+    printed_walks_are_walks();
+}
+
+/// In an answer of components the line of a vertex says the least vertex that the job's arcs connect with
+/// it, whichever way each arc points.
+pub fn answers_say_components()
+    ensures { AnswersSayComponents }
+{
+    least_labels_are_components();
+}
+
+/// Where the sources or the pairs of a job are cut in two, the answers of the two parts, one after the other,
+/// are the answer of the job; so a job can be cut anywhere, and into any number of parts. Each part has the
+/// graph and the added arcs.
+pub fn answers_of_parts_join()
+    ensures { AnswersOfPartsJoin }
+{}

@@ -1,0 +1,36 @@
+//! Bytes in, bytes out: the answer of a job.
+//!
+//! `answer` reads a job text from any reader and writes its answer to any writer. Its contract says that
+//! the bytes written are exactly those that the least labels of the job make, for all settings and
+//! however the workers' steps interleave, and what was read and written at each fault. `answer_bytes`
+//! is the same from bytes to bytes, and `answer_counted` gives figures besides.
+//!
+//! It stands on `dimacs_text`, which reads job texts and writes labels, on `csr_graph` for the rows, on
+//! `obim_engine`, whose workers give the labels, on `walk_report` for the walks, and on `route_walks`,
+//! which says what least labels are; on `thiserror` for the texts of faults.
+#![tactic(auto)]
+
+mod ahead;
+mod asked;
+mod blocks;
+mod counter;
+mod fault;
+mod figures;
+mod graphs;
+mod intake;
+pub mod laws;
+mod outlet;
+mod pairs;
+mod reply;
+mod solved;
+mod solves;
+mod teams;
+#[cfg(test)]
+mod tests;
+mod walked_pairs;
+
+pub use asked::{Answer, Asked, AtOnce, MAX_AT_ONCE, MAX_BYTES};
+pub use counter::Counter;
+pub use fault::{Fault, status};
+pub use figures::{Figures, Phase};
+pub use reply::{answer, answer_bytes, answer_counted};

@@ -1,0 +1,321 @@
+//! Which lines answer pairs?
+
+ghost use Rattle.std.specs.Prelude.{◌≡◌, ◌+◌, ◌<◌, ◌≤◌, ◌^◌, ◌++◌, ℕ, List, length, slice_index};
+ghost use Rattle.std.specs.Prelude.{All, IfErr, IfOk, IfSome, OnErr, OnOk, false};
+ghost use Rattle.route_walks.specs.declared.graph.ArcRec.{ArcRec};
+ghost use Rattle.route_walks.specs.Label.{AreLeastLabels};
+ghost use Rattle.dimacs_text.specs.Jobs.{IsPairWithin};
+ghost use Rattle.dimacs_text.specs.AnswerLines.{pair_text};
+ghost use Rattle.job_answer.specs.AnswerText.{ArePairBlocks};
+ghost use Rattle.job_answer.specs.Bytes.{Writes, WritesPrefix};
+ghost use Rattle.job_answer.specs.Graphs.{AreGraphs, growth_of};
+ghost use Rattle.job_answer.specs.Outcome.{IsWritingFault};
+ghost use Rattle.job_answer.specs.Solved.{AreLabelsAt, AreLabelsFrom};
+ghost use Rattle.job_answer.specs.Solves.{seeds_at, AreBySource, AreFilled, AreFilledAfter};
+ghost use Rattle.job_answer.specs.Solves.{AreLabelsAfter, ArePairLabels, HasLabelAfter, IsForQueries, with_growth};
+
+use crate::ahead::Ahead;
+use crate::asked::Asked;
+use crate::fault::Fault;
+use crate::figures::Figures;
+use crate::graphs::Graphs;
+use crate::laws::blocks_are_unique;
+use crate::outlet::Waiting;
+use crate::solved::{PairLabels, Queries, Solves};
+use crate::solves::{Solve, by_source};
+use crate::teams::teams_for;
+use crate::walked_pairs::write_walked;
+use dimacs_text::{put_grown, put_pair};
+use obim_engine::{Gate, Settings};
+use route_walks::{INF, MAX_VERTICES, Memory};
+use std::alloc::Global;
+use std::io::Write;
+use std::sync::Wait;
+use std::thread::Threads;
+use std::time::Clock;
+
+/// Writes the lines of each pair in turn: the least label of its target from its source along the rows,
+/// with its walk where walks are asked for. Where the rows grow, the same in the grown graph comes after
+/// each pair's lines.
+///
+/// Without walks each source is solved once, however the pairs stand, and their labels are kept until all
+/// are known. With walks only pairs that stand side by side share the solve of their source, and no label
+/// is kept from one source to the next.
+pub fn write_pairs<H: Threads + Wait + Clock + Sync, W: Write, G: Gate + Sync>(
+    rt: &H,
+    alloc: Global,
+    writer: &mut W,
+    graphs: &Graphs,
+    pairs: &[(u32, u32)],
+    asked: &Asked,
+    gate: &G,
+    figures: &mut Figures,
+) -> Result<(), Fault>
+    requires graphs { AreGraphs graphs.now }
+    requires count { length pairs.now ≤ 2 ^ 20 }
+    requires pairs { All (IsPairWithin graphs.now.rows.n) pairs.now }
+    ensures blocks { OnOk result (Writes (ArePairBlocks asked.now.walks graphs.now.rows.n graphs.now.rows.arcs
+        (growth_of graphs.now.grown) pairs.now) (W.contents writer.old) (W.contents writer.new)) }
+    ensures prefix { OnErr result (WritesPrefix (ArePairBlocks asked.now.walks graphs.now.rows.n graphs.now.rows.arcs
+        (growth_of graphs.now.grown) pairs.now) (W.contents writer.old) (W.contents writer.new)) }
+    ensures kinds { IfErr result IsWritingFault }
+{
+    if asked.walks {
+        write_walked(rt, alloc, writer, graphs, pairs, asked, gate, figures)
+    } else {
+        write_plain(rt, alloc, writer, graphs, pairs, asked, gate, figures)
+    }
+}
+
+/// Writes the line of each pair in turn.
+fn write_plain<H: Threads + Wait + Clock + Sync, W: Write, G: Gate + Sync>(
+    rt: &H,
+    alloc: Global,
+    writer: &mut W,
+    graphs: &Graphs,
+    pairs: &[(u32, u32)],
+    asked: &Asked,
+    gate: &G,
+    figures: &mut Figures,
+) -> Result<(), Fault>
+    requires graphs { AreGraphs graphs.now }
+    requires count { length pairs.now ≤ 2 ^ 20 }
+    requires pairs { All (IsPairWithin graphs.now.rows.n) pairs.now }
+    ensures blocks { OnOk result (Writes (ArePairBlocks false graphs.now.rows.n graphs.now.rows.arcs
+        (growth_of graphs.now.grown) pairs.now) (W.contents writer.old) (W.contents writer.new)) }
+    ensures prefix { OnErr result (WritesPrefix (ArePairBlocks false graphs.now.rows.n graphs.now.rows.arcs
+        (growth_of graphs.now.grown) pairs.now) (W.contents writer.old) (W.contents writer.new)) }
+    ensures kinds { IfErr result IsWritingFault }
+{
+    let order = by_source(alloc, pairs)?;
+    let mut labels = vec![in alloc; INF; pairs.len()]?;
+    let mut after = room_after(alloc, graphs, pairs)?;
+    label_pairs(
+        rt,
+        alloc,
+        graphs,
+        pairs,
+        &order,
+        &mut labels,
+        &mut after,
+        asked,
+        gate,
+        figures,
+    )?;
+    write_lines(alloc, writer, graphs, pairs, &labels, &after)
+}
+
+/// Room for the labels of pairs in the grown graph, if there is one.
+fn room_after(alloc: Global, graphs: &Graphs, pairs: &[(u32, u32)]) -> Result<Vec<u64>, Memory>
+    ensures { IfOk result (λ after.
+        IfSome graphs.now.grown (λ _. length after.items ≡ length pairs.now)) }
+{
+    match &graphs.grown {
+        None => Ok(Vec::new(alloc)),
+        Some(_) => Ok(vec![in alloc; INF; pairs.len()]?),
+    }
+}
+
+/// Fills in the label of each pair's target from its source, and where the rows grow that in the grown
+/// graph. The order has the places of the pairs.
+fn label_pairs<'a, H: Threads + Wait + Clock + Sync, G: Gate + Sync>(
+    rt: &H,
+    alloc: Global,
+    graphs: &'a Graphs,
+    pairs: &'a [(u32, u32)],
+    order: &'a [(u32, u32)],
+    labels: &mut [u64],
+    after: &mut [u64],
+    asked: &'a Asked,
+    gate: &'a G,
+    figures: &mut Figures,
+) -> Result<(), Fault>
+    requires graphs { AreGraphs graphs.now }
+    requires pairs { All (IsPairWithin graphs.now.rows.n) pairs.now }
+    requires order { AreBySource pairs.now order.now }
+    requires places { length labels.old ≡ length pairs.now }
+    requires after { IfSome graphs.now.grown (λ _. length after.old ≡ length pairs.now) }
+    ensures labels { OnOk result
+        (ArePairLabels graphs.now.rows.n graphs.now.rows.arcs pairs.now labels.new) }
+    ensures after { OnOk result (AreLabelsAfter graphs.now.grown pairs.now after.new) }
+    ensures kinds { IfErr result IsWritingFault }
+{
+    let solves = Solves {
+        graphs,
+        queries: Queries::Labelled(pairs, order),
+        asked,
+        gate,
+    };
+    let mut ahead = Ahead::new(alloc, teams_for(asked, &graphs.rows));
+    let mut first = 0;
+    while first < order.len() {
+        let found = match ahead.take_labels(rt, alloc, &solves, first, figures) {
+            Some(found) => found,
+            None => pair_labels(
+                rt,
+                alloc,
+                graphs,
+                pairs,
+                order,
+                first,
+                &asked.settings,
+                gate,
+                figures,
+            )?,
+        };
+        let own: &[u64] = &found.labels;
+        fill(labels, order, first, own);
+        fill_after(after, graphs, pairs, order, first, &found);
+        first += own.len();
+    }
+    Ok(())
+}
+
+/// The labels of the pairs of the order from a place on that have one source, in both graphs.
+pub fn pair_labels<H: Threads + Wait + Clock + Sync, G: Gate + Sync>(
+    rt: &H,
+    alloc: Global,
+    graphs: &Graphs,
+    pairs: &[(u32, u32)],
+    order: &[(u32, u32)],
+    first: usize,
+    settings: &Settings,
+    gate: &G,
+    figures: &mut Figures,
+) -> Result<PairLabels, Fault>
+    requires graphs { AreGraphs graphs.now }
+    requires pairs { All (IsPairWithin graphs.now.rows.n) pairs.now }
+    requires order { AreBySource pairs.now order.now }
+    requires place { first < length order.now }
+    ensures labels { IfOk result (AreLabelsFrom graphs.now pairs.now order.now first) }
+    ensures kinds { IfErr result IsWritingFault }
+{
+    let solve = Solve::of_queries(order, first);
+    let start = solve.start;
+    let rows = &graphs.rows;
+    let found = start.solve(rt, alloc, rows, settings, gate, figures)?;
+    let labels = picked(alloc, pairs, order, solve, &found)?;
+    let Some(grown) = &graphs.grown else {
+        let after = Vec::new(alloc);
+        return Ok(PairLabels { labels, after });
+    };
+    let found = start.solve_grown(rt, alloc, rows, grown, found, settings, gate, figures)?;
+    let after = picked(alloc, pairs, order, solve, &found)?;
+    Ok(PairLabels { labels, after })
+}
+
+/// Of the labels from the source of a solve those of its pairs' targets. The order has the places of the
+/// pairs.
+fn picked(
+    alloc: Global,
+    pairs: &[(u32, u32)],
+    order: &[(u32, u32)],
+    solve: Solve,
+    labels: &[u64],
+) -> Result<Vec<u64>, Memory>
+    requires targets { All (λ pair. pair.1 < length labels.now) pairs.now }
+    requires order { AreBySource pairs.now order.now }
+    requires solve { IsForQueries order.now solve }
+    ensures count { IfOk result (λ picked. solve.first + length picked.items ≡ solve.end) }
+    ensures picked { IfOk result (λ picked. (n : ℕ) (arcs : List ArcRec)
+        → AreLeastLabels n arcs (seeds_at n solve.start) labels.now
+        → AreLabelsAt n arcs pairs.now order.now solve.first picked.items) }
+{
+    let mut picked = Vec::with_capacity(alloc, solve.end - solve.first)?;
+    for at in solve.first..solve.end {
+        let place = order[at].1 as usize;
+        picked.push(labels[pairs[place].1 as usize])?;
+    }
+    Ok(picked)
+}
+
+/// Fills in the labels of the pairs of the order from a place on. The order has the places of the pairs.
+fn fill(filled: &mut [u64], order: &[(u32, u32)], first: usize, labels: &[u64])
+    requires places { All (λ entry. entry.1 < length filled.old) order.now }
+    requires within { first + length labels.now ≤ length order.now }
+    ensures places { length filled.new ≡ length filled.old }
+    ensures filled { (n : ℕ) (arcs : List ArcRec) (pairs : List (ℕ × ℕ))
+        → AreLabelsAt n arcs pairs order.now first labels.now
+        → AreFilled n arcs pairs order.now first filled.old
+        → AreFilled n arcs pairs order.now (first + length labels.now) filled.new }
+{
+    for (at, label) in labels.iter().enumerate() {
+        let place = order[first + at].1 as usize;
+        filled[place] = *label;
+    }
+}
+
+/// Fills in those labels in the grown graph, if there is one.
+fn fill_after(
+    filled: &mut [u64],
+    graphs: &Graphs,
+    pairs: &[(u32, u32)],
+    order: &[(u32, u32)],
+    first: usize,
+    found: &PairLabels,
+)
+    requires order { AreBySource pairs.now order.now }
+    requires found { AreLabelsFrom graphs.now pairs.now order.now first found.now }
+    requires before { AreFilledAfter graphs.now.grown pairs.now order.now first filled.old }
+    ensures { AreFilledAfter graphs.now.grown pairs.now order.now
+        (first + length found.now.labels.items) filled.new }
+{
+    if let Some(_) = &graphs.grown {
+        fill(filled, order, first, &found.after);
+    }
+}
+
+/// Writes the lines of pairs that have these labels, and those after in the grown graph.
+fn write_lines<W: Write>(
+    alloc: Global,
+    writer: &mut W,
+    graphs: &Graphs,
+    pairs: &[(u32, u32)],
+    labels: &[u64],
+    after: &[u64],
+) -> Result<(), Fault>
+    requires graphs { AreGraphs graphs.now }
+    requires pairs { All (IsPairWithin graphs.now.rows.n) pairs.now }
+    requires labels { ArePairLabels graphs.now.rows.n graphs.now.rows.arcs pairs.now labels.now }
+    requires after { AreLabelsAfter graphs.now.grown pairs.now after.now }
+    ensures blocks { OnOk result (Writes (ArePairBlocks false graphs.now.rows.n graphs.now.rows.arcs
+        (growth_of graphs.now.grown) pairs.now) (W.contents writer.old) (W.contents writer.new)) }
+    ensures prefix { OnErr result (WritesPrefix (ArePairBlocks false graphs.now.rows.n graphs.now.rows.arcs
+        (growth_of graphs.now.grown) pairs.now) (W.contents writer.old) (W.contents writer.new)) }
+    ensures kinds { IfErr result IsWritingFault }
+{
+    blocks_are_unique();
+    let mut waiting = Waiting::new(alloc);
+    for place in 0..pairs.len() {
+        let bytes = &mut waiting.bytes;
+        put_pair_lines(bytes, graphs, pairs[place], place, labels, after)?;
+        waiting.send_if_full(writer)?;
+    }
+    waiting.finish(writer)
+}
+
+/// Puts the line of a pair, which is at this place, and where the rows grow that in the grown graph.
+fn put_pair_lines(
+    out: &mut Vec<u8>,
+    graphs: &Graphs,
+    pair: (u32, u32),
+    place: usize,
+    labels: &[u64],
+    after: &[u64],
+) -> Result<(), Memory>
+    requires pair { IsPairWithin MAX_VERTICES pair }
+    requires label { place < length labels.now }
+    requires grown { HasLabelAfter graphs.now.grown place after.now }
+    ensures put { OnOk result (out.new.items ≡ out.old.items ++ with_growth (growth_of graphs.now.grown)
+        (pair_text pair.0 pair.1 (slice_index labels.now place))
+        (pair_text pair.0 pair.1 (slice_index after.now place))) }
+{
+    put_pair(out, pair.0, pair.1, labels[place])?;
+    match &graphs.grown {
+        None => Ok(()),
+        Some(grown) => {
+            put_grown(out, grown.count)?;
+            put_pair(out, pair.0, pair.1, after[place])
+        }
+    }
+}

@@ -1,0 +1,190 @@
+//! How do the bytes of a job text become the bytes of its answer?
+
+ghost use Rattle.std.specs.Prelude.{◌≡◌, ◌≤◌, ◌^◌, false, IfOk, IfErr, OnErr, OnOk};
+ghost use Rattle.dimacs_text.specs.Jobs.{content_of, question_of, IsQuestionWithin, IsWithinLimits};
+ghost use Rattle.job_answer.specs.AnswerText.{IsAnswerText, IsTextFor};
+ghost use Rattle.job_answer.specs.Bytes.{Writes, WritesPrefix};
+ghost use Rattle.job_answer.specs.Graphs.{AreGraphs, growth_of};
+ghost use Rattle.job_answer.specs.Outcome.{HasTaken, HasWritten, IsAnswerOf, IsAnswered, IsReplyFault};
+ghost use Rattle.job_answer.specs.Outcome.{IsRequest, IsRequestFault, IsTrueOfBytes, IsTrueOfText};
+ghost use Rattle.job_answer.specs.Outcome.{IsWritingFault, is_unasked};
+
+use crate::asked::{Answer, Asked};
+use crate::blocks::{write_sources, write_start};
+use crate::fault::Fault;
+use crate::figures::{Figures, Phase};
+use crate::graphs::{Graphs, graphs_for};
+use crate::intake::read_request;
+use crate::pairs::write_pairs;
+use crate::solves::Start;
+use dimacs_text::{Ask, Job};
+use obim_engine::Gate;
+use route_walks::laws::least_labels_follow_the_arcs;
+use std::alloc::Global;
+use std::io::{Read, Write};
+use std::sync::Wait;
+use std::thread::Threads;
+use std::time::Clock;
+use walk_report::laws::hops_and_parents_follow_the_arcs;
+
+/// Reads a job text to its end and writes its answer: exactly the bytes that the least labels of the
+/// job make, whatever the settings and the gate are. A fault of the text is found before anything is
+/// written.
+pub fn answer<H: Threads + Wait + Clock + Sync, R: Read, W: Write, G: Gate + Sync>(
+    rt: &H,
+    alloc: Global,
+    reader: &mut R,
+    writer: &mut W,
+    asked: &Asked,
+    gate: &G,
+) -> Result<(), Fault>
+    // The whole text was read, it is a job's, and exactly its answer was written.
+    ensures answered { OnOk result (IsAnswered asked.now.limit asked.now.answer asked.now.walks
+        (R.remaining reader.old) (R.remaining reader.new)
+        (W.contents writer.old) (W.contents writer.new)) }
+    // At most the limit was read, and one byte more only where the text is too long.
+    ensures taken { IfErr result (HasTaken asked.now.limit
+        (R.remaining reader.old) (R.remaining reader.new)) }
+    // A fault of the text is its first one; where nothing was asked, the job is legal all the same.
+    ensures says { IfErr result (IsTrueOfText asked.now.limit asked.now.answer
+        (R.remaining reader.old) (R.remaining reader.new)) }
+    // Where the text is refused nothing was written, and else a prefix of the answer.
+    ensures written { IfErr result (HasWritten asked.now.limit asked.now.answer asked.now.walks
+        (R.remaining reader.old) (R.remaining reader.new)
+        (W.contents writer.old) (W.contents writer.new)) }
+{
+    let mut figures = Figures::new(rt);
+    answer_counted(rt, alloc, reader, writer, asked, gate, &mut figures)
+}
+
+/// The same, which gives the figures of the job and of its runs besides.
+pub fn answer_counted<H: Threads + Wait + Clock + Sync, R: Read, W: Write, G: Gate + Sync>(
+    rt: &H,
+    alloc: Global,
+    reader: &mut R,
+    writer: &mut W,
+    asked: &Asked,
+    gate: &G,
+    figures: &mut Figures,
+) -> Result<(), Fault>
+    ensures answered { OnOk result (IsAnswered asked.now.limit asked.now.answer asked.now.walks
+        (R.remaining reader.old) (R.remaining reader.new)
+        (W.contents writer.old) (W.contents writer.new)) }
+    ensures taken { IfErr result (HasTaken asked.now.limit
+        (R.remaining reader.old) (R.remaining reader.new)) }
+    ensures says { IfErr result (IsTrueOfText asked.now.limit asked.now.answer
+        (R.remaining reader.old) (R.remaining reader.new)) }
+    ensures written { IfErr result (HasWritten asked.now.limit asked.now.answer asked.now.walks
+        (R.remaining reader.old) (R.remaining reader.new)
+        (W.contents writer.old) (W.contents writer.new)) }
+{
+    let job = read_request(alloc, reader, asked.limit)?;
+    figures.end(rt, Phase::Reading);
+    respond(rt, alloc, writer, asked, job, gate, figures)
+}
+
+/// The same over memory: the bytes of the answer to the text. No fault is `Write`.
+pub fn answer_bytes<H: Threads + Wait + Clock + Sync, G: Gate + Sync>(
+    rt: &H,
+    alloc: Global,
+    text: &[u8],
+    asked: &Asked,
+    gate: &G,
+) -> Result<Vec<u8>, Fault>
+    ensures answered { IfOk result
+        (λ bytes. IsAnswerOf asked.now.answer asked.now.walks text.now bytes.items) }
+    ensures says { IfErr result (IsTrueOfBytes asked.now.limit asked.now.answer text.now) }
+{
+    let mut reader = text;
+    let mut bytes = Vec::new(alloc);
+    match answer(rt, alloc, &mut reader, &mut bytes, asked, gate) {
+        Ok(()) => Ok(bytes),
+        // A vector fails to take bytes only where it is refused memory.
+        Err(Fault::Write) => Err(Fault::Memory),
+        Err(fault) => Err(fault),
+    }
+}
+
+/// Writes the answer of the job.
+fn respond<H: Threads + Wait + Clock + Sync, W: Write, G: Gate + Sync>(
+    rt: &H,
+    alloc: Global,
+    writer: &mut W,
+    asked: &Asked,
+    job: Job,
+    gate: &G,
+    figures: &mut Figures,
+) -> Result<(), Fault>
+    requires { IsWithinLimits (content_of job) }
+    ensures reply { OnOk result (Writes (IsAnswerText asked.now.answer asked.now.walks (content_of job))
+        (W.contents writer.old) (W.contents writer.new)) }
+    ensures says { IfErr result (IsReplyFault asked.now.answer asked.now.walks (content_of job)
+        (W.contents writer.old) (W.contents writer.new)) }
+{
+    // What is least in the rows is least for the arcs that they were built of, and so are its walks.
+    least_labels_follow_the_arcs();
+    hops_and_parents_follow_the_arcs();
+    if is_unasked(asked.answer, &job.ask) {
+        return Err(Fault::NoAsk);
+    }
+    let Job {
+        n,
+        arcs,
+        ask,
+        added,
+    } = job;
+    let graphs = graphs_for(alloc, asked.answer, n, arcs, added)?;
+    figures.see_rows(&graphs.rows);
+    figures.end(rt, Phase::Rows);
+    write_text(rt, alloc, writer, &graphs, &ask, asked, gate, figures)
+}
+
+/// Whether the job asks for nothing: it has no section of queries, and the answer needs one.
+fn is_unasked(answer: Answer, ask: &Ask) -> bool
+    ensures { result ≡ is_unasked answer (question_of ask.now) }
+{
+    match answer {
+        Answer::Components => false,
+        Answer::Distances | Answer::Levels => match ask {
+            Ask::Absent => true,
+            Ask::Sources(_) | Ask::Pairs(_) => false,
+        },
+    }
+}
+
+/// Writes the text of what is asked along the rows.
+fn write_text<H: Threads + Wait + Clock + Sync, W: Write, G: Gate + Sync>(
+    rt: &H,
+    alloc: Global,
+    writer: &mut W,
+    graphs: &Graphs,
+    ask: &Ask,
+    asked: &Asked,
+    gate: &G,
+    figures: &mut Figures,
+) -> Result<(), Fault>
+    requires graphs { AreGraphs graphs.now }
+    requires question { IsQuestionWithin graphs.now.rows.n (question_of ask.now) }
+    requires asked { is_unasked asked.now.answer (question_of ask.now) ≡ false }
+    ensures text { OnOk result (Writes (IsTextFor asked.now.answer asked.now.walks graphs.now.rows.n
+        graphs.now.rows.arcs (growth_of graphs.now.grown) (question_of ask.now))
+        (W.contents writer.old) (W.contents writer.new)) }
+    ensures prefix { OnErr result (WritesPrefix (IsTextFor asked.now.answer asked.now.walks graphs.now.rows.n
+        graphs.now.rows.arcs (growth_of graphs.now.grown) (question_of ask.now))
+        (W.contents writer.old) (W.contents writer.new)) }
+    ensures kinds { IfErr result IsWritingFault }
+{
+    match (asked.answer, ask) {
+        (Answer::Components, _) => {
+            let start = Start::Everywhere;
+            write_start(rt, alloc, writer, graphs, start, asked, gate, figures)
+        }
+        (_, Ask::Sources(sources)) => {
+            write_sources(rt, alloc, writer, graphs, sources, asked, gate, figures)
+        }
+        (_, Ask::Pairs(pairs)) => {
+            write_pairs(rt, alloc, writer, graphs, pairs, asked, gate, figures)
+        }
+        (_, Ask::Absent) => unreachable!(),
+    }
+}

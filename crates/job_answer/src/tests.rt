@@ -1,0 +1,310 @@
+//! Worked jobs with their answers and faults, over readers and writers that fail too.
+
+mod added;
+mod at_once;
+mod callers;
+mod cuts;
+mod gates;
+mod pairs;
+mod refusals;
+mod streams;
+
+use crate::asked::{Answer, Asked};
+use crate::counter::Counter;
+use crate::fault::{Fault, status};
+use crate::figures::Figures;
+use crate::reply::{answer, answer_bytes, answer_counted};
+use callers::{append_answer, left_after_fault};
+use dimacs_text::LineKind;
+use gates::{Meeting, Recorder};
+use obim_engine::{MAX_CHUNK, MAX_SHIFT, MAX_WORKERS, OpenGate, Settings};
+use std::process::Abort;
+use std::test::Fail;
+use streams::{Sink, Source};
+
+const SIX: &[u8] =
+    b"p sp 6 8\na 1 2 17\na 1 3 10\na 2 4 2\na 3 5 0\na 4 3 0\na 4 6 3\na 5 2 0\na 5 6 20\n\
+      p aux sp ss 1\ns 1\n";
+
+/// So many bytes of it are the graph.
+const SIX_GRAPH: usize = 76;
+
+const SIX_ANSWER: &[u8] = b"s 1\nd 1 0\nd 2 10\nd 3 10\nd 4 12\nd 5 10\nd 6 15\n";
+
+/// The same with a walk of fewest arcs beside each label, along least tails.
+const SIX_WALKS: &[u8] =
+    b"s 1\nd 1 0\nw 1 0 1\nd 2 10\nw 2 10 1 3 5 2\nd 3 10\nw 3 10 1 3\nd 4 12\n\
+      w 4 12 1 3 5 2 4\nd 5 10\nw 5 10 1 3 5\nd 6 15\nw 6 15 1 3 5 2 4 6\n";
+
+fn asked(rt: &impl Abort, answer: Answer, limit: u64) -> Asked {
+    asked_with(rt, answer, limit, (2, 4, 16))
+}
+
+/// What is asked with so many workers, this shift and chunks of this size.
+fn asked_with(
+    rt: &impl Abort,
+    answer: Answer,
+    limit: u64,
+    (workers, shift, chunk): (u32, u32, usize),
+) -> Asked {
+    let settings = Settings::new(workers, shift, chunk).expect(rt, "settings within their limits");
+    Asked::new(answer, settings, false, limit).expect(rt, "a limit of at most 2^36")
+}
+
+/// Distances with walks, by so many workers.
+fn asked_for_walks(rt: &impl Abort, workers: u32, limit: u64) -> Asked {
+    let settings = Settings::new(workers, 4, 16).expect(rt, "settings within their limits");
+    Asked::new(Answer::Distances, settings, true, limit).expect(rt, "walks of distances")
+}
+
+fn fault(line: u64, kind: LineKind) -> Fault {
+    Fault::Text { line, kind }
+}
+
+#[test]
+fn answers_of_worked_jobs(rt: HostRuntime) -> Result<(), Fail> {
+    let distances = Answer::Distances;
+    let levels = b"s 1\nd 1 0\nd 2 1\nd 3 1\nd 4 2\nd 5 2\nd 6 3\n".as_slice();
+    let components = b"k 1 1\nk 2 1\nk 3 1\nk 4 1\nk 5 1\nk 6 1\n".as_slice();
+    let alone = b"p sp 1 0\np aux sp ss 1\ns 1\n".as_slice();
+    let heavy = b"p sp 3 2\na 1 2 4294967295\na 2 3 4294967295\np aux sp ss 1\ns 1\n".as_slice();
+    let heavy_answer = b"s 1\nd 1 0\nd 2 4294967295\nd 3 8589934590\n".as_slice();
+    let parallel = b"p sp 2 3\na 1 2 7\na 1 2 3\na 1 1 0\np aux sp ss 1\ns 1\n".as_slice();
+    let against = b"p sp 2 1\na 2 1 5\n".as_slice();
+    let table = [
+        (distances, SIX, SIX_ANSWER),
+        (Answer::Levels, SIX, levels),
+        (Answer::Components, SIX, components),
+        (Answer::Components, against, b"k 1 1\nk 2 1\n".as_slice()),
+        (Answer::Components, b"p sp 0 0\n".as_slice(), b"".as_slice()),
+        (distances, alone, b"s 1\nd 1 0\n".as_slice()),
+        (distances, heavy, heavy_answer),
+        (distances, parallel, b"s 1\nd 1 0\nd 2 3\n".as_slice()),
+    ];
+    for (kind, text, want) in table {
+        let bytes = answer_bytes(&rt, rt.alloc(), text, &asked(&rt, kind, 1000), &OpenGate)?;
+        assert_eq!(rt; bytes.as_slice(), want);
+    }
+    Ok(())
+}
+
+// No setting changes a byte.
+#[test]
+fn settings_change_no_answer(rt: HostRuntime) -> Result<(), Fail> {
+    for workers in [1, 2, MAX_WORKERS] {
+        for shift in [0, MAX_SHIFT] {
+            for chunk in [1, MAX_CHUNK] {
+                let asked = asked_with(&rt, Answer::Distances, 1000, (workers, shift, chunk));
+                let bytes = answer_bytes(&rt, rt.alloc(), SIX, &asked, &OpenGate)?;
+                assert_eq!(rt; bytes.as_slice(), SIX_ANSWER);
+            }
+        }
+    }
+    Ok(())
+}
+
+#[test]
+fn answers_with_walks(rt: HostRuntime) -> Result<(), Fail> {
+    let asked = asked_for_walks(&rt, 2, 1000);
+    let bytes = answer_bytes(&rt, rt.alloc(), SIX, &asked, &OpenGate)?;
+    assert_eq!(rt; bytes.as_slice(), SIX_WALKS);
+    Ok(())
+}
+
+// One worker visits the vertices in the order of their distance.
+#[test]
+fn visits_of_one_worker(rt: HostRuntime) -> Result<(), Fail> {
+    let gate = Recorder::new(rt.alloc());
+    let asked = asked_with(&rt, Answer::Distances, 1000, (1, 0, 1));
+    let bytes = answer_bytes(&rt, rt.alloc(), SIX, &asked, &gate)?;
+    assert_eq!(rt; bytes.as_slice(), SIX_ANSWER);
+    let passed = gate.into_passed();
+    assert_eq!(rt; passed.as_slice(), [0, 2, 4, 1, 3, 5].as_slice());
+    Ok(())
+}
+
+// The first pushed is the first visited: chunks of one vertex come out of their bag in order.
+#[test]
+fn visits_of_one_worker_in_one_bag(rt: HostRuntime) -> Result<(), Fail> {
+    let gate = Recorder::new(rt.alloc());
+    let asked = asked_with(&rt, Answer::Components, 1000, (1, 4, 1));
+    let bytes = answer_bytes(&rt, rt.alloc(), b"p sp 3 0\n", &asked, &gate)?;
+    assert_eq!(rt; bytes.as_slice(), b"k 1 1\nk 2 2\nk 3 3\n".as_slice());
+    let passed = gate.into_passed();
+    assert_eq!(rt; passed.as_slice(), [0, 1, 2].as_slice());
+    Ok(())
+}
+
+#[test]
+fn figures_of_jobs(rt: HostRuntime) -> Result<(), Fail> {
+    let twice = b"p sp 3 2\na 1 2 40000\na 2 3 60000\np aux sp ss 2\ns 1\ns 3\n".as_slice();
+    // The answer, the job; its vertices, arcs, runs and the buckets of the largest run at a shift of 4.
+    let table = [
+        (Answer::Distances, SIX, (6, 8, 1), 2),
+        (Answer::Levels, SIX, (6, 8, 1), 1),
+        (Answer::Components, SIX, (6, 16, 1), 1),
+        (
+            Answer::Components,
+            b"p sp 300 0\n".as_slice(),
+            (300, 0, 1),
+            19,
+        ),
+        (Answer::Distances, twice, (3, 2, 2), 3),
+    ];
+    for (answer, text, sizes, buckets) in table {
+        let asked = asked(&rt, answer, 1000);
+        let mut figures = Figures::new(&rt);
+        let counter = Counter::open(rt.alloc(), 2)?;
+        let mut reader = text;
+        let mut bytes = Vec::new(rt.alloc());
+        answer_counted(
+            &rt,
+            rt.alloc(),
+            &mut reader,
+            &mut bytes,
+            &asked,
+            &counter,
+            &mut figures,
+        )?;
+        assert_eq!(rt; (figures.vertices, figures.arcs, figures.runs), sizes);
+        assert_eq!(rt; counter.worklist().buckets, buckets);
+    }
+    Ok(())
+}
+
+// Two workers run at the same time: the first to pass waits until the other has come.
+#[test]
+fn two_workers_meet(rt: HostRuntime) -> Result<(), Fail> {
+    let gate = Meeting::new();
+    let asked = asked_with(&rt, Answer::Components, 1000, (2, 4, 1));
+    let bytes = answer_bytes(&rt, rt.alloc(), b"p sp 2 0\n", &asked, &gate)?;
+    assert_eq!(rt; bytes.as_slice(), b"k 1 1\nk 2 2\n".as_slice());
+    assert!(rt; gate.met());
+    Ok(())
+}
+
+// Where the text is refused, what stands in the vector stays as it is, and of the text so much is left.
+#[test]
+fn refusals_of_texts(rt: HostRuntime) -> Result<(), Fail> {
+    let alloc = rt.alloc();
+    let table = [
+        (&SIX[..SIX_GRAPH], 94, Fault::NoAsk, 0),
+        (SIX, 93, Fault::TooLong, 0),
+        (SIX, 10, Fault::TooLong, 83),
+        (b"".as_slice(), 0, fault(1, LineKind::NoProblem), 0),
+        (&SIX[..73], 94, fault(9, LineKind::Fields), 0),
+        (&SIX[..91], 94, fault(11, LineKind::Fields), 0),
+    ];
+    for (text, limit, want, left) in table {
+        let asked = asked(&rt, Answer::Distances, limit);
+        let refused = answer_bytes(&rt, alloc, text, &asked, &OpenGate);
+        assert_eq!(rt; refused.err(), Some(want));
+        let mut bytes = b"as it was".to_vec(alloc)?;
+        let refused = append_answer(&rt, alloc, text, &mut bytes, &asked, &OpenGate);
+        assert_eq!(rt; refused, Err(want));
+        assert_eq!(rt; bytes.as_slice(), b"as it was".as_slice());
+        let (refused, rest) = left_after_fault(&rt, alloc, text, &asked, &OpenGate);
+        assert_eq!(rt; refused, Err(want));
+        assert_eq!(rt; rest, left);
+    }
+    let asked = asked(&rt, Answer::Distances, 94);
+    let whole = answer_bytes(&rt, alloc, SIX, &asked, &OpenGate)?;
+    assert_eq!(rt; whole.as_slice(), SIX_ANSWER);
+    Ok(())
+}
+
+#[test]
+fn readers_that_fail_or_give_little(rt: HostRuntime) -> Result<(), Fail> {
+    let alloc = rt.alloc();
+    let asked = asked(&rt, Answer::Distances, 1000);
+    for count in 0..=SIX.len() {
+        for step in [1, 7, 1000] {
+            let mut reader = Source::failing(&SIX[..count], step);
+            let mut written = Vec::new(alloc);
+            let outcome = answer(&rt, alloc, &mut reader, &mut written, &asked, &OpenGate);
+            assert_eq!(rt; outcome, Err(Fault::Read), "after {count}, by {step}");
+            assert!(rt; written.is_empty());
+        }
+    }
+    let mut reader = Source::new(SIX, 1, 1);
+    let mut written = Vec::new(alloc);
+    answer(&rt, alloc, &mut reader, &mut written, &asked, &OpenGate)?;
+    assert_eq!(rt; written.as_slice(), SIX_ANSWER);
+    Ok(())
+}
+
+#[test]
+fn writers_that_fail_or_take_little(rt: HostRuntime) -> Result<(), Fail> {
+    let alloc = rt.alloc();
+    let asked = asked(&rt, Answer::Distances, 1000);
+    for room in 0..SIX_ANSWER.len() {
+        for fails in [false, true] {
+            let mut sink = Sink::with_room(alloc, 4, room, fails);
+            let mut reader = SIX;
+            let outcome = answer(&rt, alloc, &mut reader, &mut sink, &asked, &OpenGate);
+            assert_eq!(rt; outcome, Err(Fault::Write), "after {room}");
+            assert_eq!(rt; sink.taken.as_slice(), &SIX_ANSWER[..room]);
+        }
+    }
+    for (mut sink, want) in [
+        (Sink::new(alloc, 1), Ok(())),
+        (Sink::never_flushed(alloc, 1), Err(Fault::Write)),
+    ] {
+        let mut reader = SIX;
+        let outcome = answer(&rt, alloc, &mut reader, &mut sink, &asked, &OpenGate);
+        assert_eq!(rt; outcome, want);
+        assert_eq!(rt; sink.taken.as_slice(), SIX_ANSWER);
+    }
+    Ok(())
+}
+
+// A writer is flushed once, after an empty answer too, and never where the text is refused.
+#[test]
+fn flushes_of_answers(rt: HostRuntime) -> Result<(), Fail> {
+    let alloc = rt.alloc();
+    let (distances, components) = (Answer::Distances, Answer::Components);
+    let graph = &SIX[..SIX_GRAPH];
+    let no_vertex = b"p sp 0 0\n".as_slice();
+    let no_source = b"p sp 1 0\np aux sp ss 0\n".as_slice();
+    let table = [
+        (distances, SIX, Ok(()), 1),
+        (components, SIX, Ok(()), 1),
+        (components, no_vertex, Ok(()), 1),
+        (distances, no_source, Ok(()), 1),
+        (distances, graph, Err(Fault::NoAsk), 0),
+        (distances, &SIX[..73], Err(fault(9, LineKind::Fields)), 0),
+    ];
+    for (kind, text, want, flushes) in table {
+        let mut sink = Sink::new(alloc, 1000);
+        let mut reader = text;
+        let asked = asked(&rt, kind, 1000);
+        let outcome = answer(&rt, alloc, &mut reader, &mut sink, &asked, &OpenGate);
+        assert_eq!(rt; outcome, want);
+        assert_eq!(rt; sink.flushes, flushes);
+    }
+    Ok(())
+}
+
+#[test]
+fn limits_and_statuses(rt: HostRuntime) {
+    let settings = Settings::new(1, 0, 1).expect(&rt, "settings within their limits");
+    assert!(rt; Asked::new(Answer::Levels, settings, true, 0).is_some());
+    assert!(rt; Asked::new(Answer::Components, settings, true, 0).is_none());
+    assert!(rt; Asked::new(Answer::Components, settings, false, 0).is_some());
+    assert!(rt; Asked::new(Answer::Levels, settings, false, 1 << 36).is_some());
+    assert!(rt; Asked::new(Answer::Levels, settings, false, (1 << 36) + 1).is_none());
+    let table = [
+        (fault(4, LineKind::TooFew), 2, "line 4: too few lines"),
+        (Fault::TooLong, 2, "input too long"),
+        (Fault::NoAsk, 2, "no sources or pairs"),
+        (Fault::Memory, 3, "out of memory"),
+        (Fault::Read, 4, "read failed"),
+        (Fault::Write, 4, "write failed"),
+        (Fault::Spawn, 5, "cannot start a thread"),
+    ];
+    for (fault, want, message) in table {
+        assert_eq!(rt; status(&fault), want);
+        let printed = fault.to_string(rt.alloc()).expect(&rt, "memory");
+        assert_eq!(rt; printed.as_str(), message);
+    }
+}

@@ -1,0 +1,67 @@
+//! What does a caller learn at a fault? Each clause is proved from the contract of `answer` alone.
+
+ghost use Rattle.std.specs.Prelude.{◌≡◌, ◌≢◌, ◌+◌, ◌≤◌, ◌++◌, ℕ, List, length, IfErr};
+ghost use Rattle.dimacs_text.specs.Jobs.{Content, IsJobText};
+ghost use Rattle.dimacs_text.specs.declared.fault.LineKind.{LineKind};
+ghost use Rattle.job_answer.specs.AnswerText.{IsAnswerText};
+ghost use Rattle.job_answer.specs.Outcome.{IsAnswerOf};
+
+use crate::asked::Asked;
+use crate::fault::Fault;
+use crate::laws::asked_jobs_have_answers;
+use crate::reply::answer;
+use dimacs_text::laws::a_text_has_one_job;
+use obim_engine::Gate;
+use std::alloc::Global;
+use std::sync::Wait;
+use std::thread::Threads;
+use std::time::Clock;
+
+/// Appends the answer to the vector: the vector is as it was where the text is refused, and has at most
+/// a prefix of the answer more at a fault after that.
+pub(crate) fn append_answer<H: Threads + Wait + Clock + Sync, G: Gate + Sync>(
+    rt: &H,
+    alloc: Global,
+    text: &[u8],
+    bytes: &mut Vec<u8>,
+    asked: &Asked,
+    gate: &G,
+) -> Result<(), Fault>
+    ensures unread { result ≡ Err Fault.Read → bytes.new.items ≡ bytes.old.items }
+    ensures too_long { result ≡ Err Fault.TooLong → bytes.new.items ≡ bytes.old.items }
+    ensures unasked { result ≡ Err Fault.NoAsk → bytes.new.items ≡ bytes.old.items }
+    ensures faulty { (line : ℕ) (kind : LineKind)
+        → result ≡ Err (Fault.Text line kind) → bytes.new.items ≡ bytes.old.items }
+    ensures prefix { IfErr result (λ _. (job : Content) (reply : List ℕ)
+        → IsJobText text.now job → IsAnswerText asked.now.answer asked.now.walks job reply
+        → (left : List ℕ) × (bytes.old.items ++ reply ≡ bytes.new.items ++ left)) }
+    // And there is an answer, of which it is a prefix.
+    ensures begun { result ≡ Err Fault.Write → (reply : List ℕ)
+        × IsAnswerOf asked.now.answer asked.now.walks text.now reply
+        × (left : List ℕ) × (bytes.old.items ++ reply ≡ bytes.new.items ++ left) }
+{
+    a_text_has_one_job();
+    asked_jobs_have_answers();
+    let mut reader = text;
+    answer(rt, alloc, &mut reader, bytes, asked, gate)
+}
+
+/// How many bytes of the text are left after a fault: one more than the limit is gone where the text is
+/// too long, and at most the limit at any other.
+pub(crate) fn left_after_fault<H: Threads + Wait + Clock + Sync, G: Gate + Sync>(
+    rt: &H,
+    alloc: Global,
+    text: &[u8],
+    asked: &Asked,
+    gate: &G,
+) -> (Result<(), Fault>, usize)
+    ensures too_long { result.0 ≡ Err Fault.TooLong
+        → length text.now ≡ result.1 + (asked.now.limit + 1) }
+    ensures others { IfErr result.0
+        (λ fault. fault ≢ Fault.TooLong → length text.now ≤ result.1 + asked.now.limit) }
+{
+    let mut reader = text;
+    let mut bytes = Vec::new(alloc);
+    let outcome = answer(rt, alloc, &mut reader, &mut bytes, asked, gate);
+    (outcome, reader.len())
+}

@@ -1,0 +1,317 @@
+//! Which lines answer pairs with walks?
+
+ghost use Rattle.std.specs.Prelude.{◌≡◌, ◌<◌, ◌≤◌, ◌++◌, ◌↔◌, ℕ, List, Option, length, slice_index};
+ghost use Rattle.std.specs.Prelude.{All, IfErr, IfOk, OnErr, OnOk, true};
+ghost use Rattle.route_walks.specs.Label.{AreLeastLabels};
+ghost use Rattle.route_walks.specs.Operators.{seeds_from};
+ghost use Rattle.walk_report.specs.Parent.{LeadBack};
+ghost use Rattle.dimacs_text.specs.Jobs.{IsPairWithin};
+ghost use Rattle.job_answer.specs.AnswerText.{ArePairBlocks, AreReached, IsGrownPair};
+ghost use Rattle.job_answer.specs.Bytes.{Writes, WritesPrefix};
+ghost use Rattle.job_answer.specs.Graphs.{AreGraphs, growth_of};
+ghost use Rattle.job_answer.specs.Outcome.{IsWritingFault};
+ghost use Rattle.job_answer.specs.Sent.{AreSent};
+ghost use Rattle.job_answer.specs.Solved.{IsLinesText};
+ghost use Rattle.job_answer.specs.Solves.{pair_at, IsForQueries, IsWalked, IsWalkedAfter};
+ghost use Rattle.job_answer.specs.Solves.{walked_text, walked_after_text, with_growth};
+
+use crate::ahead::Ahead;
+use crate::asked::Asked;
+use crate::blocks::put_walk_line;
+use crate::fault::Fault;
+use crate::figures::{Figures, Phase};
+use crate::graphs::Graphs;
+use crate::laws::blocks_are_unique;
+use crate::outlet::{Held, Waiting};
+use crate::solved::{Queries, SolvedText, Solves, most_bytes};
+use crate::solves::{Solve, Start};
+use crate::teams::teams_for;
+use csr_graph::Csr;
+use dimacs_text::{put_grown, put_pair};
+use obim_engine::{Gate, Settings};
+use route_walks::{MAX_VERTICES, Memory};
+use std::alloc::Global;
+use std::io::Write;
+use std::sync::Wait;
+use std::thread::Threads;
+use std::time::Clock;
+use walk_report::{NONE, hops, parents};
+
+/// Writes the lines of each pair in turn, each with its walk. Only pairs that stand side by side share the
+/// solve of their source.
+pub fn write_walked<H: Threads + Wait + Clock + Sync, W: Write, G: Gate + Sync>(
+    rt: &H,
+    alloc: Global,
+    writer: &mut W,
+    graphs: &Graphs,
+    pairs: &[(u32, u32)],
+    asked: &Asked,
+    gate: &G,
+    figures: &mut Figures,
+) -> Result<(), Fault>
+    requires graphs { AreGraphs graphs.now }
+    requires pairs { All (IsPairWithin graphs.now.rows.n) pairs.now }
+    ensures blocks { OnOk result (Writes (ArePairBlocks true graphs.now.rows.n graphs.now.rows.arcs
+        (growth_of graphs.now.grown) pairs.now) (W.contents writer.old) (W.contents writer.new)) }
+    ensures prefix { OnErr result (WritesPrefix (ArePairBlocks true graphs.now.rows.n graphs.now.rows.arcs
+        (growth_of graphs.now.grown) pairs.now) (W.contents writer.old) (W.contents writer.new)) }
+    ensures kinds { IfErr result IsWritingFault }
+{
+    blocks_are_unique();
+    let mut waiting = Waiting::new(alloc);
+    let solves = Solves {
+        graphs,
+        queries: Queries::Walked(pairs),
+        asked,
+        gate,
+    };
+    let mut ahead = Ahead::new(alloc, teams_for(asked, &graphs.rows));
+    let mut first = 0;
+    while first < pairs.len() {
+        if let Some(text) = ahead.take_text(rt, alloc, &solves, first, figures) {
+            waiting.send_with(writer, &text.bytes)?;
+            figures.end(rt, Phase::Writing);
+            first += text.count;
+            continue;
+        }
+        let solve = Solve::of_queries(pairs, first);
+        put_solved_pairs(
+            rt,
+            alloc,
+            writer,
+            &mut waiting,
+            graphs,
+            pairs,
+            solve,
+            &asked.settings,
+            gate,
+            figures,
+        )?;
+        first = solve.end;
+    }
+    waiting.finish(writer)
+}
+
+/// The lines of the pairs from a place on that have one source, in memory. Fails where they are long, too.
+pub fn held_lines<H: Threads + Wait + Clock + Sync, G: Gate + Sync>(
+    rt: &H,
+    alloc: Global,
+    graphs: &Graphs,
+    pairs: &[(u32, u32)],
+    first: usize,
+    settings: &Settings,
+    gate: &G,
+    figures: &mut Figures,
+) -> Result<SolvedText, Fault>
+    requires graphs { AreGraphs graphs.now }
+    requires pairs { All (IsPairWithin graphs.now.rows.n) pairs.now }
+    requires place { first < length pairs.now }
+    ensures { IfOk result (IsLinesText graphs.now pairs.now first) }
+{
+    let rest = &pairs[first..];
+    let solve = Solve::of_queries(rest, 0);
+    let mut held = Held::new(alloc, most_bytes(graphs));
+    let mut waiting = Waiting::new(alloc);
+    put_solved_pairs(
+        rt,
+        alloc,
+        &mut held,
+        &mut waiting,
+        graphs,
+        rest,
+        solve,
+        settings,
+        gate,
+        figures,
+    )?;
+    waiting.finish(&mut held)?;
+    Ok(SolvedText {
+        count: solve.end,
+        bytes: held.bytes,
+    })
+}
+
+/// Solves for some of the pairs, and puts their lines, each with its walk, after what waits.
+fn put_solved_pairs<H: Threads + Wait + Clock + Sync, W: Write, G: Gate + Sync>(
+    rt: &H,
+    alloc: Global,
+    writer: &mut W,
+    waiting: &mut Waiting,
+    graphs: &Graphs,
+    pairs: &[(u32, u32)],
+    solve: Solve,
+    settings: &Settings,
+    gate: &G,
+    figures: &mut Figures,
+) -> Result<(), Fault>
+    requires graphs { AreGraphs graphs.now }
+    requires pairs { All (IsPairWithin graphs.now.rows.n) pairs.now }
+    requires solve { IsForQueries pairs.now solve }
+    ensures sent { OnOk result ((before : Option (List ℕ))
+        → AreSent (IsGrownPair true graphs.now.rows.n graphs.now.rows.arcs (growth_of graphs.now.grown))
+        pairs.now solve.first before (W.contents writer.old) waiting.old.bytes.items
+        → AreSent (IsGrownPair true graphs.now.rows.n graphs.now.rows.arcs (growth_of graphs.now.grown))
+        pairs.now solve.end before (W.contents writer.new) waiting.new.bytes.items) }
+    ensures prefix { OnErr result ((before : Option (List ℕ))
+        → AreSent (IsGrownPair true graphs.now.rows.n graphs.now.rows.arcs (growth_of graphs.now.grown))
+        pairs.now solve.first before (W.contents writer.old) waiting.old.bytes.items
+        → WritesPrefix (ArePairBlocks true graphs.now.rows.n graphs.now.rows.arcs
+        (growth_of graphs.now.grown) pairs.now) before (W.contents writer.new)) }
+    ensures kinds { IfErr result IsWritingFault }
+{
+    blocks_are_unique();
+    let rows = &graphs.rows;
+    let source = pairs[solve.first].0;
+    let start = Start::At(source);
+    let labels = start.solve(rt, alloc, rows, settings, gate, figures)?;
+    let walked = walked_from(alloc, rows, source, labels)?;
+    let labels = &walked.labels;
+    let after = walked_after(rt, alloc, graphs, source, labels, settings, gate, figures)?;
+    put_walked(
+        alloc, writer, waiting, graphs, pairs, solve, &walked, &after,
+    )?;
+    figures.end(rt, Phase::Writing);
+    Ok(())
+}
+
+/// The walks from one source: the least labels, and by which walks they are.
+#[derive(Drop)]
+struct Walked {
+    labels: Vec<u64>,
+    hops: Vec<u32>,
+    parents: Vec<u32>,
+}
+
+/// The walks from a source, by its least labels along the rows.
+fn walked_from(alloc: Global, csr: &Csr, source: u32, labels: Vec<u64>) -> Result<Walked, Memory>
+    requires source { source < csr.now.n }
+    requires least { AreLeastLabels csr.now.n csr.now.arcs (seeds_from source) labels.items }
+    ensures walked { IfOk result (IsWalked csr.now.n csr.now.arcs source) }
+    ensures labels { IfOk result (λ walked. walked.labels.items ≡ labels.items) }
+{
+    let hops = hops(alloc, csr, &labels, source)?;
+    let parents = parents(alloc, csr, &labels, &hops)?;
+    Ok(Walked {
+        labels,
+        hops,
+        parents,
+    })
+}
+
+/// The walks from a source in the grown graph, if there is one.
+fn walked_after<H: Threads + Wait + Clock + Sync, G: Gate + Sync>(
+    rt: &H,
+    alloc: Global,
+    graphs: &Graphs,
+    source: u32,
+    labels: &[u64],
+    settings: &Settings,
+    gate: &G,
+    figures: &mut Figures,
+) -> Result<Option<Walked>, Fault>
+    requires graphs { AreGraphs graphs.now }
+    requires source { source < graphs.now.rows.n }
+    requires least { AreLeastLabels graphs.now.rows.n graphs.now.rows.arcs (seeds_from source) labels.now }
+    ensures walked { IfOk result (IsWalkedAfter graphs.now.grown source) }
+    ensures kinds { IfErr result IsWritingFault }
+{
+    let Some(grown) = &graphs.grown else {
+        return Ok(None);
+    };
+    // The labels before are still to be written.
+    let labels = labels.to_vec(alloc)?;
+    let start = Start::At(source);
+    let labels = start.solve_grown(
+        rt,
+        alloc,
+        &graphs.rows,
+        grown,
+        labels,
+        settings,
+        gate,
+        figures,
+    )?;
+    Ok(Some(walked_from(alloc, &grown.rows, source, labels)?))
+}
+
+/// Puts the lines of the pairs that a solve is for, each with its walk, and those in the grown graph.
+fn put_walked<W: Write>(
+    alloc: Global,
+    writer: &mut W,
+    waiting: &mut Waiting,
+    graphs: &Graphs,
+    pairs: &[(u32, u32)],
+    solve: Solve,
+    walked: &Walked,
+    after: &Option<Walked>,
+) -> Result<(), Fault>
+    requires graphs { AreGraphs graphs.now }
+    requires pairs { All (IsPairWithin graphs.now.rows.n) pairs.now }
+    requires solve { IsForQueries pairs.now solve }
+    requires walked { IsWalked graphs.now.rows.n graphs.now.rows.arcs (pair_at pairs.now solve.first).0 walked.now }
+    requires after { IsWalkedAfter graphs.now.grown (pair_at pairs.now solve.first).0 after.now }
+    ensures sent { OnOk result ((before : Option (List ℕ))
+        → AreSent (IsGrownPair true graphs.now.rows.n graphs.now.rows.arcs (growth_of graphs.now.grown))
+        pairs.now solve.first before (W.contents writer.old) waiting.old.bytes.items
+        → AreSent (IsGrownPair true graphs.now.rows.n graphs.now.rows.arcs (growth_of graphs.now.grown))
+        pairs.now solve.end before (W.contents writer.new) waiting.new.bytes.items) }
+    ensures prefix { OnErr result ((before : Option (List ℕ))
+        → AreSent (IsGrownPair true graphs.now.rows.n graphs.now.rows.arcs (growth_of graphs.now.grown))
+        pairs.now solve.first before (W.contents writer.old) waiting.old.bytes.items
+        → WritesPrefix (ArePairBlocks true graphs.now.rows.n graphs.now.rows.arcs
+        (growth_of graphs.now.grown) pairs.now) before (W.contents writer.new)) }
+    ensures kinds { IfErr result IsWritingFault }
+{
+    blocks_are_unique();
+    for at in solve.first..solve.end {
+        put_walked_lines(alloc, &mut waiting.bytes, graphs, pairs[at], walked, after)?;
+        waiting.send_if_full(writer)?;
+    }
+    Ok(())
+}
+
+/// Puts the lines of a pair, and where the rows grow those in the grown graph.
+fn put_walked_lines(
+    alloc: Global,
+    out: &mut Vec<u8>,
+    graphs: &Graphs,
+    pair: (u32, u32),
+    walked: &Walked,
+    after: &Option<Walked>,
+) -> Result<(), Memory>
+    requires graphs { AreGraphs graphs.now }
+    requires pair { IsPairWithin graphs.now.rows.n pair }
+    requires walked { IsWalked graphs.now.rows.n graphs.now.rows.arcs pair.0 walked.now }
+    requires after { IsWalkedAfter graphs.now.grown pair.0 after.now }
+    ensures put { OnOk result (out.new.items ≡ out.old.items ++ with_growth (growth_of graphs.now.grown)
+        (walked_text pair walked.now) (walked_after_text pair after.now)) }
+{
+    put_walked_pair(alloc, out, pair, walked)?;
+    match (&graphs.grown, after) {
+        (Some(grown), Some(after)) => {
+            put_grown(out, grown.count)?;
+            put_walked_pair(alloc, out, pair, after)
+        }
+        _ => Ok(()),
+    }
+}
+
+/// Puts the line of a pair and, where a walk leads to its target, the line of the walk.
+fn put_walked_pair(
+    alloc: Global,
+    out: &mut Vec<u8>,
+    pair: (u32, u32),
+    walked: &Walked,
+) -> Result<(), Memory>
+    requires pair { IsPairWithin (length walked.now.hops.items) pair }
+    requires vertices { length walked.now.hops.items ≤ MAX_VERTICES }
+    requires count { length walked.now.labels.items ≡ length walked.now.hops.items }
+    requires back { LeadBack walked.now.hops.items walked.now.parents.items }
+    requires reached { AreReached walked.now.labels.items walked.now.hops.items }
+    ensures put { OnOk result (out.new.items ≡ out.old.items ++ walked_text pair walked.now) }
+{
+    let (source, target) = pair;
+    let label = walked.labels[target as usize];
+    put_pair(out, source, target, label)?;
+    put_walk_line(alloc, out, target, label, &walked.hops, &walked.parents)
+}

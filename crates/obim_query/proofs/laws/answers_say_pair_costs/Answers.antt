@@ -1,5 +1,0 @@
-use Rattle.obim_query.proofs.Costs as costs
-use Rattle.obim_query.proofs.laws.answers_say_pair_costs.Goals as goal
-
-pub returns : goal.returns
-returns c = costs.answers_say_pair_costs c.inf_means_no_walk.ensures c.printed_walks_are_walks.ensures
