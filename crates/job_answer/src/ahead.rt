@@ -5,9 +5,10 @@ ghost use Rattle.std.specs.Thread.{IsSync};
 ghost use Rattle.job_answer.specs.declared.solved.Solved.TheVariants.{Labels, Text};
 ghost use Rattle.job_answer.specs.Solved.{AreMade, AreSolves, IsSolved};
 
-use crate::figures::{Figures, Phase};
+use crate::figures::Figures;
 use crate::solved::{PairLabels, Queries, Solved, SolvedText, Solves};
 use crate::teams::Team;
+use crate::watch::{Phase, Watch};
 use obim_engine::Gate;
 use std::alloc::{AllocError, Global};
 use std::sync::{Mutex, Wait};
@@ -140,7 +141,7 @@ impl Ahead {
         alloc: Global,
         solves: &Solves<'_, G>,
         place: usize,
-        figures: &mut Figures,
+        watch: &mut impl Watch,
     ) -> Option<SolvedText>
         requires ready { AreSolves solves.now.graphs.now solves.now.queries }
         requires made { AreMade solves.now.asked.now.walks solves.now.graphs.now solves.now.queries
@@ -150,7 +151,7 @@ impl Ahead {
         ensures solved { IfSome result (λ text. IsSolved solves.now.asked.now.walks solves.now.graphs.now
             solves.now.queries place (Text text)) }
     {
-        match self.take(rt, alloc, solves, place, figures)? {
+        match self.take(rt, alloc, solves, place, watch)? {
             Solved::Text(text) => Some(text),
             Solved::Labels(_labels) => None,
         }
@@ -164,7 +165,7 @@ impl Ahead {
         alloc: Global,
         solves: &Solves<'_, G>,
         place: usize,
-        figures: &mut Figures,
+        watch: &mut impl Watch,
     ) -> Option<PairLabels>
         requires ready { AreSolves solves.now.graphs.now solves.now.queries }
         requires made { AreMade solves.now.asked.now.walks solves.now.graphs.now solves.now.queries
@@ -174,7 +175,7 @@ impl Ahead {
         ensures solved { IfSome result (λ labels. IsSolved solves.now.asked.now.walks solves.now.graphs.now
             solves.now.queries place (Labels labels)) }
     {
-        match self.take(rt, alloc, solves, place, figures)? {
+        match self.take(rt, alloc, solves, place, watch)? {
             Solved::Labels(labels) => Some(labels),
             Solved::Text(_text) => None,
         }
@@ -186,7 +187,7 @@ impl Ahead {
         alloc: Global,
         solves: &Solves<'_, G>,
         place: usize,
-        figures: &mut Figures,
+        watch: &mut impl Watch,
     ) -> Option<Solved>
         requires ready { AreSolves solves.now.graphs.now solves.now.queries }
         requires made { AreMade solves.now.asked.now.walks solves.now.graphs.now solves.now.queries
@@ -197,7 +198,7 @@ impl Ahead {
             (IsSolved solves.now.asked.now.walks solves.now.graphs.now solves.now.queries place) }
     {
         if place >= self.end {
-            self.make_next(rt, alloc, solves, place, figures);
+            self.make_next(rt, alloc, solves, place, watch);
         }
         let at = self.made.iter().position(|made| made.place == place)?;
         Some(self.made.swap_remove(at).solved)
@@ -210,7 +211,7 @@ impl Ahead {
         alloc: Global,
         solves: &Solves<'_, G>,
         place: usize,
-        figures: &mut Figures,
+        watch: &mut impl Watch,
     )
         requires ready { AreSolves solves.now.graphs.now solves.now.queries }
         requires made { AreMade solves.now.asked.now.walks solves.now.graphs.now solves.now.queries
@@ -228,7 +229,7 @@ impl Ahead {
         if teams < 2 {
             return;
         }
-        figures.see_teams(teams);
+        watch.see_teams(teams);
         let cursor = Mutex::new(Cursor {
             next: place,
             left: count_ahead(teams, left),
@@ -240,13 +241,13 @@ impl Ahead {
             let mut made = team.made;
             let kept = self.made.append(&mut made).is_ok();
             whole = whole && kept && team.whole;
-            figures.see_runs(team.runs);
+            watch.see_runs(team.runs);
         }
         self.end = cursor.into_inner().next;
         if !whole {
             self.teams = teams / 2;
         }
-        figures.end(rt, Phase::Solving);
+        watch.end(rt, Phase::Solving);
     }
 }
 

@@ -16,13 +16,13 @@ ghost use Rattle.job_answer.specs.Solves.{IsGrownStart, IsRest, IsStartBlock, Is
 use crate::ahead::Ahead;
 use crate::asked::Asked;
 use crate::fault::Fault;
-use crate::figures::{Figures, Phase};
 use crate::graphs::{Graphs, Grown};
 use crate::laws::blocks_are_unique;
 use crate::outlet::{Held, Waiting};
 use crate::solved::{Queries, SolvedText, Solves, most_bytes};
 use crate::solves::{Solve, Start};
 use crate::teams::teams_for;
+use crate::watch::{Phase, Watch};
 use csr_graph::Csr;
 use dimacs_text::{put_component, put_grown, put_label, put_source, put_walk};
 use obim_engine::Gate;
@@ -44,7 +44,7 @@ pub fn write_sources<H: Threads + Wait + Clock + Sync, W: Write, G: Gate + Sync>
     sources: &[u32],
     asked: &Asked,
     gate: &G,
-    figures: &mut Figures,
+    watch: &mut impl Watch,
 ) -> Result<(), Fault>
     requires graphs { AreGraphs graphs.now }
     requires sources { All (λ source. source < graphs.now.rows.n) sources.now }
@@ -67,9 +67,10 @@ pub fn write_sources<H: Threads + Wait + Clock + Sync, W: Write, G: Gate + Sync>
     };
     let mut ahead = Ahead::new(alloc, teams_for(asked, &graphs.rows));
     for place in 0..sources.len() {
-        if let Some(text) = ahead.take_text(rt, alloc, &solves, place, figures) {
+        watch.see_answered(place, sources.len());
+        if let Some(text) = ahead.take_text(rt, alloc, &solves, place, watch) {
             waiting.send_with(writer, &text.bytes)?;
-            figures.end(rt, Phase::Writing);
+            watch.end(rt, Phase::Writing);
             continue;
         }
         let solve = Solve::of_source(sources, place);
@@ -82,7 +83,7 @@ pub fn write_sources<H: Threads + Wait + Clock + Sync, W: Write, G: Gate + Sync>
             solve.start,
             asked,
             gate,
-            figures,
+            watch,
         )?;
     }
     waiting.finish(writer)
@@ -97,7 +98,7 @@ pub fn write_start<H: Threads + Wait + Clock + Sync, W: Write, G: Gate + Sync>(
     start: Start,
     asked: &Asked,
     gate: &G,
-    figures: &mut Figures,
+    watch: &mut impl Watch,
 ) -> Result<(), Fault>
     requires graphs { AreGraphs graphs.now }
     requires start { IsStartWithin graphs.now.rows.n start }
@@ -120,7 +121,7 @@ pub fn write_start<H: Threads + Wait + Clock + Sync, W: Write, G: Gate + Sync>(
         start,
         asked,
         gate,
-        figures,
+        watch,
     )?;
     waiting.finish(writer)
 }
@@ -133,7 +134,7 @@ pub fn held_block<H: Threads + Wait + Clock + Sync, G: Gate + Sync>(
     source: u32,
     asked: &Asked,
     gate: &G,
-    figures: &mut Figures,
+    watch: &mut impl Watch,
 ) -> Result<SolvedText, Fault>
     requires graphs { AreGraphs graphs.now }
     requires source { source < graphs.now.rows.n }
@@ -142,7 +143,7 @@ pub fn held_block<H: Threads + Wait + Clock + Sync, G: Gate + Sync>(
 {
     let mut held = Held::new(alloc, most_bytes(graphs));
     let start = Start::At(source);
-    write_start(rt, alloc, &mut held, graphs, start, asked, gate, figures)?;
+    write_start(rt, alloc, &mut held, graphs, start, asked, gate, watch)?;
     Ok(SolvedText {
         count: 1,
         bytes: held.bytes,
@@ -160,7 +161,7 @@ fn put_solved<H: Threads + Wait + Clock + Sync, W: Write, G: Gate + Sync>(
     start: Start,
     asked: &Asked,
     gate: &G,
-    figures: &mut Figures,
+    watch: &mut impl Watch,
 ) -> Result<(), Fault>
     requires graphs { AreGraphs graphs.now }
     requires start { IsStartWithin graphs.now.rows.n start }
@@ -174,13 +175,13 @@ fn put_solved<H: Threads + Wait + Clock + Sync, W: Write, G: Gate + Sync>(
 {
     blocks_are_unique();
     let rows = &graphs.rows;
-    let labels = start.solve(rt, alloc, rows, &asked.settings, gate, figures)?;
+    let labels = start.solve(rt, alloc, rows, &asked.settings, gate, watch)?;
     put_block(alloc, writer, waiting, rows, asked.walks, start, &labels)?;
-    figures.end(rt, Phase::Writing);
+    watch.end(rt, Phase::Writing);
     match &graphs.grown {
         None => Ok(()),
         Some(grown) => put_grown_block(
-            rt, alloc, writer, waiting, rows, grown, start, labels, asked, gate, figures,
+            rt, alloc, writer, waiting, rows, grown, start, labels, asked, gate, watch,
         ),
     }
 }
@@ -198,7 +199,7 @@ fn put_grown_block<H: Threads + Wait + Clock + Sync, W: Write, G: Gate + Sync>(
     labels: Vec<u64>,
     asked: &Asked,
     gate: &G,
-    figures: &mut Figures,
+    watch: &mut impl Watch,
 ) -> Result<(), Fault>
     requires vertices { rows.now.n ≤ MAX_VERTICES }
     requires start { IsStartWithin rows.now.n start }
@@ -212,16 +213,7 @@ fn put_grown_block<H: Threads + Wait + Clock + Sync, W: Write, G: Gate + Sync>(
         (W.contents writer.old) (W.contents writer.new) waiting.old.bytes.items) }
     ensures kinds { IfErr result IsWritingFault }
 {
-    let labels = start.solve_grown(
-        rt,
-        alloc,
-        rows,
-        grown,
-        labels,
-        &asked.settings,
-        gate,
-        figures,
-    )?;
+    let labels = start.solve_grown(rt, alloc, rows, grown, labels, &asked.settings, gate, watch)?;
     put_grown(&mut waiting.bytes, grown.count)?;
     put_block(
         alloc,
@@ -232,7 +224,7 @@ fn put_grown_block<H: Threads + Wait + Clock + Sync, W: Write, G: Gate + Sync>(
         start,
         &labels,
     )?;
-    figures.end(rt, Phase::Writing);
+    watch.end(rt, Phase::Writing);
     Ok(())
 }
 

@@ -1,17 +1,7 @@
 //! What a job is made of, and where the time of its answer went: for `--stats`.
 
-use csr_graph::Csr;
+use crate::watch::{Phase, Watch};
 use std::time::{Clock, Duration};
-
-/// What the time is spent on, in turn.
-#[derive(Clone, Copy, Debug, PartialEq, Eq)]
-pub enum Phase {
-    Reading,
-    /// Making the rows.
-    Rows,
-    Solving,
-    Writing,
-}
 
 /// Figures of a job and of how it was answered. No byte of the answer depends on them.
 #[derive(Clone, Copy, Debug, PartialEq, Eq)]
@@ -46,30 +36,24 @@ impl Figures {
             last: clock.monotonic().unwrap_or(Duration::ZERO),
         }
     }
+}
 
-    /// Takes in the size of the rows.
-    pub fn see_rows(&mut self, csr: &Csr) {
-        self.vertices = csr.n();
-        self.arcs = csr.arc_count();
+impl Watch for Figures {
+    fn see_rows(&mut self, vertices: u32, arcs: usize) {
+        self.vertices = vertices;
+        self.arcs = arcs;
     }
 
-    /// Takes in that labels were worked out once more.
-    pub fn see_run(&mut self) {
-        self.runs = self.runs.saturating_add(1);
-    }
-
-    /// Takes in that labels were worked out so many times more.
-    pub fn see_runs(&mut self, count: usize) {
+    fn see_runs(&mut self, count: usize) {
         self.runs = self.runs.saturating_add(count);
     }
 
-    /// Takes in that so many sources are solved at the same time.
-    pub fn see_teams(&mut self, teams: usize) {
+    fn see_teams(&mut self, teams: usize) {
         self.at_once = self.at_once.max(teams);
     }
 
-    /// The time since the last phase ended was spent on this one. A clock that fails counts nothing.
-    pub fn end<C: Clock>(&mut self, clock: &C, phase: Phase) {
+    // A clock that fails counts nothing.
+    fn end<C: Clock>(&mut self, clock: &C, phase: Phase) {
         let now = clock.monotonic().unwrap_or(self.last);
         let spent = now.saturating_sub(self.last);
         self.last = now;

@@ -6,6 +6,7 @@ ghost use Rattle.dimacs_text.specs.Jobs.{content_of};
 ghost use Rattle.job_answer.specs.Outcome.{HasTaken, IsRequest, IsRequestFault};
 
 use crate::fault::Fault;
+use crate::watch::Watch;
 use dimacs_text::{Job, JobReader};
 use std::alloc::Global;
 use std::io::Read;
@@ -14,7 +15,12 @@ const BLOCK: usize = 1 << 16;
 
 /// Reads the job in all that the reader gives, up to its end, and one byte past the limit at most. After
 /// a fault of the text the rest is read all the same.
-pub fn read_request<R: Read>(alloc: Global, reader: &mut R, limit: u64) -> Result<Job, Fault>
+pub fn read_request<R: Read>(
+    alloc: Global,
+    reader: &mut R,
+    limit: u64,
+    watch: &mut impl Watch,
+) -> Result<Job, Fault>
     requires { limit ≤ 2 ^ 36 }
     ensures job { IfOk result (λ job. IsRequest limit
         (R.remaining reader.old) (R.remaining reader.new) (content_of job)) }
@@ -36,6 +42,7 @@ pub fn read_request<R: Read>(alloc: Global, reader: &mut R, limit: u64) -> Resul
         }
         job.feed(&buffer[..count])?;
         left -= count;
+        watch.see_bytes(count);
     }
 }
 

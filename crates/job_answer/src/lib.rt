@@ -3,7 +3,7 @@
 //! `answer` reads a job text from any reader and writes its answer to any writer. Its contract says that
 //! the bytes written are exactly those that the least labels of the job make, for all settings and
 //! however the workers' steps interleave, and what was read and written at each fault. `answer_bytes`
-//! is the same from bytes to bytes, and `answer_counted` gives figures besides.
+//! is the same from bytes to bytes, and `answer_counted` tells how far it is besides.
 //!
 //! It stands on `dimacs_text`, which reads job texts and writes labels, on `csr_graph` for the rows, on
 //! `obim_engine`, whose workers give the labels, on `walk_report` for the walks, and on `route_walks`,
@@ -28,9 +28,11 @@ mod teams;
 #[cfg(test)]
 mod tests;
 mod walked_pairs;
+mod watch;
 
 pub use asked::{Answer, Asked, AtOnce, MAX_AT_ONCE, MAX_BYTES};
 pub use counter::Counter;
 pub use fault::{Fault, status};
-pub use figures::{Figures, Phase};
+pub use figures::Figures;
 pub use reply::{answer, answer_bytes, answer_counted};
+pub use watch::{Phase, Watch};

@@ -17,7 +17,6 @@ ghost use Rattle.job_answer.specs.Solves.{AreLabelsAfter, ArePairLabels, HasLabe
 use crate::ahead::Ahead;
 use crate::asked::Asked;
 use crate::fault::Fault;
-use crate::figures::Figures;
 use crate::graphs::Graphs;
 use crate::laws::blocks_are_unique;
 use crate::outlet::Waiting;
@@ -25,6 +24,7 @@ use crate::solved::{PairLabels, Queries, Solves};
 use crate::solves::{Solve, by_source};
 use crate::teams::teams_for;
 use crate::walked_pairs::write_walked;
+use crate::watch::Watch;
 use dimacs_text::{put_grown, put_pair};
 use obim_engine::{Gate, Settings};
 use route_walks::{INF, MAX_VERTICES, Memory};
@@ -49,7 +49,7 @@ pub fn write_pairs<H: Threads + Wait + Clock + Sync, W: Write, G: Gate + Sync>(
     pairs: &[(u32, u32)],
     asked: &Asked,
     gate: &G,
-    figures: &mut Figures,
+    watch: &mut impl Watch,
 ) -> Result<(), Fault>
     requires graphs { AreGraphs graphs.now }
     requires count { length pairs.now ≤ 2 ^ 20 }
@@ -61,9 +61,9 @@ pub fn write_pairs<H: Threads + Wait + Clock + Sync, W: Write, G: Gate + Sync>(
     ensures kinds { IfErr result IsWritingFault }
 {
     if asked.walks {
-        write_walked(rt, alloc, writer, graphs, pairs, asked, gate, figures)
+        write_walked(rt, alloc, writer, graphs, pairs, asked, gate, watch)
     } else {
-        write_plain(rt, alloc, writer, graphs, pairs, asked, gate, figures)
+        write_plain(rt, alloc, writer, graphs, pairs, asked, gate, watch)
     }
 }
 
@@ -76,7 +76,7 @@ fn write_plain<H: Threads + Wait + Clock + Sync, W: Write, G: Gate + Sync>(
     pairs: &[(u32, u32)],
     asked: &Asked,
     gate: &G,
-    figures: &mut Figures,
+    watch: &mut impl Watch,
 ) -> Result<(), Fault>
     requires graphs { AreGraphs graphs.now }
     requires count { length pairs.now ≤ 2 ^ 20 }
@@ -100,7 +100,7 @@ fn write_plain<H: Threads + Wait + Clock + Sync, W: Write, G: Gate + Sync>(
         &mut after,
         asked,
         gate,
-        figures,
+        watch,
     )?;
     write_lines(alloc, writer, graphs, pairs, &labels, &after)
 }
@@ -128,7 +128,7 @@ fn label_pairs<'a, H: Threads + Wait + Clock + Sync, G: Gate + Sync>(
     after: &mut [u64],
     asked: &'a Asked,
     gate: &'a G,
-    figures: &mut Figures,
+    watch: &mut impl Watch,
 ) -> Result<(), Fault>
     requires graphs { AreGraphs graphs.now }
     requires pairs { All (IsPairWithin graphs.now.rows.n) pairs.now }
@@ -149,7 +149,8 @@ fn label_pairs<'a, H: Threads + Wait + Clock + Sync, G: Gate + Sync>(
     let mut ahead = Ahead::new(alloc, teams_for(asked, &graphs.rows));
     let mut first = 0;
     while first < order.len() {
-        let found = match ahead.take_labels(rt, alloc, &solves, first, figures) {
+        watch.see_answered(first, order.len());
+        let found = match ahead.take_labels(rt, alloc, &solves, first, watch) {
             Some(found) => found,
             None => pair_labels(
                 rt,
@@ -160,7 +161,7 @@ fn label_pairs<'a, H: Threads + Wait + Clock + Sync, G: Gate + Sync>(
                 first,
                 &asked.settings,
                 gate,
-                figures,
+                watch,
             )?,
         };
         let own: &[u64] = &found.labels;
@@ -181,7 +182,7 @@ pub fn pair_labels<H: Threads + Wait + Clock + Sync, G: Gate + Sync>(
     first: usize,
     settings: &Settings,
     gate: &G,
-    figures: &mut Figures,
+    watch: &mut impl Watch,
 ) -> Result<PairLabels, Fault>
     requires graphs { AreGraphs graphs.now }
     requires pairs { All (IsPairWithin graphs.now.rows.n) pairs.now }
@@ -193,13 +194,13 @@ pub fn pair_labels<H: Threads + Wait + Clock + Sync, G: Gate + Sync>(
     let solve = Solve::of_queries(order, first);
     let start = solve.start;
     let rows = &graphs.rows;
-    let found = start.solve(rt, alloc, rows, settings, gate, figures)?;
+    let found = start.solve(rt, alloc, rows, settings, gate, watch)?;
     let labels = picked(alloc, pairs, order, solve, &found)?;
     let Some(grown) = &graphs.grown else {
         let after = Vec::new(alloc);
         return Ok(PairLabels { labels, after });
     };
-    let found = start.solve_grown(rt, alloc, rows, grown, found, settings, gate, figures)?;
+    let found = start.solve_grown(rt, alloc, rows, grown, found, settings, gate, watch)?;
     let after = picked(alloc, pairs, order, solve, &found)?;
     Ok(PairLabels { labels, after })
 }

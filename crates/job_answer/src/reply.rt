@@ -12,11 +12,12 @@ ghost use Rattle.job_answer.specs.Outcome.{IsWritingFault, is_unasked};
 use crate::asked::{Answer, Asked};
 use crate::blocks::{write_sources, write_start};
 use crate::fault::Fault;
-use crate::figures::{Figures, Phase};
+use crate::figures::Figures;
 use crate::graphs::{Graphs, graphs_for};
 use crate::intake::read_request;
 use crate::pairs::write_pairs;
 use crate::solves::Start;
+use crate::watch::{Phase, Watch};
 use dimacs_text::{Ask, Job};
 use obim_engine::Gate;
 use route_walks::laws::least_labels_follow_the_arcs;
@@ -57,7 +58,7 @@ pub fn answer<H: Threads + Wait + Clock + Sync, R: Read, W: Write, G: Gate + Syn
     answer_counted(rt, alloc, reader, writer, asked, gate, &mut figures)
 }
 
-/// The same, which gives the figures of the job and of its runs besides.
+/// The same, which tells how far it is.
 pub fn answer_counted<H: Threads + Wait + Clock + Sync, R: Read, W: Write, G: Gate + Sync>(
     rt: &H,
     alloc: Global,
@@ -65,7 +66,7 @@ pub fn answer_counted<H: Threads + Wait + Clock + Sync, R: Read, W: Write, G: Ga
     writer: &mut W,
     asked: &Asked,
     gate: &G,
-    figures: &mut Figures,
+    watch: &mut impl Watch,
 ) -> Result<(), Fault>
     ensures answered { OnOk result (IsAnswered asked.now.limit asked.now.answer asked.now.walks
         (R.remaining reader.old) (R.remaining reader.new)
@@ -78,9 +79,9 @@ pub fn answer_counted<H: Threads + Wait + Clock + Sync, R: Read, W: Write, G: Ga
         (R.remaining reader.old) (R.remaining reader.new)
         (W.contents writer.old) (W.contents writer.new)) }
 {
-    let job = read_request(alloc, reader, asked.limit)?;
-    figures.end(rt, Phase::Reading);
-    respond(rt, alloc, writer, asked, job, gate, figures)
+    let job = read_request(alloc, reader, asked.limit, watch)?;
+    watch.end(rt, Phase::Reading);
+    respond(rt, alloc, writer, asked, job, gate, watch)
 }
 
 /// The same over memory: the bytes of the answer to the text. No fault is `Write`.
@@ -113,7 +114,7 @@ fn respond<H: Threads + Wait + Clock + Sync, W: Write, G: Gate + Sync>(
     asked: &Asked,
     job: Job,
     gate: &G,
-    figures: &mut Figures,
+    watch: &mut impl Watch,
 ) -> Result<(), Fault>
     requires { IsWithinLimits (content_of job) }
     ensures reply { OnOk result (Writes (IsAnswerText asked.now.answer asked.now.walks (content_of job))
@@ -134,9 +135,9 @@ fn respond<H: Threads + Wait + Clock + Sync, W: Write, G: Gate + Sync>(
         added,
     } = job;
     let graphs = graphs_for(alloc, asked.answer, n, arcs, added)?;
-    figures.see_rows(&graphs.rows);
-    figures.end(rt, Phase::Rows);
-    write_text(rt, alloc, writer, &graphs, &ask, asked, gate, figures)
+    watch.see_rows(graphs.rows.n(), graphs.rows.arc_count());
+    watch.end(rt, Phase::Rows);
+    write_text(rt, alloc, writer, &graphs, &ask, asked, gate, watch)
 }
 
 /// Whether the job asks for nothing: it has no section of queries, and the answer needs one.
@@ -161,7 +162,7 @@ fn write_text<H: Threads + Wait + Clock + Sync, W: Write, G: Gate + Sync>(
     ask: &Ask,
     asked: &Asked,
     gate: &G,
-    figures: &mut Figures,
+    watch: &mut impl Watch,
 ) -> Result<(), Fault>
     requires graphs { AreGraphs graphs.now }
     requires question { IsQuestionWithin graphs.now.rows.n (question_of ask.now) }
@@ -177,13 +178,13 @@ fn write_text<H: Threads + Wait + Clock + Sync, W: Write, G: Gate + Sync>(
     match (asked.answer, ask) {
         (Answer::Components, _) => {
             let start = Start::Everywhere;
-            write_start(rt, alloc, writer, graphs, start, asked, gate, figures)
+            write_start(rt, alloc, writer, graphs, start, asked, gate, watch)
         }
         (_, Ask::Sources(sources)) => {
-            write_sources(rt, alloc, writer, graphs, sources, asked, gate, figures)
+            write_sources(rt, alloc, writer, graphs, sources, asked, gate, watch)
         }
         (_, Ask::Pairs(pairs)) => {
-            write_pairs(rt, alloc, writer, graphs, pairs, asked, gate, figures)
+            write_pairs(rt, alloc, writer, graphs, pairs, asked, gate, watch)
         }
         (_, Ask::Absent) => unreachable!(),
     }

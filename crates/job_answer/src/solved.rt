@@ -5,12 +5,12 @@ ghost use Rattle.job_answer.specs.Solved.{AreSolves, IsSolved};
 
 use crate::asked::Asked;
 use crate::blocks::held_block;
-use crate::figures::Figures;
 use crate::graphs::Graphs;
 use crate::pairs::pair_labels;
 use crate::solves::Solve;
 use crate::teams::{Team, TeamGate};
 use crate::walked_pairs::held_lines;
+use crate::watch::Watch;
 use obim_engine::Gate;
 use std::alloc::Global;
 use std::sync::Wait;
@@ -105,7 +105,7 @@ impl<G: Gate + Sync> Solves<'_, G> {
         alloc: Global,
         place: usize,
         team: Team,
-        figures: &mut Figures,
+        watch: &mut impl Watch,
     ) -> Option<Solved>
         requires { AreSolves self.now.graphs.now self.now.queries }
         ensures { IfSome result (IsSolved self.now.asked.now.walks self.now.graphs.now self.now.queries place) }
@@ -120,20 +120,20 @@ impl<G: Gate + Sync> Solves<'_, G> {
         match self.queries {
             Queries::Sources(sources) => {
                 let source = *sources.get(place)?;
-                match held_block(rt, alloc, graphs, source, &asked, &gate, figures) {
+                match held_block(rt, alloc, graphs, source, &asked, &gate, watch) {
                     Ok(text) => Some(Solved::Text(text)),
                     Err(_) => None,
                 }
             }
             Queries::Walked(pairs) if place < pairs.len() => {
-                match held_lines(rt, alloc, graphs, pairs, place, &settings, &gate, figures) {
+                match held_lines(rt, alloc, graphs, pairs, place, &settings, &gate, watch) {
                     Ok(text) => Some(Solved::Text(text)),
                     Err(_) => None,
                 }
             }
             Queries::Labelled(pairs, order) if place < order.len() => {
                 match pair_labels(
-                    rt, alloc, graphs, pairs, order, place, &settings, &gate, figures,
+                    rt, alloc, graphs, pairs, order, place, &settings, &gate, watch,
                 ) {
                     Ok(labels) => Some(Solved::Labels(labels)),
                     Err(_) => None,

@@ -9,8 +9,8 @@ ghost use Rattle.job_answer.specs.Outcome.{IsWritingFault};
 ghost use Rattle.job_answer.specs.Solves.{AreBySource, IsForQueries};
 
 use crate::fault::Fault;
-use crate::figures::{Figures, Phase};
 use crate::graphs::Grown;
+use crate::watch::{Phase, Watch};
 use csr_graph::Csr;
 use obim_engine::{
     Gate, Paused, RunFault, Settings, distances, grow, least_labels, least_labels_resumed,
@@ -41,7 +41,7 @@ impl Start {
         csr: &Csr,
         settings: &Settings,
         gate: &G,
-        figures: &mut Figures,
+        watch: &mut impl Watch,
     ) -> Result<Vec<u64>, Fault>
         requires { IsStartWithin csr.now.n self }
         ensures least { IfOk result (λ labels.
@@ -52,8 +52,8 @@ impl Start {
             Start::At(source) => distances(rt, alloc, csr, source, settings, gate)?,
             Start::Everywhere => component_labels(rt, alloc, csr, settings, gate)?,
         };
-        figures.see_run();
-        figures.end(rt, Phase::Solving);
+        watch.see_runs(1);
+        watch.end(rt, Phase::Solving);
         Ok(labels)
     }
 
@@ -68,7 +68,7 @@ impl Start {
         labels: Vec<u64>,
         settings: &Settings,
         gate: &G,
-        figures: &mut Figures,
+        watch: &mut impl Watch,
     ) -> Result<Vec<u64>, Fault>
         requires start { IsStartWithin csr.now.n self }
         requires least { AreLeastLabels csr.now.n csr.now.arcs (seeds_at csr.now.n self) labels.items }
@@ -82,8 +82,8 @@ impl Start {
         let _ = csr.n();
         let rest = grow(Paused::settled(alloc, labels)?, &grown.added);
         let labels = least_labels_resumed(rt, alloc, &grown.rows, rest, settings, gate)?;
-        figures.see_run();
-        figures.end(rt, Phase::Solving);
+        watch.see_runs(1);
+        watch.end(rt, Phase::Solving);
         Ok(labels)
     }
 }

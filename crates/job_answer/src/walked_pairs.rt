@@ -19,13 +19,13 @@ use crate::ahead::Ahead;
 use crate::asked::Asked;
 use crate::blocks::put_walk_line;
 use crate::fault::Fault;
-use crate::figures::{Figures, Phase};
 use crate::graphs::Graphs;
 use crate::laws::blocks_are_unique;
 use crate::outlet::{Held, Waiting};
 use crate::solved::{Queries, SolvedText, Solves, most_bytes};
 use crate::solves::{Solve, Start};
 use crate::teams::teams_for;
+use crate::watch::{Phase, Watch};
 use csr_graph::Csr;
 use dimacs_text::{put_grown, put_pair};
 use obim_engine::{Gate, Settings};
@@ -47,7 +47,7 @@ pub fn write_walked<H: Threads + Wait + Clock + Sync, W: Write, G: Gate + Sync>(
     pairs: &[(u32, u32)],
     asked: &Asked,
     gate: &G,
-    figures: &mut Figures,
+    watch: &mut impl Watch,
 ) -> Result<(), Fault>
     requires graphs { AreGraphs graphs.now }
     requires pairs { All (IsPairWithin graphs.now.rows.n) pairs.now }
@@ -68,9 +68,10 @@ pub fn write_walked<H: Threads + Wait + Clock + Sync, W: Write, G: Gate + Sync>(
     let mut ahead = Ahead::new(alloc, teams_for(asked, &graphs.rows));
     let mut first = 0;
     while first < pairs.len() {
-        if let Some(text) = ahead.take_text(rt, alloc, &solves, first, figures) {
+        watch.see_answered(first, pairs.len());
+        if let Some(text) = ahead.take_text(rt, alloc, &solves, first, watch) {
             waiting.send_with(writer, &text.bytes)?;
-            figures.end(rt, Phase::Writing);
+            watch.end(rt, Phase::Writing);
             first += text.count;
             continue;
         }
@@ -85,7 +86,7 @@ pub fn write_walked<H: Threads + Wait + Clock + Sync, W: Write, G: Gate + Sync>(
             solve,
             &asked.settings,
             gate,
-            figures,
+            watch,
         )?;
         first = solve.end;
     }
@@ -101,7 +102,7 @@ pub fn held_lines<H: Threads + Wait + Clock + Sync, G: Gate + Sync>(
     first: usize,
     settings: &Settings,
     gate: &G,
-    figures: &mut Figures,
+    watch: &mut impl Watch,
 ) -> Result<SolvedText, Fault>
     requires graphs { AreGraphs graphs.now }
     requires pairs { All (IsPairWithin graphs.now.rows.n) pairs.now }
@@ -122,7 +123,7 @@ pub fn held_lines<H: Threads + Wait + Clock + Sync, G: Gate + Sync>(
         solve,
         settings,
         gate,
-        figures,
+        watch,
     )?;
     waiting.finish(&mut held)?;
     Ok(SolvedText {
@@ -142,7 +143,7 @@ fn put_solved_pairs<H: Threads + Wait + Clock + Sync, W: Write, G: Gate + Sync>(
     solve: Solve,
     settings: &Settings,
     gate: &G,
-    figures: &mut Figures,
+    watch: &mut impl Watch,
 ) -> Result<(), Fault>
     requires graphs { AreGraphs graphs.now }
     requires pairs { All (IsPairWithin graphs.now.rows.n) pairs.now }
@@ -163,14 +164,14 @@ fn put_solved_pairs<H: Threads + Wait + Clock + Sync, W: Write, G: Gate + Sync>(
     let rows = &graphs.rows;
     let source = pairs[solve.first].0;
     let start = Start::At(source);
-    let labels = start.solve(rt, alloc, rows, settings, gate, figures)?;
+    let labels = start.solve(rt, alloc, rows, settings, gate, watch)?;
     let walked = walked_from(alloc, rows, source, labels)?;
     let labels = &walked.labels;
-    let after = walked_after(rt, alloc, graphs, source, labels, settings, gate, figures)?;
+    let after = walked_after(rt, alloc, graphs, source, labels, settings, gate, watch)?;
     put_walked(
         alloc, writer, waiting, graphs, pairs, solve, &walked, &after,
     )?;
-    figures.end(rt, Phase::Writing);
+    watch.end(rt, Phase::Writing);
     Ok(())
 }
 
@@ -207,7 +208,7 @@ fn walked_after<H: Threads + Wait + Clock + Sync, G: Gate + Sync>(
     labels: &[u64],
     settings: &Settings,
     gate: &G,
-    figures: &mut Figures,
+    watch: &mut impl Watch,
 ) -> Result<Option<Walked>, Fault>
     requires graphs { AreGraphs graphs.now }
     requires source { source < graphs.now.rows.n }
@@ -229,7 +230,7 @@ fn walked_after<H: Threads + Wait + Clock + Sync, G: Gate + Sync>(
         labels,
         settings,
         gate,
-        figures,
+        watch,
     )?;
     Ok(Some(walked_from(alloc, &grown.rows, source, labels)?))
 }

@@ -13,6 +13,7 @@ const KINDS: &str = "distances, levels or components";
 
 const WORKERS: Numbers = Numbers {
     option: "workers",
+    short: Some('w'),
     least: 1,
     most: MAX_WORKERS,
     has_auto: false,
@@ -20,6 +21,7 @@ const WORKERS: Numbers = Numbers {
 
 const AT_ONCE: Numbers = Numbers {
     option: "at-once",
+    short: None,
     least: 1,
     most: MAX_AT_ONCE,
     has_auto: true,
@@ -27,6 +29,7 @@ const AT_ONCE: Numbers = Numbers {
 
 const SHIFT: Numbers = Numbers {
     option: "shift",
+    short: Some('s'),
     least: 0,
     most: MAX_SHIFT,
     has_auto: true,
@@ -34,6 +37,7 @@ const SHIFT: Numbers = Numbers {
 
 const CHUNK: Numbers = Numbers {
     option: "chunk",
+    short: Some('c'),
     least: 1,
     most: MAX_CHUNK as u32,
     has_auto: false,
@@ -97,6 +101,10 @@ pub struct Order {
     pub asked: Asked,
     /// Whether figures are printed after the answer.
     pub stats: bool,
+    /// Whether it is printed how far the answer is.
+    pub progress: bool,
+    /// Whether the job may come from a terminal, since the argument `-` is there.
+    pub typed: bool,
 }
 
 /// Why a command line asks for no answer.
@@ -124,7 +132,7 @@ pub fn asked_by<'a, S: AsStr>(alloc: Global, arguments: &'a [S]) -> Result<Order
         Ok(matches) => matches,
         Err(error) => return Err(refused_by(alloc, error)),
     };
-    refuse_files(alloc, &matches)?;
+    let typed = has_hyphen(alloc, &matches)?;
     let answer = answer_in(alloc, &matches)?;
     let settings = settings_in(alloc, &matches)?;
     let at_once = match AT_ONCE.asked_in(alloc, &matches)? {
@@ -140,6 +148,8 @@ pub fn asked_by<'a, S: AsStr>(alloc: Global, arguments: &'a [S]) -> Result<Order
     Ok(Order {
         asked: asked.with_at_once(at_once),
         stats: matches.get_flag("stats"),
+        progress: matches.get_flag("progress"),
+        typed,
     })
 }
 
@@ -192,9 +202,10 @@ fn similar_in(text: &str) -> Option<&str> {
     }
 }
 
-/// Refuses each operand but `-`, which is standard input.
-fn refuse_files(alloc: Global, matches: &ArgMatches) -> Result<(), Refusal> {
-    for operand in matches.get_strs("operand").unwrap_or(&[]) {
+/// Whether the operand `-`, which is standard input, is there. Each other operand is refused.
+fn has_hyphen(alloc: Global, matches: &ArgMatches) -> Result<bool, Refusal> {
+    let operands = matches.get_strs("operand").unwrap_or(&[]);
+    for operand in operands {
         if *operand != "-" {
             return Err(Refusal::Line(format!(in alloc;
                 "unexpected argument '{operand}': \
@@ -202,13 +213,14 @@ fn refuse_files(alloc: Global, matches: &ArgMatches) -> Result<(), Refusal> {
             )?));
         }
     }
-    Ok(())
+    Ok(!operands.is_empty())
 }
 
 /// The numbers that an option takes, and whether it takes `auto`.
 #[derive(Clone, Copy, Debug, PartialEq, Eq)]
 struct Numbers {
     option: &'static str,
+    short: Option<char>,
     least: u32,
     most: u32,
     has_auto: bool,
@@ -263,8 +275,10 @@ impl Limits {
 }
 
 fn command<'a>(alloc: Global, limits: &'a Limits) -> Result<Command<'a>, AllocError> {
-    let answer = option(alloc, "answer", "KIND", KINDS)?.default_value("distances");
-    let walks = flag(alloc, "walks", "Print a walk of fewest arcs for each cost")?;
+    let answer = option(alloc, "answer", "KIND", KINDS)?
+        .short('a')
+        .default_value("distances");
+    let walks = flag(alloc, "walks", "Print a walk of fewest arcs for each cost")?.short('W');
     let command = Command::new(alloc, "obim_query")
         .version(VERSION)
         .override_usage(USAGE)
@@ -272,7 +286,7 @@ fn command<'a>(alloc: Global, limits: &'a Limits) -> Result<Command<'a>, AllocEr
         .after_help(AFTER)
         .arg(answer)?
         .arg(walks)?;
-    with_operand(alloc, with_settings(alloc, command, limits)?)
+    with_flags(alloc, with_settings(alloc, command, limits)?)
 }
 
 /// The options of the settings.
@@ -289,8 +303,13 @@ fn with_settings<'a>(
     Ok(command)
 }
 
-/// The flag of the figures, and `-`, which the help says in its text.
-fn with_operand<'a>(alloc: Global, command: Command<'a>) -> Result<Command<'a>, AllocError> {
+/// The flags of what is printed besides, and `-`, which the help says in its text.
+fn with_flags<'a>(alloc: Global, command: Command<'a>) -> Result<Command<'a>, AllocError> {
+    let progress = flag(
+        alloc,
+        "progress",
+        "Print on standard error how far the answer is",
+    )?;
     let stats = flag(
         alloc,
         "stats",
@@ -300,7 +319,7 @@ fn with_operand<'a>(alloc: Global, command: Command<'a>) -> Result<Command<'a>, 
         .action(ArgAction::Append)
         .num_args(0..)
         .hide(true);
-    let command = command.arg(stats)?.arg(operand)?;
+    let command = command.arg(progress)?.arg(stats)?.arg(operand)?;
     Ok(command)
 }
 
@@ -326,7 +345,11 @@ fn number<'a>(
     value: &'a str,
     help: &'a str,
 ) -> Result<Arg<'a>, AllocError> {
-    Ok(option(alloc, numbers.option, value, help)?.allow_negative_numbers(true))
+    let option = option(alloc, numbers.option, value, help)?.allow_negative_numbers(true);
+    match numbers.short {
+        Some(short) => Ok(option.short(short)),
+        None => Ok(option),
+    }
 }
 
 /// An option without a value, which may be given more than once.

@@ -9,16 +9,20 @@
 #![tactic(auto)]
 
 mod command_line;
+mod output;
+mod progress;
 mod stats;
 #[cfg(test)]
 mod tests;
 
 use command_line::{Order, Refusal, asked_by};
-use job_answer::{Asked, Counter, Fault, Figures, Phase, answer, answer_counted, status};
+use job_answer::{Counter, Fault, Phase, Watch, answer, answer_counted, status};
 use obim_engine::OpenGate;
+use output::Output;
+use progress::{Progress, Shown};
 use stats::print_stats;
 use std::env::Env;
-use std::io::{ErrorKind, Read, Write};
+use std::io::{ErrorKind, IsTerminal, Read, Write};
 use std::process::ExitCode;
 use std::sync::Wait;
 use std::thread::Threads;
@@ -28,9 +32,16 @@ use std::{env, fmt};
 /// The status of a command line that is refused.
 const USAGE: u8 = 1;
 
+/// Why there is no answer where standard input is a terminal, which nobody types a job at by chance.
+const NO_JOB: &str = "no job: obim_query [OPTIONS] < JOB, or - to type it (see obim_query --help)";
+
 fn main(rt: HostRuntime) -> ExitCode {
     let code = match judged(&rt) {
-        Ok(order) => reply_to(&rt, &mut rt.stdin(), &mut rt.stdout(), &order),
+        Ok(order) if !order.typed && rt.stdin().is_terminal() => complain(&rt, NO_JOB, USAGE),
+        Ok(order) => {
+            let shown = shown_at(&order, rt.stderr().is_terminal());
+            reply_to(&rt, &mut rt.stdin(), &mut rt.stdout(), &order, shown)
+        }
         Err(status) => status,
     };
     ExitCode::from(code)
@@ -63,43 +74,64 @@ fn shown<H: Print + Eprint>(rt: &H, text: &clap::Error) -> u8 {
     }
 }
 
+/// Where progress is shown.
+fn shown_at(order: &Order, is_terminal: bool) -> Shown {
+    if !order.progress {
+        Shown::Nowhere
+    } else if is_terminal {
+        Shown::Terminal
+    } else {
+        Shown::Lines
+    }
+}
+
+/// Answers, and gives the status to end with. Where whoever read the answer has gone, that is all.
 fn reply_to<H: AllocGlobal + Eprint + Threads + Wait + Clock + Sync, R: Read, W: Write>(
     rt: &H,
     reader: &mut R,
     writer: &mut W,
     order: &Order,
+    shown: Shown,
 ) -> u8 {
-    let replied = if order.stats {
-        reply_with_stats(rt, reader, writer, &order.asked)
+    let mut output = Output::new(writer);
+    let replied = if order.stats || order.progress {
+        reply_with_figures(rt, reader, &mut output, order, shown)
     } else {
-        answer(rt, rt.alloc(), reader, writer, &order.asked, &OpenGate)
+        answer(rt, rt.alloc(), reader, &mut output, &order.asked, &OpenGate)
     };
     match replied {
         Ok(()) => 0,
+        Err(fault) if output.has_no_reader => status(&fault),
         Err(fault) => fail(rt, fault),
     }
 }
 
-/// Answers, and prints figures after the answer.
-fn reply_with_stats<H: AllocGlobal + Eprint + Threads + Wait + Clock + Sync, R: Read, W: Write>(
+/// Answers, and prints how far it is and figures after the answer, as they are asked for.
+fn reply_with_figures<H: AllocGlobal + Eprint + Threads + Wait + Clock + Sync, R: Read, W: Write>(
     rt: &H,
     reader: &mut R,
     writer: &mut W,
-    asked: &Asked,
+    order: &Order,
+    shown: Shown,
 ) -> Result<(), Fault> {
+    let asked = &order.asked;
     let counter = Counter::open(rt.alloc(), asked.settings.workers)?;
-    let mut figures = Figures::new(rt);
-    answer_counted(
+    let mut progress = Progress::new(rt, shown);
+    let replied = answer_counted(
         rt,
         rt.alloc(),
         reader,
         writer,
         asked,
         &counter,
-        &mut figures,
-    )?;
-    figures.end(rt, Phase::Writing);
-    print_stats(rt, asked, &figures, &counter);
+        &mut progress,
+    );
+    progress.clear();
+    replied?;
+    progress.end(rt, Phase::Writing);
+    if order.stats {
+        print_stats(rt, asked, &progress.figures, &counter);
+    }
     Ok(())
 }
 

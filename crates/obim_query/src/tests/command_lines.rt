@@ -73,30 +73,50 @@ fn lines_beside_what_they_ask_for(rt: HostRuntime) {
         ("it --shift 63", Answer::Distances, false, (2, Some(63), 64)),
         ("it --chunk 1", Answer::Distances, false, (2, None, 1)),
         ("it --chunk 256", Answer::Distances, false, (2, None, 256)),
+        ("it -w1 -W", Answer::Distances, true, (1, None, 256)),
+        (
+            "it -a levels -Ww 3 -s=4 -c7",
+            Answer::Levels,
+            true,
+            (3, Some(4), 7),
+        ),
     ];
     for (line, answer, walks, settings) in table {
         let asked = ask(&rt, answer, walks, settings);
-        let want = asked.map(|asked| Order {
-            asked,
-            stats: false,
-        });
-        assert_eq!(rt; asked_of(line, rt.alloc()).ok(), want, "{line}");
+        let order = asked_of(line, rt.alloc()).ok();
+        assert_eq!(rt; order.map(|order| order.asked), asked, "{line}");
     }
 }
 
 #[test]
 fn lines_beside_what_they_leave_to_the_program(rt: HostRuntime) {
-    for (line, widening, stats) in [
-        ("it --shift auto", true, false),
-        ("it", true, false),
-        ("it --stats --shift 4", false, true),
-        ("it --stats --shift=auto", true, true),
-        ("it --shift 04", false, false),
-        ("it --stats --shift 4 --stats", false, true),
+    // Whether they ask for figures, for progress, and for a job that is typed.
+    for (line, want) in [
+        ("it", (false, false, false)),
+        ("it --stats", (true, false, false)),
+        ("it --progress", (false, true, false)),
+        ("it --stats -w 4 --stats", (true, false, false)),
+        ("it --progress - --stats -", (true, true, true)),
+        ("it -- -", (false, false, true)),
     ] {
         let order = asked_of(line, rt.alloc()).ok();
-        let found = order.map(|order| (order.asked.settings.widening, order.stats));
-        assert_eq!(rt; found, Some((widening, stats)), "{line}");
+        let found = order.map(|order| (order.stats, order.progress, order.typed));
+        assert_eq!(rt; found, Some(want), "{line}");
+    }
+}
+
+#[test]
+fn lines_beside_their_buckets(rt: HostRuntime) {
+    for (line, widening) in [
+        ("it", true),
+        ("it --shift auto", true),
+        ("it -s auto", true),
+        ("it --shift 4", false),
+        ("it -s 04", false),
+    ] {
+        let order = asked_of(line, rt.alloc()).ok();
+        let found = order.map(|order| order.asked.settings.widening);
+        assert_eq!(rt; found, Some(widening), "{line}");
     }
 }
 

@@ -1,0 +1,143 @@
+//! What `--progress` prints on standard error while a job is answered.
+
+use job_answer::{Figures, Phase, Watch};
+use std::fmt;
+use std::time::{Clock, Duration};
+
+/// The most lines of a run.
+const MOST_LINES: u32 = 100;
+
+/// After so many lines the time from one to the next doubles: so a hundred lines are enough for hours.
+const LINES_AT_A_PACE: u32 = 10;
+
+/// Milliseconds between lines that replace one another, at a terminal.
+const TERMINAL_PACE: u64 = 200;
+
+/// Where progress is shown.
+#[derive(Clone, Copy, Debug, PartialEq, Eq)]
+pub enum Shown {
+    Nowhere,
+    /// In lines of their own.
+    Lines,
+    /// In one line, which is replaced.
+    Terminal,
+}
+
+/// Figures of a job, of which it prints how far it is from time to time.
+#[derive(Drop)]
+pub struct Progress<'a, H> {
+    rt: &'a H,
+    pub figures: Figures,
+    shown: Shown,
+    bytes: u64,
+    lines: u32,
+    /// When the next line is due, by the clock.
+    next: Duration,
+}
+
+impl<'a, H: Eprint + Clock> Progress<'a, H> {
+    /// Of nothing, from now on.
+    pub fn new(rt: &'a H, shown: Shown) -> Progress<'a, H> {
+        let mut progress = Progress {
+            rt,
+            figures: Figures::new(rt),
+            shown,
+            bytes: 0,
+            lines: 0,
+            next: Duration::ZERO,
+        };
+        let now = rt.monotonic().unwrap_or(Duration::ZERO);
+        progress.next = now.saturating_add(progress.pace());
+        progress
+    }
+
+    /// How long it is from one line to the next.
+    fn pace(&self) -> Duration {
+        if self.shown == Shown::Terminal {
+            return Duration::from_millis(TERMINAL_PACE);
+        }
+        Duration::from_secs(1_u64 << (self.lines.min(MOST_LINES) / LINES_AT_A_PACE))
+    }
+
+    /// Whether a line is due. A clock that fails makes none due.
+    fn is_due(&mut self) -> bool {
+        if self.shown == Shown::Nowhere || self.lines >= MOST_LINES {
+            return false;
+        }
+        let Ok(now) = self.rt.monotonic() else {
+            return false;
+        };
+        if now < self.next {
+            return false;
+        }
+        if self.shown == Shown::Lines {
+            self.lines += 1;
+        }
+        self.next = now.saturating_add(self.pace());
+        true
+    }
+
+    /// Prints a line, if one is due. Where standard error is closed, nobody reads it.
+    fn tell(&mut self, step: Step) {
+        if !self.is_due() {
+            return;
+        }
+        if self.shown == Shown::Terminal {
+            let _ = eprint!(self.rt; "\r\u{1b}[Kobim_query: {step}");
+        } else {
+            let _ = eprintln!(self.rt; "obim_query: {step}");
+        }
+    }
+
+    /// Takes the line at a terminal away.
+    pub fn clear(&self) {
+        if self.shown == Shown::Terminal {
+            let _ = eprint!(self.rt; "\r\u{1b}[K");
+        }
+    }
+}
+
+impl<H: Eprint + Clock> Watch for Progress<'_, H> {
+    fn see_bytes(&mut self, count: usize) {
+        self.bytes = self.bytes.saturating_add(count as u64);
+        self.tell(Step::Read(self.bytes));
+    }
+
+    fn see_rows(&mut self, vertices: u32, arcs: usize) {
+        self.figures.see_rows(vertices, arcs);
+    }
+
+    fn see_runs(&mut self, count: usize) {
+        self.figures.see_runs(count);
+    }
+
+    fn see_teams(&mut self, teams: usize) {
+        self.figures.see_teams(teams);
+    }
+
+    fn see_answered(&mut self, done: usize, all: usize) {
+        self.tell(Step::Answered(done, all));
+    }
+
+    fn end<C: Clock>(&mut self, clock: &C, phase: Phase) {
+        self.figures.end(clock, phase);
+    }
+}
+
+/// How far a job is.
+#[derive(Clone, Copy, Debug)]
+enum Step {
+    /// So many bytes of it were read.
+    Read(u64),
+    /// So many of its queries were answered.
+    Answered(usize, usize),
+}
+
+impl fmt::Display for Step {
+    fn fmt<W: fmt::Write>(&self, f: &mut fmt::Formatter<W>) -> fmt::Result {
+        match self {
+            Step::Read(bytes) => write!(f, "{} MiB read", bytes >> 20),
+            Step::Answered(done, all) => write!(f, "{done} of {all} queries answered"),
+        }
+    }
+}

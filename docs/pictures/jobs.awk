@@ -1,0 +1,36 @@
+# Draws whole jobs beside plain Rust, from the README's table of them: a bar a time, in seconds.
+function bar(at, seconds, colour) {
+    printf "<rect x=\"250\" y=\"%d\" width=\"%.1f\" height=\"18\" fill=\"%s\"/>\n", at, seconds * scale, colour
+    printf "<text x=\"%.1f\" y=\"%d\">%.2f s</text>\n", 258 + seconds * scale, at + 14, seconds
+}
+
+BEGIN {
+    FS = " *[|] *"
+    scale = 120
+    who[5] = "plain Rust, Dijkstra"; who[3] = "one worker"; who[4] = "four workers"
+    colour[5] = "#aaaaaa"; colour[3] = "#1b6ca8"; colour[4] = "#8fb8dc"
+}
+/^## / { is_there = $0 == "## How fast" }
+is_there && $5 ~ /^[0-9.]+ s$/ {
+    rows++
+    name[rows] = $2
+    size[rows] = $4 " arcs"
+    seconds[rows, 5] = $7 + 0; seconds[rows, 3] = $5 + 0; seconds[rows, 4] = $6 + 0
+}
+
+END {
+    height = 20 + rows * 88
+    printf "<svg xmlns=\"http://www.w3.org/2000/svg\" viewBox=\"0 0 900 %d\" font-family=\"sans-serif\" font-size=\"14\">\n", height
+    printf "<rect width=\"900\" height=\"%d\" fill=\"white\"/>\n", height
+    split("5 3 4", order, " ")
+    for (i = 1; i <= rows; i++) {
+        top = 16 + (i - 1) * 88
+        printf "<text x=\"10\" y=\"%d\" font-weight=\"bold\">%s</text>\n", top + 14, name[i]
+        printf "<text x=\"10\" y=\"%d\" fill=\"#555\">%s</text>\n", top + 34, size[i]
+        for (j = 1; j <= 3; j++) {
+            printf "<text x=\"240\" y=\"%d\" text-anchor=\"end\">%s</text>\n", top + (j - 1) * 23 + 14, who[order[j]]
+            bar(top + (j - 1) * 23, seconds[i, order[j]], colour[order[j]])
+        }
+    }
+    print "</svg>"
+}
