@@ -1,13 +1,11 @@
 //! The same job in plain Rust, to compare with: reads all, parses by bytes, builds rows by counting sort,
-//! finds distances by Dijkstra with a binary heap, and formats into one buffer. With --walks it prints walks
+//! finds distances by Dijkstra with a radix heap, and formats into one buffer. With --walks it prints walks
 //! of fewest arcs along least tails too, in pieces. It stops at the first line that is wrong, and says no
 //! more of it.
 
 mod shared;
 
 use shared::{Arc, Rows};
-use std::cmp::Reverse;
-use std::collections::BinaryHeap;
 use std::io::{self, Read, Write};
 
 struct Job {
@@ -151,20 +149,62 @@ fn parse(bytes: &[u8]) -> Option<Job> {
     (job.arcs.len() == m && job.sources.len() == k).then_some(job)
 }
 
+/// A radix heap: numbers never fall below the last that was taken out, and each waits in the bucket of the
+/// highest bit in which it differs from that one. So each moves to a lower bucket at most 64 times.
+struct RadixHeap {
+    last: u64,
+    buckets: [Vec<(u64, u32)>; 65],
+}
+
+impl RadixHeap {
+    fn new() -> RadixHeap {
+        RadixHeap { last: 0, buckets: [const { Vec::new() }; 65] }
+    }
+
+    fn push(&mut self, label: u64, vertex: u32) {
+        let bucket = 64 - (label ^ self.last).leading_zeros();
+        self.buckets[bucket as usize].push((label, vertex));
+    }
+
+    /// Takes out an entry of the least label. Entries whose labels fell meanwhile, and those that were
+    /// visited, are dropped as they move; the rows of the others are looked at.
+    fn pop(&mut self, rows: &Rows, labels: &[u64]) -> Option<(u64, u32)> {
+        while self.buckets[0].is_empty() {
+            let at = self.buckets.iter().position(|bucket| !bucket.is_empty())?;
+            let mut moved = std::mem::take(&mut self.buckets[at]);
+            moved.retain(|(label, vertex)| *label == labels[*vertex as usize]);
+            if let Some((least, _)) = moved.iter().min() {
+                self.last = *least;
+            }
+            for (label, vertex) in moved.drain(..) {
+                rows.prefetch(vertex as usize);
+                self.push(label, vertex);
+            }
+            // The bucket keeps its memory: what it had went to lower ones.
+            self.buckets[at] = moved;
+        }
+        self.buckets[0].pop()
+    }
+}
+
 fn distances(rows: &Rows, source: u32) -> Vec<u64> {
     let mut labels = vec![u64::MAX; rows.firsts.len() - 1];
-    let mut heap = BinaryHeap::new();
+    let mut heap = RadixHeap::new();
     labels[source as usize] = 0;
-    heap.push(Reverse((0u64, source)));
-    while let Some(Reverse((label, u))) = heap.pop() {
+    heap.push(0, source);
+    while let Some((label, u)) = heap.pop(rows, &labels) {
         if label > labels[u as usize] {
             continue;
         }
-        for target in rows.row(u as usize) {
+        let row = rows.row(u as usize);
+        for target in row.iter().take(16) {
+            shared::prefetch(&labels[target.head as usize]);
+        }
+        for target in row {
             let reached = label + u64::from(target.weight);
             if reached < labels[target.head as usize] {
                 labels[target.head as usize] = reached;
-                heap.push(Reverse((reached, target.head)));
+                heap.push(reached, target.head);
             }
         }
     }
