@@ -5,6 +5,16 @@
 //! however the workers' steps interleave, and what was read and written at each fault. `answer_bytes`
 //! is the same from bytes to bytes, and `answer_counted` tells how far it is besides.
 //!
+//! The answer to a text in memory, by two workers:
+//!
+//! ```text
+//! let settings = Settings::new(2, 0, 64).expect(rt, "settings within their limits");
+//! let settings = settings.with_widening_buckets();
+//! let asked = Asked::new(Answer::Distances, settings, false, MAX_BYTES).expect(rt, "no walks");
+//! let text = b"p sp 2 1\na 1 2 7\np aux sp ss 1\ns 1\n";
+//! let bytes = answer_bytes(rt, rt.alloc(), text, &asked, &OpenGate)?; // s 1, d 1 0 and d 2 7
+//! ```
+//!
 //! It stands on `dimacs_text`, which reads job texts and writes labels, on `csr_graph` for the rows, on
 //! `obim_engine`, whose workers give the labels, on `walk_report` for the walks, and on `route_walks`,
 //! which says what least labels are; on `thiserror` for the texts of faults.
