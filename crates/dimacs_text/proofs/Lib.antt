@@ -3,6 +3,7 @@ pub mod LineLemmas
 pub mod FormLemmas
 pub mod WordLemmas
 pub mod ReaderLemmas
+pub mod ArcRunLemmas
 pub mod AnswerLemmas
 pub mod FastArcLemmas
 pub mod TextLaws

@@ -29,7 +29,7 @@ use Rattle.dimacs_text.specs.reader.FastArc.{IsArcLine, HasNoFeed}
 use Rattle.dimacs_text.specs.declared.job.Job.{Job}
 use Rattle.dimacs_text.specs.declared.reader.LineReader.{LineReader}
 use Rattle.dimacs_text.specs.declared.reader.JobReader.{JobReader}
-use Rattle.dimacs_text.specs.Reading.{HasReadBy, HasRead, HasReadText, Keeps}
+use Rattle.dimacs_text.specs.Reading.{HasReadBy, HasRead, HasReadText, Keeps, Reads}
 use Rattle.dimacs_text.proofs.Machine.{run-append, run_begins, machine_misfit, legal_runs}
 
 pub map_ok-push : (said : List (Option Record)) (s : Option Record) (more : List Reading)
@@ -125,15 +125,33 @@ one_arc n j arcs arc rest after line r text more p =
           (let len = length-append arcs (arc ∷ []) in omega arith) (map-append arc_record arcs (arc ∷ []));
     }) p
 
+-- and are read again wherever they come next
 pub one_arc_more : (n : ℕ) (rest : List ℕ) (old new : List ArcRec) (count : ℕ) (between after : List ℕ) (arc : ArcRec)
     → ReadsArcs n rest old new count between → IsArcLine n between arc after
     → ReadsArcs n rest old (new ++ arc ∷ []) (count + 1) after
-one_arc_more n rest old new count between after arc reads is missing line few text more p =
-    let here = reads missing line (omega arith) text more p in
-    let left : missing - count ≡ suc (missing - (count + 1)) = omega arith in
-    subst (λ x. IsReadTo text (after ++ more) x (arcs_progress n (missing - (count + 1)) (new ++ arc ∷ []))) (omega arith)
-    (one_arc n (missing - (count + 1)) new arc between after (line + count) is text more
-    (subst (λ m. IsReadTo text (between ++ more) (line + count) (arcs_progress n m new)) left here))
+one_arc_more n rest old new count between after arc reads is =
+    let arcs = reads.arcs in
+    let len = length-append arcs (arc ∷ []) in
+    record {
+      arcs = arcs ++ arc ∷ [];
+      appended = ap (λ l. l ++ arc ∷ []) reads.appended ∙ append_assoc old arcs (arc ∷ []);
+      number = omega (arith, reads.number, len);
+      leads = λ before missing line few text more p.
+          let left : missing - length arcs ≡ suc (missing - length (arcs ++ arc ∷ [])) = omega (arith, few, len) in
+          let here = reads.leads before missing line (omega (arith, few, len)) text more p in
+          let next =
+          one_arc n (missing - length (arcs ++ arc ∷ [])) (before ++ arcs) arc between after (line + length arcs) is
+          text more
+          (subst (λ m. IsReadTo text (between ++ more) (line + length arcs) (arcs_progress n m (before ++ arcs))) left
+          here) in
+          subst
+          (λ l. IsReadTo text (after ++ more) (line + length (arcs ++ arc ∷ []))
+          (arcs_progress n (missing - length (arcs ++ arc ∷ [])) l)) (append_assoc before arcs (arc ∷ []))
+          (subst
+          (λ x. IsReadTo text (after ++ more) x
+          (arcs_progress n (missing - length (arcs ++ arc ∷ [])) ((before ++ arcs) ++ arc ∷ []))) (omega (arith, len))
+          next);
+    }
 
 -- a line that is wrong is the first
 pub line_wrong : (old : Progress) (all after : List (List ℕ)) (text : List ℕ) (line : ℕ) (kind : LineKind)
@@ -277,3 +295,13 @@ fault_stays reader text bytes some r few =
           (ap (λ t. t ++ (bytes ++ more)) (sym is) ∙ sym (append_assoc text bytes more)) (reads (bytes ++ more)),
       refl,
     )
+
+-- pieces that were read one after the other
+pub reads_both : (old between new : JobReader) (front back : List ℕ)
+    → Reads old between front → Reads between new back
+    → Reads old new (front ++ back)
+reads_both old between new front back first second text r few =
+    let len = length-append front back in
+    let more = length-append text front in
+    subst (λ t. HasRead new t) (append_assoc text front back)
+    (second (text ++ front) (first text r (omega (arith, few, len))) (omega (arith, few, len, more)))

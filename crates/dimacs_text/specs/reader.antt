@@ -4,3 +4,4 @@ pub mod Entries
 pub mod Pieces
 pub mod FastArc
 pub mod Drafts
+pub mod ArcRuns

@@ -12,6 +12,7 @@
 #![tactic(auto)]
 
 mod answer;
+mod arc_runs;
 mod draft;
 mod fast_arc;
 mod fault;

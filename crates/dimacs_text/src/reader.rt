@@ -3,19 +3,22 @@
 //! A text comes whole, or in pieces of any size. Each whole line is read at once, and its bytes are let go:
 //! only those of the last line are kept until the rest of it comes.
 
-ghost use Rattle.std.specs.Prelude.{◌≡◌, ◌^◌, ◌≤◌, ◌+◌, ◌++◌, ℕ, List, [], length, take, ◌<◌, None, IfOk, IfErr, OnOk};
+ghost use Rattle.std.specs.Prelude.{◌≡◌, ◌^◌, ◌≤◌, ◌+◌, ◌++◌, ℕ, All, List, [], length, take, ◌<◌, None, IfOk, IfErr, OnOk};
 ghost use Rattle.dimacs_text.specs.Jobs.{content_of, IsJobText, IsWithinLimits};
 ghost use Rattle.dimacs_text.specs.Faults.{IsFaultOf};
 ghost use Rattle.dimacs_text.specs.reader.FastArc.{EndsWithFeed, HasNoFeed};
+ghost use Rattle.dimacs_text.specs.reader.ArcRuns.{IsArcRun};
 ghost use Rattle.dimacs_text.specs.Reading.{Reads};
 ghost use Rattle.dimacs_text.specs.Reading.{HasRead, HasReadLines, HasReadText};
 
+use crate::arc_runs::ArcRun;
 use crate::draft::Draft;
 use crate::fault::{LineKind, TextFault};
 use crate::job::Job;
-use crate::line::{after_last_feed, line_end};
+use crate::line::{after_first_feed, after_last_feed, line_end};
 use route_walks::Memory;
 use std::alloc::Global;
+use std::thread::Threads;
 
 /// The lines that were read, all of them whole.
 #[derive(Drop)]
@@ -28,16 +31,18 @@ struct LineReader {
 }
 
 impl LineReader {
-    /// Reads lines that each end with a line feed. After a line that is wrong none is read.
-    fn read(&mut self, bytes: &[u8]) -> Result<(), Memory>
+    /// Reads lines that each end with a line feed, of which some runs are read already. After a line that is
+    /// wrong none is read.
+    fn read(&mut self, bytes: &[u8], runs: &[ArcRun]) -> Result<(), Memory>
         requires ended { EndsWithFeed bytes.now }
+        requires runs { All (IsArcRun bytes.now) runs.now }
         ensures reads { OnOk result ((text : List ℕ) → HasReadLines self.old text
             → length text + length bytes.now ≤ 2 ^ 36 → HasReadLines self.new (text ++ bytes.now)) }
     {
         if self.fault.is_some() {
             return Ok(());
         }
-        match self.draft.read_lines(bytes, self.line) {
+        match self.draft.read_with_runs(bytes, self.line, runs) {
             Ok(next) => self.line = next,
             Err(TextFault::Memory) => return Err(Memory),
             Err(TextFault::Line { line, kind }) => {
@@ -111,6 +116,41 @@ impl JobReader {
         self.keep(tail)
     }
 
+    /// Reads the next bytes as `feed` does, the lines of arcs among them by so many threads side by side.
+    /// Each reads a part of the bytes, which should be 64 KiB at least. Where memory is refused for that, one
+    /// thread does it all.
+    pub fn feed_by<H: Threads + Sync>(
+        &mut self,
+        rt: &H,
+        alloc: Global,
+        bytes: &[u8],
+        threads: usize,
+    ) -> Result<(), Memory>
+        ensures reads { OnOk result (Reads self.old self.new bytes.now) }
+    {
+        // Up to the first line feed, so that no line is unfinished after it.
+        let (front, rest) = bytes.split_at(after_first_feed(bytes));
+        self.feed(front)?;
+        if self.lines.fault.is_some() || !self.unfinished.is_empty() {
+            return self.feed(rest);
+        }
+        let (lines, tail) = rest.split_at(after_last_feed(rest));
+        let runs = self.lines.draft.read_arc_runs(rt, alloc, lines, threads);
+        self.read_whole(lines, &runs)?;
+        self.keep(tail)
+    }
+
+    /// Reads lines that each end with a line feed, where no line is unfinished. Some runs are read already.
+    fn read_whole(&mut self, lines: &[u8], runs: &[ArcRun]) -> Result<(), Memory>
+        requires right { self.old.lines.fault ≡ None }
+        requires finished { self.old.unfinished.items ≡ [] }
+        requires ended { EndsWithFeed lines.now }
+        requires runs { All (IsArcRun lines.now) runs.now }
+        ensures reads { OnOk result (Reads self.old self.new lines.now) }
+    {
+        self.lines.read(lines, runs)
+    }
+
     /// Reads lines that each end with a line feed, the first of them with what is kept of it.
     fn read_lines(&mut self, lines: &[u8]) -> Result<(), Memory>
         requires right { self.old.lines.fault ≡ None }
@@ -122,9 +162,9 @@ impl JobReader {
         }
         let (end, rest) = lines.split_at(self.left_of_line(lines));
         self.unfinished.extend_from_slice(end)?;
-        self.lines.read(&self.unfinished)?;
+        self.lines.read(&self.unfinished, &[])?;
         self.unfinished.clear();
-        self.lines.read(rest)
+        self.lines.read(rest, &[])
     }
 
     /// Keeps bytes of an unfinished line.
@@ -151,6 +191,11 @@ impl JobReader {
         } else {
             line_end(lines, 0) + 1
         }
+    }
+
+    /// How many arcs of the graph were read, and how many the problem line counts. None before that line.
+    pub fn arcs_so_far(&self) -> Option<(usize, usize)> {
+        self.lines.draft.arcs_so_far()
     }
 
     /// The job of the text. A text that is no job's is refused with the number of its first wrong line and

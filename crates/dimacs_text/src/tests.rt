@@ -1,6 +1,7 @@
 //! Texts with the job or the fault that they must give, and the lines of answers.
 
 mod refusals;
+mod several;
 
 use crate::{
     Ask, Job, JobReader, LineKind, TextFault, put_components, put_distances, put_grown, put_label,

@@ -79,7 +79,8 @@ pub fn answer_counted<H: Threads + Wait + Clock + Sync, R: Read, W: Write, G: Ga
         (R.remaining reader.old) (R.remaining reader.new)
         (W.contents writer.old) (W.contents writer.new)) }
 {
-    let job = read_request(alloc, reader, asked.limit, watch)?;
+    let threads = asked.settings.workers as usize;
+    let job = read_request(rt, alloc, reader, asked.limit, threads, watch)?;
     watch.end(rt, Phase::Reading);
     respond(rt, alloc, writer, asked, job, gate, watch)
 }

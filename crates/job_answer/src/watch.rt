@@ -14,8 +14,9 @@ pub enum Phase {
 
 /// Told by `answer_counted` how far it is, by the caller's own thread. No byte of an answer depends on it.
 pub trait Watch {
-    /// So many bytes more of the text were read.
-    fn see_bytes(&mut self, _count: usize) {}
+    /// So many bytes more of the text were read. Of the graph's arcs so many are read now, and so many are
+    /// counted, once the problem line is read.
+    fn see_text(&mut self, _count: usize, _arcs: Option<(usize, usize)>) {}
 
     /// The rows have so many vertices and arcs. For components each arc is there both ways.
     fn see_rows(&mut self, vertices: u32, arcs: usize);

@@ -98,9 +98,12 @@ impl<'a, H: Eprint + Clock> Progress<'a, H> {
 }
 
 impl<H: Eprint + Clock> Watch for Progress<'_, H> {
-    fn see_bytes(&mut self, count: usize) {
+    fn see_text(&mut self, count: usize, arcs: Option<(usize, usize)>) {
         self.bytes = self.bytes.saturating_add(count as u64);
-        self.tell(Step::Read(self.bytes));
+        self.tell(match arcs {
+            Some((read, all)) => Step::Arcs(read, all),
+            None => Step::Bytes(self.bytes),
+        });
     }
 
     fn see_rows(&mut self, vertices: u32, arcs: usize) {
@@ -127,8 +130,10 @@ impl<H: Eprint + Clock> Watch for Progress<'_, H> {
 /// How far a job is.
 #[derive(Clone, Copy, Debug)]
 enum Step {
-    /// So many bytes of it were read.
-    Read(u64),
+    /// So many bytes of it were read, and no problem line yet.
+    Bytes(u64),
+    /// So many of the arcs of its graph were read.
+    Arcs(usize, usize),
     /// So many of its queries were answered.
     Answered(usize, usize),
 }
@@ -136,7 +141,8 @@ enum Step {
 impl fmt::Display for Step {
     fn fmt<W: fmt::Write>(&self, f: &mut fmt::Formatter<W>) -> fmt::Result {
         match self {
-            Step::Read(bytes) => write!(f, "{} MiB read", bytes >> 20),
+            Step::Bytes(bytes) => write!(f, "{} MiB read", bytes >> 20),
+            Step::Arcs(read, all) => write!(f, "{read} of {all} arcs read"),
             Step::Answered(done, all) => write!(f, "{done} of {all} queries answered"),
         }
     }

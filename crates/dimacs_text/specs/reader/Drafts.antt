@@ -112,12 +112,20 @@ ReadsTo old line rest new next after =
     → IsReadTo text (rest ++ more) line old
     → IsReadTo text (after ++ more) next new
 
+-- the lines of the arcs come first in the rest, whatever arcs were read before them
+abbrev pub LeadsArcs : ℕ → List ℕ → List ArcRec → List ℕ → Type 0
+LeadsArcs n rest arcs after =
+    (before : List ArcRec) (missing line : ℕ)
+    → length arcs ≤ missing
+    → ReadsTo (arcs_progress n missing before) line rest
+    (arcs_progress n (missing - length arcs) (before ++ arcs)) (line + length arcs) after
+
 -- arcs that were added to the old ones, a line each
-abbrev pub ReadsArcs : ℕ → List ℕ → List ArcRec → List ArcRec → ℕ → List ℕ → Type 0
-ReadsArcs n rest old new count after =
-    (missing line : ℕ)
-    → count ≤ missing
-    → ReadsTo (arcs_progress n missing old) line rest (arcs_progress n (missing - count) new) (line + count) after
+pub record ReadsArcs (n : ℕ) (rest : List ℕ) (old new : List ArcRec) (count : ℕ) (after : List ℕ) : Type 0 where
+  pub arcs : List ArcRec
+  pub appended : new ≡ old ++ arcs
+  pub number : count ≡ length arcs
+  pub leads : LeadsArcs n rest arcs after
 
 -- the first line that is wrong is one of the rest, whatever the text is in which it stands
 abbrev pub IsFaultIn : Progress → ℕ → List ℕ → TextFault → Type 0

@@ -2,6 +2,7 @@
 //! once more it gives the job, the fault or the bytes that were worked by hand. `tests/refusals` refuses each in
 //! turn; `tests/refusals.tsv` has the calls.
 
+use crate::tests::several::large;
 use crate::tests::{GRAPH, assert_job, joined};
 use crate::{
     JobReader, LineKind, TextFault, put_component, put_components, put_distances, put_grown,
@@ -73,6 +74,24 @@ fn of_job_reader_feed(rt: HostRuntime) -> Result<(), Fail> {
             Some([ArcRec::new(0, 5, 4)].as_slice())
         );
     }
+    Ok(())
+}
+
+// Where the runs of several threads are refused memory, one reads all lines; else as above.
+#[test]
+fn of_job_reader_feed_by(rt: HostRuntime) -> Result<(), Fail> {
+    let alloc = rt.alloc();
+    let text = large(alloc, 3000, b"c\n")?;
+    let (front, back) = text.split_at(20);
+    let mut reader = JobReader::new(alloc);
+    reader.feed(front)?;
+    if let Err(Memory) = refusable!(alloc, reader.feed_by(&rt, alloc, back, 3)) {
+        reader = JobReader::new(alloc);
+        reader.feed(&text)?;
+    }
+    let job = reader.finish()?;
+    assert_eq!(rt; job.arcs.len(), 6000);
+    assert_job(&rt, &job, 5000, ArcRec::new(999, 1993, 5999), &[4999]);
     Ok(())
 }
 

@@ -2,17 +2,21 @@
 //! the whole answer.
 
 use super::streams::{Sink, Source};
-use super::{SIX, SIX_ANSWER, asked, asked_for_walks, fault};
+use super::{SIX, SIX_ANSWER, asked, asked_for_walks, asked_with, fault};
 use crate::asked::Answer;
 use crate::fault::Fault;
 use crate::reply::answer;
 use dimacs_text::LineKind;
 use obim_engine::OpenGate;
 use std::alloc::{AllocError, Global};
+use std::process::Abort;
+use std::sync::Wait;
 use std::test::Fail;
+use std::thread::Threads;
+use std::time::Clock;
 
-/// So many bytes the program reads at once.
-const BLOCK: usize = 1 << 16;
+/// Bytes of a block that one worker reads, and that two do.
+const BLOCKS: [(u32, usize); 2] = [(1, 1 << 16), (2, 1 << 19)];
 
 /// Two sources, with walks.
 const WALKED: &[u8] =
@@ -129,45 +133,59 @@ fn is_of_text(outcome: Result<(), Fault>) -> bool {
 }
 
 /// The job of six vertices behind a comment, after which so many of its bytes lie in the first block.
-fn behind_a_comment(alloc: Global, inside: usize) -> Result<Vec<u8>, AllocError> {
+fn behind_a_comment(alloc: Global, block: usize, inside: usize) -> Result<Vec<u8>, AllocError> {
     let mut text = Vec::new(alloc);
     text.push(b'c')?;
-    text.resize(BLOCK.saturating_sub(inside).saturating_sub(1), b' ')?;
+    text.resize(block.saturating_sub(inside).saturating_sub(1), b' ')?;
     text.push(b'\n')?;
     text.extend_from_slice(SIX)?;
     Ok(text)
 }
 
-// Each byte of a job comes first after a block, or beside that, and the limit is the whole text or a byte
-// less.
+/// Answers a text that comes in a first read and then in others of a size, up to each of two limits: the whole
+/// text, and a byte less.
+fn assert_cut(
+    rt: &(impl Abort + Threads + Wait + Clock + Sync),
+    alloc: Global,
+    workers: u32,
+    text: &[u8],
+    (first, step): (usize, usize),
+) {
+    for (limit, want, reply) in [
+        (text.len(), Ok(()), SIX_ANSWER),
+        (
+            text.len().saturating_sub(1),
+            Err(Fault::TooLong),
+            b"".as_slice(),
+        ),
+    ] {
+        let asked = asked_with(rt, Answer::Distances, limit as u64, (workers, 4, 16));
+        let mut reader = Source::new(text, first, step);
+        let mut sink = Sink::new(alloc, 1000);
+        let outcome = answer(rt, alloc, &mut reader, &mut sink, &asked, &OpenGate);
+        assert_eq!(rt; outcome, want, "{workers} workers, {first}, {step}");
+        assert_eq!(rt;
+            sink.taken.as_slice(),
+            reply,
+            "{workers} workers, {first}, {step}"
+        );
+    }
+}
+
+// Each byte of a job comes first after a block, or beside that, in reads of blocks and of bytes.
 #[test]
 fn jobs_cut_at_blocks(rt: HostRuntime) -> Result<(), Fail> {
-    for inside in 0..=SIX.len() {
-        let text = behind_a_comment(rt.alloc(), inside)?;
-        for (first, step) in [
-            (BLOCK, BLOCK),
-            (BLOCK - 1, BLOCK),
-            (1, BLOCK),
-            (BLOCK - 1, 1),
-        ] {
-            for (limit, want, reply) in [
-                (text.len(), Ok(()), SIX_ANSWER),
-                (
-                    text.len().saturating_sub(1),
-                    Err(Fault::TooLong),
-                    b"".as_slice(),
-                ),
+    let alloc = rt.alloc();
+    for (workers, block) in BLOCKS {
+        for inside in 0..=SIX.len() {
+            let text = behind_a_comment(alloc, block, inside)?;
+            for reads in [
+                (block, block),
+                (block - 1, block),
+                (1, block),
+                (block - 1, 1),
             ] {
-                let asked = asked(&rt, Answer::Distances, limit as u64);
-                let mut reader = Source::new(&text, first, step);
-                let mut sink = Sink::new(rt.alloc(), 1000);
-                let outcome = answer(&rt, rt.alloc(), &mut reader, &mut sink, &asked, &OpenGate);
-                assert_eq!(rt; outcome, want, "{inside} bytes, {first}, {step}");
-                assert_eq!(rt;
-                    sink.taken.as_slice(),
-                    reply,
-                    "{inside} bytes, {first}, {step}"
-                );
+                assert_cut(&rt, alloc, workers, &text, reads);
             }
         }
     }

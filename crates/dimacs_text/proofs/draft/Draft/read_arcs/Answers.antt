@@ -2,6 +2,7 @@ use Rattle.std.proofs.Common.{◌≡◌, ◌∙◌, ap, sym, arith}
 use Rattle.dimacs_text.specs.declared.form.Section.TheVariants.{Problem}
 use Rattle.dimacs_text.specs.declared.stage.Stage.TheVariants.{Within}
 use Rattle.dimacs_text.specs.reader.Drafts.{Progress, progress_of, records_by, arcs_progress}
+use Rattle.dimacs_text.proofs.ArcRunLemmas.{arcs_lead}
 use Rattle.dimacs_text.proofs.draft.Draft.read_arcs.Goals as goal
 
 pub returns-clause-reads : goal.returns-clause-reads
@@ -21,5 +22,5 @@ returns-clause-reads c line =
     }) (sym stage)
     ∙ same in
     rw (c.from.ensures, ← start)
-    (c.read_run-count.ensures.reads c.in-Some.missing line
+    (arcs_lead _ _ _ _ _ _ c.in-Some.missing line c.read_run-count.ensures.reads
     (omega (arith, c.read_run-count.ensures.few, c.room_for_arcs-room.ensures.missing)))

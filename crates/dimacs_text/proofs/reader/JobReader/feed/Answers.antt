@@ -1,7 +1,7 @@
-use Rattle.std.proofs.Common.{◌≡◌, ◌++◌, take-append-drop, ap₂, sym, ap, subst, ◌∙◌, append_assoc, length, length-append, arith}
+use Rattle.std.proofs.Common.{◌≡◌, ◌++◌, take-append-drop, ap₂, sym, subst, ◌∙◌}
 use Rattle.std.proofs.lemmas.Result.{on_ok_weaker}
-use Rattle.dimacs_text.specs.Reading.{HasRead}
-use Rattle.dimacs_text.proofs.ReaderLemmas.{fault_stays}
+use Rattle.dimacs_text.specs.Reading.{Reads}
+use Rattle.dimacs_text.proofs.ReaderLemmas.{fault_stays, reads_both}
 use Rattle.dimacs_text.proofs.reader.JobReader.feed.Goals as goal
 
 pub returns-then-is_some : goal.returns-then-is_some
@@ -18,11 +18,8 @@ returns c =
     ap₂ (λ l t. l ++ t) c.split_at.ensures.front c.split_at.ensures.back ∙ take-append-drop _ c.args.bytes.now in
     record {
       reads = on_ok_weaker c.keep.result
-          (λ keep text r few.
-          let len = length-append lines tail in
-          let all = ap (λ l. length l) whole in
-          subst (λ t. HasRead c.keep.new.self t)
-          (append_assoc text lines tail ∙ ap (λ l. text ++ l) whole)
-          (keep (text ++ lines) (c.in_ok-read_lines.ensures.reads text r (omega (arith, few, len, all)))
-          (let more = length-append text lines in omega (arith, few, len, all, more)))) c.keep.ensures.reads;
+          (λ keep.
+          subst (λ b. Reads c.args.self.now c.keep.new.self b) whole
+          (reads_both c.args.self.now c.read_lines.new.self c.keep.new.self lines tail
+          c.in_ok-read_lines.ensures.reads keep)) c.keep.ensures.reads;
     }
