@@ -1,5 +1,6 @@
 -- What a run of the program has read and written, for each outcome.
-use Rattle.std.specs.Prelude.{◌≡◌, ◌≢◌, ◌<◌, ◌≤◌, ◌⊎◌, ℕ, Bool, true, false, List, length, Option, ⊤}
+use Rattle.std.specs.Prelude.{◌≡◌, ◌≢◌, ◌<◌, ◌≤◌, ◌⊎◌, ℕ, Bool, true, false, List, length, Option, Result, ⊤}
+use Rattle.std.specs.Result.{OnOk, IfErr}
 use Rattle.std.specs.Io.KnownBytes.{Keeps}
 use Rattle.dimacs_text.specs.declared.fault.LineKind.{LineKind}
 use Rattle.dimacs_text.specs.Jobs.{Content, Question, absent, from_sources, of_pairs, IsJobText, IsWithinLimits}
@@ -125,6 +126,18 @@ HasWritten limit kind walks taken_from taken_to given_from given_to fault.Spawn 
     IsBegun limit kind walks taken_from taken_to given_from given_to
 HasWritten limit kind walks taken_from taken_to given_from given_to fault.Write =
     IsBegun limit kind walks taken_from taken_to given_from given_to
+
+-- what a call says that reads a job text and writes its answer
+pub record IsReply (limit : ℕ) (kind : Answer) (walks : Bool)
+    (taken_from taken_to given_from given_to : Option (List ℕ)) (result : Result (Unit {0}) Fault) : Type 0 where
+  -- the whole text was read, it is a job's, and exactly its answer was written
+  pub answered : OnOk result (IsAnswered limit kind walks taken_from taken_to given_from given_to)
+  -- at most the limit was read, and one byte more only where the text is too long
+  pub taken : IfErr result (HasTaken limit taken_from taken_to)
+  -- a fault of the text is its first one; where nothing was asked, the job is legal all the same
+  pub says : IfErr result (IsTrueOfText limit kind taken_from taken_to)
+  -- where the text is refused nothing was written, and else a prefix of the answer
+  pub written : IfErr result (HasWritten limit kind walks taken_from taken_to given_from given_to)
 
 -- the faults of reading a job: a fault of its text is the first one
 abbrev pub IsRequestFault : Option (List ℕ) → Option (List ℕ) → Fault → Type 0

@@ -5,8 +5,7 @@ ghost use Rattle.dimacs_text.specs.Jobs.{content_of, question_of, IsQuestionWith
 ghost use Rattle.job_answer.specs.AnswerText.{IsAnswerText, IsTextFor};
 ghost use Rattle.job_answer.specs.Bytes.{Writes, WritesPrefix};
 ghost use Rattle.job_answer.specs.Graphs.{AreGraphs, growth_of};
-ghost use Rattle.job_answer.specs.Outcome.{HasTaken, HasWritten, IsAnswerOf, IsAnswered, IsReplyFault};
-ghost use Rattle.job_answer.specs.Outcome.{IsRequest, IsRequestFault, IsTrueOfBytes, IsTrueOfText};
+ghost use Rattle.job_answer.specs.Outcome.{IsAnswerOf, IsReply, IsReplyFault, IsTrueOfBytes};
 ghost use Rattle.job_answer.specs.Outcome.{IsWritingFault, is_unasked};
 
 use crate::asked::{Answer, Asked};
@@ -39,20 +38,9 @@ pub fn answer<H: Threads + Wait + Clock + Sync, R: Read, W: Write, G: Gate + Syn
     asked: &Asked,
     gate: &G,
 ) -> Result<(), Fault>
-    // The whole text was read, it is a job's, and exactly its answer was written.
-    ensures answered { OnOk result (IsAnswered asked.now.limit asked.now.answer asked.now.walks
+    ensures { IsReply asked.now.limit asked.now.answer asked.now.walks
         (R.remaining reader.old) (R.remaining reader.new)
-        (W.contents writer.old) (W.contents writer.new)) }
-    // At most the limit was read, and one byte more only where the text is too long.
-    ensures taken { IfErr result (HasTaken asked.now.limit
-        (R.remaining reader.old) (R.remaining reader.new)) }
-    // A fault of the text is its first one; where nothing was asked, the job is legal all the same.
-    ensures says { IfErr result (IsTrueOfText asked.now.limit asked.now.answer
-        (R.remaining reader.old) (R.remaining reader.new)) }
-    // Where the text is refused nothing was written, and else a prefix of the answer.
-    ensures written { IfErr result (HasWritten asked.now.limit asked.now.answer asked.now.walks
-        (R.remaining reader.old) (R.remaining reader.new)
-        (W.contents writer.old) (W.contents writer.new)) }
+        (W.contents writer.old) (W.contents writer.new) result }
 {
     let mut figures = Figures::new(rt);
     answer_counted(rt, alloc, reader, writer, asked, gate, &mut figures)
@@ -68,16 +56,9 @@ pub fn answer_counted<H: Threads + Wait + Clock + Sync, R: Read, W: Write, G: Ga
     gate: &G,
     watch: &mut impl Watch,
 ) -> Result<(), Fault>
-    ensures answered { OnOk result (IsAnswered asked.now.limit asked.now.answer asked.now.walks
+    ensures { IsReply asked.now.limit asked.now.answer asked.now.walks
         (R.remaining reader.old) (R.remaining reader.new)
-        (W.contents writer.old) (W.contents writer.new)) }
-    ensures taken { IfErr result (HasTaken asked.now.limit
-        (R.remaining reader.old) (R.remaining reader.new)) }
-    ensures says { IfErr result (IsTrueOfText asked.now.limit asked.now.answer
-        (R.remaining reader.old) (R.remaining reader.new)) }
-    ensures written { IfErr result (HasWritten asked.now.limit asked.now.answer asked.now.walks
-        (R.remaining reader.old) (R.remaining reader.new)
-        (W.contents writer.old) (W.contents writer.new)) }
+        (W.contents writer.old) (W.contents writer.new) result }
 {
     let threads = asked.settings.workers as usize;
     let job = read_request(rt, alloc, reader, asked.limit, threads, watch)?;

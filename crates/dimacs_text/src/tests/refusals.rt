@@ -82,7 +82,7 @@ fn of_job_reader_feed(rt: HostRuntime) -> Result<(), Fail> {
 fn of_job_reader_feed_by(rt: HostRuntime) -> Result<(), Fail> {
     let alloc = rt.alloc();
     let text = large(alloc, 3000, b"c\n")?;
-    let (front, back) = text.split_at(20);
+    let (front, back) = text.split_at(text.len().min(20));
     let mut reader = JobReader::new(alloc);
     reader.feed(front)?;
     if let Err(Memory) = refusable!(alloc, reader.feed_by(&rt, alloc, back, 3)) {
