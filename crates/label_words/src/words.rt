@@ -28,8 +28,8 @@ use std::alloc::Global;
 use std::marker::Model;
 use std::snapshot::Snapshot;
 
-/// So many heads of a row are looked at before its arcs are relaxed.
-const WARMED: usize = 16;
+/// The most heads of a row whose labels `prefetch_labels` asks for.
+const PREFETCHED_HEADS: usize = 16;
 
 /// What `relax` did.
 #[derive(Clone, Copy, Debug, PartialEq, Eq)]
@@ -151,27 +151,26 @@ impl Words {
         let shared = &self.table.shared;
         let d = shared.load::<Reads>(&mut seat.place, label_word(u));
         seat.view.read(d, csr.first(u));
-        self.warm(seat, csr, u);
         d
     }
 
-    /// Looks at the labels of the first heads of a row, which takes no step: they come from memory side
-    /// by side here, and one after the other where each is first asked for as its arc is relaxed.
+    /// Prefetches the labels of the first heads of a row, up to 16. It takes no step and promises nothing:
+    /// they come from memory side by side here, and one after the other where each is first asked for as
+    /// its arc is relaxed. Plain loads do this, since the language has no other.
     #[inline(always)]
-    fn warm(&self, seat: &WorkSeat, csr: &Csr, u: u32)
+    pub fn prefetch_labels(&self, seat: &WorkSeat, csr: &Csr, u: u32)
         requires words { seat.now.words ≡ self.now }
         requires graph { csr.now ≡ seat.now.known.graph }
         requires vertex { u < csr.now.n }
     {
         let first = csr.first(u);
-        for k in first..csr.end(u).min(first + WARMED) {
-            self.look(seat, csr.target(k).head);
+        for k in first..csr.end(u).min(first + PREFETCHED_HEADS) {
+            self.prefetch_label(seat, csr.target(k).head);
         }
     }
 
-    /// Looks at the label of a head.
     #[inline(always)]
-    fn look(&self, seat: &WorkSeat, head: u32)
+    fn prefetch_label(&self, seat: &WorkSeat, head: u32)
         requires words { seat.now.words ≡ self.now }
         requires vertex { head < seat.now.known.graph.n }
     {

@@ -160,6 +160,7 @@ fn visit<H: Wait, P: WorkPool, G: Gate>(
     requires graph { shared.now.csr.now ≡ seat.old.known.graph }
     requires fresh { seat.old.known.view.hand ≡ Fresh u }
     requires credit { seat.old.known.view.credits ≡ 1 }
+    requires vertex { u < shared.now.csr.now.n }
     requires side { P.is_side shared.now.pool.now side.old }
     ensures stays { Stays seat.old seat.new }
     ensures idle { seat.new.known.view.hand ≡ Idle }
@@ -167,6 +168,7 @@ fn visit<H: Wait, P: WorkPool, G: Gate>(
 {
     shared.gate.pass(rt, worker, u);
     prefetch(shared, seat, side);
+    shared.words.prefetch_labels(seat, shared.csr, u);
     shared.words.read(seat, shared.csr);
     while relax_next(rt, shared, seat, side, u) {}
     shared.words.finish(seat, shared.csr);

@@ -4,10 +4,10 @@ use Rattle.std.specs.Prelude.{slice_get, ⊤}
 use Rattle.std.proofs.lemmas.Option.{slice_get-get_or, MatchOption-at_some}
 use Rattle.route_walks.specs.declared.graph.ArcRec.{ArcRec}
 use Rattle.csr_graph.proofs.Facts.{first_place_le, no_arc}
-use Rattle.label_words.proofs.words.Words.warm.Goals as goal
+use Rattle.label_words.proofs.words.Words.prefetch_labels.Goals as goal
 
-pub look-requires-clause-vertex : goal.look-requires-clause-vertex
-look-requires-clause-vertex c =
+pub prefetch_label-requires-clause-vertex : goal.prefetch_label-requires-clause-vertex
+prefetch_label-requires-clause-vertex c =
     let graph = c.args.csr.now in
     let k = c.loop-k.k in
     let lt : k < length graph.arcs = omega (arith, c.loop-k-test.true, c.min-k-end.ensures, c.end.ensures.place, first_place_le graph.arcs (c.args.u + 1)) in
