@@ -7,25 +7,27 @@ ghost use Rattle.dimacs_text.specs.Jobs.{content_of};
 ghost use Rattle.job_answer.specs.Outcome.{HasTaken, IsRequest, IsRequestFault};
 
 use crate::fault::Fault;
+use crate::readers::Readers;
 use crate::watch::Watch;
 use dimacs_text::{Job, JobReader};
 use route_walks::Memory;
 use std::alloc::Global;
 use std::io::Read;
 use std::thread::Threads;
+use std::time::Clock;
 
 /// Bytes of a block that one thread reads: it stays in the cache from the read to the parse.
 const BLOCK: usize = 1 << 16;
 
 /// Bytes of a block for each of several threads, so that starting them costs little beside it.
-const PART: usize = 1 << 18;
+const PART: usize = 1 << 19;
 
 /// More threads than this read no faster.
 const MOST_THREADS: usize = 16;
 
 /// Reads the job in all that the reader gives, up to its end, and one byte past the limit at most. After
-/// a fault of the text the rest is read all the same. The lines of arcs are read by so many threads.
-pub fn read_request<H: Threads + Sync, R: Read>(
+/// a fault of the text the rest is read all the same. The lines of arcs are read by at most so many threads.
+pub fn read_request<H: Threads + Clock + Sync, R: Read>(
     rt: &H,
     alloc: Global,
     reader: &mut R,
@@ -57,7 +59,7 @@ fn buffer_for(alloc: Global, threads: usize) -> Result<Vec<u8>, Memory>
 }
 
 /// The same as `read_request`, through a buffer.
-fn read_blocks<H: Threads + Sync, R: Read>(
+fn read_blocks<H: Threads + Clock + Sync, R: Read>(
     rt: &H,
     alloc: Global,
     reader: &mut R,
@@ -75,6 +77,7 @@ fn read_blocks<H: Threads + Sync, R: Read>(
     ensures says { IfErr result (IsRequestFault (R.remaining reader.old) (R.remaining reader.new)) }
 {
     let mut job = JobReader::new(alloc);
+    let mut readers = Readers::new(threads.min(MOST_THREADS));
     let mut left = limit as usize;
     loop {
         let room = buffer.len().min(left + 1);
@@ -82,7 +85,7 @@ fn read_blocks<H: Threads + Sync, R: Read>(
         if count > left {
             return Err(Fault::TooLong);
         }
-        job.feed_by(rt, alloc, &buffer[..count], threads)?;
+        readers.feed(rt, alloc, &mut job, &buffer[..count])?;
         left -= count;
         watch.see_text(count, job.arcs_so_far());
         if count < room {

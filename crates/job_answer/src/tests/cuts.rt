@@ -16,7 +16,7 @@ use std::thread::Threads;
 use std::time::Clock;
 
 /// Bytes of a block that one worker reads, and that two do.
-const BLOCKS: [(u32, usize); 2] = [(1, 1 << 16), (2, 1 << 19)];
+const BLOCKS: [(u32, usize); 2] = [(1, 1 << 16), (2, 1 << 20)];
 
 /// Two sources, with walks.
 const WALKED: &[u8] =

@@ -33,10 +33,10 @@ returns-then-count-left-clause-taken g c =
     fed-full c.loop-job.job c.args.limit c.loop-job.left _ _ _ block c.loop-job.invariant.fed
     c.in_ok-count.ensures.bytes long
 
-pub returns-in_err-feed_by-clause-taken : goal.returns-in_err-feed_by-clause-taken
-returns-in_err-feed_by-clause-taken g c =
+pub returns-in_err-feed-clause-taken : goal.returns-in_err-feed-clause-taken
+returns-in_err-feed-clause-taken g c =
     let count = c.in_ok-count.count in
-    let p = err_from_is_err_and c.from_residual-in_err-feed_by.result c.from_residual-in_err-feed_by.ensures.1 in
+    let p = err_from_is_err_and c.from_residual-in_err-feed.result c.from_residual-in_err-feed.ensures.1 in
     let few = length-take-le count c.read_block.new.buffer c.in_ok-count.ensures.count in
     rw (p.1, p.2)
     (fed-once c.loop-job.job c.args.limit c.loop-job.left _ _ _ (take count c.read_block.new.buffer)
@@ -47,9 +47,9 @@ returns-in_err-finish-clause-taken g c =
     let count = c.in_ok-count.count in
     let part = c.read_block.new.buffer in
     let fed =
-    fed-block c.loop-job.job c.feed_by.new.self c.args.limit c.loop-job.left count _ _ _ part _ c.requires.limit
+    fed-block c.loop-job.job c.feed.new.job c.args.limit c.loop-job.left count _ _ _ part _ c.requires.limit
     c.loop-job.invariant.fed c.in_ok-count.ensures.bytes c.in_ok-count.ensures.count c.if-count-left.false
-    c.in_ok-feed_by.ensures.reads in
+    c.in_ok-feed.ensures.reads in
     let p = err_from_is_err_and c.from_residual-in_err-finish.result c.from_residual-in_err-finish.ensures.1 in
     rw (p.1, p.2) (taken-says _ _ _ c.in_err-finish.field-0.0 (fed-all _ _ _ _ _ fed))
 
@@ -58,9 +58,9 @@ returns-in_err-finish-clause-says g c =
     let count = c.in_ok-count.count in
     let part = c.read_block.new.buffer in
     let fed =
-    fed-block c.loop-job.job c.feed_by.new.self c.args.limit c.loop-job.left count _ _ _ part _ c.requires.limit
+    fed-block c.loop-job.job c.feed.new.job c.args.limit c.loop-job.left count _ _ _ part _ c.requires.limit
     c.loop-job.invariant.fed c.in_ok-count.ensures.bytes c.in_ok-count.ensures.count c.if-count-left.false
-    c.in_ok-feed_by.ensures.reads in
+    c.in_ok-feed.ensures.reads in
     let ended =
     c.in_ok-count.ensures.end
     (omega (arith, c.if-count-room.true, c.min-room.ensures, c.read_block.auto.buffer, length-take {A = ℕ}, length-drop {A = ℕ})) in
@@ -74,9 +74,9 @@ returns-then-count-room-clause-job g c =
     let count = c.in_ok-count.count in
     let part = c.read_block.new.buffer in
     let fed =
-    fed-block c.loop-job.job c.feed_by.new.self c.args.limit c.loop-job.left count _ _ _ part _ c.requires.limit
+    fed-block c.loop-job.job c.feed.new.job c.args.limit c.loop-job.left count _ _ _ part _ c.requires.limit
     c.loop-job.invariant.fed c.in_ok-count.ensures.bytes c.in_ok-count.ensures.count c.if-count-left.false
-    c.in_ok-feed_by.ensures.reads in
+    c.in_ok-feed.ensures.reads in
     let ended =
     c.in_ok-count.ensures.end
     (omega (arith, c.if-count-room.true, c.min-room.ensures, c.read_block.auto.buffer, length-take {A = ℕ}, length-drop {A = ℕ})) in
@@ -99,7 +99,7 @@ loop-job-preserved g c = record {
     length-take {A = ℕ},
     length-drop {A = ℕ},
   );
-  fed = fed-block c.loop-job.job c.feed_by.new.self c.args.limit c.loop-job.left c.in_ok-count.count _ _ _
+  fed = fed-block c.loop-job.job c.feed.new.job c.args.limit c.loop-job.left c.in_ok-count.count _ _ _
       c.read_block.new.buffer _ c.requires.limit c.loop-job.invariant.fed c.in_ok-count.ensures.bytes
-      c.in_ok-count.ensures.count c.if-count-left.false c.in_ok-feed_by.ensures.reads;
+      c.in_ok-count.ensures.count c.if-count-left.false c.in_ok-feed.ensures.reads;
 }
