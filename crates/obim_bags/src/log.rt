@@ -155,7 +155,13 @@ impl BagLog {
         ensures returned { IfErr result (λ back. back ≡ chunk) }
         ensures refused { OnErr result (mirror.new ≡ mirror.old) }
     {
-        mirror.places.put(rt, place, chunk)
+        match Box::new(self.alloc, chunk) {
+            Ok(boxed) => match self.put_boxed_at(rt, mirror, place, boxed) {
+                Ok(()) => Ok(()),
+                Err(back) => Err(Box::into_inner(back)),
+            },
+            Err(refused) => Err(refused.value),
+        }
     }
 
     /// `Bag::put_boxed` on the bag at a place, through the mirror's pass.
@@ -186,7 +192,7 @@ impl BagLog {
         ensures found_empty { IfNone result (ChangesAt place place_after_empty_find mirror.old mirror.new) }
         ensures alone { IfNone result (WasEmptyIfAloneAt place mirror.old) }
     {
-        mirror.places.get(rt, place)
+        Some(Box::into_inner(self.get_boxed_at(rt, mirror, place)?))
     }
 
     /// `Bag::get_boxed` on the bag at a place, through the mirror's pass.

@@ -52,16 +52,6 @@ impl Place {
         self.pass.empties
     }
 
-    pub(crate) fn put<R: Wait>(&mut self, rt: &R, chunk: Chunk) -> Result<(), Chunk>
-        requires { chunk.vertices ≢ [] }
-        ensures put { OnOk result (self.new ≡ place_after_put chunk self.old) }
-        ensures returned { IfErr result (λ back. back ≡ chunk) }
-        ensures refused { OnErr result (self.new ≡ self.old) }
-        ensures bag { self.new.bag ≡ self.old.bag }
-    {
-        self.bag.put(rt, &mut self.pass, chunk)
-    }
-
     #[inline(always)]
     pub(crate) fn put_boxed<R: Wait>(&mut self, rt: &R, chunk: Box<Chunk>) -> Result<(), Box<Chunk>>
         requires { chunk.value.vertices ≢ [] }
@@ -71,16 +61,6 @@ impl Place {
         ensures bag { self.new.bag ≡ self.old.bag }
     {
         self.bag.put_boxed(rt, &mut self.pass, chunk)
-    }
-
-    pub(crate) fn get<R: Wait>(&mut self, rt: &R) -> Option<Chunk>
-        ensures got { IfSome result (λ chunk. self.new ≡ place_after_get chunk self.old) }
-        ensures filled { IfSome result (λ chunk. chunk.vertices ≢ []) }
-        ensures found_empty { IfNone result (self.new ≡ place_after_empty_find self.old) }
-        ensures alone { IfNone result (WasEmptyIfAlone self.old.pass.tally) }
-        ensures bag { self.new.bag ≡ self.old.bag }
-    {
-        self.bag.get(rt, &mut self.pass)
     }
 
     #[inline(always)]

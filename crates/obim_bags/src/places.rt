@@ -124,19 +124,6 @@ impl Places {
         Ok(self.list.len())
     }
 
-    /// `Place::put` at a place.
-    pub(crate) fn put<R: Wait>(&mut self, rt: &R, place: usize, chunk: Chunk) -> Result<(), Chunk>
-        requires place { place < length self.old.list }
-        requires filled { chunk.vertices ≢ [] }
-        ensures put { OnOk result (ChangesPlace place (place_after_put chunk) self.old.list self.new.list) }
-        ensures returned { IfErr result (λ back. back ≡ chunk) }
-        ensures refused { OnErr result (self.new.list ≡ self.old.list) }
-        ensures bags { bags_in self.new.list ≡ bags_in self.old.list }
-        ensures index { self.new.index ≡ self.old.index }
-    {
-        self.list[place].put(rt, chunk)
-    }
-
     /// `Place::put_boxed` at a place.
     #[inline(always)]
     pub(crate) fn put_boxed<R: Wait>(
@@ -154,19 +141,6 @@ impl Places {
         ensures index { self.new.index ≡ self.old.index }
     {
         self.list[place].put_boxed(rt, chunk)
-    }
-
-    /// `Place::get` at a place.
-    pub(crate) fn get<R: Wait>(&mut self, rt: &R, place: usize) -> Option<Chunk>
-        requires { place < length self.old.list }
-        ensures got { IfSome result (λ chunk. ChangesPlace place (place_after_get chunk) self.old.list self.new.list) }
-        ensures filled { IfSome result (λ chunk. chunk.vertices ≢ []) }
-        ensures found_empty { IfNone result (ChangesPlace place place_after_empty_find self.old.list self.new.list) }
-        ensures alone { IfNone result (WasEmptyIfAloneIn place self.old.list) }
-        ensures bags { bags_in self.new.list ≡ bags_in self.old.list }
-        ensures index { self.new.index ≡ self.old.index }
-    {
-        self.list[place].get(rt)
     }
 
     /// `Place::get_boxed` at a place.
