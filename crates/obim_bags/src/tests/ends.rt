@@ -4,7 +4,10 @@ ghost use Rattle.std.specs.Prelude.{◌≡◌, ◌≢◌, ◌≤◌, []};
 ghost use Rattle.obim_bags.specs.declared.chunk.TheConstants.{MAX_SIZE};
 ghost use Rattle.obim_bags.specs.Bags.{IsPassOf};
 
-use crate::tests::helpers::{chunk_of, get, open_bag, put, take_pass};
+use crate::tests::helpers::{
+    expect_caught_up, expect_found, expect_serials, get, open_bag, open_log, open_mirrors, put,
+    put_each, take_mirror, take_pass,
+};
 use crate::{Bag, BagLog, BagPass, Chunk, ChunkId, LogFault, MAX_SIZE, Mirror, SettleFault};
 use std::alloc::Global;
 use std::process::Abort;
@@ -21,21 +24,11 @@ const APART: u64 = 1 << 51;
 #[test]
 fn all_unclaimed_passes_are_joined_in(rt: HostRuntime) -> Result<(), Fail> {
     let alloc = rt.alloc();
-    let (log, mut mirrors) = BagLog::open(alloc, 3)?;
-    let mut first = mirrors.pop().expect(&rt, "three mirrors");
-    let place = log.find_or_append(&rt, alloc, &mut first, 5)?;
-    assert!(rt; place < first.len());
-    let put = log.put_at(&rt, &mut first, place, chunk_of(&rt, 2, 0, &[7]));
-    assert!(rt; put.is_ok());
+    let (log, mut mirrors) = open_log(alloc, 3)?;
+    let mut first = take_mirror(&rt, &log, &mut mirrors);
+    put_each(&rt, alloc, &log, &mut first, &[(7, 5)]);
     let left = log.drain(&rt, alloc, vec![in alloc; first]?)?;
-    assert_eq!(rt; left.len(), 1);
-    assert_eq!(rt;
-        left[0].id(),
-        ChunkId {
-            worker: 2,
-            serial: 0
-        }
-    );
+    expect_serials(&rt, &left, &[7]);
     Ok(())
 }
 
@@ -43,19 +36,17 @@ fn all_unclaimed_passes_are_joined_in(rt: HostRuntime) -> Result<(), Fail> {
 #[test]
 fn a_log_goes_on_after_a_drain_that_failed(rt: HostRuntime) -> Result<(), Fail> {
     let alloc = rt.alloc();
-    let (log, mut mirrors) = BagLog::open(alloc, 3)?;
-    let mut third = mirrors.pop().expect(&rt, "three mirrors");
-    let mut second = mirrors.pop().expect(&rt, "three mirrors");
-    assert_eq!(rt; log.find_or_append(&rt, alloc, &mut mirrors[0], 5), Ok(0));
-    assert_eq!(rt; log.catch_up(&rt, alloc, &mut second), Ok(1));
-    let left = log.drain(&rt, alloc, mirrors);
-    assert_eq!(rt; left.map(|left| left.len()), Err(SettleFault::Missing));
-    assert_eq!(rt; log.find_or_append(&rt, alloc, &mut second, 5), Ok(0));
-    assert_eq!(rt; log.catch_up(&rt, alloc, &mut third), Err(LogFault::Taken));
-    assert_eq!(rt;
-        log.find_or_append(&rt, alloc, &mut third, 9),
-        Err(LogFault::Taken)
-    );
+    let (log, mut mirrors) = open_log(alloc, 3)?;
+    let mut third = take_mirror(&rt, &log, &mut mirrors);
+    let mut second = take_mirror(&rt, &log, &mut mirrors);
+    let mut first = take_mirror(&rt, &log, &mut mirrors);
+    expect_found(&rt, alloc, &log, &mut first, 5, Ok(0));
+    expect_caught_up(&rt, alloc, &log, &mut second, Ok(1));
+    let left = log.drain(&rt, alloc, vec![in alloc; first]?);
+    assert_eq!(rt; left.err(), Some(SettleFault::Missing));
+    expect_found(&rt, alloc, &log, &mut second, 5, Ok(0));
+    expect_caught_up(&rt, alloc, &log, &mut third, Err(LogFault::Taken));
+    expect_found(&rt, alloc, &log, &mut third, 9, Err(LogFault::Taken));
     Ok(())
 }
 
@@ -65,23 +56,32 @@ fn append_all<R: Wait + Abort>(rt: &R, alloc: Global, log: &BagLog, mirror: &mut
     ensures { mirror.new.log ≡ log.now }
 {
     for i in 0..BAGS {
-        let place = log.find_or_append(rt, alloc, mirror, i.wrapping_mul(APART));
-        assert_eq!(rt; place, Ok(i as usize));
+        expect_found(
+            rt,
+            alloc,
+            log,
+            mirror,
+            i.wrapping_mul(APART),
+            Ok(i as usize),
+        );
+    }
+}
+
+// The mirror has each bag at its place.
+fn expect_all(rt: &impl Abort, mirror: &Mirror) {
+    for i in 0..BAGS {
+        assert_eq!(rt; mirror.place_of(i.wrapping_mul(APART)), Some(i as usize));
     }
 }
 
 #[test]
 fn a_mirror_that_is_many_bags_behind(rt: HostRuntime) -> Result<(), Fail> {
     let alloc = rt.alloc();
-    let (log, mut mirrors) = BagLog::open(alloc, 2)?;
-    let mut second = mirrors.pop().expect(&rt, "two mirrors");
-    append_all(&rt, alloc, &log, &mut mirrors[0]);
-    assert_eq!(rt; log.catch_up(&rt, alloc, &mut second), Ok(BAGS as usize));
-    for i in 0..BAGS {
-        assert_eq!(rt; second.place_of(i.wrapping_mul(APART)), Some(i as usize));
-    }
-    mirrors.push(second)?;
-    let left = log.drain(&rt, alloc, mirrors)?;
+    let (log, mut first, mut second) = open_mirrors(&rt, alloc)?;
+    append_all(&rt, alloc, &log, &mut first);
+    expect_caught_up(&rt, alloc, &log, &mut second, Ok(BAGS as usize));
+    expect_all(&rt, &second);
+    let left = log.drain(&rt, alloc, vec![in alloc; first, second]?)?;
     assert!(rt; left.is_empty());
     Ok(())
 }

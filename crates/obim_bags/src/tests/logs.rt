@@ -1,325 +1,195 @@
-//! Logs of two workers, with what each mirror then has and what is left, and logs that threads share.
+//! Logs of two workers, with what each mirror then has and what is left.
 
 ghost use Rattle.std.specs.Prelude.{◌≡◌, All, IfOk};
-ghost use Rattle.std.specs.Thread.{IsSync};
 ghost use Rattle.obim_bags.specs.Logs.{IsMirrorOf};
 
-use crate::tests::helpers::{assert_once_each, chunk_of, name_all};
-use crate::{BagLog, ChunkId, LogFault, Mirror, SettleFault};
+use crate::tests::helpers::{
+    chunk_of, expect_caught_up, expect_found, expect_serials, finds_empty_at, get_at, open_log,
+    open_mirrors, put_each, take_mirror,
+};
+use crate::{BagLog, LogFault, Mirror, SettleFault};
 use route_walks::Memory;
 use std::alloc::Global;
 use std::process::Abort;
 use std::sync::Wait;
 use std::test::Fail;
-use std::thread::{Threads, join};
 
-// How many chunks each thread puts, over how many metrics.
-const CHUNKS: u32 = 5000;
-
-const METRICS: u32 = 7;
-
-#[test]
-fn a_metric_has_one_place(rt: HostRuntime) -> Result<(), Fail> {
-    let alloc = rt.alloc();
-    let (log, mut mirrors) = BagLog::open(alloc, 2)?;
-    assert_eq!(rt; log.find_or_append(&rt, alloc, &mut mirrors[0], 5), Ok(0));
-    assert_eq!(rt; mirrors[1].place_of(5), None);
-    assert_eq!(rt; log.catch_up(&rt, alloc, &mut mirrors[1]), Ok(1));
-    assert_eq!(rt; log.find_or_append(&rt, alloc, &mut mirrors[1], 5), Ok(0));
-    assert_eq!(rt; log.find_or_append(&rt, alloc, &mut mirrors[1], 2), Ok(1));
-    assert_eq!(rt; mirrors[0].place_of(2), None);
-    assert_eq!(rt; log.catch_up(&rt, alloc, &mut mirrors[0]), Ok(2));
-    for mirror in &mirrors {
-        assert!(rt; mirror.len() == 2);
-        assert!(rt; mirror.metric_at(0) == 5 && mirror.metric_at(1) == 2);
-        assert!(rt; mirror.place_of(5) == Some(0) && mirror.place_of(2) == Some(1));
-        assert_eq!(rt; mirror.place_of(7), None);
-    }
-    Ok(())
-}
-
-// Two mirrors know the metrics 5 and 2. A chunk that one put at place 1 the other gets from there.
-fn pass_a_chunk_on<R: Wait + Abort>(
+// The mirror doesn't know the metric's bag. It appends it, at this place.
+fn append<R: Wait + Abort>(
     rt: &R,
     alloc: Global,
     log: &BagLog,
-    first: &mut Mirror,
-    second: &mut Mirror,
-) -> Result<(), Fail>
-    requires { (first.old.log ≡ log.now) × (second.old.log ≡ log.now) }
-    ensures { (first.new.log ≡ log.now) × (second.new.log ≡ log.now) }
+    mirror: &mut Mirror,
+    metric: u64,
+    place: usize,
+)
+    requires { mirror.old.log ≡ log.now }
+    ensures { mirror.new.log ≡ log.now }
 {
-    log.find_or_append(rt, alloc, first, 5)?;
-    log.find_or_append(rt, alloc, first, 2)?;
-    log.catch_up(rt, alloc, second)?;
-    assert!(rt; first.len() == 2 && second.len() == 2);
-    assert!(rt; log.put_at(rt, first, 1, chunk_of(rt, 0, 0, &[7])).is_ok());
-    let got = log.get_at(rt, second, 1).map(|chunk| chunk.id());
-    assert_eq!(rt;
-        got,
-        Some(ChunkId {
-            worker: 0,
-            serial: 0
-        })
-    );
-    assert!(rt; log.get_at(rt, second, 0).is_none());
-    assert!(rt;
-        log.put_boxed_at(rt, first, 1, Box::new(alloc, chunk_of(rt, 0, 1, &[8]))?)
-            .is_ok()
-    );
-    assert!(rt; log.finds_empty_at(second, 0) && !log.finds_empty_at(second, 1));
-    let got = log.get_boxed_at(rt, second, 1).map(|chunk| chunk.id());
-    assert_eq!(rt;
-        got,
-        Some(ChunkId {
-            worker: 0,
-            serial: 1
-        })
-    );
-    assert!(rt; log.get_boxed_at(rt, second, 0).is_none());
+    assert_eq!(rt; mirror.place_of(metric), None);
+    expect_found(rt, alloc, log, mirror, metric, Ok(place));
+}
+
+// The mirror doesn't know the metric's bag, until it catches up to so many.
+fn gain<R: Wait + Abort>(
+    rt: &R,
+    alloc: Global,
+    log: &BagLog,
+    mirror: &mut Mirror,
+    metric: u64,
+    count: usize,
+)
+    requires { mirror.old.log ≡ log.now }
+    ensures { mirror.new.log ≡ log.now }
+{
+    assert_eq!(rt; mirror.place_of(metric), None);
+    expect_caught_up(rt, alloc, log, mirror, Ok(count));
+}
+
+// The mirror has metric 5 at place 0 and 2 at place 1.
+fn expect_five_and_two(rt: &impl Abort, mirror: &Mirror) {
+    assert!(rt; mirror.len() == 2);
+    assert!(rt; mirror.metric_at(0) == 5 && mirror.metric_at(1) == 2);
+    let places = [mirror.place_of(5), mirror.place_of(2), mirror.place_of(7)];
+    assert_eq!(rt; places, [Some(0), Some(1), None]);
+}
+
+// A log of which both mirrors know the metrics 5 and 2.
+fn open_five_and_two<R: Wait + Abort>(
+    rt: &R,
+    alloc: Global,
+) -> Result<(BagLog, Mirror, Mirror), Memory>
+    ensures first { IfOk result (λ opened. opened.1.log ≡ opened.0) }
+    ensures second { IfOk result (λ opened. opened.2.log ≡ opened.0) }
+{
+    let (log, mut first, mut second) = open_mirrors(rt, alloc)?;
+    append(rt, alloc, &log, &mut first, 5, 0);
+    gain(rt, alloc, &log, &mut second, 5, 1);
+    expect_found(rt, alloc, &log, &mut second, 5, Ok(0));
+    append(rt, alloc, &log, &mut second, 2, 1);
+    gain(rt, alloc, &log, &mut first, 2, 2);
+    Ok((log, first, second))
+}
+
+#[test]
+fn a_metric_has_one_place(rt: HostRuntime) -> Result<(), Fail> {
+    let (_, first, second) = open_five_and_two(&rt, rt.alloc())?;
+    expect_five_and_two(&rt, &first);
+    expect_five_and_two(&rt, &second);
     Ok(())
+}
+
+// Place 1 has the chunk of this serial, and place 0 has none.
+fn expect_at_1<R: Wait + Abort>(rt: &R, log: &BagLog, mirror: &mut Mirror, serial: u64)
+    requires { mirror.old.log ≡ log.now }
+    ensures { mirror.new.log ≡ log.now }
+{
+    assert!(rt; finds_empty_at(rt, log, mirror, 0) && !finds_empty_at(rt, log, mirror, 1));
+    let got = get_at(rt, log, mirror, 1).expect(rt, "the chunk that was put");
+    assert!(rt; got.id().worker == 0 && got.id().serial == serial);
+    assert!(rt; get_at(rt, log, mirror, 0).is_none());
+}
+
+// The same of a chunk in its box.
+fn expect_boxed_at_1<R: Wait + Abort>(rt: &R, log: &BagLog, mirror: &mut Mirror, serial: u64)
+    requires { mirror.old.log ≡ log.now }
+    ensures { mirror.new.log ≡ log.now }
+{
+    assert!(rt; mirror.len() == 2);
+    let got = log.get_boxed_at(rt, mirror, 1);
+    let got = got.expect(rt, "the chunk that was put");
+    assert!(rt; got.id().worker == 0 && got.id().serial == serial);
+    assert!(rt; mirror.len() == 2);
+    assert!(rt; log.get_boxed_at(rt, mirror, 0).is_none());
+}
+
+fn put_boxed_at_1<R: Wait + Abort>(
+    rt: &R,
+    alloc: Global,
+    log: &BagLog,
+    mirror: &mut Mirror,
+    serial: u64,
+)
+    requires { mirror.old.log ≡ log.now }
+    ensures { mirror.new.log ≡ log.now }
+{
+    let boxed = Box::new(alloc, chunk_of(rt, 0, serial, &[8]));
+    let boxed = boxed.expect(rt, "memory for a chunk");
+    assert!(rt; mirror.len() == 2);
+    assert!(rt; log.put_boxed_at(rt, mirror, 1, boxed).is_ok());
+}
+
+// A log of which one mirror put two chunks at place 1, and the other got each from there.
+fn pass_chunks_on<R: Wait + Abort>(
+    rt: &R,
+    alloc: Global,
+) -> Result<(BagLog, Mirror, Mirror), Memory>
+    ensures first { IfOk result (λ opened. opened.1.log ≡ opened.0) }
+    ensures second { IfOk result (λ opened. opened.2.log ≡ opened.0) }
+{
+    let (log, mut first, mut second) = open_five_and_two(rt, alloc)?;
+    put_each(rt, alloc, &log, &mut first, &[(0, 2)]);
+    expect_at_1(rt, &log, &mut second, 0);
+    put_boxed_at_1(rt, alloc, &log, &mut first, 1);
+    expect_boxed_at_1(rt, &log, &mut second, 1);
+    Ok((log, first, second))
 }
 
 #[test]
 fn nothing_is_left_of_what_was_got(rt: HostRuntime) -> Result<(), Fail> {
     let alloc = rt.alloc();
-    let (log, mut mirrors) = BagLog::open(alloc, 2)?;
-    let mut second = mirrors.pop().expect(&rt, "two mirrors");
-    pass_a_chunk_on(&rt, alloc, &log, &mut mirrors[0], &mut second)?;
-    mirrors.push(second)?;
-    assert_eq!(rt;
-        log.drain(&rt, alloc, mirrors).map(|left| left.len()),
-        Ok(0)
-    );
+    let (log, first, second) = pass_chunks_on(&rt, alloc)?;
+    let left = log.drain(&rt, alloc, vec![in alloc; first, second]?)?;
+    assert!(rt; left.is_empty());
     Ok(())
+}
+
+// A drain by these mirrors says that passes are missing.
+fn expect_missing<R: Wait + Abort>(rt: &R, alloc: Global, log: &BagLog, mirrors: Vec<Mirror>)
+    requires { All (IsMirrorOf log.now) mirrors.items }
+{
+    let left = log.drain(rt, alloc, mirrors);
+    assert_eq!(rt; left.err(), Some(SettleFault::Missing));
 }
 
 #[test]
 fn passes_withheld_are_missing(rt: HostRuntime) -> Result<(), Fail> {
     let alloc = rt.alloc();
-    let (log, mut mirrors) = BagLog::open(alloc, 2)?;
-    let mut second = mirrors.pop().expect(&rt, "two mirrors");
-    pass_a_chunk_on(&rt, alloc, &log, &mut mirrors[0], &mut second)?;
-    let left = log.drain(&rt, alloc, mirrors);
-    assert_eq!(rt; left.map(|left| left.len()), Err(SettleFault::Missing));
-    let left = log.drain(&rt, alloc, Vec::new(alloc));
-    assert_eq!(rt; left.map(|left| left.len()), Err(SettleFault::Missing));
+    let (log, first, _) = pass_chunks_on(&rt, alloc)?;
+    expect_missing(&rt, alloc, &log, vec![in alloc; first]?);
+    expect_missing(&rt, alloc, &log, Vec::new(alloc));
     Ok(())
 }
 
 #[test]
 fn a_log_without_bags_wants_a_mirror(rt: HostRuntime) -> Result<(), Fail> {
     let alloc = rt.alloc();
-    let (log, mirrors) = BagLog::open(alloc, 2)?;
-    let left = log.drain(&rt, alloc, Vec::new(alloc));
-    assert_eq!(rt; left.map(|left| left.len()), Err(SettleFault::Missing));
-    assert_eq!(rt;
-        log.drain(&rt, alloc, mirrors).map(|left| left.len()),
-        Ok(0)
-    );
+    let (log, mirrors) = open_log(alloc, 2)?;
+    expect_missing(&rt, alloc, &log, Vec::new(alloc));
+    assert!(rt; log.drain(&rt, alloc, mirrors)?.is_empty());
     Ok(())
 }
 
 #[test]
 fn unclaimed_passes_are_joined_in(rt: HostRuntime) -> Result<(), Fail> {
     let alloc = rt.alloc();
-    let (log, mut mirrors) = BagLog::open(alloc, 2)?;
-    let mut second = mirrors.pop().expect(&rt, "two mirrors");
-    assert_eq!(rt; log.find_or_append(&rt, alloc, &mut mirrors[0], 5), Ok(0));
-    assert_eq!(rt;
-        log.drain(&rt, alloc, mirrors).map(|left| left.len()),
-        Ok(0)
-    );
-    assert_eq!(rt; log.catch_up(&rt, alloc, &mut second), Err(LogFault::Taken));
-    assert_eq!(rt;
-        log.find_or_append(&rt, alloc, &mut second, 5),
-        Err(LogFault::Taken)
-    );
+    let (log, mut first, mut second) = open_mirrors(&rt, alloc)?;
+    expect_found(&rt, alloc, &log, &mut first, 5, Ok(0));
+    assert!(rt; log.drain(&rt, alloc, vec![in alloc; first]?)?.is_empty());
+    expect_caught_up(&rt, alloc, &log, &mut second, Err(LogFault::Taken));
+    expect_found(&rt, alloc, &log, &mut second, 5, Err(LogFault::Taken));
     assert_eq!(rt; second.len(), 0);
-    Ok(())
-}
-
-// Puts chunks of these serials at these metrics.
-fn put_each<R: Wait + Abort>(
-    rt: &R,
-    alloc: Global,
-    log: &BagLog,
-    mirror: &mut Mirror,
-    chunks: &[(u64, u64)],
-) -> Result<(), LogFault>
-    requires { mirror.old.log ≡ log.now }
-    ensures { mirror.new.log ≡ log.now }
-{
-    for &(serial, metric) in chunks {
-        let place = log.find_or_append(rt, alloc, mirror, metric)?;
-        assert!(rt; place < mirror.len());
-        let chunk = chunk_of(rt, 0, serial, &[1]);
-        assert!(rt; log.put_at(rt, mirror, place, chunk).is_ok());
-    }
     Ok(())
 }
 
 #[test]
 fn chunks_left_stand_by_place_and_then_in_order(rt: HostRuntime) -> Result<(), Fail> {
     let alloc = rt.alloc();
-    let (log, mut mirrors) = BagLog::open(alloc, 1)?;
+    let (log, mut mirrors) = open_log(alloc, 1)?;
+    let mut mirror = take_mirror(&rt, &log, &mut mirrors);
     let chunks = [(0, 9), (1, 4), (2, 9), (3, 6), (4, 4)];
-    put_each(&rt, alloc, &log, &mut mirrors[0], &chunks)?;
-    let mut serials = Vec::new(alloc);
-    for chunk in log.drain(&rt, alloc, mirrors)? {
-        serials.push(chunk.id().serial)?;
-    }
-    assert_eq!(rt; serials.as_slice(), [0, 2, 1, 4, 3].as_slice());
-    Ok(())
-}
-
-// Puts so many chunks at metrics in turn, gets what is there after every second one, and gives back the
-// mirror and the names of the chunks that it got.
-fn put_and_get<R: Wait + Abort>(
-    rt: &R,
-    alloc: Global,
-    log: &BagLog,
-    mut mirror: Mirror,
-    worker: u32,
-) -> Result<(Mirror, Vec<ChunkId>), Memory>
-    requires { mirror.log ≡ log.now }
-    ensures { IfOk result (λ done. done.0.log ≡ log.now) }
-{
-    let mut names = Vec::new(alloc);
-    for serial in 0..CHUNKS {
-        let metric = u64::from((serial ^ worker) % METRICS);
-        match log.find_or_append(rt, alloc, &mut mirror, metric) {
-            Ok(place) => {
-                assert!(rt; place < mirror.len());
-                let chunk = chunk_of(rt, worker, u64::from(serial), &[serial]);
-                assert!(rt; log.put_at(rt, &mut mirror, place, chunk).is_ok());
-            }
-            Err(_) => return Err(Memory),
-        }
-        if serial % 2 == 0 {
-            get_each(rt, log, &mut mirror, &mut names)?;
-        }
-    }
-    Ok((mirror, names))
-}
-
-// Gets a chunk of each bag, where there is one, and keeps their names.
-fn get_each<R: Wait>(
-    rt: &R,
-    log: &BagLog,
-    mirror: &mut Mirror,
-    names: &mut Vec<ChunkId>,
-) -> Result<(), Memory>
-    requires { mirror.old.log ≡ log.now }
-    ensures { mirror.new.log ≡ log.now }
-{
-    for place in 0..mirror.len() {
-        if place < mirror.len() {
-            if let Some(chunk) = log.get_at(rt, mirror, place) {
-                names.push(chunk.id())?;
-            }
-        }
-    }
-    Ok(())
-}
-
-// Two mirrors at once, by threads of their own: the mirrors, and the names of what both got.
-fn put_and_get_both<R: Threads + Wait + Abort + Sync>(
-    rt: &R,
-    alloc: Global,
-    log: &BagLog,
-    mirrors: (Mirror, Mirror),
-    worker: u32,
-) -> Result<(Vec<Mirror>, Vec<ChunkId>), Memory>
-    requires { (mirrors.0.log ≡ log.now) × (mirrors.1.log ≡ log.now) }
-    ensures { IfOk result (λ done. All (IsMirrorOf log.now) done.0.items) }
-{
-    let (first, second) = mirrors;
-    let (left, right) = join(
-        rt,
-        || -> Result<(Mirror, Vec<ChunkId>), Memory>
-            requires { IsSync R.row × (first.log ≡ log.now) }
-            ensures { IfOk result (λ done. done.0.log ≡ log.entry.now) }
-        { put_and_get(rt, alloc, log, first, worker) },
-        || -> Result<(Mirror, Vec<ChunkId>), Memory>
-            requires { IsSync R.row × (second.log ≡ log.now) }
-            ensures { IfOk result (λ done. done.0.log ≡ log.entry.now) }
-        { put_and_get(rt, alloc, log, second, worker ^ 1) },
-    );
-    let (first, mut names) = left?;
-    let (second, others) = right?;
-    names.extend_from_slice(&others)?;
-    Ok((vec![in alloc; first, second]?, names))
-}
-
-#[test]
-fn two_threads_lose_nothing(rt: HostRuntime) -> Result<(), Fail> {
-    let alloc = rt.alloc();
-    let (log, mut mirrors) = BagLog::open(alloc, 2)?;
-    let second = mirrors.pop().expect(&rt, "two mirrors");
-    let first = mirrors.pop().expect(&rt, "two mirrors");
-    let (mirrors, mut names) = put_and_get_both(&rt, alloc, &log, (first, second), 0)?;
-    let left = log.drain(&rt, alloc, mirrors)?;
-    name_all(&mut names, &left)?;
-    assert_once_each(&rt, alloc, 2, CHUNKS, &names)?;
-    Ok(())
-}
-
-// What two pairs of threads gave back, as one.
-fn join_done(
-    log: &BagLog,
-    left: (Vec<Mirror>, Vec<ChunkId>),
-    right: (Vec<Mirror>, Vec<ChunkId>),
-) -> Result<(Vec<Mirror>, Vec<ChunkId>), Memory>
-    requires left { All (IsMirrorOf log.now) left.0.items }
-    requires right { All (IsMirrorOf log.now) right.0.items }
-    ensures { IfOk result (λ done. All (IsMirrorOf log.now) done.0.items) }
-{
-    let _log = log;
-    let (mut mirrors, mut names) = left;
-    let (mut more, others) = right;
-    names.extend_from_slice(&others)?;
-    mirrors.append(&mut more)?;
-    Ok((mirrors, names))
-}
-
-// Four mirrors at once, by two pairs of threads.
-fn put_and_get_all<R: Threads + Wait + Abort + Sync>(
-    rt: &R,
-    alloc: Global,
-    log: &BagLog,
-    low: (Mirror, Mirror),
-    high: (Mirror, Mirror),
-) -> Result<(Vec<Mirror>, Vec<ChunkId>), Memory>
-    requires low { (low.0.log ≡ log.now) × (low.1.log ≡ log.now) }
-    requires high { (high.0.log ≡ log.now) × (high.1.log ≡ log.now) }
-    ensures { IfOk result (λ done. All (IsMirrorOf log.now) done.0.items) }
-{
-    let (left, right) = join(
-        rt,
-        || -> Result<(Vec<Mirror>, Vec<ChunkId>), Memory>
-            requires { IsSync R.row × (low.0.log ≡ log.now) × (low.1.log ≡ log.now) }
-            ensures { IfOk result (λ done. All (IsMirrorOf log.entry.now) done.0.items) }
-        { put_and_get_both(rt, alloc, log, low, 0) },
-        || -> Result<(Vec<Mirror>, Vec<ChunkId>), Memory>
-            requires { IsSync R.row × (high.0.log ≡ log.now) × (high.1.log ≡ log.now) }
-            ensures { IfOk result (λ done. All (IsMirrorOf log.entry.now) done.0.items) }
-        { put_and_get_both(rt, alloc, log, high, 2) },
-    );
-    join_done(log, left?, right?)
-}
-
-#[test]
-fn four_threads_lose_nothing(rt: HostRuntime) -> Result<(), Fail> {
-    let alloc = rt.alloc();
-    let (log, mut mirrors) = BagLog::open(alloc, 4)?;
-    let d = mirrors.pop().expect(&rt, "four mirrors");
-    let c = mirrors.pop().expect(&rt, "four mirrors");
-    let b = mirrors.pop().expect(&rt, "four mirrors");
-    let a = mirrors.pop().expect(&rt, "four mirrors");
-    let (mirrors, mut names) = put_and_get_all(&rt, alloc, &log, (a, b), (c, d))?;
-    let left = log.drain(&rt, alloc, mirrors)?;
-    name_all(&mut names, &left)?;
-    assert_once_each(&rt, alloc, 4, CHUNKS, &names)?;
+    put_each(&rt, alloc, &log, &mut mirror, &chunks);
+    let left = log.drain(&rt, alloc, vec![in alloc; mirror]?)?;
+    expect_serials(&rt, &left, &[0, 2, 1, 4, 3]);
     Ok(())
 }

@@ -2,11 +2,14 @@
 //! it was, and made once more the call gives what was worked by hand. `tests/refusals` refuses each in turn;
 //! `tests/refusals.tsv` has the calls.
 
-ghost use Rattle.std.specs.Prelude.{◌≡◌, ◌≢◌, ◌<◌, [], All, IfOk, length};
+ghost use Rattle.std.specs.Prelude.{◌≡◌, ◌≢◌, ◌<◌, [], All, IfErr, IfOk};
 ghost use Rattle.obim_bags.specs.Bags.{IsPassOf};
 ghost use Rattle.obim_bags.specs.Logs.{IsMirrorOf};
 
-use crate::tests::helpers::{chunk_of, open_bag, put, take_pass};
+use crate::tests::helpers::{
+    METRIC, chunk_of, expect_caught_up, expect_found, expect_serials, finds_empty_at, get, get_at,
+    open_mirrors, open_two, put, put_each,
+};
 use crate::{Bag, BagLog, BagPass, Chunk, ChunkId, LogFault, Mirror, SettleFault};
 use route_walks::{Memory, refusable, tried_again};
 use std::alloc::Global;
@@ -20,15 +23,24 @@ const CHUNKS: u64 = 40;
 // More metrics than a list or an index has room for at first.
 const METRICS: u64 = 12;
 
-// Gets the one chunk of a bag, of worker 0 with this serial and as its one vertex 5.
-fn expect_one<R: Wait + Abort>(rt: &R, bag: &Bag, pass: &mut BagPass, serial: u64)
-    requires { IsPassOf bag.now pass.old }
-    ensures { IsPassOf bag.now pass.new }
+// What is left where chunks 1 to 8 were put.
+const REST: [u64; 8] = [1, 2, 3, 4, 5, 6, 7, 8];
+
+// The chunk is of worker 0 with this serial, and its one vertex is 5.
+fn expect_chunk(rt: &impl Abort, mut chunk: Chunk, serial: u64) {
+    assert_eq!(rt; chunk.id(), ChunkId { worker: 0, serial });
+    assert_eq!(rt; (chunk.pop(), chunk.pop()), (Some(5), None));
+}
+
+// The chunk that came back, out of its box.
+fn unboxed(put: Result<(), Box<Chunk>>) -> Result<(), Chunk>
+    requires { IfErr put (λ back. back.value.vertices ≢ []) }
+    ensures { IfErr result (λ back. back.vertices ≢ []) }
 {
-    let mut got = bag.get(rt, pass).expect(rt, "the chunk that was put");
-    assert_eq!(rt; got.id(), ChunkId { worker: 0, serial });
-    assert_eq!(rt; (got.pop(), got.pop()), (Some(5), None));
-    assert!(rt; bag.finds_empty(pass));
+    match put {
+        Ok(()) => Ok(()),
+        Err(back) => Err(Box::into_inner(back)),
+    }
 }
 
 #[test]
@@ -39,126 +51,81 @@ fn of_bag_open(rt: HostRuntime) -> Result<(), Fail> {
     Ok(())
 }
 
-// What comes back is the chunk, and it is put then. Until then nobody finds it in the bag.
+// Puts a chunk, in a box or without one. Only the put may be refused memory.
+fn put_refusably<R: Wait>(
+    rt: &R,
+    alloc: Global,
+    bag: &Bag,
+    pass: &mut BagPass,
+    is_boxed: bool,
+    chunk: Chunk,
+) -> Result<Result<(), Chunk>, Memory>
+    requires pass { IsPassOf bag.now pass.old }
+    requires filled { chunk.vertices ≢ [] }
+    ensures pass { IsPassOf bag.now pass.new }
+    ensures filled { IfOk result (λ given. IfErr given (λ back. back.vertices ≢ [])) }
+{
+    if !is_boxed {
+        return Ok(refusable!(alloc, bag.put(rt, pass, chunk)));
+    }
+    let boxed = Box::new(alloc, chunk)?;
+    Ok(unboxed(refusable!(alloc, bag.put_boxed(rt, pass, boxed))))
+}
+
+// One pass puts a chunk, and the other gets it. A chunk that comes back is the same, and nobody finds it in the bag
+// until it is put again.
 fn put_again<R: Wait + Abort>(
     rt: &R,
     alloc: Global,
     bag: &Bag,
     first: &mut BagPass,
     second: &mut BagPass,
-    chunk: Chunk,
+    is_boxed: bool,
+    serial: u64,
 ) -> Result<(), Memory>
     requires first { IsPassOf bag.now first.old }
     requires second { IsPassOf bag.now second.old }
-    requires filled { chunk.vertices ≢ [] }
     ensures first { IsPassOf bag.now first.new }
     ensures second { IsPassOf bag.now second.new }
 {
-    let (id, len) = (chunk.id(), chunk.len());
-    if let Err(back) = refusable!(alloc, bag.put(rt, first, chunk)) {
-        assert!(rt; back.id() == id && back.len() == len);
+    let chunk = chunk_of(rt, 0, serial, &[5]);
+    let id = chunk.id();
+    if let Err(back) = put_refusably(rt, alloc, bag, first, is_boxed, chunk)? {
+        assert!(rt; back.id() == id && back.len() == 1);
         assert!(rt; bag.finds_empty(second));
-        assert!(rt; bag.put(rt, first, back).is_ok());
+        assert!(rt; put_refusably(rt, alloc, bag, first, is_boxed, back)?.is_ok());
     }
+    expect_chunk(rt, get(rt, bag, second), serial);
+    assert!(rt; bag.finds_empty(second));
     Ok(())
 }
 
-// One pass puts chunks, and the other gets each.
-fn put_each_again<R: Wait + Abort>(
-    rt: &R,
-    alloc: Global,
-    bag: &Bag,
-    first: &mut BagPass,
-    second: &mut BagPass,
-) -> Result<(), Memory>
-    requires first { IsPassOf bag.now first.old }
-    requires second { IsPassOf bag.now second.old }
-{
+fn put_each_again<R: Wait + Abort>(rt: &R, alloc: Global, is_boxed: bool) -> Result<(), Memory> {
+    let (bag, mut first, mut second) = open_two(rt, alloc)?;
     for serial in 0..CHUNKS {
-        let chunk = chunk_of(rt, 0, serial, &[5]);
-        put_again(rt, alloc, bag, first, second, chunk)?;
-        expect_one(rt, bag, second, serial);
+        put_again(rt, alloc, &bag, &mut first, &mut second, is_boxed, serial)?;
     }
     Ok(())
 }
 
 #[test]
 fn of_bag_put(rt: HostRuntime) -> Result<(), Fail> {
-    let alloc = rt.alloc();
-    let (bag, mut passes) = open_bag(&rt, alloc, 2)?;
-    let mut second = take_pass(&rt, &bag, &mut passes);
-    let mut first = take_pass(&rt, &bag, &mut passes);
-    put_each_again(&rt, alloc, &bag, &mut first, &mut second)?;
-    Ok(())
-}
-
-// A chunk of worker 0 in its box.
-fn boxed_chunk(rt: &impl Abort, alloc: Global, serial: u64) -> Result<Box<Chunk>, Memory>
-    ensures { IfOk result (λ boxed. boxed.value.vertices ≢ []) }
-{
-    Ok(Box::new(alloc, chunk_of(rt, 0, serial, &[5]))?)
-}
-
-// The same of a chunk in its box.
-fn put_boxed_again<R: Wait + Abort>(
-    rt: &R,
-    alloc: Global,
-    bag: &Bag,
-    first: &mut BagPass,
-    second: &mut BagPass,
-    chunk: Box<Chunk>,
-) -> Result<(), Memory>
-    requires first { IsPassOf bag.now first.old }
-    requires second { IsPassOf bag.now second.old }
-    requires filled { chunk.value.vertices ≢ [] }
-    ensures first { IsPassOf bag.now first.new }
-    ensures second { IsPassOf bag.now second.new }
-{
-    let (id, len) = (chunk.id(), chunk.len());
-    if let Err(back) = refusable!(alloc, bag.put_boxed(rt, first, chunk)) {
-        assert!(rt; back.id() == id && back.len() == len);
-        assert!(rt; bag.finds_empty(second));
-        assert!(rt; bag.put_boxed(rt, first, back).is_ok());
-    }
-    Ok(())
-}
-
-fn put_each_boxed_again<R: Wait + Abort>(
-    rt: &R,
-    alloc: Global,
-    bag: &Bag,
-    first: &mut BagPass,
-    second: &mut BagPass,
-) -> Result<(), Memory>
-    requires first { IsPassOf bag.now first.old }
-    requires second { IsPassOf bag.now second.old }
-{
-    for serial in 0..CHUNKS {
-        let chunk = boxed_chunk(rt, alloc, serial)?;
-        put_boxed_again(rt, alloc, bag, first, second, chunk)?;
-        expect_one(rt, bag, second, serial);
-    }
+    put_each_again(&rt, rt.alloc(), false)?;
     Ok(())
 }
 
 #[test]
 fn of_bag_put_boxed(rt: HostRuntime) -> Result<(), Fail> {
-    let alloc = rt.alloc();
-    let (bag, mut passes) = open_bag(&rt, alloc, 2)?;
-    let mut second = take_pass(&rt, &bag, &mut passes);
-    let mut first = take_pass(&rt, &bag, &mut passes);
-    put_each_boxed_again(&rt, alloc, &bag, &mut first, &mut second)?;
+    put_each_again(&rt, rt.alloc(), true)?;
     Ok(())
 }
 
-// A bag in which a few chunks are left, and all of its passes.
+// A bag of which a few chunks are left, and all of its passes.
 fn left_over<R: Wait + Abort>(rt: &R, alloc: Global) -> Result<(Bag, Vec<BagPass>), Memory>
     ensures { IfOk result (λ opened. All (IsPassOf opened.0) opened.1.items) }
 {
-    let (bag, mut passes) = open_bag(rt, alloc, 2)?;
-    let mut first = take_pass(rt, &bag, &mut passes);
-    put_nine(rt, &bag, &mut first);
-    passes.push(first)?;
+    let (bag, mut passes) = Bag::open(rt, alloc, METRIC, 2)?;
+    put_nine(rt, &bag, &mut passes[0]);
     Ok((bag, passes))
 }
 
@@ -170,18 +137,7 @@ fn put_nine<R: Wait + Abort>(rt: &R, bag: &Bag, pass: &mut BagPass)
     for serial in 0..9 {
         put(rt, bag, pass, chunk_of(rt, 0, serial, &[5]));
     }
-    let got = bag.get(rt, pass).expect(rt, "a chunk that was put");
-    assert_eq!(rt; got.id().serial, 0);
-}
-
-// Asserts that these are the chunks of worker 0 from serial 1 to 8, in order.
-fn expect_rest(rt: &impl Abort, left: &[Chunk]) {
-    let mut serial = 0_u64;
-    for chunk in left {
-        serial = serial.saturating_add(1);
-        assert_eq!(rt; chunk.id(), ChunkId { worker: 0, serial });
-    }
-    assert_eq!(rt; serial, 8);
+    expect_chunk(rt, get(rt, bag, pass), 0);
 }
 
 #[test]
@@ -196,24 +152,8 @@ fn of_bag_drain(rt: HostRuntime) -> Result<(), Fail> {
         bag.drain(&rt, alloc, passes),
         same.drain(&rt, alloc, others)
     );
-    expect_rest(&rt, &left);
+    expect_serials(&rt, &left, &REST);
     Ok(())
-}
-
-fn open_log(alloc: Global, workers: u32) -> Result<(BagLog, Vec<Mirror>), Memory>
-    requires { 0 < workers }
-    ensures { IfOk result (λ opened. All (IsMirrorOf opened.0) opened.1.items) }
-{
-    BagLog::open(alloc, workers)
-}
-
-fn take_mirror<R: Abort>(rt: &R, log: &BagLog, mirrors: &mut Vec<Mirror>) -> Mirror
-    requires { All (IsMirrorOf log.now) mirrors.old.items }
-    ensures mirror { result.log ≡ log.now }
-    ensures rest { All (IsMirrorOf log.now) mirrors.new.items }
-{
-    let _log = log;
-    mirrors.pop().expect(rt, "a mirror for each worker")
 }
 
 #[test]
@@ -227,47 +167,49 @@ fn of_bag_log_open(rt: HostRuntime) -> Result<(), Fail> {
     Ok(())
 }
 
-// Finds a metric's bag. A refusal leaves the mirror without it.
+// Finds a metric's bag, at this place. A refusal leaves the mirror without it.
 fn find_again<R: Wait + Abort>(
     rt: &R,
     alloc: Global,
     log: &BagLog,
     mirror: &mut Mirror,
     metric: u64,
-) -> Result<usize, LogFault>
+    place: usize,
+) -> Result<(), Memory>
     requires { mirror.old.log ≡ log.now }
     ensures { mirror.new.log ≡ log.now }
 {
     let len = mirror.len();
-    match refusable!(alloc, log.find_or_append(rt, alloc, mirror, metric)) {
-        Ok(place) => Ok(place),
-        Err(fault) => {
-            assert_eq!(rt; fault, LogFault::Memory);
-            assert!(rt; mirror.len() == len && mirror.place_of(metric).is_none());
-            log.find_or_append(rt, alloc, mirror, metric)
-        }
+    let found = refusable!(alloc, log.find_or_append(rt, alloc, mirror, metric));
+    if found == Err(LogFault::Memory) {
+        assert!(rt; mirror.len() == len && mirror.place_of(metric).is_none());
+        expect_found(rt, alloc, log, mirror, metric, Ok(place));
+    } else {
+        assert_eq!(rt; found, Ok(place));
     }
+    Ok(())
 }
 
-// Catches up. A refusal leaves the mirror as it was.
+// Catches up, to so many bags. A refusal leaves the mirror as it was.
 fn catch_up_again<R: Wait + Abort>(
     rt: &R,
     alloc: Global,
     log: &BagLog,
     mirror: &mut Mirror,
-) -> Result<usize, LogFault>
+    count: usize,
+) -> Result<(), Memory>
     requires { mirror.old.log ≡ log.now }
     ensures { mirror.new.log ≡ log.now }
 {
     let len = mirror.len();
-    match refusable!(alloc, log.catch_up(rt, alloc, mirror)) {
-        Ok(count) => Ok(count),
-        Err(fault) => {
-            assert_eq!(rt; fault, LogFault::Memory);
-            assert_eq!(rt; mirror.len(), len);
-            log.catch_up(rt, alloc, mirror)
-        }
+    let caught = refusable!(alloc, log.catch_up(rt, alloc, mirror));
+    if caught == Err(LogFault::Memory) {
+        assert_eq!(rt; mirror.len(), len);
+        expect_caught_up(rt, alloc, log, mirror, Ok(count));
+    } else {
+        assert_eq!(rt; caught, Ok(count));
     }
+    Ok(())
 }
 
 // Each metric has one bag, whichever allocation was refused: the other mirror finds it at the same place.
@@ -277,14 +219,13 @@ fn find_each_again<R: Wait + Abort>(
     log: &BagLog,
     first: &mut Mirror,
     second: &mut Mirror,
-) -> Result<(), LogFault>
+) -> Result<(), Memory>
     requires { (first.old.log ≡ log.now) × (second.old.log ≡ log.now) }
     ensures { second.new.log ≡ log.now }
 {
     for metric in 0..METRICS {
-        let place = find_again(rt, alloc, log, first, metric)?;
-        assert_eq!(rt; place, metric as usize);
-        assert_eq!(rt; find_again(rt, alloc, log, second, metric)?, place);
+        find_again(rt, alloc, log, first, metric, metric as usize)?;
+        find_again(rt, alloc, log, second, metric, metric as usize)?;
     }
     Ok(())
 }
@@ -292,201 +233,152 @@ fn find_each_again<R: Wait + Abort>(
 #[test]
 fn of_bag_log_find_or_append(rt: HostRuntime) -> Result<(), Fail> {
     let alloc = rt.alloc();
-    let (log, mut mirrors) = open_log(alloc, 2)?;
-    let mut second = take_mirror(&rt, &log, &mut mirrors);
-    let mut first = take_mirror(&rt, &log, &mut mirrors);
+    let (log, mut first, mut second) = open_mirrors(&rt, alloc)?;
     find_each_again(&rt, alloc, &log, &mut first, &mut second)?;
-    assert_eq!(rt; log.catch_up(&rt, alloc, &mut second)?, METRICS as usize);
+    expect_caught_up(&rt, alloc, &log, &mut second, Ok(METRICS as usize));
     Ok(())
 }
 
-// One mirror appends bags, and after each fourth the other catches up.
-fn catch_up_by_fours<R: Wait + Abort>(
+// One mirror appends four bags from this metric on, and then the other catches up.
+fn append_four<R: Wait + Abort>(
     rt: &R,
     alloc: Global,
     log: &BagLog,
     first: &mut Mirror,
     second: &mut Mirror,
-) -> Result<(), LogFault>
-    requires { (first.old.log ≡ log.now) × (second.old.log ≡ log.now) }
+    from: u64,
+) -> Result<(), Memory>
+    requires log { (first.old.log ≡ log.now) × (second.old.log ≡ log.now) }
+    requires from { from < 12 }
+    ensures { (first.new.log ≡ log.now) × (second.new.log ≡ log.now) }
 {
-    for metric in 0..METRICS {
-        log.find_or_append(rt, alloc, first, metric)?;
-        if metric % 4 == 3 {
-            let count = catch_up_again(rt, alloc, log, second)?;
-            assert_eq!(rt; count, metric as usize + 1);
-            assert_eq!(rt; second.place_of(metric), Some(metric as usize));
-        }
+    for metric in from..from + 4 {
+        expect_found(rt, alloc, log, first, metric, Ok(metric as usize));
     }
+    catch_up_again(rt, alloc, log, second, from as usize + 4)?;
+    let last = from + 3;
+    assert_eq!(rt; second.place_of(last), Some(last as usize));
     Ok(())
 }
 
 #[test]
 fn of_bag_log_catch_up(rt: HostRuntime) -> Result<(), Fail> {
     let alloc = rt.alloc();
-    let (log, mut mirrors) = open_log(alloc, 2)?;
-    let mut second = take_mirror(&rt, &log, &mut mirrors);
-    let mut first = take_mirror(&rt, &log, &mut mirrors);
-    catch_up_by_fours(&rt, alloc, &log, &mut first, &mut second)?;
+    let (log, mut first, mut second) = open_mirrors(&rt, alloc)?;
+    append_four(&rt, alloc, &log, &mut first, &mut second, 0)?;
+    append_four(&rt, alloc, &log, &mut first, &mut second, 4)?;
+    append_four(&rt, alloc, &log, &mut first, &mut second, 8)?;
     Ok(())
 }
 
-// Gets the one chunk of the bag at place 1.
-fn expect_one_at<R: Wait + Abort>(rt: &R, log: &BagLog, mirror: &mut Mirror, serial: u64)
+// Puts a chunk at place 1, in a box or without one. Only the put may be refused memory.
+fn put_at_refusably<R: Wait + Abort>(
+    rt: &R,
+    alloc: Global,
+    log: &BagLog,
+    mirror: &mut Mirror,
+    is_boxed: bool,
+    chunk: Chunk,
+) -> Result<Result<(), Chunk>, Memory>
     requires log { mirror.old.log ≡ log.now }
+    requires filled { chunk.vertices ≢ [] }
+    ensures log { mirror.new.log ≡ log.now }
+    ensures filled { IfOk result (λ given. IfErr given (λ back. back.vertices ≢ [])) }
+{
+    assert_eq!(rt; mirror.len(), 2);
+    if !is_boxed {
+        return Ok(refusable!(alloc, log.put_at(rt, mirror, 1, chunk)));
+    }
+    let boxed = Box::new(alloc, chunk)?;
+    Ok(unboxed(refusable!(alloc, log.put_boxed_at(rt, mirror, 1, boxed))))
+}
+
+// Puts a chunk into the second bag of two, and gets it. A chunk that comes back is the same, and isn't in the bag.
+fn put_at_again<R: Wait + Abort>(
+    rt: &R,
+    alloc: Global,
+    log: &BagLog,
+    mirror: &mut Mirror,
+    is_boxed: bool,
+    serial: u64,
+) -> Result<(), Memory>
+    requires { mirror.old.log ≡ log.now }
     ensures { mirror.new.log ≡ log.now }
 {
-    assert_eq!(rt; mirror.len(), 2);
-    let mut got = log
-        .get_at(rt, mirror, 1)
-        .expect(rt, "the chunk that was put");
-    assert_eq!(rt; got.id(), ChunkId { worker: 0, serial });
-    assert_eq!(rt; (got.pop(), got.pop()), (Some(5), None));
+    let chunk = chunk_of(rt, 0, serial, &[5]);
+    let id = chunk.id();
+    if let Err(back) = put_at_refusably(rt, alloc, log, mirror, is_boxed, chunk)? {
+        assert!(rt; back.id() == id && back.len() == 1);
+        assert!(rt; finds_empty_at(rt, log, mirror, 1));
+        assert!(rt; put_at_refusably(rt, alloc, log, mirror, is_boxed, back)?.is_ok());
+    }
+    let got = get_at(rt, log, mirror, 1);
+    expect_chunk(rt, got.expect(rt, "the chunk that was put"), serial);
+    Ok(())
 }
 
-// The bag at place 1 has no chunk.
-fn expect_none_at<R: Wait + Abort>(rt: &R, log: &BagLog, mirror: &mut Mirror)
-    requires log { mirror.old.log ≡ log.now }
-    ensures log { mirror.new.log ≡ log.now }
-    ensures two { length mirror.new.places ≡ 2 }
-{
-    assert_eq!(rt; mirror.len(), 2);
-    assert!(rt; log.finds_empty_at(mirror, 1));
-    assert_eq!(rt; mirror.len(), 2);
-}
-
-// Puts chunks into the second bag of two, and gets each.
 fn put_each_at_again<R: Wait + Abort>(
     rt: &R,
     alloc: Global,
     log: &BagLog,
     mirror: &mut Mirror,
-) -> Result<(), LogFault>
+    is_boxed: bool,
+) -> Result<(), Memory>
     requires { mirror.old.log ≡ log.now }
 {
+    expect_found(rt, alloc, log, mirror, 0, Ok(0));
+    expect_found(rt, alloc, log, mirror, METRICS, Ok(1));
     for serial in 0..CHUNKS {
-        assert_eq!(rt; log.find_or_append(rt, alloc, mirror, METRICS)?, 1);
-        assert_eq!(rt; mirror.len(), 2);
-        let chunk = chunk_of(rt, 0, serial, &[5]);
-        if let Err(back) = refusable!(alloc, log.put_at(rt, mirror, 1, chunk)) {
-            assert_eq!(rt; back.id(), ChunkId { worker: 0, serial });
-            assert_eq!(rt; back.len(), 1);
-            expect_none_at(rt, log, mirror);
-            assert!(rt; log.put_at(rt, mirror, 1, back).is_ok());
-        }
-        expect_one_at(rt, log, mirror, serial);
+        put_at_again(rt, alloc, log, mirror, is_boxed, serial)?;
     }
     Ok(())
 }
 
 #[test]
 fn of_bag_log_put_at(rt: HostRuntime) -> Result<(), Fail> {
-    let alloc = rt.alloc();
-    let (log, mut mirrors) = open_log(alloc, 2)?;
-    let mut first = take_mirror(&rt, &log, &mut mirrors);
-    assert_eq!(rt; log.find_or_append(&rt, alloc, &mut first, 0)?, 0);
-    put_each_at_again(&rt, alloc, &log, &mut first)?;
-    Ok(())
-}
-
-// The same of chunks in their boxes.
-fn put_each_boxed_at_again<R: Wait + Abort>(
-    rt: &R,
-    alloc: Global,
-    log: &BagLog,
-    mirror: &mut Mirror,
-) -> Result<(), LogFault>
-    requires { mirror.old.log ≡ log.now }
-{
-    for serial in 0..CHUNKS {
-        assert_eq!(rt; log.find_or_append(rt, alloc, mirror, METRICS)?, 1);
-        assert_eq!(rt; mirror.len(), 2);
-        let chunk = boxed_chunk(rt, alloc, serial)?;
-        if let Err(back) = refusable!(alloc, log.put_boxed_at(rt, mirror, 1, chunk)) {
-            assert_eq!(rt; back.id(), ChunkId { worker: 0, serial });
-            assert_eq!(rt; back.len(), 1);
-            expect_none_at(rt, log, mirror);
-            assert!(rt; log.put_boxed_at(rt, mirror, 1, back).is_ok());
-        }
-        expect_one_at(rt, log, mirror, serial);
-    }
+    let (log, mut mirror, _) = open_mirrors(&rt, rt.alloc())?;
+    put_each_at_again(&rt, rt.alloc(), &log, &mut mirror, false)?;
     Ok(())
 }
 
 #[test]
 fn of_bag_log_put_boxed_at(rt: HostRuntime) -> Result<(), Fail> {
-    let alloc = rt.alloc();
-    let (log, mut mirrors) = open_log(alloc, 2)?;
-    let mut first = take_mirror(&rt, &log, &mut mirrors);
-    assert_eq!(rt; log.find_or_append(&rt, alloc, &mut first, 0)?, 0);
-    put_each_boxed_at_again(&rt, alloc, &log, &mut first)?;
+    let (log, mut mirror, _) = open_mirrors(&rt, rt.alloc())?;
+    put_each_at_again(&rt, rt.alloc(), &log, &mut mirror, true)?;
     Ok(())
 }
 
-// Puts eight chunks into two bags by turns: the serials rise by bag.
-fn put_by_metric<R: Wait + Abort>(
+// A log of three workers, of which one put eight chunks into two bags by turns, so that the serials rise by bag, and
+// another's mirror is apart.
+fn filled_log<R: Wait + Abort>(
     rt: &R,
     alloc: Global,
-    log: &BagLog,
-    mirror: &mut Mirror,
-) -> Result<(), LogFault>
-    requires { mirror.old.log ≡ log.now }
-    ensures { mirror.new.log ≡ log.now }
+) -> Result<(BagLog, Vec<Mirror>, Mirror), Memory>
+    ensures rest { IfOk result (λ opened. All (IsMirrorOf opened.0) opened.1.items) }
+    ensures apart { IfOk result (λ opened. opened.2.log ≡ opened.0) }
 {
-    for (metric, serial) in [
-        (5, 1),
-        (5, 2),
+    let chunks = [
+        (1, 5),
         (2, 5),
-        (5, 3),
-        (2, 6),
-        (2, 7),
-        (5, 4),
-        (2, 8),
-    ] {
-        let place = log.find_or_append(rt, alloc, mirror, metric)?;
-        let known = place < mirror.len();
-        assert!(rt; known);
-        let chunk = chunk_of(rt, 0, serial, &[5]);
-        assert!(rt; log.put_at(rt, mirror, place, chunk).is_ok());
-    }
-    Ok(())
-}
-
-fn put_back<R: Abort>(rt: &R, log: &BagLog, mirrors: &mut Vec<Mirror>, mirror: Mirror)
-    requires mirrors { All (IsMirrorOf log.now) mirrors.old.items }
-    requires mirror { mirror.log ≡ log.now }
-    ensures { All (IsMirrorOf log.now) mirrors.new.items }
-{
-    let _log = log;
-    assert!(rt; mirrors.push(mirror).is_ok());
-}
-
-// One of these mirrors' workers puts chunks into two bags.
-fn fill_log<R: Wait + Abort>(
-    rt: &R,
-    alloc: Global,
-    log: &BagLog,
-    mirrors: &mut Vec<Mirror>,
-) -> Result<(), LogFault>
-    requires { All (IsMirrorOf log.now) mirrors.old.items }
-    ensures { All (IsMirrorOf log.now) mirrors.new.items }
-{
-    let mut first = take_mirror(rt, log, mirrors);
-    put_by_metric(rt, alloc, log, &mut first)?;
-    put_back(rt, log, mirrors, first);
-    Ok(())
+        (5, 2),
+        (3, 5),
+        (6, 2),
+        (7, 2),
+        (4, 5),
+        (8, 2),
+    ];
+    let (log, mut mirrors) = BagLog::open(alloc, 3)?;
+    let third = mirrors.pop().expect(rt, "three mirrors");
+    put_each(rt, alloc, &log, &mut mirrors[0], &chunks);
+    Ok((log, mirrors, third))
 }
 
 // After a refusal the slot is free: a call of the third worker returns, though it may find its passes taken.
 #[test]
 fn of_bag_log_drain(rt: HostRuntime) -> Result<(), Fail> {
     let alloc = rt.alloc();
-    let (log, mut mirrors) = open_log(alloc, 3)?;
-    let mut third = take_mirror(&rt, &log, &mut mirrors);
-    fill_log(&rt, alloc, &log, &mut mirrors)?;
-    let (same, mut others) = open_log(alloc, 3)?;
-    let _third = take_mirror(&rt, &same, &mut others);
-    fill_log(&rt, alloc, &same, &mut others)?;
+    let (log, mirrors, mut third) = filled_log(&rt, alloc)?;
+    let (same, others, _third) = filled_log(&rt, alloc)?;
     let left = tried_again!(
         rt,
         alloc,
@@ -494,7 +386,7 @@ fn of_bag_log_drain(rt: HostRuntime) -> Result<(), Fail> {
         log.drain(&rt, alloc, mirrors),
         same.drain(&rt, alloc, others)
     );
-    expect_rest(&rt, &left);
+    expect_serials(&rt, &left, &REST);
     if let Err(fault) = log.catch_up(&rt, alloc, &mut third) {
         assert_eq!(rt; fault, LogFault::Taken);
     }

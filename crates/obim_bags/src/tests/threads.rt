@@ -1,162 +1,187 @@
-//! Threads that share a bag lose no chunk and get none twice.
+//! Threads that share a bag or a log lose no chunk and get none twice.
 
-ghost use Rattle.std.specs.Prelude.{All};
+ghost use Rattle.std.specs.Prelude.{◌≡◌, ◌≤◌, All};
 ghost use Rattle.obim_bags.specs.Bags.{IsPassOf};
+ghost use Rattle.obim_bags.specs.Logs.{IsMirrorOf};
 
-use crate::tests::helpers::{assert_once_each, chunk_of, name_all, open_bag, put, take_pass};
-use crate::{Bag, BagPass, ChunkId, SettleFault};
+use crate::tests::helpers::{chunk_of, open_bag, open_log, put, put_by_metric};
+use crate::{Bag, BagLog, BagPass, Chunk, ChunkId, Mirror, SettleFault};
+use route_walks::Memory;
 use std::alloc::Global;
 use std::process::Abort;
 use std::sync::Wait;
+use std::sync::atomic::{AtomicU64, Ordering};
 use std::test::Fail;
-use std::thread::{self, Threads};
+use std::thread::{Threads, for_each_mut};
 
-// Gets a chunk, if there is one, and notes its name.
-fn note_next<R: Wait + Abort>(rt: &R, bag: &Bag, pass: &mut BagPass, names: &mut Vec<ChunkId>)
-    requires { IsPassOf bag.now pass.old }
-    ensures { IsPassOf bag.now pass.new }
-{
-    if let Some(chunk) = bag.get(rt, pass) {
-        assert!(rt; names.push(chunk.id()).is_ok());
+// How many chunks each thread puts.
+const CHUNKS: u64 = 5000;
+
+// Over how many metrics of a log.
+const METRICS: u64 = 7;
+
+// How often each chunk of these workers came, by worker and then by serial: not yet.
+fn open_counts(alloc: Global, workers: u32) -> Result<Vec<AtomicU64>, Memory> {
+    let mut counts = Vec::new(alloc);
+    for _ in 0..u64::from(workers) * CHUNKS {
+        counts.push(AtomicU64::new(0))?;
+    }
+    Ok(counts)
+}
+
+fn count(rt: &impl Abort, counts: &[AtomicU64], chunk: &Chunk) {
+    let ChunkId { worker, serial } = chunk.id();
+    assert!(rt; serial < CHUNKS);
+    let at = (u64::from(worker) * CHUNKS + serial) as usize;
+    assert!(rt; at < counts.len());
+    counts[at].fetch_add(1, Ordering::SeqCst);
+}
+
+// With what is left, each chunk came once.
+fn expect_each_once(rt: &impl Abort, counts: &[AtomicU64], left: &[Chunk]) {
+    for chunk in left {
+        count(rt, counts, chunk);
+    }
+    for count in counts {
+        assert_eq!(rt; count.load(Ordering::SeqCst), 1);
     }
 }
 
-// Puts as many chunks of this worker, and gets after two of three puts.
-fn work<R: Wait + Abort>(
-    rt: &R,
-    bag: &Bag,
-    pass: &mut BagPass,
-    names: &mut Vec<ChunkId>,
-    worker: u32,
-    count: u32,
-)
+// Puts chunks of the worker of this number, and gets after two of three puts.
+fn work<R: Wait + Abort>(rt: &R, bag: &Bag, pass: &mut BagPass, number: usize, counts: &[AtomicU64])
     requires { IsPassOf bag.now pass.old }
     ensures { IsPassOf bag.now pass.new }
 {
-    for serial in 0..count {
-        put(
-            rt,
-            bag,
-            pass,
-            chunk_of(rt, worker, u64::from(serial), &[worker]),
-        );
+    let worker = u32::try_from(number).expect(rt, "few workers");
+    for serial in 0..CHUNKS {
+        put(rt, bag, pass, chunk_of(rt, worker, serial, &[worker]));
         if serial % 3 > 0 {
-            note_next(rt, bag, pass, names);
+            get_next(rt, bag, pass, counts);
         }
     }
 }
 
-// The same by a thread of its own, which gives the pass back and what it got.
-fn work_alone<R: Wait + Abort>(
-    rt: &R,
-    alloc: Global,
-    bag: &Bag,
-    mut pass: BagPass,
-    worker: u32,
-    count: u32,
-) -> (BagPass, Vec<ChunkId>)
-    requires { IsPassOf bag.now pass }
-    ensures { IsPassOf bag.now result.0 }
+// Gets a chunk, if there is one.
+fn get_next<R: Wait + Abort>(rt: &R, bag: &Bag, pass: &mut BagPass, counts: &[AtomicU64])
+    requires { IsPassOf bag.now pass.old }
+    ensures { IsPassOf bag.now pass.new }
 {
-    let mut names = Vec::new(alloc);
-    work(rt, bag, &mut pass, &mut names, worker, count);
-    (pass, names)
+    if let Some(chunk) = bag.get(rt, pass) {
+        count(rt, counts, &chunk);
+    }
 }
 
-// Two workers at once: their passes, and all that they got.
-fn work_by_two<R: Threads + Wait + Abort + Sync>(
+// Each worker by a thread of its own.
+fn work_by_threads<R: Threads + Wait + Abort + Sync>(
     rt: &R,
-    alloc: Global,
     bag: &Bag,
-    left: BagPass,
-    right: BagPass,
-    workers: (u32, u32),
-    count: u32,
-) -> (Vec<BagPass>, Vec<ChunkId>)
-    requires left { IsPassOf bag.now left }
-    requires right { IsPassOf bag.now right }
-    ensures { All (IsPassOf bag.now) result.0.items }
+    passes: &mut [BagPass],
+    counts: &[AtomicU64],
+)
+    requires { All (IsPassOf bag.now) passes.old }
+    ensures { All (IsPassOf bag.now) passes.new }
 {
-    let ((left, mut names), (right, others)) = thread::join(
+    for_each_mut(
         rt,
-        || work_alone(rt, alloc, bag, left, workers.0, count),
-        || work_alone(rt, alloc, bag, right, workers.1, count),
+        passes,
+        8,
+        &|number, pass| work(rt, bag, pass, number, counts),
     );
-    assert!(rt; names.extend(others).is_ok());
-    let mut passes = Vec::new(alloc);
-    assert!(rt; passes.push(left).is_ok() && passes.push(right).is_ok());
-    (passes, names)
 }
 
-// With what is left, each of these workers' chunks was got once.
-fn expect_each_once<R: Wait + Abort>(
+fn share_bag<R: Threads + Wait + Abort + Sync>(
     rt: &R,
     alloc: Global,
-    bag: &Bag,
-    passes: Vec<BagPass>,
-    mut names: Vec<ChunkId>,
     workers: u32,
-    count: u32,
 ) -> Result<(), SettleFault>
-    requires { All (IsPassOf bag.now) passes.items }
+    requires { 1 ≤ workers }
 {
-    let left = bag.drain(rt, alloc, passes)?;
-    name_all(&mut names, &left)?;
-    assert_once_each(rt, alloc, workers, count, &names)?;
+    let counts = open_counts(alloc, workers)?;
+    let (bag, mut passes) = open_bag(rt, alloc, workers)?;
+    work_by_threads(rt, &bag, &mut passes, &counts);
+    expect_each_once(rt, &counts, &bag.drain(rt, alloc, passes)?);
     Ok(())
 }
 
 #[test]
-fn two_threads(rt: HostRuntime) -> Result<(), Fail> {
-    let (bag, mut passes) = open_bag(&rt, rt.alloc(), 2)?;
-    let first = take_pass(&rt, &bag, &mut passes);
-    let second = take_pass(&rt, &bag, &mut passes);
-    let (passes, names) = work_by_two(&rt, rt.alloc(), &bag, first, second, (0, 1), 5000);
-    expect_each_once(&rt, rt.alloc(), &bag, passes, names, 2, 5000)?;
+fn a_bag_of_two_and_of_four_threads(rt: HostRuntime) -> Result<(), Fail> {
+    share_bag(&rt, rt.alloc(), 2)?;
+    share_bag(&rt, rt.alloc(), 4)?;
     Ok(())
 }
 
-// Two pairs of workers at once: their passes, and all that they got.
-fn work_by_four<R: Threads + Wait + Abort + Sync>(
+// Puts chunks of the worker of this number at metrics in turn, and after every second one gets what is there.
+fn work_in_log<R: Wait + Abort>(
     rt: &R,
     alloc: Global,
-    bag: &Bag,
-    first: BagPass,
-    second: BagPass,
-    third: BagPass,
-    fourth: BagPass,
-    count: u32,
-) -> (Vec<BagPass>, Vec<ChunkId>)
-    requires first { IsPassOf bag.now first }
-    requires second { IsPassOf bag.now second }
-    requires third { IsPassOf bag.now third }
-    requires fourth { IsPassOf bag.now fourth }
-    ensures { All (IsPassOf bag.now) result.0.items }
+    log: &BagLog,
+    mirror: &mut Mirror,
+    number: usize,
+    counts: &[AtomicU64],
+)
+    requires { mirror.old.log ≡ log.now }
+    ensures { mirror.new.log ≡ log.now }
 {
-    let ((mut passes, mut names), (mut more, others)) = thread::join(
+    let worker = u32::try_from(number).expect(rt, "few workers");
+    for serial in 0..CHUNKS {
+        let metric = (serial ^ u64::from(worker)) % METRICS;
+        let chunk = chunk_of(rt, worker, serial, &[worker]);
+        put_by_metric(rt, alloc, log, mirror, metric, chunk);
+        if serial % 2 == 0 {
+            get_each(rt, log, mirror, counts);
+        }
+    }
+}
+
+// Gets a chunk of each bag, where there is one.
+fn get_each<R: Wait + Abort>(rt: &R, log: &BagLog, mirror: &mut Mirror, counts: &[AtomicU64])
+    requires { mirror.old.log ≡ log.now }
+    ensures { mirror.new.log ≡ log.now }
+{
+    for place in 0..mirror.len() {
+        if place < mirror.len() {
+            if let Some(chunk) = log.get_at(rt, mirror, place) {
+                count(rt, counts, &chunk);
+            }
+        }
+    }
+}
+
+fn work_in_log_by_threads<R: Threads + Wait + Abort + Sync>(
+    rt: &R,
+    alloc: Global,
+    log: &BagLog,
+    mirrors: &mut [Mirror],
+    counts: &[AtomicU64],
+)
+    requires { All (IsMirrorOf log.now) mirrors.old }
+    ensures { All (IsMirrorOf log.now) mirrors.new }
+{
+    for_each_mut(
         rt,
-        move ||
-            requires { IsPassOf bag.now first × IsPassOf bag.now second }
-            ensures { All (IsPassOf bag.entry.now) result.0.items }
-        { work_by_two(rt, alloc, bag, first, second, (0, 1), count) },
-        move ||
-            requires { IsPassOf bag.now third × IsPassOf bag.now fourth }
-            ensures { All (IsPassOf bag.entry.now) result.0.items }
-        { work_by_two(rt, alloc, bag, third, fourth, (2, 3), count) },
+        mirrors,
+        8,
+        &|number, mirror| work_in_log(rt, alloc, log, mirror, number, counts),
     );
-    assert!(rt; names.extend(others).is_ok());
-    assert!(rt; passes.append(&mut more).is_ok());
-    (passes, names)
+}
+
+fn share_log<R: Threads + Wait + Abort + Sync>(
+    rt: &R,
+    alloc: Global,
+    workers: u32,
+) -> Result<(), SettleFault>
+    requires { 1 ≤ workers }
+{
+    let counts = open_counts(alloc, workers)?;
+    let (log, mut mirrors) = open_log(alloc, workers)?;
+    work_in_log_by_threads(rt, alloc, &log, &mut mirrors, &counts);
+    expect_each_once(rt, &counts, &log.drain(rt, alloc, mirrors)?);
+    Ok(())
 }
 
 #[test]
-fn four_threads(rt: HostRuntime) -> Result<(), Fail> {
-    let (bag, mut passes) = open_bag(&rt, rt.alloc(), 4)?;
-    let first = take_pass(&rt, &bag, &mut passes);
-    let second = take_pass(&rt, &bag, &mut passes);
-    let third = take_pass(&rt, &bag, &mut passes);
-    let fourth = take_pass(&rt, &bag, &mut passes);
-    let (passes, names) = work_by_four(&rt, rt.alloc(), &bag, first, second, third, fourth, 2500);
-    expect_each_once(&rt, rt.alloc(), &bag, passes, names, 4, 2500)?;
+fn a_log_of_two_and_of_four_threads(rt: HostRuntime) -> Result<(), Fail> {
+    share_log(&rt, rt.alloc(), 2)?;
+    share_log(&rt, rt.alloc(), 4)?;
     Ok(())
 }

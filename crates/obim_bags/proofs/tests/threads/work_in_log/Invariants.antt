@@ -1,6 +1,6 @@
 -- The mirror stays one of the log.
 use Rattle.std.proofs.Common.{◌≡◌}
-use Rattle.obim_bags.proofs.tests.logs.put_and_get.Given as goal
+use Rattle.obim_bags.proofs.tests.threads.work_in_log.Given as goal
 
 abbrev pub invariant-loop-serial : goal.invariant-loop-serial
 invariant-loop-serial g l = l.mirror.log ≡ l.log

@@ -1,6 +1,6 @@
 -- The mirror stays one of the log.
 use Rattle.std.proofs.Common.{◌≡◌}
-use Rattle.obim_bags.proofs.tests.refusals.put_by_metric.Given as goal
+use Rattle.obim_bags.proofs.tests.refusals.append_four.Given as goal
 
 abbrev pub invariant-loop-metric : goal.invariant-loop-metric
-invariant-loop-metric g l = l.mirror.log ≡ l.log
+invariant-loop-metric g l = l.first.log ≡ l.log
