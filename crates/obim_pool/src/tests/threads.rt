@@ -1,258 +1,135 @@
 //! Threads that share a pool of bags pop each vertex once and lose none.
 
-ghost use Rattle.std.specs.Prelude.{All};
-ghost use Rattle.std.specs.Thread.{IsSync};
+ghost use Rattle.std.specs.Prelude.{◌≤◌, All};
+ghost use Rattle.obim_bags.specs.declared.chunk.TheConstants.{MAX_SIZE};
 ghost use Rattle.obim_pool.specs.Sides.{IsSideOf};
 
-use crate::tests::helpers::{open_pool, put_back, take_side};
+use crate::tests::helpers::open_pool;
 use crate::{ObimPool, ObimSide};
+use obim_bags::SettleFault;
 use route_walks::Memory;
 use std::alloc::Global;
 use std::process::Abort;
 use std::sync::Wait;
+use std::sync::atomic::{AtomicU64, Ordering};
 use std::test::Fail;
-use std::thread::{Threads, join_mut};
+use std::thread::{Threads, for_each_mut};
 
 // How many vertices each thread pushes, over how many metrics.
 const PUSHES: u32 = 5000;
 
 const METRICS: u32 = 7;
 
-// A worker's side, the first of the vertices that it pushes, and those that it popped.
-#[derive(Drop)]
-struct Worker {
-    side: ObimSide,
-    first: u32,
-    popped: Vec<u32>,
-}
-
-fn hire<R: Abort>(
-    rt: &R,
-    alloc: Global,
-    pool: &ObimPool,
-    sides: &mut Vec<ObimSide>,
-    number: u32,
-) -> Worker
-    requires { All (IsSideOf pool.now) sides.old.items }
-    ensures worker { IsSideOf pool.now result.side }
-    ensures rest { All (IsSideOf pool.now) sides.new.items }
-{
-    Worker {
-        side: take_side(rt, pool, sides),
-        first: number.wrapping_mul(PUSHES),
-        popped: Vec::new(alloc),
+// How often each vertex that these workers push was popped: not yet.
+fn open_counts(alloc: Global, workers: u32) -> Result<Vec<AtomicU64>, Memory> {
+    let mut counts = Vec::new(alloc);
+    for _ in 0..u64::from(workers) * u64::from(PUSHES) {
+        counts.push(AtomicU64::new(0))?;
     }
+    Ok(counts)
 }
 
-// Pops a vertex, if there is one, and notes it.
-fn pop<R: Wait + Abort>(rt: &R, pool: &ObimPool, worker: &mut Worker)
-    requires { IsSideOf pool.now worker.old.side }
-    ensures { IsSideOf pool.now worker.new.side }
+// Pops a vertex, and counts it where there is one.
+fn pop<R: Wait + Abort>(rt: &R, pool: &ObimPool, side: &mut ObimSide, counts: &[AtomicU64]) -> bool
+    requires { IsSideOf pool.now side.old }
+    ensures { IsSideOf pool.now side.new }
 {
-    if let Some(v) = pool.pop(rt, &mut worker.side) {
-        assert!(rt; worker.popped.push(v).is_ok());
-    }
-}
-
-// Pushes its vertices, and pops after two of three pushes.
-fn work<R: Wait + Abort>(rt: &R, pool: &ObimPool, worker: &mut Worker)
-    requires { IsSideOf pool.now worker.old.side }
-    ensures { IsSideOf pool.now worker.new.side }
-{
-    for at in 0..PUSHES {
-        let v = worker.first.wrapping_add(at);
-        assert!(rt; pool.push(rt, &mut worker.side, v, u64::from(v % METRICS)));
-        if at % 3 > 0 {
-            pop(rt, pool, worker);
+    match pool.pop(rt, side) {
+        None => false,
+        Some(v) => {
+            let known = (v as usize) < counts.len();
+            assert!(rt; known, "vertex {v}");
+            counts[v as usize].fetch_add(1, Ordering::SeqCst);
+            true
         }
     }
 }
 
-// Two workers at once.
-fn work_by_two<R: Threads + Wait + Abort + Sync>(
+// Pushes the vertices of the worker of this number, and pops after two of three pushes.
+fn work<R: Wait + Abort>(
     rt: &R,
     pool: &ObimPool,
-    a: &mut Worker,
-    b: &mut Worker,
+    side: &mut ObimSide,
+    number: usize,
+    counts: &[AtomicU64],
 )
-    requires { (IsSideOf pool.now a.old.side) × (IsSideOf pool.now b.old.side) }
-    ensures { (IsSideOf pool.now a.new.side) × (IsSideOf pool.now b.new.side) }
+    requires { IsSideOf pool.now side.old }
+    ensures { IsSideOf pool.now side.new }
 {
-    join_mut(rt, &mut || work(rt, pool, a), &mut || work(rt, pool, b));
+    let worker = u32::try_from(number).expect(rt, "few workers");
+    let first = worker.wrapping_mul(PUSHES);
+    for at in 0..PUSHES {
+        let v = first.wrapping_add(at);
+        assert!(rt; pool.push(rt, side, v, u64::from(v % METRICS)));
+        if at % 3 > 0 {
+            pop(rt, pool, side, counts);
+        }
+    }
 }
 
-// Four workers at once.
-fn work_by_four<R: Threads + Wait + Abort + Sync>(
+// Pops what this side can.
+fn pop_rest<R: Wait + Abort>(rt: &R, pool: &ObimPool, side: &mut ObimSide, counts: &[AtomicU64])
+    requires { IsSideOf pool.now side.old }
+    ensures { IsSideOf pool.now side.new }
+{
+    for _ in 0..counts.len() {
+        pop(rt, pool, side, counts);
+    }
+    assert!(rt; !pop(rt, pool, side, counts));
+}
+
+// Each worker by a thread of its own; then one after the other pops what is left.
+fn work_by_threads<R: Threads + Wait + Abort + Sync>(
     rt: &R,
     pool: &ObimPool,
-    a: &mut Worker,
-    b: &mut Worker,
-    c: &mut Worker,
-    d: &mut Worker,
+    sides: &mut [ObimSide],
+    counts: &[AtomicU64],
 )
-    requires low { (IsSideOf pool.now a.old.side) × (IsSideOf pool.now b.old.side) }
-    requires high { (IsSideOf pool.now c.old.side) × (IsSideOf pool.now d.old.side) }
-    ensures low { (IsSideOf pool.now a.new.side) × (IsSideOf pool.now b.new.side) }
-    ensures high { (IsSideOf pool.now c.new.side) × (IsSideOf pool.now d.new.side) }
+    requires { All (IsSideOf pool.now) sides.old }
+    ensures { All (IsSideOf pool.now) sides.new }
 {
-    join_mut(
+    for_each_mut(
         rt,
-        &mut ||
-            requires sync { IsSync R.row }
-            requires sides { (IsSideOf pool.now a.now.side) × (IsSideOf pool.now b.now.side) }
-            ensures { (IsSideOf pool.entry.now a.exit.now.side) × (IsSideOf pool.entry.now b.exit.now.side) }
-        { work_by_two(rt, pool, a, b) },
-        &mut ||
-            requires sync { IsSync R.row }
-            requires sides { (IsSideOf pool.now c.now.side) × (IsSideOf pool.now d.now.side) }
-            ensures { (IsSideOf pool.entry.now c.exit.now.side) × (IsSideOf pool.entry.now d.exit.now.side) }
-        { work_by_two(rt, pool, c, d) },
+        sides,
+        8,
+        &|number, side| work(rt, pool, side, number, counts),
     );
+    for_each_mut(rt, sides, 1, &|_, side| pop_rest(rt, pool, side, counts));
 }
 
-// Eight workers at once.
-fn work_by_eight<R: Threads + Wait + Abort + Sync>(
+// Every vertex was popped once, and no chunk is left.
+fn share_pool<R: Threads + Wait + Abort + Sync>(
     rt: &R,
-    pool: &ObimPool,
-    a: &mut Worker,
-    b: &mut Worker,
-    c: &mut Worker,
-    d: &mut Worker,
-    e: &mut Worker,
-    f: &mut Worker,
-    g: &mut Worker,
-    h: &mut Worker,
-)
-    requires ab { (IsSideOf pool.now a.old.side) × (IsSideOf pool.now b.old.side) }
-    requires cd { (IsSideOf pool.now c.old.side) × (IsSideOf pool.now d.old.side) }
-    requires ef { (IsSideOf pool.now e.old.side) × (IsSideOf pool.now f.old.side) }
-    requires gh { (IsSideOf pool.now g.old.side) × (IsSideOf pool.now h.old.side) }
-    ensures ab { (IsSideOf pool.now a.new.side) × (IsSideOf pool.now b.new.side) }
-    ensures cd { (IsSideOf pool.now c.new.side) × (IsSideOf pool.now d.new.side) }
-    ensures ef { (IsSideOf pool.now e.new.side) × (IsSideOf pool.now f.new.side) }
-    ensures gh { (IsSideOf pool.now g.new.side) × (IsSideOf pool.now h.new.side) }
+    alloc: Global,
+    workers: u32,
+    chunk: usize,
+) -> Result<(), SettleFault>
+    requires { (1 ≤ workers) × (1 ≤ chunk) × (chunk ≤ MAX_SIZE) }
 {
-    join_mut(
-        rt,
-        &mut ||
-            requires sync { IsSync R.row }
-            requires low { (IsSideOf pool.now a.now.side) × (IsSideOf pool.now b.now.side) }
-            requires high { (IsSideOf pool.now c.now.side) × (IsSideOf pool.now d.now.side) }
-            ensures low { (IsSideOf pool.entry.now a.exit.now.side) × (IsSideOf pool.entry.now b.exit.now.side) }
-            ensures high { (IsSideOf pool.entry.now c.exit.now.side) × (IsSideOf pool.entry.now d.exit.now.side) }
-        { work_by_four(rt, pool, a, b, c, d) },
-        &mut ||
-            requires sync { IsSync R.row }
-            requires low { (IsSideOf pool.now e.now.side) × (IsSideOf pool.now f.now.side) }
-            requires high { (IsSideOf pool.now g.now.side) × (IsSideOf pool.now h.now.side) }
-            ensures low { (IsSideOf pool.entry.now e.exit.now.side) × (IsSideOf pool.entry.now f.exit.now.side) }
-            ensures high { (IsSideOf pool.entry.now g.exit.now.side) × (IsSideOf pool.entry.now h.exit.now.side) }
-        { work_by_four(rt, pool, e, f, g, h) },
-    );
-}
-
-// Which of the vertices below `workers` times PUSHES were popped: none yet.
-fn none_popped(alloc: Global, workers: u32) -> Result<Vec<bool>, Memory> {
-    let total = workers as usize * PUSHES as usize;
-    Ok(vec![in alloc; false; total]?)
-}
-
-// Notes what was popped, which none did before.
-fn note<R: Abort>(rt: &R, seen: &mut [bool], popped: &[u32]) {
-    for &v in popped {
-        assert!(rt;
-            (v as usize) < seen.len() && !seen[v as usize],
-            "vertex {v}"
-        );
-        seen[v as usize] = true;
+    let counts = open_counts(alloc, workers)?;
+    let (pool, mut sides) = open_pool(alloc, workers, chunk)?;
+    work_by_threads(rt, &pool, &mut sides, &counts);
+    for count in &counts {
+        assert_eq!(rt; count.load(Ordering::SeqCst), 1);
     }
-}
-
-// Pops what this worker can, and notes all that it popped.
-fn retire<R: Wait + Abort>(
-    rt: &R,
-    pool: &ObimPool,
-    mut worker: Worker,
-    seen: &mut [bool],
-) -> ObimSide
-    requires { IsSideOf pool.now worker.side }
-    ensures { IsSideOf pool.now result }
-{
-    for _ in 0..seen.len() {
-        pop(rt, pool, &mut worker);
-    }
-    assert_eq!(rt; pool.pop(rt, &mut worker.side), None);
-    note(rt, seen, &worker.popped);
-    worker.side
-}
-
-// Every vertex was popped.
-fn expect_all<R: Abort>(rt: &R, seen: &[bool]) {
-    for &one in seen {
-        assert!(rt; one);
-    }
+    assert!(rt; pool.settle(rt, alloc, sides)?.is_empty());
+    Ok(())
 }
 
 #[test]
 fn two_threads(rt: HostRuntime) -> Result<(), Fail> {
-    let alloc = rt.alloc();
-    let (pool, mut sides) = open_pool(alloc, 2, 16)?;
-    let mut seen = none_popped(alloc, 2)?;
-    let mut a = hire(&rt, alloc, &pool, &mut sides, 0);
-    let mut b = hire(&rt, alloc, &pool, &mut sides, 1);
-    work_by_two(&rt, &pool, &mut a, &mut b);
-    let a = retire(&rt, &pool, a, &mut seen);
-    let b = retire(&rt, &pool, b, &mut seen);
-    put_back(&rt, &pool, &mut sides, a);
-    put_back(&rt, &pool, &mut sides, b);
-    expect_all(&rt, &seen);
-    let left = pool.settle(&rt, alloc, sides)?;
-    assert!(rt; left.is_empty());
+    share_pool(&rt, rt.alloc(), 2, 16)?;
     Ok(())
 }
 
 #[test]
 fn four_threads(rt: HostRuntime) -> Result<(), Fail> {
-    let alloc = rt.alloc();
-    let (pool, mut sides) = open_pool(alloc, 4, 2)?;
-    let mut seen = none_popped(alloc, 4)?;
-    let mut a = hire(&rt, alloc, &pool, &mut sides, 0);
-    let mut b = hire(&rt, alloc, &pool, &mut sides, 1);
-    let mut c = hire(&rt, alloc, &pool, &mut sides, 2);
-    let mut d = hire(&rt, alloc, &pool, &mut sides, 3);
-    work_by_four(&rt, &pool, &mut a, &mut b, &mut c, &mut d);
-    retire(&rt, &pool, a, &mut seen);
-    retire(&rt, &pool, b, &mut seen);
-    retire(&rt, &pool, c, &mut seen);
-    retire(&rt, &pool, d, &mut seen);
-    expect_all(&rt, &seen);
+    share_pool(&rt, rt.alloc(), 4, 2)?;
     Ok(())
 }
 
 #[test]
 fn eight_threads(rt: HostRuntime) -> Result<(), Fail> {
-    let alloc = rt.alloc();
-    let (pool, mut sides) = open_pool(alloc, 8, 1)?;
-    let mut seen = none_popped(alloc, 8)?;
-    let mut a = hire(&rt, alloc, &pool, &mut sides, 0);
-    let mut b = hire(&rt, alloc, &pool, &mut sides, 1);
-    let mut c = hire(&rt, alloc, &pool, &mut sides, 2);
-    let mut d = hire(&rt, alloc, &pool, &mut sides, 3);
-    let mut e = hire(&rt, alloc, &pool, &mut sides, 4);
-    let mut f = hire(&rt, alloc, &pool, &mut sides, 5);
-    let mut g = hire(&rt, alloc, &pool, &mut sides, 6);
-    let mut h = hire(&rt, alloc, &pool, &mut sides, 7);
-    work_by_eight(
-        &rt, &pool, &mut a, &mut b, &mut c, &mut d, &mut e, &mut f, &mut g, &mut h,
-    );
-    retire(&rt, &pool, a, &mut seen);
-    retire(&rt, &pool, b, &mut seen);
-    retire(&rt, &pool, c, &mut seen);
-    retire(&rt, &pool, d, &mut seen);
-    retire(&rt, &pool, e, &mut seen);
-    retire(&rt, &pool, f, &mut seen);
-    retire(&rt, &pool, g, &mut seen);
-    retire(&rt, &pool, h, &mut seen);
-    expect_all(&rt, &seen);
+    share_pool(&rt, rt.alloc(), 8, 1)?;
     Ok(())
 }
