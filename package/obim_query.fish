@@ -5,7 +5,7 @@ complete -c obim_query -s W -l walks -d "Print a walk of fewest arcs for each co
 complete -c obim_query -s w -l workers -x -d "How many workers, 1 to 64"
 complete -c obim_query -l at-once -x -a auto -d "Sources solved at the same time, 1 to 64, or auto"
 complete -c obim_query -s s -l shift -x -a auto -d "Bucket width 2^BITS, 0 to 63, or auto"
-complete -c obim_query -s c -l chunk -x -d "Vertices handed on at a time, 1 to 256"
+complete -c obim_query -s c -l chunk -x -d "Vertices in a chunk, the unit of shared work, 1 to 256"
 complete -c obim_query -l progress -d "Print on standard error how far the answer is"
 complete -c obim_query -l stats -d "Print figures on standard error after the answer"
 complete -c obim_query -s h -l help -d "Print help"

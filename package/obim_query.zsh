@@ -6,7 +6,7 @@ _arguments \
     '(-w --workers)'{-w,--workers}'[how many workers, 1 to 64]:count:' \
     '--at-once[sources solved at the same time, 1 to 64]:count:(auto)' \
     '(-s --shift)'{-s,--shift}'[bucket width 2^BITS, 0 to 63]:bits:(auto)' \
-    '(-c --chunk)'{-c,--chunk}'[vertices handed on at a time, 1 to 256]:size:' \
+    '(-c --chunk)'{-c,--chunk}'[vertices in a chunk, the unit of shared work, 1 to 256]:size:' \
     '--progress[print on standard error how far the answer is]' \
     '--stats[print figures on standard error after the answer]' \
     '(- *)--help[print help]' \

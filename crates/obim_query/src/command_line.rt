@@ -43,7 +43,7 @@ const CHUNK: Numbers = Numbers {
     has_auto: false,
 };
 
-/// How many vertices several workers hand on at a time, where nothing else is asked for.
+/// How many vertices a chunk of several workers has, if nothing else is asked for.
 const SHARED_CHUNK: usize = 64;
 
 /// What `--version` prints after the program's name.
@@ -56,16 +56,16 @@ const ABOUT: &str = "Answers a job: a directed graph with whole-number weights, 
 const AFTER: &str = "\
 Workers, sources at once, shift and chunk change how long an answer takes, and
 no byte of it. The defaults serve every kind of graph, from paths to maps of 24
-million vertices. With --at-once auto several workers solve a source each where
-vertices have few arcs, and else share one source; each source takes memory of
-its own. With --shift auto buckets of vertices widen with their labels, up to a
-width that fits the graph; with --shift BITS each is 2^BITS labels wide. Without
---chunk one worker hands on 256 vertices at a time, and several 64. Of an option
-given twice the last counts.
+million vertices. With --at-once auto sources are solved side by side, up to one
+for each worker, if vertices have few arcs, and else one by one; each source at
+once takes memory of its own. With --shift auto the buckets of vertices get
+wider as costs rise, up to a width that fits the graph; with --shift BITS each
+spans 2^BITS costs. Without --chunk a chunk has 256 vertices with one worker,
+and 64 with several. If an option is given twice, the last one counts.
 
-A job is one text on standard input, also where - stands for it: a graph in the
-.gr format of the 9th DIMACS Implementation Challenge, and after it its sources
-in the .ss format, or pairs of a source and a target in the .p2p format.
+A job is one text on standard input (which the argument - stands for): a graph
+in the .gr format of the 9th DIMACS Implementation Challenge, and after it its
+sources in the .ss format, or pairs of a source and a target in the .p2p format.
 Vertices count from 1.
 
   c a comment
@@ -78,13 +78,13 @@ Vertices count from 1.
   p aux sp add K     perhaps K added arcs, last; K lines `a U V W` follow
 
 For each source the answer has the line `s V`, and for each vertex a line
-`d V COST`: the least cost of a walk, or its arcs for levels, and `inf` where no
-walk leads. For each pair it has the line `q S T COST`. With --walks a line
-`w V COST U .. V` follows where a walk leads: its vertices in order. For
-components the answer has for each vertex `k V LABEL`: the least vertex that
-arcs join to V, whichever way they point. With added arcs the line `g K` follows
-the lines of each source, each pair or the components, and then the same lines
-for the graph with these arcs.
+`d V COST`: the least cost of a walk there, or the fewest arcs for levels, or
+`inf` if there is no walk. For each pair it has the line `q S T COST`. With
+--walks a line `w V COST U .. V` follows if there is a walk: its vertices in
+order. For components the answer has for each vertex `k V LABEL`: the least
+vertex that arcs join to V, whichever way they point. With added arcs the line
+`g K` follows the lines of each source, each pair or the components, and then
+the same lines for the graph with these arcs.
 
 Example:
   $ printf 'p sp 2 1\\na 1 2 7\\np aux sp ss 1\\ns 1\\n' | obim_query
@@ -93,23 +93,23 @@ Example:
   d 2 7
 
 Status: 0 answered, 1 the command line is refused, 2 the text is refused,
-3 memory, 4 reading or writing, 5 a thread, 70 the program could not be built.";
+3 memory is refused, 4 reading or writing failed, 5 a thread is refused.";
 
 /// What a command line asks for.
 #[derive(Clone, Copy, Debug, PartialEq, Eq)]
-pub struct Order {
-    pub asked: Asked,
+pub(crate) struct Order {
+    pub(crate) asked: Asked,
     /// Whether figures are printed after the answer.
-    pub stats: bool,
+    pub(crate) stats: bool,
     /// Whether it is printed how far the answer is.
-    pub progress: bool,
+    pub(crate) progress: bool,
     /// Whether the job may come from a terminal, since the argument `-` is there.
-    pub typed: bool,
+    pub(crate) typed: bool,
 }
 
 /// Why a command line asks for no answer.
 #[derive(Drop)]
-pub enum Refusal {
+pub(crate) enum Refusal {
     /// It asks for a text: the help or the version.
     Text(Error),
     /// It is refused: what is wrong with it, in a sentence.
@@ -126,7 +126,7 @@ impl From<AllocError> for Refusal {
 
 /// Judges the command line: what its arguments ask for, or why they are refused. The first is the
 /// program's name.
-pub fn asked_by<'a, S: AsStr>(alloc: Global, arguments: &'a [S]) -> Result<Order, Refusal> {
+pub(crate) fn asked_by<'a, S: AsStr>(alloc: Global, arguments: &'a [S]) -> Result<Order, Refusal> {
     let limits = Limits::new(alloc)?;
     let matches = match command(alloc, &limits)?.try_get_matches_from(arguments) {
         Ok(matches) => matches,
@@ -269,7 +269,7 @@ impl Limits {
             workers: format!(in alloc; "How many workers, {WORKERS}")?,
             at_once: format!(in alloc; "Sources at once, {AT_ONCE}")?,
             shift: format!(in alloc; "Bucket width 2^BITS, {SHIFT}")?,
-            chunk: format!(in alloc; "Vertices handed on at a time, {CHUNK}")?,
+            chunk: format!(in alloc; "Vertices in a chunk, the unit of shared work, {CHUNK}")?,
         })
     }
 }

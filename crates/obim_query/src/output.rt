@@ -4,14 +4,14 @@ use std::io::{self, ErrorKind, Write};
 
 /// A writer that notes whether whoever read its bytes has gone.
 #[derive(Drop)]
-pub struct Output<'a, W> {
+pub(crate) struct Output<'a, W> {
     inner: &'a mut W,
     /// A write failed since the other end of the pipe is closed, as `head` closes it.
-    pub has_no_reader: bool,
+    pub(crate) has_no_reader: bool,
 }
 
 impl<'a, W> Output<'a, W> {
-    pub fn new(inner: &'a mut W) -> Output<'a, W> {
+    pub(crate) fn new(inner: &'a mut W) -> Output<'a, W> {
         Output {
             inner,
             has_no_reader: false,

@@ -7,7 +7,7 @@ use std::time::{Clock, Duration};
 /// The most lines of a run.
 const MOST_LINES: u32 = 100;
 
-/// After so many lines the time from one to the next doubles: so a hundred lines are enough for hours.
+/// Lines after which the time from one to the next doubles: so a hundred lines are enough for hours.
 const LINES_AT_A_PACE: u32 = 10;
 
 /// Milliseconds between lines that replace one another, at a terminal.
@@ -15,7 +15,7 @@ const TERMINAL_PACE: u64 = 200;
 
 /// Where progress is shown.
 #[derive(Clone, Copy, Debug, PartialEq, Eq)]
-pub enum Shown {
+pub(crate) enum Shown {
     Nowhere,
     /// In lines of their own.
     Lines,
@@ -25,9 +25,9 @@ pub enum Shown {
 
 /// Figures of a job, of which it prints how far it is from time to time.
 #[derive(Drop)]
-pub struct Progress<'a, H> {
+pub(crate) struct Progress<'a, H> {
     rt: &'a H,
-    pub figures: Figures,
+    pub(crate) figures: Figures,
     shown: Shown,
     bytes: u64,
     lines: u32,
@@ -37,7 +37,7 @@ pub struct Progress<'a, H> {
 
 impl<'a, H: Eprint + Clock> Progress<'a, H> {
     /// Of nothing, from now on.
-    pub fn new(rt: &'a H, shown: Shown) -> Progress<'a, H> {
+    pub(crate) fn new(rt: &'a H, shown: Shown) -> Progress<'a, H> {
         let mut progress = Progress {
             rt,
             figures: Figures::new(rt),
@@ -90,7 +90,7 @@ impl<'a, H: Eprint + Clock> Progress<'a, H> {
     }
 
     /// Takes the line at a terminal away.
-    pub fn clear(&self) {
+    pub(crate) fn clear(&self) {
         if self.shown == Shown::Terminal {
             let _ = eprint!(self.rt; "\r\u{1b}[K");
         }
