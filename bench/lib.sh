@@ -13,7 +13,10 @@ tunables+=:glibc.malloc.mmap_threshold=33554432:glibc.malloc.trim_threshold=4294
 export GLIBC_TUNABLES=${GLIBC_TUNABLES:-$tunables}
 
 # plain FILE NAME ARGUMENT..: builds a program in plain Rust.
-plain() { rustc -O --edition 2024 -A dead_code -o "$work/bin/$2" "${@:3}" "$here/$1"; }
+plain() {
+    command -v rustc >/dev/null || { echo "bench: there is no rustc, which builds the programs in plain Rust" >&2; exit 1; }
+    rustc -O --edition 2024 -A dead_code -o "$work/bin/$2" "${@:3}" "$here/$1"
+}
 
 # job_tools: puts the generator of jobs, the baseline and the program on the path: the program of $PROGRAM
 # where that is set, else that of this tree, which is built first.
