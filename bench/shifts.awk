@@ -25,7 +25,7 @@ function frame(answer, ratio, shift) {
         text(50, y(ratio) + 4, "end", ratio)
     }
     for (shift = 0; shift <= 24; shift += 2) text(x(shift), 304, "middle", shift)
-    text(x(12), 324, "middle", "--shift")
+    text(x(12), 324, "middle", "--shift BITS: each bucket is 2^BITS labels wide")
     text(696, 304, "middle", "default")
     text(890, 46, "end", "default")
 }
