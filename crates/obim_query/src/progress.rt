@@ -130,11 +130,11 @@ impl<H: Eprint + Clock> Watch for Progress<'_, H> {
 /// How far a job is.
 #[derive(Clone, Copy, Debug)]
 enum Step {
-    /// So many bytes of it were read, and no problem line yet.
+    /// The bytes of it that were read, and no problem line yet.
     Bytes(u64),
-    /// So many of the arcs of its graph were read.
+    /// How many of the arcs of its graph were read, and how many there are.
     Arcs(usize, usize),
-    /// So many of its queries were answered.
+    /// How many of its queries were answered, and how many there are.
     Answered(usize, usize),
 }
 
