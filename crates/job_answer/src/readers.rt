@@ -9,7 +9,7 @@ use std::alloc::Global;
 use std::thread::Threads;
 use std::time::{Clock, Duration};
 
-/// Blocks that one thread reads after several were slower, the first time. Then it is twice as many each time.
+/// Blocks that one thread reads after several were slower twice in a row, the first time. Then it is twice as many each time.
 const FIRST_ALONE: u32 = 8;
 
 /// Reads blocks by several threads as long as that is faster than by one. On a busy machine it isn't: a thread that
@@ -23,6 +23,8 @@ pub struct Readers {
     next_alone: u32,
     /// Nanoseconds that one thread took for a KiB, the last time.
     pace: u128,
+    /// Whether several were slower at the last block. One such block may be chance.
+    were_slower: bool,
 }
 
 impl Readers {
@@ -33,6 +35,7 @@ impl Readers {
             alone: 1,
             next_alone: FIRST_ALONE,
             pace: 0,
+            were_slower: false,
         }
     }
 
@@ -63,7 +66,12 @@ impl Readers {
         if self.alone > 0 {
             self.alone -= 1;
             self.pace = pace;
-        } else if pace > self.pace {
+        } else if pace <= self.pace {
+            self.were_slower = false;
+        } else if !self.were_slower {
+            self.were_slower = true;
+        } else {
+            self.were_slower = false;
             self.alone = self.next_alone;
             self.next_alone = self.next_alone.saturating_mul(2);
         }
