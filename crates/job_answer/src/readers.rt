@@ -12,6 +12,10 @@ use std::time::{Clock, Duration};
 /// Blocks that one thread reads after several were slower twice in a row, the first time. Then it is twice as many each time.
 const FIRST_ALONE: u32 = 8;
 
+/// Several are slower where a block takes them longer than it took one by more than this part of its time: less is
+/// chance.
+const TOLERANCE: u128 = 4;
+
 /// Reads blocks by several threads as long as that is faster than by one. On a busy machine it isn't: a thread that
 /// has lost its processor is waited for at the end of each block.
 #[derive(Clone, Copy, Debug)]
@@ -66,7 +70,7 @@ impl Readers {
         if self.alone > 0 {
             self.alone -= 1;
             self.pace = pace;
-        } else if pace <= self.pace {
+        } else if pace <= self.pace.saturating_add(self.pace / TOLERANCE) {
             self.were_slower = false;
         } else if !self.were_slower {
             self.were_slower = true;
