@@ -1,10 +1,10 @@
 -- Runs of arcs: a part of a text leads on as the whole does, and what is read one after the other.
 use Rattle.std.proofs.Common.{◌≡◌, ℕ, ◌+◌, ◌-◌, ◌<◌, ◌≤◌, List, [], ◌++◌, length, take, drop, min, get_or, sym, All}
 use Rattle.std.proofs.Common.{ap, subst, ◌∙◌, append_assoc, arith, take-append-drop}
-use Rattle.std.proofs.Common.{length-drop, get_or-drop, drop-drop, ◌⊎◌, inl, inr}
+use Rattle.std.proofs.Common.{drop-drop, ◌⊎◌, inl, inr}
 use Rattle.std.proofs.lemmas.Bool.{cases_lt}
 use Rattle.std.proofs.lemmas.List.Elements.{All-get_or}
-use Rattle.std.proofs.lemmas.List.{drop-append-le, length-take-le, get_or-take}
+use Rattle.std.proofs.lemmas.List.{drop-append-le, length-take-le}
 use Rattle.route_walks.specs.declared.graph.ArcRec.{ArcRec}
 use Rattle.dimacs_text.specs.declared.fault.TextFault.{TextFault}
 use Rattle.dimacs_text.specs.declared.arc_runs.ArcRun.{ArcRun}
@@ -70,21 +70,6 @@ part_of_rest bytes at end order inside =
     sym (take-append-drop (end - at) (drop at bytes))
     ∙ ap (λ l. take (end - at) (drop at bytes) ++ l)
     (drop-drop (end - at) at bytes ∙ ap (λ n. drop n bytes) (omega arith))
-
--- a part that ends where whole lines do ends with a line feed
-pub ends_with_feed : (bytes : List ℕ) (at end : ℕ) → at ≤ end → end ≤ length bytes
-    → EndsWithFeed (take end bytes)
-    → EndsWithFeed (take (end - at) (drop at bytes))
-ends_with_feed bytes at end order inside ended some =
-    let whole = length-take-le end bytes inside in
-    let here = length-take-le (end - at) (drop at bytes) (omega (arith, inside, length-drop at bytes)) in
-    ap (λ n. get_or (take (end - at) (drop at bytes)) n 0) (ap (λ n. n - 1) here)
-    ∙ get_or-take (end - at) (drop at bytes) (end - at - 1) 0 (omega (arith, some, here))
-    ∙ get_or-drop at bytes (end - at - 1) 0
-    ∙ ap (λ n. get_or bytes n 0) (omega (arith, order, some, here))
-    ∙ sym (get_or-take end bytes (end - 1) 0 (omega (arith, some, here)))
-    ∙ ap (λ n. get_or (take end bytes) n 0) (sym (ap (λ n. n - 1) whole))
-    ∙ ended (omega (arith, whole, some, here))
 
 -- of two places the lesser is where lines end, if both are
 pub lesser_cut : (bytes : List ℕ) (a b : ℕ)
