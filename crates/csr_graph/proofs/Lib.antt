@@ -5,3 +5,5 @@ mod Blocks
 mod Sorting
 mod Placing
 mod Layouts
+mod Parts
+mod Halves

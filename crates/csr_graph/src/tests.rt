@@ -4,6 +4,7 @@ ghost use Rattle.std.specs.Prelude.{◌<◌, ◌↔◌, ℕ, IsTrue};
 ghost use Rattle.route_walks.specs.Walk.{IsGraph};
 
 mod refusals;
+mod threads;
 
 use crate::{Csr, MAX_ARCS, Target};
 use route_walks::{ArcRec, Memory, both_ways};
@@ -139,7 +140,7 @@ fn drawn(alloc: Global, n: u32, count: usize) -> Result<Vec<ArcRec>, Memory>
     Ok(arcs)
 }
 
-// 64 arcs are few, and sorted as they stand; 300000 among 50000 vertices are grouped by blocks first.
+// 64 arcs are few, and sorted as they stand; 300000 among 50000 vertices are dealt into blocks first.
 #[test]
 fn built_from_a_list_that_is_given_up(rt: HostRuntime) -> Result<(), Fail> {
     let alloc = rt.alloc();
@@ -147,7 +148,7 @@ fn built_from_a_list_that_is_given_up(rt: HostRuntime) -> Result<(), Fail> {
         let arcs = drawn(alloc, n, count)?;
         assert!(rt; is_graph(n, &arcs) && arcs.len() <= MAX_ARCS);
         let kept = Csr::build(alloc, n, &arcs)?;
-        let given_up = Csr::build_from(alloc, n, arcs)?;
+        let given_up = Csr::build_from(&rt, alloc, n, arcs, 2)?;
         assert_eq!(rt; given_up.n(), n);
         assert_eq!(rt; given_up.arc_count(), count);
         assert!(rt; given_up.arcs(alloc)?.as_slice() == kept.arcs(alloc)?.as_slice());
@@ -183,7 +184,7 @@ fn with_arcs_beside_the_whole_list(rt: HostRuntime) -> Result<(), Fail> {
 }
 
 // The rows are those of the list of arcs both ways: of no arc, of a loop, of arcs that stand twice, of few
-// arcs, and of arcs that are grouped by blocks first.
+// arcs, and of arcs that are dealt into blocks first.
 #[test]
 fn both_ways_in_rows(rt: HostRuntime) -> Result<(), Fail> {
     let alloc = rt.alloc();
@@ -193,7 +194,7 @@ fn both_ways_in_rows(rt: HostRuntime) -> Result<(), Fail> {
         let both = both_ways(alloc, &arcs)?;
         assert!(rt; is_graph(n, &both) && both.len() <= MAX_ARCS);
         let listed = Csr::build(alloc, n, &both)?;
-        let csr = Csr::build_both_ways(alloc, n, arcs)?;
+        let csr = Csr::build_both_ways(&rt, alloc, n, arcs, 2)?;
         assert_eq!(rt; csr.n(), n);
         assert_eq!(rt; csr.arc_count(), both.len());
         assert!(rt; csr.arcs(alloc)?.as_slice() == listed.arcs(alloc)?.as_slice());

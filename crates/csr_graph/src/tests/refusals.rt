@@ -6,8 +6,8 @@ use crate::{Csr, MAX_ARCS};
 use route_walks::{ArcRec, Memory, both_ways, tried_again};
 use std::test::Fail;
 
-// Few arcs, which are sorted as they stand, and as many as are grouped by blocks first.
-const SIZES: [(u32, usize); 2] = [(10, 64), (100, 65_600)];
+// Few arcs, which are sorted as they stand, and as many as are dealt into blocks by two threads.
+const SIZES: [(u32, usize); 2] = [(10, 64), (4, 65_600)];
 
 #[test]
 fn of_csr_build(rt: HostRuntime) -> Result<(), Fail> {
@@ -32,8 +32,8 @@ fn of_csr_build_from(rt: HostRuntime) -> Result<(), Fail> {
             rt,
             alloc,
             Memory,
-            Csr::build_from(alloc, n, arcs),
-            Csr::build_from(alloc, n, same)
+            Csr::build_from(&rt, alloc, n, arcs, 2),
+            Csr::build_from(&rt, alloc, n, same, 2)
         );
         assert!(rt; csr.arcs(alloc)?.as_slice() == kept.arcs(alloc)?.as_slice());
     }
@@ -54,8 +54,8 @@ fn of_csr_build_both_ways(rt: HostRuntime) -> Result<(), Fail> {
             rt,
             alloc,
             Memory,
-            Csr::build_both_ways(alloc, n, arcs),
-            Csr::build_both_ways(alloc, n, same)
+            Csr::build_both_ways(&rt, alloc, n, arcs, 2),
+            Csr::build_both_ways(&rt, alloc, n, same, 2)
         );
         assert!(rt; csr.arcs(alloc)?.as_slice() == listed.arcs(alloc)?.as_slice());
     }
