@@ -1,84 +1,68 @@
--- Runs of arcs: a part of a text leads on as the whole does, and what is read one after the other.
-use Rattle.std.proofs.Common.{◌≡◌, ℕ, ◌+◌, ◌-◌, ◌<◌, ◌≤◌, List, [], ◌++◌, length, take, drop, min, get_or, sym, All}
-use Rattle.std.proofs.Common.{ap, subst, ◌∙◌, append_assoc, arith, take-append-drop}
-use Rattle.std.proofs.Common.{drop-drop, ◌⊎◌, inl, inr}
-use Rattle.std.proofs.lemmas.Bool.{cases_lt}
+-- Runs of arcs: the lines of arcs are read wherever they come next, and what is read one after the other.
+use Rattle.std.proofs.Common.{◌≡◌, ℕ, ◌+◌, ◌-◌, ◌<◌, ◌≤◌, List, [], ◌++◌, length, take, drop, get_or, sym, All}
+use Rattle.std.proofs.Common.{ap, subst, ◌∙◌, append_assoc, arith, take-append-drop, refl, length-append, append-nil}
+use Rattle.std.proofs.Math.Seq.{take-append_seam}
+use Rattle.std.proofs.lemmas.List.{drop-take, length-drop, length-take-le, take-append-le}
 use Rattle.std.proofs.lemmas.List.Elements.{All-get_or}
-use Rattle.std.proofs.lemmas.List.{drop-append-le, length-take-le}
 use Rattle.route_walks.specs.declared.graph.ArcRec.{ArcRec}
-use Rattle.dimacs_text.specs.declared.fault.TextFault.{TextFault}
 use Rattle.dimacs_text.specs.declared.arc_runs.ArcRun.{ArcRun}
-use Rattle.dimacs_text.specs.reader.FastArc.{EndsWithFeed}
-use Rattle.dimacs_text.specs.reader.Drafts.{Progress, arcs_progress, IsReadTo, ReadsTo, LeadsArcs, ReadsArcs}
-use Rattle.dimacs_text.specs.reader.Drafts.{IsFaultIn}
+use Rattle.dimacs_text.specs.reader.Drafts.{Progress, arcs_progress, IsReadTo, ReadsTo, AreArcLines, ReadsArcs}
 use Rattle.dimacs_text.specs.reader.ArcRuns.{IsArcRun}
+
+-- lines are read wherever they come next
+pub reads_before : (old new : Progress) (line next : ℕ) (text rest after : List ℕ)
+    → rest ≡ text ++ after → ReadsTo old line text new next [] → ReadsTo old line rest new next after
+reads_before old new line next text rest after joined reads whole more p =
+    reads whole (after ++ more)
+    (subst (λ l. IsReadTo whole l line old) (ap (λ l. l ++ more) joined ∙ append_assoc text after more) p)
 
 -- where the arcs before are the old ones
 pub arcs_lead : (n : ℕ) (rest : List ℕ) (old new : List ArcRec) (count : ℕ) (after : List ℕ) (missing line : ℕ)
     → ReadsArcs n rest old new count after → count ≤ missing
     → ReadsTo (arcs_progress n missing old) line rest (arcs_progress n (missing - count) new) (line + count) after
 arcs_lead n rest old new count after missing line r few =
-    rw (r.appended, r.number) (r.leads old missing line (omega (arith, few, r.number)))
+    rw (r.appended, r.number)
+    (reads_before (arcs_progress n missing old) (arcs_progress n (missing - length r.arcs) (old ++ r.arcs)) line
+    (line + length r.arcs) r.text rest after r.joined (r.lines old missing line (omega (arith, few, r.number))))
 
--- what is read of the first bytes is read of all
-pub leads_among : (n : ℕ) (bytes : List ℕ) (start after end : ℕ) (arcs : List ArcRec)
-    → start ≤ end → after ≤ end → end ≤ length bytes
-    → LeadsArcs n (drop start (take end bytes)) arcs (drop after (take end bytes))
-    → LeadsArcs n (drop start bytes) arcs (drop after bytes)
-leads_among n bytes start after end arcs before_end after_end inside leads before missing line few text more p =
-    subst
-    (λ l. IsReadTo text l (line + length arcs) (arcs_progress n (missing - length arcs) (before ++ arcs)))
-    (split after after_end)
-    (leads before missing line few text (drop end bytes ++ more)
-    (subst (λ l. IsReadTo text l line (arcs_progress n missing before)) (sym (split start before_end)) p))
-  where
-    split : (k : ℕ) → k ≤ end → drop k (take end bytes) ++ (drop end bytes ++ more) ≡ drop k bytes ++ more
-    split k few =
-        sym (append_assoc (drop k (take end bytes)) (drop end bytes) more)
-        ∙ ap (λ l. l ++ more)
-        (sym (drop-append-le k (take end bytes) (drop end bytes) (omega (arith, length-take-le end bytes inside)))
-        ∙ ap (λ l. drop k l) (take-append-drop end bytes))
+-- no lines are those of no arcs
+pub no_arc_lines : (n : ℕ) → AreArcLines n [] []
+no_arc_lines n before missing line few text more p =
+    subst (λ x. IsReadTo text more x (arcs_progress n (missing - 0) (before ++ []))) (omega arith)
+    (subst (λ l. IsReadTo text more line (arcs_progress n (missing - 0) l)) (sym (append-nil before))
+    (subst (λ m. IsReadTo text more line (arcs_progress n m before)) (omega arith) p))
 
--- what is read up to a place, and from there on
-pub reads_on : (old between new : Progress) (first line next : ℕ) (bytes rest after : List ℕ)
-    → ReadsTo old first bytes between line rest → ReadsTo between line rest new next after
-    → ReadsTo old first bytes new next after
-reads_on old between new first line next bytes rest after reads more text left p = more text left (reads text left p)
+-- so nothing is read of none
+pub no_arcs_read : (n : ℕ) (rest : List ℕ) (old : List ArcRec) → ReadsArcs n rest old old 0 rest
+no_arcs_read n rest old = record {
+  text = [];
+  joined = refl;
+  arcs = [];
+  appended = sym (append-nil old);
+  number = refl;
+  lines = no_arc_lines n;
+}
 
--- the whole of a part is read, and what comes after it is left
-pub reads_part : (old between new : Progress) (first line next : ℕ) (bytes rest part after : List ℕ)
-    → rest ≡ part ++ after → ReadsTo old first bytes between line rest → ReadsTo between line part new next []
-    → ReadsTo old first bytes new next after
-reads_part old between new first line next bytes rest part after is reads more text left p =
-    more text (after ++ left)
-    (subst (λ l. IsReadTo text l line between) (ap (λ l. l ++ left) is ∙ append_assoc part after left)
-    (reads text left p))
-
--- or a line of the part is wrong
-pub fails_part : (old between : Progress) (first line : ℕ) (bytes rest part after : List ℕ) (fault : TextFault)
-    → rest ≡ part ++ after → ReadsTo old first bytes between line rest → IsFaultIn between line part fault
-    → IsFaultIn old first bytes fault
-fails_part old between first line bytes rest part after fault is reads fails text left p =
-    fails text (after ++ left)
-    (subst (λ l. IsReadTo text l line between) (ap (λ l. l ++ left) is ∙ append_assoc part after left)
-    (reads text left p))
-
--- from one place to a later one
-pub part_of_rest : (bytes : List ℕ) (at end : ℕ) → at ≤ end → end ≤ length bytes
-    → drop at bytes ≡ take (end - at) (drop at bytes) ++ drop end bytes
-part_of_rest bytes at end order inside =
-    sym (take-append-drop (end - at) (drop at bytes))
-    ∙ ap (λ l. take (end - at) (drop at bytes) ++ l)
-    (drop-drop (end - at) at bytes ∙ ap (λ n. drop n bytes) (omega arith))
-
--- of two places the lesser is where lines end, if both are
-pub lesser_cut : (bytes : List ℕ) (a b : ℕ)
-    → EndsWithFeed (take a bytes) → EndsWithFeed (take b bytes) → EndsWithFeed (take (min a b) bytes)
-lesser_cut bytes a b ea eb = by_order (cases_lt b a)
-  where
-    by_order : (b < a) ⊎ (a ≤ b) → EndsWithFeed (take (min a b) bytes)
-    by_order (inl less) = subst (λ n. EndsWithFeed (take n bytes)) (omega arith) eb
-    by_order (inr not_less) = subst (λ n. EndsWithFeed (take n bytes)) (omega arith) ea
+-- what is read from one place of a part to another is what stands there in the whole
+pub text_between : (bytes text : List ℕ) (start after end : ℕ)
+    → start ≤ after → after ≤ end → end ≤ length bytes
+    → drop start (take end bytes) ≡ text ++ drop after (take end bytes)
+    → take (after - start) (drop start bytes) ≡ text
+text_between bytes text start after end order before_end inside joined =
+    ap (λ l. take (after - start) l) (sym (take-append-drop (end - start) (drop start bytes)))
+    ∙ take-append-le (after - start) (take (end - start) (drop start bytes)) (drop (end - start) (drop start bytes))
+    (omega (arith, length-take-le (end - start) (drop start bytes) (omega (arith, length-drop start bytes))))
+    ∙ ap (λ l. take (after - start) l)
+    (sym (drop-take start (end - start) bytes) ∙ ap (λ k. drop start (take k bytes)) (omega arith) ∙ joined)
+    ∙ ap (λ k. take k (text ++ drop after (take end bytes))) (omega (
+      arith,
+      ap (λ l. length l) joined,
+      length-append text (drop after (take end bytes)),
+      length-drop start (take end bytes),
+      length-drop after (take end bytes),
+      length-take-le end bytes inside,
+    ))
+    ∙ take-append_seam text (drop after (take end bytes))
 
 -- each of the runs is one
 pub run_among : (bytes : List ℕ) (runs : List ArcRun) (i : ℕ) (run : ArcRun)

@@ -13,7 +13,7 @@ use Rattle.std.proofs.lemmas.Int.Digits.{digits_value_push}
 use Rattle.std.proofs.lemmas.Bool.{ne_eqb, and_parts}
 use Rattle.std.proofs.lemmas.Bool.Decides.{nat_tests}
 use Rattle.dimacs_text.specs.declared.form.Item.TheVariants.{Arc}
-use Rattle.dimacs_text.specs.Lines.{lines, without_cr, is_blank, fields, number}
+use Rattle.dimacs_text.specs.Lines.{without_cr, is_blank, fields, number}
 use Rattle.dimacs_text.specs.reader.Pieces.{AreBlank, Begins}
 use Rattle.dimacs_text.specs.declared.form.Form.TheVariants.{Counted}
 use Rattle.dimacs_text.specs.Forms.{limits, in_form, in_limits, fields_reading, reading}
@@ -79,6 +79,8 @@ line_more : (b : ℕ) (bytes text after : List ℕ)
     → (b ≡ 10 → ⊥) → (b ≡ 13 → ⊥) → EndsLine bytes text after
     → EndsLine (b ∷ bytes) (b ∷ text) after
 line_more b bytes text after no_feed no_return e = record {
+  whole = b ∷ e.whole;
+  joined = ap (λ l. b ∷ l) e.joined;
   line = b ∷ e.line;
   split = λ more. rw (ne_eqb b 10 no_feed) (ap (λ ls. onto_first b ls) (e.split more));
   trimmed = rest_of e.line ∙ ap (λ l. b ∷ l) e.trimmed;
@@ -178,8 +180,10 @@ arc_line n rest a b c d after u v w e s t r end within =
         → fields text ≡ (97 ∷ []) ∷ s.digits ∷ t.digits ∷ r.digits ∷ [] → EndsLine (97 ∷ a) text after
         → IsArcLine n rest (record { tail = u - 1; head = v - 1; weight = w }) after
     from_parts text is all = record {
+      whole = all.whole;
+      joined = e ∙ all.joined;
       line = all.line;
-      split = λ more. ap (λ l. lines (l ++ more)) e ∙ all.split more;
+      split = all.split;
       reads =
           arc_reads n all.line s.digits t.digits r.digits u v w (ap (λ l. fields l) all.trimmed ∙ is) s.worth t.worth
           r.worth within;

@@ -1,7 +1,8 @@
 -- What one more line does to what was read, and what is known at the end.
 use Rattle.std.proofs.Common.{◌≡◌, ℕ, zero, suc, ◌+◌, ◌-◌, ◌^◌, List, [], ◌∷◌, ◌++◌, map, ◌⊎◌, inl, inr, Option, Some}
 use Rattle.std.proofs.Common.{None, Ok, Err, option_to_list, refl, sym, ap, ap₂, subst, ◌∙◌, true, is_some, ◌≤◌}
-use Rattle.std.proofs.Common.{length, IfOk, IfErr, Result, append-nil, append_assoc, length-append, arith}
+use Rattle.std.proofs.Common.{length, IfOk, IfErr, Result, append-nil, append_assoc, length-append, arith, take, drop}
+use Rattle.std.proofs.Math.Seq.{take-add}
 use Rattle.std.proofs.lemmas.List.{map-append}
 use Rattle.std.proofs.lemmas.List.Elements.{filter_map-append}
 use Rattle.route_walks.specs.declared.graph.ArcRec.{ArcRec}
@@ -109,13 +110,13 @@ line_reads old new whole rest text after line split r p =
     (line_leads old (lines whole) (lines after) text r.said line r.reads r.fits
     (subst (λ ls. IsReadAmong (lines whole) ls line old) split p))
 
--- arcs that are read lead on
+-- the line of an arc is read wherever it comes next
 one_arc : (n j : ℕ) (arcs : List ArcRec) (arc : ArcRec) (rest after : List ℕ) (line : ℕ)
-    → IsArcLine n rest arc after
-    → ReadsTo (arcs_progress n (suc j) arcs) line rest (arcs_progress n j (arcs ++ arc ∷ [])) (line + 1) after
+    → (r : IsArcLine n rest arc after)
+    → ReadsTo (arcs_progress n (suc j) arcs) line r.whole (arcs_progress n j (arcs ++ arc ∷ [])) (line + 1) []
 one_arc n j arcs arc rest after line r text more p =
-    line_reads (arcs_progress n (suc j) arcs) (arcs_progress n j (arcs ++ arc ∷ [])) text (rest ++ more) r.line
-    (after ++ more) line (r.split more)
+    line_reads (arcs_progress n (suc j) arcs) (arcs_progress n j (arcs ++ arc ∷ [])) text (r.whole ++ more) r.line
+    more line (r.split more)
     (record {
       said = Some (arc_record arc);
       reads = r.reads;
@@ -125,7 +126,7 @@ one_arc n j arcs arc rest after line r text more p =
           (let len = length-append arcs (arc ∷ []) in omega arith) (map-append arc_record arcs (arc ∷ []));
     }) p
 
--- and are read again wherever they come next
+-- and so is one arc more after others
 pub one_arc_more : (n : ℕ) (rest : List ℕ) (old new : List ArcRec) (count : ℕ) (between after : List ℕ) (arc : ArcRec)
     → ReadsArcs n rest old new count between → IsArcLine n between arc after
     → ReadsArcs n rest old (new ++ arc ∷ []) (count + 1) after
@@ -133,22 +134,26 @@ one_arc_more n rest old new count between after arc reads is =
     let arcs = reads.arcs in
     let len = length-append arcs (arc ∷ []) in
     record {
+      text = reads.text ++ is.whole;
+      joined = reads.joined ∙ ap (λ l. reads.text ++ l) is.joined ∙ sym (append_assoc reads.text is.whole after);
       arcs = arcs ++ arc ∷ [];
       appended = ap (λ l. l ++ arc ∷ []) reads.appended ∙ append_assoc old arcs (arc ∷ []);
       number = omega (arith, reads.number, len);
-      leads = λ before missing line few text more p.
+      lines = λ before missing line few text more p.
           let left : missing - length arcs ≡ suc (missing - length (arcs ++ arc ∷ [])) = omega (arith, few, len) in
-          let here = reads.leads before missing line (omega (arith, few, len)) text more p in
+          let here =
+          reads.lines before missing line (omega (arith, few, len)) text (is.whole ++ more)
+          (subst (λ l. IsReadTo text l line (arcs_progress n missing before)) (append_assoc reads.text is.whole more) p) in
           let next =
           one_arc n (missing - length (arcs ++ arc ∷ [])) (before ++ arcs) arc between after (line + length arcs) is
           text more
-          (subst (λ m. IsReadTo text (between ++ more) (line + length arcs) (arcs_progress n m (before ++ arcs))) left
+          (subst (λ m. IsReadTo text (is.whole ++ more) (line + length arcs) (arcs_progress n m (before ++ arcs))) left
           here) in
           subst
-          (λ l. IsReadTo text (after ++ more) (line + length (arcs ++ arc ∷ []))
+          (λ l. IsReadTo text more (line + length (arcs ++ arc ∷ []))
           (arcs_progress n (missing - length (arcs ++ arc ∷ [])) l)) (append_assoc before arcs (arc ∷ []))
           (subst
-          (λ x. IsReadTo text (after ++ more) x
+          (λ x. IsReadTo text more x
           (arcs_progress n (missing - length (arcs ++ arc ∷ [])) ((before ++ arcs) ++ arc ∷ []))) (omega (arith, len))
           next);
     }
@@ -305,3 +310,32 @@ reads_both old between new front back first second text r few =
     let more = length-append text front in
     subst (λ t. HasRead new t) (append_assoc text front back)
     (second (text ++ front) (first text r (omega (arith, few, len))) (omega (arith, few, len, more)))
+
+-- up to a place, and from there to a later one
+pub reads_to : (old between new : JobReader) (bytes : List ℕ) (at next : ℕ)
+    → at ≤ next → Reads old between (take at bytes) → Reads between new (take (next - at) (drop at bytes))
+    → Reads old new (take next bytes)
+reads_to old between new bytes at next order first second =
+    subst (λ b. Reads old new b)
+    (sym (take-add at (next - at) bytes) ∙ ap (λ n. take n bytes) (omega arith))
+    (reads_both old between new (take at bytes) (take (next - at) (drop at bytes)) first second)
+
+-- what is read after the lines of a text, where it is so many lines
+pub lines_read : (fault : Option LineKind) (old new : Draft) (line next count : ℕ) (text part : List ℕ)
+    → fault ≡ None → HasReadBy fault old line text
+    → ReadsTo (progress_of old) line part (progress_of new) (line + count) []
+    → count ≤ length part → (line ≤ length text + 1 → next ≡ line + count)
+    → HasReadBy fault new next (text ++ part)
+lines_read fault old new line next count text part none before leads few exact =
+    subst (λ f. HasReadBy f new next (text ++ part)) (sym none)
+    (after (subst (λ f. HasReadBy f old line text) none before))
+  where
+    after : HasReadBy None old line text → HasReadBy None new next (text ++ part)
+    after read =
+        let is = exact read.0 in (
+          omega (arith, read.0, few, is, length-append text part),
+          λ more.
+              subst (λ n. IsReadTo ((text ++ part) ++ more) more n (progress_of new)) (sym is)
+              (subst (λ t. IsReadTo t more (line + count) (progress_of new)) (sym (append_assoc text part more))
+              (leads (text ++ (part ++ more)) more (read.1 (part ++ more)))),
+        )

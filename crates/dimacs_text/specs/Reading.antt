@@ -1,5 +1,6 @@
 -- What a reader of jobs has read, of a text that came in pieces.
-use Rattle.std.specs.Prelude.{◌≡◌, ℕ, ◌+◌, ◌^◌, ◌≤◌, List, ◌++◌, length, Option, Some, None}
+use Rattle.std.specs.Prelude.{◌≡◌, ℕ, ◌+◌, ◌^◌, ◌≤◌, List, ◌++◌, length, Option, Some, None, All}
+use Rattle.dimacs_text.specs.declared.arc_runs.ArcRun.{ArcRun}
 use Rattle.dimacs_text.specs.declared.fault.LineKind.{LineKind}
 use Rattle.dimacs_text.specs.declared.draft.Draft.{Draft}
 use Rattle.dimacs_text.specs.declared.reader.LineReader.{LineReader}
@@ -7,6 +8,7 @@ use Rattle.dimacs_text.specs.declared.reader.JobReader.{JobReader}
 use Rattle.dimacs_text.specs.Faults.{IsFirstFault}
 use Rattle.dimacs_text.specs.reader.FastArc.{HasNoFeed}
 use Rattle.dimacs_text.specs.reader.Drafts.{IsReadTo, progress_of}
+use Rattle.dimacs_text.specs.reader.ArcRuns.{IsArcRun}
 
 -- the whole lines of the text were read; or one of them is the first fault, whatever comes after
 abbrev pub HasReadBy : Option LineKind → Draft → ℕ → List ℕ → Type 0
@@ -38,3 +40,7 @@ HasRead reader text = HasReadText reader.lines reader.unfinished.items text
 abbrev pub Reads : JobReader → JobReader → List ℕ → Type 0
 Reads old new bytes =
     (text : List ℕ) → HasRead old text → length text + length bytes ≤ 2 ^ 36 → HasRead new (text ++ bytes)
+
+-- these runs of arcs were read in the bytes
+abbrev pub AreRunsOf : List ℕ → List ArcRun → Type 0
+AreRunsOf bytes runs = All (IsArcRun bytes) runs

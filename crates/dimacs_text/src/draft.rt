@@ -4,13 +4,12 @@ ghost use Rattle.std.specs.Prelude.{◌≡◌, ◌+◌, ◌≤◌, ◌<◌, ◌^
 ghost use Rattle.std.specs.Prelude.{None, List, All, true, false};
 ghost use Rattle.dimacs_text.specs.reader.Machine.{misfit_at};
 ghost use Rattle.dimacs_text.specs.reader.Entries.{record_of};
-ghost use Rattle.dimacs_text.specs.reader.Drafts.{question_at, LeadsArcs};
-ghost use Rattle.dimacs_text.specs.reader.ArcRuns.{IsArcRun};
+ghost use Rattle.dimacs_text.specs.reader.Drafts.{question_at, AreArcLines};
 ghost use Rattle.dimacs_text.specs.Jobs.{arc_record, question_of};
 ghost use Rattle.dimacs_text.specs.declared.form.Form.TheVariants.{Counted};
 ghost use Rattle.dimacs_text.specs.declared.form.Item.TheVariants.{Arc};
 
-use crate::arc_runs::{ArcRun, read_arc_runs};
+use crate::arc_runs::ArcRun;
 use crate::fast_arc::read_run;
 use crate::fault::{LineKind, TextFault};
 use crate::form::{Entry, Section, read_line};
@@ -19,7 +18,6 @@ use crate::line::line_end;
 use crate::stage::Stage;
 use route_walks::{ArcRec, MAX_VERTICES};
 use std::alloc::{AllocError, Global};
-use std::thread::Threads;
 
 /// Room is made for so many arcs at first, and then for as many again as there are.
 const FIRST_ARCS: usize = 1024;
@@ -76,6 +74,11 @@ impl Draft {
             added: Vec::new(alloc),
             before_added: Stage::Start,
         }
+    }
+
+    /// To which number vertices count, where an arc of the graph may come next.
+    pub fn arcs_ahead(&self) -> Option<u32> {
+        self.stage.missing_arcs().map(|_| self.vertices)
     }
 
     /// How many arcs of the graph were read, and how many the problem line counts. None before that line.
@@ -213,30 +216,12 @@ impl Draft {
         (u64::from(count), after)
     }
 
-    /// The runs of arcs in lines that each end with a line feed, read by so many threads side by side. None
-    /// where no arcs come next.
-    pub fn read_arc_runs<H: Threads + Sync>(
-        &self,
-        rt: &H,
-        alloc: Global,
-        bytes: &[u8],
-        threads: usize,
-    ) -> Vec<ArcRun>
-        requires ended { EndsWithFeed bytes.now }
-        ensures { All (IsArcRun bytes.now) result.items }
-    {
-        match self.stage.missing_arcs() {
-            Some(_) => read_arc_runs(rt, alloc, bytes, self.vertices, threads),
-            None => Vec::new(alloc),
-        }
-    }
-
     /// Adds the arcs of a run, whose lines come next. False where they don't fit, or memory is refused.
-    fn take_run(&mut self, run: &ArcRun) -> bool
-        ensures taken { result ≡ true → (rest after : List ℕ)
-            → LeadsArcs run.now.vertices rest run.now.arcs.items after → (line : ℕ)
-            → ReadsTo (progress_of self.old) line rest
-            (progress_of self.new) (line + length run.now.arcs.items) after }
+    pub fn take_run(&mut self, run: &ArcRun) -> bool
+        ensures taken { result ≡ true → (text : List ℕ)
+            → AreArcLines run.now.vertices text run.now.arcs.items → (line : ℕ)
+            → ReadsTo (progress_of self.old) line text
+            (progress_of self.new) (line + length run.now.arcs.items) [] }
         ensures left { result ≡ false → progress_of self.new ≡ progress_of self.old }
     {
         let count = run.arcs.len();
@@ -256,45 +241,9 @@ impl Draft {
         true
     }
 
-    /// Reads lines that each end with a line feed, of which some runs are read already. The first has the
-    /// number that is given, and the number of the line after the last is returned.
-    pub fn read_with_runs(
-        &mut self,
-        bytes: &[u8],
-        first: u64,
-        runs: &[ArcRun],
-    ) -> Result<u64, TextFault>
-        requires ended { EndsWithFeed bytes.now }
-        requires runs { All (IsArcRun bytes.now) runs.now }
-        ensures reads { first + length bytes.now < 2 ^ 64 → IfOk result (λ next.
-            ReadsTo (progress_of self.old) first bytes.now (progress_of self.new) next []
-            × (next ≤ first + length bytes.now)) }
-        ensures fault { first + length bytes.now < 2 ^ 64
-            → IfErr result (IsFaultIn (progress_of self.old) first bytes.now) }
-    {
-        let mut at = 0;
-        let mut line = first;
-        for run in runs {
-            if run.start < at {
-                continue;
-            }
-            // What comes before the run is odd somewhere, and is read line by line.
-            match self.read_lines(&bytes[at..run.start], line) {
-                Ok(next) => line = next,
-                Err(first) => return Err(first),
-            }
-            at = run.start;
-            if self.take_run(run) {
-                line = line.saturating_add(run.arcs.len() as u64);
-                at = run.after;
-            }
-        }
-        self.read_lines(&bytes[at..], line)
-    }
-
     /// Reads lines that each end with a line feed. The first has the number that is given, and the number
     /// of the line after the last is returned.
-    fn read_lines(&mut self, bytes: &[u8], first: u64) -> Result<u64, TextFault>
+    pub fn read_lines(&mut self, bytes: &[u8], first: u64) -> Result<u64, TextFault>
         requires ended { EndsWithFeed bytes.now }
         ensures reads { first + length bytes.now < 2 ^ 64 → IfOk result (λ next.
             ReadsTo (progress_of self.old) first bytes.now (progress_of self.new) next []

@@ -27,6 +27,7 @@ pub use answer::{
     put_component, put_components, put_distances, put_grown, put_label, put_pair, put_source,
     put_walk,
 };
+pub use arc_runs::ArcRuns;
 pub use fault::{LineKind, TextFault};
 pub use form::{MAX_ADDED, MAX_QUERIES, MAX_TEXT_ARCS};
 pub use job::{Ask, Job};

@@ -21,16 +21,6 @@ pub fn line_end(bytes: &[u8], start: usize) -> usize
     end
 }
 
-/// The place after the first line feed, or after all bytes where there is none.
-pub fn after_first_feed(bytes: &[u8]) -> usize
-    ensures { result ≤ length bytes.now }
-{
-    match bytes.iter().position(|byte| *byte == b'\n') {
-        Some(place) => place + 1,
-        None => bytes.len(),
-    }
-}
-
 /// The place after the last line feed, or 0 where there is none.
 pub fn after_last_feed(bytes: &[u8]) -> usize
     ensures place { result ≤ length bytes.now }

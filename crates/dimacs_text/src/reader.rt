@@ -6,19 +6,19 @@
 ghost use Rattle.std.specs.Prelude.{◌≡◌, ◌^◌, ◌≤◌, ◌+◌, ◌++◌, ℕ, All, List, [], length, take, ◌<◌, None, IfOk, IfErr, OnOk};
 ghost use Rattle.dimacs_text.specs.Jobs.{content_of, IsJobText, IsWithinLimits};
 ghost use Rattle.dimacs_text.specs.Faults.{IsFaultOf};
+ghost use Rattle.std.specs.Bool.{OnFalse, OnTrue};
 ghost use Rattle.dimacs_text.specs.reader.FastArc.{EndsWithFeed, HasNoFeed};
-ghost use Rattle.dimacs_text.specs.reader.ArcRuns.{IsArcRun};
-ghost use Rattle.dimacs_text.specs.Reading.{Reads};
+ghost use Rattle.dimacs_text.specs.reader.Drafts.{AreArcLines};
+ghost use Rattle.dimacs_text.specs.Reading.{AreRunsOf, Reads};
 ghost use Rattle.dimacs_text.specs.Reading.{HasRead, HasReadLines, HasReadText};
 
-use crate::arc_runs::ArcRun;
+use crate::arc_runs::{ArcRun, ArcRuns};
 use crate::draft::Draft;
 use crate::fault::{LineKind, TextFault};
 use crate::job::Job;
-use crate::line::{after_first_feed, after_last_feed, line_end};
+use crate::line::{after_last_feed, line_end};
 use route_walks::Memory;
 use std::alloc::Global;
-use std::thread::Threads;
 
 /// The lines that were read, all of them whole.
 #[derive(Drop)]
@@ -31,18 +31,16 @@ struct LineReader {
 }
 
 impl LineReader {
-    /// Reads lines that each end with a line feed, of which some runs are read already. After a line that is
-    /// wrong none is read.
-    fn read(&mut self, bytes: &[u8], runs: &[ArcRun]) -> Result<(), Memory>
+    /// Reads lines that each end with a line feed. After a line that is wrong none is read.
+    fn read(&mut self, bytes: &[u8]) -> Result<(), Memory>
         requires ended { EndsWithFeed bytes.now }
-        requires runs { All (IsArcRun bytes.now) runs.now }
         ensures reads { OnOk result ((text : List ℕ) → HasReadLines self.old text
             → length text + length bytes.now ≤ 2 ^ 36 → HasReadLines self.new (text ++ bytes.now)) }
     {
         if self.fault.is_some() {
             return Ok(());
         }
-        match self.draft.read_with_runs(bytes, self.line, runs) {
+        match self.draft.read_lines(bytes, self.line) {
             Ok(next) => self.line = next,
             Err(TextFault::Memory) => return Err(Memory),
             Err(TextFault::Line { line, kind }) => {
@@ -52,9 +50,24 @@ impl LineReader {
         }
         Ok(())
     }
-}
 
-impl LineReader {
+    /// Takes a run of arcs whose lines come next. False where they don't fit, or memory is refused, and then
+    /// none is taken.
+    fn take_run(&mut self, run: &ArcRun) -> bool
+        requires right { self.old.fault ≡ None }
+        ensures taken { OnTrue result ((text lines : List ℕ) → HasReadLines self.old text
+            → AreArcLines run.now.vertices lines run.now.arcs.items
+            → length run.now.arcs.items ≤ length lines → length text + length lines ≤ 2 ^ 36
+            → HasReadLines self.new (text ++ lines)) }
+        ensures left { OnFalse result ((text : List ℕ) → HasReadLines self.old text → HasReadLines self.new text) }
+    {
+        let taken = self.draft.take_run(run);
+        if taken {
+            self.line = self.line.saturating_add(run.arcs.len() as u64);
+        }
+        taken
+    }
+
     /// The job of the lines and of a last line with no line feed, which is empty where there is none.
     fn finish(self, last: &[u8]) -> Result<Job, TextFault>
         ensures job { (text : List ℕ) → HasReadText self last.now text
@@ -116,39 +129,39 @@ impl JobReader {
         self.keep(tail)
     }
 
-    /// Reads the next bytes as `feed` does, the lines of arcs among them by so many threads side by side.
-    /// Each reads a part of the bytes, which should be 64 KiB at least. Where memory is refused for that, one
-    /// thread does it all.
-    pub fn feed_by<H: Threads + Sync>(
-        &mut self,
-        rt: &H,
-        alloc: Global,
-        bytes: &[u8],
-        threads: usize,
-    ) -> Result<(), Memory>
+    /// Reads the next bytes as `feed` does, of which some arcs are read ahead.
+    pub fn feed_with(&mut self, bytes: &[u8], ahead: &ArcRuns) -> Result<(), Memory>
+        requires ahead { AreRunsOf bytes.now ahead.now }
         ensures reads { OnOk result (Reads self.old self.new bytes.now) }
     {
-        // Up to the first line feed, so that no line is unfinished after it.
-        let (front, rest) = bytes.split_at(after_first_feed(bytes));
-        self.feed(front)?;
-        if self.lines.fault.is_some() || !self.unfinished.is_empty() {
-            return self.feed(rest);
+        let mut at = 0;
+        for run in ahead.list() {
+            if run.start < at {
+                continue;
+            }
+            // What comes before the run is odd somewhere, and is read line by line.
+            self.feed(&bytes[at..run.start])?;
+            at = if self.take_run(run) {
+                run.after
+            } else {
+                run.start
+            };
         }
-        let (lines, tail) = rest.split_at(after_last_feed(rest));
-        let runs = self.lines.draft.read_arc_runs(rt, alloc, lines, threads);
-        self.read_whole(lines, &runs)?;
-        self.keep(tail)
+        self.feed(&bytes[at..])
     }
 
-    /// Reads lines that each end with a line feed, where no line is unfinished. Some runs are read already.
-    fn read_whole(&mut self, lines: &[u8], runs: &[ArcRun]) -> Result<(), Memory>
-        requires right { self.old.lines.fault ≡ None }
-        requires finished { self.old.unfinished.items ≡ [] }
-        requires ended { EndsWithFeed lines.now }
-        requires runs { All (IsArcRun lines.now) runs.now }
-        ensures reads { OnOk result (Reads self.old self.new lines.now) }
+    /// Takes a run of arcs that comes next. False where it begins within a line or doesn't fit, and then it
+    /// isn't taken.
+    fn take_run(&mut self, run: &ArcRun) -> bool
+        ensures taken { OnTrue result ((lines : List ℕ)
+            → AreArcLines run.now.vertices lines run.now.arcs.items
+            → length run.now.arcs.items ≤ length lines → Reads self.old self.new lines) }
+        ensures left { OnFalse result (Reads self.old self.new []) }
     {
-        self.lines.read(lines, runs)
+        if self.lines.fault.is_some() || !self.unfinished.is_empty() {
+            return false;
+        }
+        self.lines.take_run(run)
     }
 
     /// Reads lines that each end with a line feed, the first of them with what is kept of it.
@@ -162,9 +175,9 @@ impl JobReader {
         }
         let (end, rest) = lines.split_at(self.left_of_line(lines));
         self.unfinished.extend_from_slice(end)?;
-        self.lines.read(&self.unfinished, &[])?;
+        self.lines.read(&self.unfinished)?;
         self.unfinished.clear();
-        self.lines.read(rest, &[])
+        self.lines.read(rest)
     }
 
     /// Keeps bytes of an unfinished line.
@@ -191,6 +204,11 @@ impl JobReader {
         } else {
             line_end(lines, 0) + 1
         }
+    }
+
+    /// To which number vertices count, where an arc of the graph may come next: what `ArcRuns::read` asks for.
+    pub fn arcs_ahead(&self) -> Option<u32> {
+        self.lines.draft.arcs_ahead()
     }
 
     /// How many arcs of the graph were read, and how many the problem line counts. None before that line.

@@ -1,6 +1,7 @@
--- A text that is read in blocks, and how much of its limit is left.
-use Rattle.std.proofs.Common.{◌≡◌, ℕ, ◌+◌, ◌-◌, ◌≤◌, ◌^◌, List, [], ◌++◌, length, take, Option, subst, sym, ap, ◌∙◌, arith}
-use Rattle.std.specs.Io.KnownBytes.{Consumes, IsAtEnd}
+-- A text that is read in pieces, and how much of its limit is left.
+use Rattle.std.proofs.Common.{◌≡◌, ℕ, ◌+◌, ◌-◌, ◌≤◌, ◌^◌, List, [], ◌++◌, length, take, Option, Bool, subst, sym, ap, ◌∙◌, arith}
+use Rattle.std.proofs.Common.{◌⊎◌, inl, inr, append_assoc, append-nil, refl}
+use Rattle.std.specs.Io.KnownBytes.{Consumes}
 use Rattle.std.proofs.lemmas.List.{length-append, length-take-le, take-append-le}
 use Rattle.std.proofs.Math.Seq.{take-append-add}
 use borrow.Rule.Slice.PartMut.{post_of, put_mid}
@@ -9,70 +10,100 @@ use Rattle.dimacs_text.specs.Reading.{HasRead, Reads}
 use Rattle.dimacs_text.specs.Faults.{IsFaultOf}
 use Rattle.dimacs_text.specs.declared.fault.TextFault.{TextFault}
 use Rattle.dimacs_text.specs.declared.fault.TextFault.TheVariants.{Memory, Line}
+use Rattle.job_answer.specs.declared.fault.Fault.{Fault}
+use Rattle.job_answer.specs.declared.fault.Fault.TheVariants as fault
 use Rattle.job_answer.specs.Bytes.{TakesAtMost, TakesOneMore, TakesWhole}
+use Rattle.job_answer.specs.Intake.{StepsOn, StopsShort}
 use Rattle.job_answer.specs.Choices.{fault_of}
 use Rattle.job_answer.specs.Outcome.{HasTaken, IsRequestFault}
 use Rattle.job_answer.proofs.Known.{consumes-then}
 
--- the reader of the job has read all that was taken, and so many bytes may still come
-pub record IsFed (reader : JobReader) (limit left : ℕ) (before after : Option (List ℕ)) : Type 0 where
+-- the reader of the job has read all that was taken but the pieces at hand, and so many bytes may still come
+pub record IsFed (reader : JobReader) (at_hand : List ℕ) (limit left : ℕ) (before after : Option (List ℕ))
+    : Type 0 where
   pub text : List ℕ
   pub read : HasRead reader text
-  pub taken : Consumes before after text
-  pub count : length text + left ≡ limit
+  pub taken : Consumes before after (text ++ at_hand)
+  pub count : length (text ++ at_hand) + left ≡ limit
 
--- and then the reader of the job has read it too
-pub fed-more : (old new : JobReader) (limit left count : ℕ) (before between after : Option (List ℕ)) (block : List ℕ)
-    → limit ≤ 2 ^ 36 → IsFed old limit left before between → Consumes between after block → length block ≡ count
-    → count ≤ left → Reads old new block
-    → IsFed new limit (left - count) before after
-fed-more old new limit left count before between after block low fed more long few reads = record {
-  text = fed.text ++ block;
-  read = reads fed.text fed.read (omega (arith, fed.count));
-  taken = consumes-then before between after fed.text block fed.taken more;
-  count = omega (arith, length-append fed.text block, fed.count);
-}
+-- the first piece was fed, and another was taken
+pub fed-on : (old new : JobReader) (limit left most : ℕ) (before between after : Option (List ℕ))
+    (front back next : List ℕ) (ended : Bool)
+    → limit ≤ 2 ^ 36 → IsFed old (front ++ back) limit left before between
+    → StepsOn most old new front next between after ended → length next ≤ left
+    → IsFed new (back ++ next) limit (left - length next) before after
+fed-on old new limit left most before between after front back next ended low fed on few =
+    let order : (fed.text ++ (front ++ back)) ++ next ≡ (fed.text ++ front) ++ (back ++ next) = simp append_assoc refl in
+    record {
+      text = fed.text ++ front;
+      read =
+          on.reads fed.text fed.read
+          (omega (
+            arith,
+            low,
+            fed.count,
+            length-append fed.text (front ++ back),
+            length-append front back,
+          ));
+      taken = subst (λ l. Consumes before after l) order (consumes-then before between after _ next fed.taken on.taken);
+      count =
+          omega (
+            arith,
+            few,
+            fed.count,
+            ap (λ l. length l) order,
+            length-append (fed.text ++ (front ++ back)) next,
+          );
+    }
 
--- the same of the block that a buffer begins with
-pub fed-block : (old new : JobReader) (limit left count : ℕ) (before between after : Option (List ℕ))
-    (part rest : List ℕ)
-    → limit ≤ 2 ^ 36 → IsFed old limit left before between → Consumes between after (take count part)
-    → count ≤ length part → count ≤ left → Reads old new (take count (part ++ rest))
-    → IsFed new limit (left - count) before after
-fed-block old new limit left count before between after part rest low fed more inside few reads =
-    fed-more old new limit left count before between after (take count part) low fed more
-    (length-take-le count part inside) few
-    (subst (λ (block : List ℕ). Reads old new block) (take-append-le count part rest inside) reads)
-
--- or memory was refused for it
-pub fed-once : (reader : JobReader) (limit left : ℕ) (before between after : Option (List ℕ)) (block : List ℕ)
-    → IsFed reader limit left before between → Consumes between after block → length block ≤ left
-    → TakesAtMost limit before after
-fed-once reader limit left before between after block fed more few = record {
-  bytes = fed.text ++ block;
-  taken = consumes-then before between after fed.text block fed.taken more;
-  few = omega (arith, length-append fed.text block, fed.count);
-}
+-- both pieces were fed
+pub fed-both : (old between new : JobReader) (limit left : ℕ) (before after : Option (List ℕ)) (front back : List ℕ)
+    → limit ≤ 2 ^ 36 → IsFed old (front ++ back) limit left before after
+    → Reads old between front → Reads between new back
+    → IsFed new [] limit left before after
+fed-both old between new limit left before after front back low fed first second =
+    let order : fed.text ++ (front ++ back) ≡ ((fed.text ++ front) ++ back) ++ [] =
+    sym (append-nil ((fed.text ++ front) ++ back) ∙ append_assoc fed.text front back) in
+    let all = length-append fed.text (front ++ back) in
+    let both = length-append front back in
+    record {
+      text = (fed.text ++ front) ++ back;
+      read =
+          second (fed.text ++ front) (first fed.text fed.read (omega (arith, low, fed.count, all, both)))
+          (omega (arith, low, fed.count, all, both, length-append fed.text front));
+      taken = subst (λ l. Consumes before after l) order fed.taken;
+      count = omega (arith, fed.count, ap (λ l. length l) order);
+    }
 
 -- or a byte more was taken than is left
-pub fed-full : (reader : JobReader) (limit left : ℕ) (before between after : Option (List ℕ)) (block : List ℕ)
-    → IsFed reader limit left before between → Consumes between after block → length block ≡ left + 1
+pub fed-full : (reader : JobReader) (at_hand : List ℕ) (limit left : ℕ) (before between after : Option (List ℕ))
+    (next : List ℕ)
+    → IsFed reader at_hand limit left before between → Consumes between after next → length next ≡ left + 1
     → TakesOneMore limit before after
-fed-full reader limit left before between after block fed more long = record {
-  bytes = fed.text ++ block;
-  taken = consumes-then before between after fed.text block fed.taken more;
-  count = omega (arith, length-append fed.text block, fed.count);
+fed-full reader at_hand limit left before between after next fed more long = record {
+  bytes = (fed.text ++ at_hand) ++ next;
+  taken = consumes-then before between after (fed.text ++ at_hand) next fed.taken more;
+  count = omega (arith, length-append (fed.text ++ at_hand) next, fed.count);
 }
 
--- or the reader failed after some bytes, fewer than are left and one more
-pub fed-some : (reader : JobReader) (limit left most : ℕ) (before between after : Option (List ℕ))
-    → IsFed reader limit left before between → TakesAtMost most between after → most ≤ left
-    → TakesAtMost limit before after
-fed-some reader limit left most before between after fed more few = record {
-  bytes = fed.text ++ more.bytes;
-  taken = consumes-then before between after fed.text more.bytes fed.taken more.taken;
-  few = omega (arith, length-append fed.text more.bytes, fed.count, more.few, few);
-}
+-- or it stopped short of what is left
+pub fed-short : (reader : JobReader) (at_hand : List ℕ) (limit left most : ℕ)
+    (before between after : Option (List ℕ)) (kind : Fault)
+    → IsFed reader at_hand limit left before between → StopsShort most between after kind → most ≤ left + 1
+    → HasTaken limit before after kind × IsRequestFault before after kind
+fed-short reader at_hand limit left most before between after kind fed short low =
+    let taken : TakesAtMost limit before after =
+    record {
+      bytes = (fed.text ++ at_hand) ++ short.taken.bytes;
+      taken = consumes-then before between after (fed.text ++ at_hand) short.taken.bytes fed.taken short.taken.taken;
+      few = omega (arith, length-append (fed.text ++ at_hand) short.taken.bytes, fed.count, short.taken.few, low);
+    } in
+    by_kind short.only taken
+  where
+    by_kind : (kind ≡ fault.Read) ⊎ (kind ≡ fault.Memory) → TakesAtMost limit before after
+        → HasTaken limit before after kind × IsRequestFault before after kind
+    by_kind (inl is) taken = rw is (taken, tt)
+    by_kind (inr is) taken = rw is (taken, tt)
 
 -- what is said of a fault of the whole text
 pub text-says : (before after : Option (List ℕ)) (text : List ℕ) (fault : TextFault) → TakesWhole before after text
@@ -87,10 +118,11 @@ taken-says limit before after Memory taken = taken
 taken-says limit before after (Line line kind) taken = taken
 
 -- all that was taken
-pub fed-all : (reader : JobReader) (limit left : ℕ) (before after : Option (List ℕ))
-    → IsFed reader limit left before after
+pub fed-all : (reader : JobReader) (at_hand : List ℕ) (limit left : ℕ) (before after : Option (List ℕ))
+    → IsFed reader at_hand limit left before after
     → TakesAtMost limit before after
-fed-all reader limit left before after fed = record { bytes = fed.text; taken = fed.taken; few = omega (arith, fed.count) }
+fed-all reader at_hand limit left before after fed =
+    record { bytes = fed.text ++ at_hand; taken = fed.taken; few = omega (arith, fed.count) }
 
 -- the front of a buffer after a write behind what was filled
 pub take-filled : (filled room count : ℕ) (buffer part : List ℕ) → filled ≤ length buffer → count ≤ length part

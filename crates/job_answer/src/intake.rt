@@ -1,32 +1,25 @@
 //! From what a reader gives to the job in it: what is read, and up to where?
 
-ghost use Rattle.std.specs.Prelude.{◌≡◌, ◌^◌, ◌≤◌, ◌<◌, ◌-◌, IfOk, IfErr, length, take};
-ghost use Rattle.std.specs.Io.KnownBytes.{Consumes, IsAtEnd, ReadConsumes};
-ghost use Rattle.job_answer.specs.Bytes.{TakesAtMost};
+ghost use Rattle.std.specs.Prelude.{◌≡◌, ◌^◌, ◌≤◌, ◌<◌, [], length, IfOk, IfErr};
+ghost use Rattle.std.specs.Thread.{IsSync};
 ghost use Rattle.dimacs_text.specs.Jobs.{content_of};
+ghost use Rattle.job_answer.specs.Intake.{StepsOn, StopsShort};
 ghost use Rattle.job_answer.specs.Outcome.{HasTaken, IsRequest, IsRequestFault};
 
 use crate::fault::Fault;
-use crate::readers::Readers;
+use crate::piece::Piece;
+use crate::readers::{BLOCK, Readers};
 use crate::watch::Watch;
 use dimacs_text::{Job, JobReader};
-use route_walks::Memory;
 use std::alloc::Global;
 use std::io::Read;
-use std::thread::Threads;
-use std::time::Clock;
-
-/// Bytes of a block that one thread reads: it stays in the cache from the read to the parse.
-const BLOCK: usize = 1 << 16;
-
-/// Bytes of a block for each of several threads, so that starting them costs little beside it.
-const PART: usize = 1 << 19;
-
-/// More threads than this read no faster.
-const MOST_THREADS: usize = 16;
+use std::mem::swap;
+use std::thread::{Threads, join_mut};
+use std::time::{Clock, Duration};
 
 /// Reads the job in all that the reader gives, up to its end, and one byte past the limit at most. After
-/// a fault of the text the rest is read all the same. The lines of arcs are read by at most so many threads.
+/// a fault of the text the rest is read all the same. The lines of arcs are read by at most so many threads,
+/// beside which this one takes the arcs and reads on.
 pub fn read_request<H: Threads + Clock + Sync, R: Read>(
     rt: &H,
     alloc: Global,
@@ -42,34 +35,29 @@ pub fn read_request<H: Threads + Clock + Sync, R: Read>(
         (R.remaining reader.old) (R.remaining reader.new)) }
     ensures says { IfErr result (IsRequestFault (R.remaining reader.old) (R.remaining reader.new)) }
 {
-    let mut buffer = buffer_for(alloc, threads)?;
-    read_blocks(rt, alloc, reader, limit, threads, &mut buffer, watch)
+    let mut front = Piece::new(alloc, BLOCK)?;
+    let mut back = Piece::new(alloc, BLOCK)?;
+    let readers = Readers::new(threads);
+    read_pieces(
+        rt, alloc, reader, limit, readers, &mut front, &mut back, watch,
+    )
 }
 
-/// A buffer with a part for each of several threads, or where memory for it is refused that of one.
-fn buffer_for(alloc: Global, threads: usize) -> Result<Vec<u8>, Memory>
-    ensures { IfOk result (λ buffer. 0 < length buffer.items) }
-{
-    let mut buffer = Vec::new(alloc);
-    let size = PART * threads.min(MOST_THREADS);
-    if threads < 2 || buffer.resize(size, 0).is_err() {
-        buffer.resize(BLOCK, 0)?;
-    }
-    Ok(buffer)
-}
-
-/// The same as `read_request`, through a buffer.
-fn read_blocks<H: Threads + Clock + Sync, R: Read>(
+/// The same as `read_request`, through two pieces, of which neither has a byte yet. The front one is always
+/// the one that comes first in the text.
+fn read_pieces<H: Threads + Clock + Sync, R: Read>(
     rt: &H,
     alloc: Global,
     reader: &mut R,
     limit: u64,
-    threads: usize,
-    buffer: &mut [u8],
+    mut readers: Readers,
+    front: &mut Piece,
+    back: &mut Piece,
     watch: &mut impl Watch,
 ) -> Result<Job, Fault>
     requires limit { limit ≤ 2 ^ 36 }
-    requires room { 0 < length buffer.old }
+    requires front { front.old ≡ [] }
+    requires back { back.old ≡ [] }
     ensures job { IfOk result (λ job. IsRequest limit
         (R.remaining reader.old) (R.remaining reader.new) (content_of job)) }
     ensures taken { IfErr result (HasTaken limit
@@ -77,53 +65,115 @@ fn read_blocks<H: Threads + Clock + Sync, R: Read>(
     ensures says { IfErr result (IsRequestFault (R.remaining reader.old) (R.remaining reader.new)) }
 {
     let mut job = JobReader::new(alloc);
-    let mut readers = Readers::new(threads.min(MOST_THREADS));
     let mut left = limit as usize;
-    loop {
-        let room = buffer.len().min(left + 1);
-        let count = read_block(reader, &mut buffer[..room])?;
-        if count > left {
+    let mut ended = false;
+    while !ended {
+        let limit = readers.piece().min(left + 1);
+        ended = step(rt, reader, &mut job, &mut readers, front, back, limit)?;
+        if front.len() > left {
             return Err(Fault::TooLong);
         }
-        readers.feed(rt, alloc, &mut job, &buffer[..count])?;
-        left -= count;
-        watch.see_text(count, job.arcs_so_far());
-        if count < room {
-            return Ok(job.finish()?);
-        }
+        left -= front.len();
+        watch.see_text(front.len(), job.arcs_so_far());
+        swap(front, back);
+    }
+    front.feed_to(&mut job)?;
+    read_ahead(rt, &job, back, readers.threads());
+    back.feed_to(&mut job)?;
+    watch.see_text(0, job.arcs_so_far());
+    Ok(job.finish()?)
+}
+
+/// Has so many threads read ahead in the last piece, if arcs come there.
+fn read_ahead<H: Threads + Sync>(rt: &H, job: &JobReader, piece: &mut Piece, threads: usize)
+    ensures { piece.new ≡ piece.old }
+{
+    if threads < 2 {
+        return;
+    }
+    if let Some(vertices) = job.arcs_ahead() {
+        piece.read_ahead(rt, vertices, threads);
     }
 }
 
-/// Reads until the buffer is full or the reader ends: how many bytes came. Each error is `Read`.
-fn read_block<R: Read>(reader: &mut R, buffer: &mut [u8]) -> Result<usize, Fault>
-    ensures count { IfOk result (λ count. count ≤ length buffer.new) }
-    ensures bytes { IfOk result (λ count. Consumes
-        (R.remaining reader.old) (R.remaining reader.new) (take count buffer.new)) }
-    ensures end { IfOk result (λ count. count < length buffer.new → IsAtEnd (R.remaining reader.new)) }
-    ensures some { IfErr result (λ fault. TakesAtMost (length buffer.old - 1)
+/// Feeds the front piece and takes the next bytes of the reader in its place, at most so many. Meanwhile
+/// other threads read ahead in the back one, if arcs come there and that is faster. True where the reader
+/// has ended.
+fn step<H: Threads + Clock + Sync, R: Read>(
+    rt: &H,
+    reader: &mut R,
+    job: &mut JobReader,
+    readers: &mut Readers,
+    front: &mut Piece,
+    back: &mut Piece,
+    limit: usize,
+) -> Result<bool, Fault>
+    ensures on { IfOk result (StepsOn limit job.old job.new front.old front.new
         (R.remaining reader.old) (R.remaining reader.new)) }
-    ensures only { IfErr result (λ fault. fault ≡ Fault.Read) }
+    ensures short { IfErr result (StopsShort limit (R.remaining reader.old) (R.remaining reader.new)) }
+    ensures back { back.new ≡ back.old }
 {
-    let mut filled = 0;
-    while filled < buffer.len() {
-        let count = read_some(reader, &mut buffer[filled..])?;
-        if count == 0 {
-            break;
-        }
-        filled += count;
-    }
-    Ok(filled)
+    let Some(vertices) = job.arcs_ahead() else {
+        return feed_and_fill(reader, job, front, limit);
+    };
+    let threads = readers.threads();
+    let count = front.len();
+    let begun = rt.monotonic().unwrap_or(Duration::ZERO);
+    let ended = if threads < 2 {
+        feed_and_fill(reader, job, front, limit)?
+    } else {
+        step_beside(rt, reader, job, front, back, vertices, threads, limit)?
+    };
+    let spent = rt.monotonic().unwrap_or(begun).saturating_sub(begun);
+    readers.see(threads, count, spent);
+    Ok(ended)
 }
 
-/// One read, of which each error is `Read`.
-fn read_some<R: Read>(reader: &mut R, buffer: &mut [u8]) -> Result<usize, Fault>
-    ensures count { IfOk result (λ count. count ≤ length buffer.new) }
-    ensures bytes { ReadConsumes
-        (R.remaining reader.old) (R.remaining reader.new) result buffer.new }
-    ensures only { IfErr result (λ fault. fault ≡ Fault.Read) }
+/// `feed_and_fill`, while so many other threads read ahead in the back piece. That takes each of them longer
+/// than this one's work takes, so they may be as many as there are processors.
+fn step_beside<H: Threads + Sync, R: Read>(
+    rt: &H,
+    reader: &mut R,
+    job: &mut JobReader,
+    front: &mut Piece,
+    back: &mut Piece,
+    vertices: u32,
+    others: usize,
+    limit: usize,
+) -> Result<bool, Fault>
+    ensures on { IfOk result (StepsOn limit job.old job.new front.old front.new
+        (R.remaining reader.old) (R.remaining reader.new)) }
+    ensures short { IfErr result (StopsShort limit (R.remaining reader.old) (R.remaining reader.new)) }
+    ensures back { back.new ≡ back.old }
 {
-    match reader.read(buffer) {
-        Ok(count) => Ok(count),
-        Err(_) => Err(Fault::Read),
-    }
+    let ((), ended) = join_mut(
+        rt,
+        &mut ||
+            requires sync { IsSync H.row }
+            ensures { back.exit.now ≡ back.entry.now }
+        { back.read_ahead(rt, vertices, others) },
+        &mut || -> Result<bool, Fault>
+            ensures on { IfOk result (StepsOn limit job.entry.now job.exit.now front.entry.now
+                front.exit.now (R.remaining reader.entry.now) (R.remaining reader.exit.now)) }
+            ensures short { IfErr result (StopsShort limit
+                (R.remaining reader.entry.now) (R.remaining reader.exit.now)) }
+        { feed_and_fill(reader, job, front, limit) },
+    );
+    ended
+}
+
+/// Feeds the piece and takes the next bytes of the reader in its place, at most so many. True where the
+/// reader has ended.
+fn feed_and_fill<R: Read>(
+    reader: &mut R,
+    job: &mut JobReader,
+    piece: &mut Piece,
+    limit: usize,
+) -> Result<bool, Fault>
+    ensures on { IfOk result (StepsOn limit job.old job.new piece.old piece.new
+        (R.remaining reader.old) (R.remaining reader.new)) }
+    ensures short { IfErr result (StopsShort limit (R.remaining reader.old) (R.remaining reader.new)) }
+{
+    piece.feed_to(job)?;
+    piece.fill(reader, limit)
 }

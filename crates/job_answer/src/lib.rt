@@ -31,6 +31,7 @@ mod intake;
 pub mod laws;
 mod outlet;
 mod pairs;
+mod piece;
 mod readers;
 mod reply;
 mod solved;

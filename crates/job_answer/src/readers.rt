@@ -1,83 +1,105 @@
-//! By how many threads is the next block of a text read?
+//! By how many threads is the next piece of a text read?
 
-ghost use Rattle.std.specs.Prelude.{OnOk};
-ghost use Rattle.dimacs_text.specs.Reading.{Reads};
+ghost use Rattle.std.specs.Prelude.{◌<◌, ◌≤◌};
 
-use dimacs_text::JobReader;
-use route_walks::Memory;
-use std::alloc::Global;
-use std::thread::Threads;
-use std::time::{Clock, Duration};
+use std::time::Duration;
 
-/// Blocks that one thread reads after several were slower twice in a row, the first time. Then it is twice as many each time.
-const FIRST_ALONE: u32 = 8;
+/// Bytes of a piece that one thread reads: it stays in the cache from the read to the parse.
+pub const BLOCK: usize = 1 << 16;
 
-/// Several are slower where a block takes them longer than it took one by more than this part of its time: less is
+/// Bytes of a piece for each of several threads, so that starting them costs little beside it.
+const PART: usize = 1 << 19;
+
+/// More threads than this read no faster.
+const MOST_THREADS: usize = 16;
+
+/// Bytes that one thread reads at first.
+const FIRST_ALONE: usize = 8 * BLOCK;
+
+/// Bytes that one thread reads after several were slower twice in a row, the first time. Then it is twice as
+/// many each time.
+const NEXT_ALONE: usize = 1 << 24;
+
+/// Several are slower where a piece takes them longer than it took one by more than this part of its time: less is
 /// chance.
 const TOLERANCE: u128 = 4;
 
-/// Reads blocks by several threads as long as that is faster than by one. On a busy machine it isn't: a thread that
-/// has lost its processor is waited for at the end of each block.
+/// Has pieces read by several threads as long as that is faster than by one. On a busy machine it isn't: a thread
+/// that has lost its processor is waited for at the end of each piece.
 #[derive(Clone, Copy, Debug)]
 pub struct Readers {
     threads: usize,
-    /// Blocks that one thread reads from now on.
-    alone: u32,
+    /// Bytes that one thread reads from now on.
+    alone: usize,
     /// How many that will be when several are slower again.
-    next_alone: u32,
-    /// Nanoseconds that one thread took for a KiB, the last time.
-    pace: u128,
-    /// Whether several were slower at the last block. One such block may be chance.
+    next_alone: usize,
+    /// What one thread read the last time, and the nanoseconds that it took.
+    read_alone: u128,
+    spent_alone: u128,
+    /// Whether several were slower at the last piece. One such piece may be chance.
     were_slower: bool,
 }
 
 impl Readers {
-    /// One thread reads the first block, in which a graph's arcs have hardly begun.
+    /// One thread begins.
     pub fn new(threads: usize) -> Readers {
         Readers {
-            threads,
-            alone: 1,
-            next_alone: FIRST_ALONE,
-            pace: 0,
+            threads: threads.min(MOST_THREADS),
+            alone: FIRST_ALONE,
+            next_alone: NEXT_ALONE,
+            read_alone: 0,
+            spent_alone: 0,
             were_slower: false,
         }
     }
 
-    /// Hands a reader the next block of its text.
-    pub fn feed<H: Threads + Clock + Sync>(
-        &mut self,
-        rt: &H,
-        alloc: Global,
-        job: &mut JobReader,
-        block: &[u8],
-    ) -> Result<(), Memory>
-        ensures reads { OnOk result (Reads job.old job.new block.now) }
+    /// How many threads read the next piece.
+    pub fn threads(&self) -> usize
+        ensures { 1 ≤ result }
     {
-        if self.threads < 2 {
-            return job.feed(block);
+        if self.alone > 0 {
+            1
+        } else {
+            self.threads.max(1)
         }
-        let threads = if self.alone > 0 { 1 } else { self.threads };
-        let begun = rt.monotonic().unwrap_or(Duration::ZERO);
-        job.feed_by(rt, alloc, block, threads)?;
-        let ended = rt.monotonic().unwrap_or(begun);
-        self.see(block.len(), ended.saturating_sub(begun));
-        Ok(())
     }
 
-    /// A block of so many bytes took that long.
-    fn see(&mut self, count: usize, spent: Duration) {
-        let pace = spent.as_nanos() / (count as u128 / 1024).max(1);
-        if self.alone > 0 {
-            self.alone -= 1;
-            self.pace = pace;
-        } else if pace <= self.pace.saturating_add(self.pace / TOLERANCE) {
-            self.were_slower = false;
-        } else if !self.were_slower {
-            self.were_slower = true;
-        } else {
-            self.were_slower = false;
-            self.alone = self.next_alone;
-            self.next_alone = self.next_alone.saturating_mul(2);
+    /// How many bytes the piece after that should have.
+    pub fn piece(&self) -> usize
+        ensures { 0 < result }
+    {
+        match self.threads() {
+            1 => BLOCK,
+            threads => PART.saturating_mul(threads),
         }
+    }
+
+    /// So many threads took that long for a piece of so many bytes.
+    pub fn see(&mut self, threads: usize, count: usize, spent: Duration) {
+        // A piece that was taken for another number of threads says nothing.
+        if count == 0 || (threads > 1) != (count > BLOCK) {
+            return;
+        }
+        let count = count as u128;
+        if threads < 2 {
+            self.alone = self.alone.saturating_sub(count as usize);
+            self.read_alone = self.read_alone.saturating_add(count);
+            self.spent_alone = self.spent_alone.saturating_add(spent.as_nanos());
+            return;
+        }
+        let usual = self.spent_alone.saturating_mul(count) / self.read_alone.max(1);
+        let slower = spent.as_nanos() > usual.saturating_add(usual / TOLERANCE);
+        if slower && self.were_slower {
+            self.begin_alone();
+        }
+        self.were_slower = slower && !self.were_slower;
+    }
+
+    /// One thread reads for a while, and its pace is measured anew.
+    fn begin_alone(&mut self) {
+        self.alone = self.next_alone;
+        self.next_alone = self.next_alone.saturating_mul(2);
+        self.read_alone = 0;
+        self.spent_alone = 0;
     }
 }

@@ -1,13 +1,10 @@
 -- What a run of arcs says of the text that it was read in. Not part of what a caller is promised.
-use Rattle.std.specs.Prelude.{ℕ, ◌+◌, ◌≤◌, List, length, drop}
-use Rattle.std.specs.Prelude.{take}
+use Rattle.std.specs.Prelude.{ℕ, ◌+◌, ◌-◌, ◌≤◌, List, length, drop, take}
 use Rattle.dimacs_text.specs.declared.arc_runs.ArcRun.{ArcRun}
-use Rattle.dimacs_text.specs.reader.Drafts.{LeadsArcs}
-use Rattle.dimacs_text.specs.reader.FastArc.{EndsWithFeed}
+use Rattle.dimacs_text.specs.reader.Drafts.{AreArcLines}
 
--- the arcs' lines stand from the start to the place after them, and the start is that of a line
+-- the arcs' lines stand from the start to the place after them
 pub record IsArcRun (bytes : List ℕ) (run : ArcRun) : Type 0 where
   pub inside : run.start + length run.arcs.items ≤ run.after
   pub ends : run.after ≤ length bytes
-  pub cut : EndsWithFeed (take run.start bytes)
-  pub leads : LeadsArcs run.vertices (drop run.start bytes) run.arcs.items (drop run.after bytes)
+  pub lines : AreArcLines run.vertices (take (run.after - run.start) (drop run.start bytes)) run.arcs.items

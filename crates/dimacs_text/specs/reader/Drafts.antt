@@ -112,20 +112,22 @@ ReadsTo old line rest new next after =
     → IsReadTo text (rest ++ more) line old
     → IsReadTo text (after ++ more) next new
 
--- the lines of the arcs come first in the rest, whatever arcs were read before them
-abbrev pub LeadsArcs : ℕ → List ℕ → List ArcRec → List ℕ → Type 0
-LeadsArcs n rest arcs after =
+-- the text is the lines of these arcs, whatever arcs were read before them
+abbrev pub AreArcLines : ℕ → List ℕ → List ArcRec → Type 0
+AreArcLines n text arcs =
     (before : List ArcRec) (missing line : ℕ)
     → length arcs ≤ missing
-    → ReadsTo (arcs_progress n missing before) line rest
-    (arcs_progress n (missing - length arcs) (before ++ arcs)) (line + length arcs) after
+    → ReadsTo (arcs_progress n missing before) line text
+    (arcs_progress n (missing - length arcs) (before ++ arcs)) (line + length arcs) []
 
--- arcs that were added to the old ones, a line each
+-- arcs that were added to the old ones, a line each, of which the text begins the rest
 pub record ReadsArcs (n : ℕ) (rest : List ℕ) (old new : List ArcRec) (count : ℕ) (after : List ℕ) : Type 0 where
+  pub text : List ℕ
+  pub joined : rest ≡ text ++ after
   pub arcs : List ArcRec
   pub appended : new ≡ old ++ arcs
   pub number : count ≡ length arcs
-  pub leads : LeadsArcs n rest arcs after
+  pub lines : AreArcLines n text arcs
 
 -- the first line that is wrong is one of the rest, whatever the text is in which it stands
 abbrev pub IsFaultIn : Progress → ℕ → List ℕ → TextFault → Type 0

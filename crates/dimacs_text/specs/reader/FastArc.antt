@@ -35,14 +35,18 @@ pub record LeadsSpaced (bytes : List ℕ) (value : ℕ) (rest : List ℕ) : Type
   pub all : all_ascii_digits digits ≡ true
   pub worth : number digits ≡ Some value
 
--- the first line of the bytes has this text, whatever comes after
+-- the bytes begin with a line of this text, of which the end is part, whatever comes after it
 pub record EndsLine (bytes text after : List ℕ) : Type 0 where
+  pub whole : List ℕ
+  pub joined : bytes ≡ whole ++ after
   pub line : List ℕ
-  pub split : (more : List ℕ) → lines (bytes ++ more) ≡ line ∷ lines (after ++ more)
+  pub split : (more : List ℕ) → lines (whole ++ more) ≡ line ∷ lines more
   pub trimmed : without_cr line ≡ text
 
--- the first line of the rest is that of the arc, whatever comes after
+-- the rest begins with the line of the arc, of which the end is part, whatever comes after it
 pub record IsArcLine (vertices : ℕ) (rest : List ℕ) (arc : ArcRec) (after : List ℕ) : Type 0 where
+  pub whole : List ℕ
+  pub joined : rest ≡ whole ++ after
   pub line : List ℕ
-  pub split : (more : List ℕ) → lines (rest ++ more) ≡ line ∷ lines (after ++ more)
+  pub split : (more : List ℕ) → lines (whole ++ more) ≡ line ∷ lines more
   pub reads : reading vertices line ≡ Ok (Some (arc_record arc))

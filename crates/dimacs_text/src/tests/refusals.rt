@@ -5,8 +5,8 @@
 use crate::tests::several::large;
 use crate::tests::{GRAPH, assert_job, joined};
 use crate::{
-    JobReader, LineKind, TextFault, put_component, put_components, put_distances, put_grown,
-    put_label, put_pair, put_source, put_walk, read_job,
+    ArcRuns, JobReader, LineKind, TextFault, put_component, put_components, put_distances,
+    put_grown, put_label, put_pair, put_source, put_walk, read_job,
 };
 use route_walks::{ArcRec, INF, Memory, refusable, tried_again};
 use std::alloc::Global;
@@ -77,21 +77,55 @@ fn of_job_reader_feed(rt: HostRuntime) -> Result<(), Fail> {
     Ok(())
 }
 
-// Where the runs of several threads are refused memory, one reads all lines; else as above.
+// Where reading ahead is refused memory, one thread reads all lines.
 #[test]
-fn of_job_reader_feed_by(rt: HostRuntime) -> Result<(), Fail> {
+fn of_arc_runs_read(rt: HostRuntime) -> Result<(), Fail> {
     let alloc = rt.alloc();
     let text = large(alloc, 3000, b"c\n")?;
-    let (front, back) = text.split_at(text.len().min(20));
+    let mut ahead = ArcRuns::new(alloc);
+    refusable!(alloc, ahead.read(&rt, &text, 5000, 3));
     let mut reader = JobReader::new(alloc);
-    reader.feed(front)?;
-    if let Err(Memory) = refusable!(alloc, reader.feed_by(&rt, alloc, back, 3)) {
+    reader.feed_with(&text, &ahead)?;
+    assert_job(
+        &rt,
+        &reader.finish()?,
+        5000,
+        ArcRec::new(999, 1993, 5999),
+        &[4999],
+    );
+    Ok(())
+}
+
+// Where a run is refused memory its lines are read one by one; else as above.
+#[test]
+fn of_job_reader_feed_with(rt: HostRuntime) -> Result<(), Fail> {
+    let alloc = rt.alloc();
+    let text = large(alloc, 3000, b"c\n")?;
+    let mut ahead = ArcRuns::new(alloc);
+    ahead.read(&rt, &text, 5000, 3);
+    let mut reader = JobReader::new(alloc);
+    if let Err(Memory) = refusable!(alloc, reader.feed_with(&text, &ahead)) {
         reader = JobReader::new(alloc);
         reader.feed(&text)?;
     }
-    let job = reader.finish()?;
-    assert_eq!(rt; job.arcs.len(), 6000);
-    assert_job(&rt, &job, 5000, ArcRec::new(999, 1993, 5999), &[4999]);
+    assert_job(
+        &rt,
+        &reader.finish()?,
+        5000,
+        ArcRec::new(999, 1993, 5999),
+        &[4999],
+    );
+    Ok(())
+}
+
+#[test]
+fn of_arc_runs_new(rt: HostRuntime) -> Result<(), Fail> {
+    let alloc = rt.alloc();
+    let mut ahead = refusable!(alloc, ArcRuns::new(alloc));
+    refusable!(alloc, ahead.clear());
+    let mut reader = JobReader::new(alloc);
+    reader.feed_with(b"p sp 1 0\n", &ahead)?;
+    assert_eq!(rt; reader.finish()?.n, 1);
     Ok(())
 }
 

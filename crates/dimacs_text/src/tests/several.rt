@@ -1,6 +1,6 @@
 //! Large texts that several threads read, beside the same texts read by one.
 
-use crate::{Job, JobReader, LineKind, TextFault, read_job};
+use crate::{ArcRuns, Job, JobReader, LineKind, TextFault, read_job};
 use std::alloc::{AllocError, Global};
 use std::process::Abort;
 use std::test::Fail;
@@ -33,8 +33,12 @@ fn read_by(
     threads: usize,
 ) -> Result<Job, TextFault> {
     let mut reader = JobReader::new(alloc);
+    let mut ahead = ArcRuns::new(alloc);
     for piece in text.chunks(size.max(1)) {
-        if reader.feed_by(rt, alloc, piece, threads).is_err() {
+        // In front of the problem line this is a guess, and after the arcs it is no use.
+        let vertices = reader.arcs_ahead().unwrap_or(5000);
+        ahead.read(rt, piece, vertices, threads);
+        if reader.feed_with(piece, &ahead).is_err() {
             return Err(TextFault::Memory);
         }
     }
@@ -126,7 +130,9 @@ fn arcs_are_counted_as_they_come(rt: HostRuntime) -> Result<(), Fail> {
     assert_eq!(rt; reader.arcs_so_far(), None);
     reader.feed(b"p sp 3 2\na 1 2 1\na 2 3")?;
     assert_eq!(rt; reader.arcs_so_far(), Some((1, 2)));
-    reader.feed_by(&rt, alloc, b" 1\np aux sp ss 1\n", 2)?;
+    assert_eq!(rt; reader.arcs_ahead(), Some(3));
+    reader.feed(b" 1\np aux sp ss 1\n")?;
     assert_eq!(rt; reader.arcs_so_far(), Some((2, 2)));
+    assert_eq!(rt; reader.arcs_ahead(), None);
     Ok(())
 }

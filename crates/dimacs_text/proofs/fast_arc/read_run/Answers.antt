@@ -1,7 +1,17 @@
 use Rattle.std.proofs.Common.{◌+◌, drop, subst, sym, arith}
 use Rattle.dimacs_text.specs.reader.Drafts.{ReadsArcs}
+use Rattle.dimacs_text.proofs.ArcRunLemmas.{no_arcs_read}
 use Rattle.dimacs_text.proofs.ReaderLemmas.{one_arc_more}
 use Rattle.dimacs_text.proofs.fast_arc.read_run.Goals as goal
+
+pub loop-count-init : goal.loop-count-init
+loop-count-init c = record {
+  place = omega arith;
+  inside = c.requires.inside;
+  few = omega arith;
+  room = omega (arith, c.requires.room);
+  reads = no_arcs_read c.args.vertices (drop c.args.start c.args.bytes.now) c.args.arcs.now.items;
+}
 
 pub loop-count-preserved : goal.loop-count-preserved
 loop-count-preserved c =

@@ -1,9 +1,9 @@
-use Rattle.std.proofs.Common.{◌+◌, ◌-◌, ◌++◌, length, take, ℕ, sym, subst, arith, length-append}
+use Rattle.std.proofs.Common.{◌-◌, take, ℕ, sym, subst, arith, length-append}
 use Rattle.std.proofs.lemmas.List.{length-drop, length-take}
 use Rattle.std.specs.Io.KnownBytes.{Consumes}
 use Rattle.job_answer.proofs.Feeding.{take-filled}
 use Rattle.job_answer.proofs.Known.{consumes-then}
-use Rattle.job_answer.proofs.intake.read_block.Goals as goal
+use Rattle.job_answer.proofs.piece.read_block.Goals as goal
 
 pub loop-filled-preserved : goal.loop-filled-preserved
 loop-filled-preserved g c =
@@ -23,9 +23,18 @@ loop-filled-preserved g c =
             length-take {A = ℕ},
             length-drop {A = ℕ},
           );
+      within =
+          omega (
+            arith,
+            c.loop-filled.invariant.within,
+            c.read_some.auto.buffer,
+            length-append {A = ℕ},
+            length-take {A = ℕ},
+            length-drop {A = ℕ},
+          );
       taken =
           subst (λ l. Consumes (g.R.Read.remaining c.args.reader.now) (g.R.Read.remaining c.read_some.new.reader) l)
-          (sym (take-filled filled (length buffer - filled) count buffer part c.loop-filled.invariant.inside few))
+          (sym (take-filled filled (c.args.room - filled) count buffer part (omega arith) few))
           (consumes-then (g.R.Read.remaining c.args.reader.now) (g.R.Read.remaining c.loop-filled.reader)
           (g.R.Read.remaining c.read_some.new.reader) (take filled buffer) (take count part)
           c.loop-filled.invariant.taken c.in_ok-count.ensures.bytes.0);
