@@ -11,6 +11,7 @@ use crate::asked::Answer;
 use csr_graph::Csr;
 use route_walks::{ArcRec, MAX_VERTICES, Memory, both_ways, unit_weights};
 use std::alloc::Global;
+use std::thread::Threads;
 
 /// The rows in which the labels of an answer are least, for all of its sources, and where the job adds arcs
 /// those of the graph with them.
@@ -31,13 +32,16 @@ pub struct Grown {
     pub rows: Csr,
 }
 
-/// The rows of an answer kind. The list of arcs is given back once they stand; the added ones are kept.
-pub fn graphs_for(
+/// The rows of an answer kind, made by so many threads. The list of arcs is given back once they stand; the
+/// added ones are kept.
+pub fn graphs_for<H: Threads + Sync>(
+    rt: &H,
     alloc: Global,
     answer: Answer,
     n: u32,
     arcs: Vec<ArcRec>,
     added: Option<Vec<ArcRec>>,
+    threads: usize,
 ) -> Result<Graphs, Memory>
     requires vertices { n ≤ MAX_VERTICES }
     requires count { length arcs.items ≤ 2 ^ 30 }
@@ -46,7 +50,7 @@ pub fn graphs_for(
     ensures { IfOk result (AreGraphsFor answer n arcs.items
         (growth_from (arcs_for answer) arcs.items (added_of added))) }
 {
-    let rows = rows_for(alloc, answer, n, arcs)?;
+    let rows = rows_for(rt, alloc, answer, n, arcs, threads)?;
     let Some(added) = added else {
         return Ok(Graphs { rows, grown: None });
     };
@@ -57,7 +61,14 @@ pub fn graphs_for(
 /// The rows in which the labels of an answer are least: of the arcs as they are
 /// for distances, with weight 1 for levels, both ways and free for components. The list of arcs is given
 /// back.
-fn rows_for(alloc: Global, answer: Answer, n: u32, arcs: Vec<ArcRec>) -> Result<Csr, Memory>
+fn rows_for<H: Threads + Sync>(
+    rt: &H,
+    alloc: Global,
+    answer: Answer,
+    n: u32,
+    arcs: Vec<ArcRec>,
+    threads: usize,
+) -> Result<Csr, Memory>
     requires vertices { n ≤ MAX_VERTICES }
     requires count { length arcs.items ≤ 2 ^ 30 }
     requires graph { IsGraph n arcs.items }
@@ -66,13 +77,13 @@ fn rows_for(alloc: Global, answer: Answer, n: u32, arcs: Vec<ArcRec>) -> Result<
     ensures places { IfOk result (λ csr. length csr.arcs ≤ 2 ^ 31) }
 {
     match answer {
-        Answer::Distances => Csr::build_from(alloc, n, arcs),
+        Answer::Distances => Csr::build_from(rt, alloc, n, arcs, threads),
         Answer::Levels => {
             let units = unit_weights(alloc, &arcs)?;
             drop(arcs);
-            Csr::build_from(alloc, n, units)
+            Csr::build_from(rt, alloc, n, units, threads)
         }
-        Answer::Components => Csr::build_both_ways(alloc, n, arcs),
+        Answer::Components => Csr::build_both_ways(rt, alloc, n, arcs, threads),
     }
 }
 

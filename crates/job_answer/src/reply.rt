@@ -116,7 +116,8 @@ fn respond<H: Threads + Wait + Clock + Sync, W: Write, G: Gate + Sync>(
         ask,
         added,
     } = job;
-    let graphs = graphs_for(alloc, asked.answer, n, arcs, added)?;
+    let threads = asked.settings.workers as usize;
+    let graphs = graphs_for(rt, alloc, asked.answer, n, arcs, added, threads)?;
     watch.see_rows(graphs.rows.n(), graphs.rows.arc_count());
     watch.end(rt, Phase::Rows);
     write_text(rt, alloc, writer, &graphs, &ask, asked, gate, watch)

@@ -151,7 +151,7 @@ pub fn components<H: Threads + Wait + Clock + Sync, G: Gate + Sync>(
     ensures { IfOk result (λ labels.
         AreLeastLabels csr.now.n (both_ways csr.now.arcs) (seeds_all csr.now.n) labels.items) }
 {
-    let both = both_rows(alloc, csr)?;
+    let both = both_rows(rt, alloc, csr, settings.workers as usize)?;
     let seeds = seeds_all(alloc, csr.n())?;
     // What is least in the rows is least for the list that they were built of.
     least_labels_follow_the_arcs();
@@ -169,12 +169,17 @@ fn unit_rows(alloc: Global, csr: &Csr) -> Result<Csr, Memory>
     Csr::build(alloc, csr.n(), &units)
 }
 
-/// The rows of the arcs both ways, free.
-fn both_rows(alloc: Global, csr: &Csr) -> Result<Csr, Memory>
+/// The rows of the arcs both ways, free, made by so many threads.
+fn both_rows<H: Threads + Sync>(
+    rt: &H,
+    alloc: Global,
+    csr: &Csr,
+    threads: usize,
+) -> Result<Csr, Memory>
     requires { length csr.now.arcs ≤ 2 ^ 31 }
     ensures vertices { IfOk result (λ both. both.n ≡ csr.now.n) }
     ensures arcs { IfOk result (λ both. HaveSameArcs both.arcs (both_ways csr.now.arcs)) }
 {
     let arcs = csr.arcs(alloc)?;
-    Csr::build_both_ways(alloc, csr.n(), arcs)
+    Csr::build_both_ways(rt, alloc, csr.n(), arcs, threads)
 }

@@ -2,7 +2,7 @@ use Rattle.job_answer.proofs.Growing.{grown-alike}
 use Rattle.job_answer.proofs.graphs.graphs_for.Goals as goal
 
 pub returns : goal.returns
-returns c =
+returns g c =
     let rows = c.in_ok-rows.rows in
     let grown = c.in_ok-grown_from.field-0 in
     let is = c.in_ok-grown_from.ensures in
