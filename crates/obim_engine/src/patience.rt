@@ -25,7 +25,6 @@ impl Patience {
     }
 
     /// There was work.
-    #[inline(always)]
     pub(crate) fn renew(&mut self) {
         self.left = POPS;
         self.left_unmarked = self.vertices.max(POPS);
@@ -33,6 +32,7 @@ impl Patience {
 
     /// After a fruitless pop, which gave nothing or a vertex that wasn't marked: whether the worker is to look
     /// at every vertex now.
+    #[inline(always)]
     pub(crate) fn ends(&mut self, popped: Option<u32>) -> bool {
         let left = match popped {
             Some(_) => &mut self.left_unmarked,

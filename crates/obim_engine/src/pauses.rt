@@ -36,11 +36,10 @@ impl Pauses {
         self.micros = FIRST;
     }
 
-    /// Waits after a fruitless pop. Where the pool gave a vertex, which another worker took, there may be
-    /// more, and where a sweep is due, the sooner it comes the better: so the processor is kept. The clock
-    /// only sleeps.
-    pub(crate) fn wait<C: Clock>(&mut self, clock: &C, popped: Option<u32>, due: bool) {
-        if popped.is_some() || due {
+    /// Waits after a fruitless pop. Where a sweep is due, the sooner it comes the better: so the processor is
+    /// kept. The clock only sleeps.
+    pub(crate) fn wait<C: Clock>(&mut self, clock: &C, due: bool) {
+        if due {
             self.reset();
             self.backoff.spin();
         } else if self.backoff.is_completed() {

@@ -53,6 +53,7 @@ pub(crate) fn work<H: Wait + Clock, P: WorkPool, G: Gate>(
     let mut watch = Watch::new(worker);
     let mut patience = Patience::new(shared.csr.n());
     let mut budget = shared.budget;
+    let mut is_fruitless = false;
     for _ in rt.forever() {
         if budget == Some(0) {
             shared.pace.leave(worker);
@@ -66,19 +67,28 @@ pub(crate) fn work<H: Wait + Clock, P: WorkPool, G: Gate>(
             Some(u) if u < shared.csr.n() && shared.words.take(&mut seat, u) => {
                 visit(rt, shared, worker, &mut seat, side, u);
                 budget = spent(budget);
-                patience.renew();
-                pauses.reset();
+                if is_fruitless {
+                    is_fruitless = false;
+                    patience.renew();
+                    pauses.reset();
+                }
                 watch.visited(rt, shared.pace);
             }
             _ => {
+                is_fruitless = true;
+                let ends = patience.ends(popped);
+                // A pool that gave a vertex isn't empty: the next one may be marked.
+                if popped.is_some() && !ends {
+                    continue;
+                }
                 if shared.words.see(&mut seat) {
                     return seat;
                 }
-                if patience.ends(popped) {
+                if ends {
                     (seat, budget) = sweep(rt, shared, worker, seat, side, budget);
                     patience.renew();
                 }
-                pauses.wait(rt, popped, shared.pace.has_lost());
+                pauses.wait(rt, shared.pace.has_lost());
             }
         }
     }

@@ -1,15 +1,16 @@
 -- What a side keeps and does, where its parts do.
-use Rattle.std.proofs.Common.{◌≡◌, ◌≢◌, ◌∙◌, ap, subst, sym, ℕ, List, [], ◌∷◌, length, Option, ⊎_elim, arith}
+use Rattle.std.proofs.Common.{◌≡◌, ◌≢◌, ◌∙◌, ap, subst, sym, ℕ, List, [], ◌∷◌, length, Option, Some, None, ⊎_elim, arith}
 use Rattle.std.specs.Prelude.{slice_get}
 use Rattle.std.proofs.lemmas.Bool.{cases_eq}
 use Rattle.std.proofs.lemmas.List.{length-map}
 use Rattle.obim_bags.specs.Logs.{MirrorSeen, PlaceSeen, metrics_in}
+use Rattle.obim_bags.proofs.Facts.{prefix_get}
 use Rattle.obim_pool.specs.declared.kept.Kept.{Kept}
 use Rattle.obim_pool.specs.declared.order.At.{At}
 use Rattle.obim_pool.specs.Accounts.{Account, Puts}
 use Rattle.obim_pool.specs.Kept.{all_held, held_of}
-use Rattle.obim_pool.specs.Orders.{IsAt}
-use Rattle.obim_pool.specs.Sides.{IsSide, Keeps, PushesTo, SideSeen, account_at, account_in}
+use Rattle.obim_pool.specs.Orders.{IsAt, IsOrder}
+use Rattle.obim_pool.specs.Sides.{IsCurrent, IsSide, Keeps, PushesTo, SideSeen, account_at, account_in}
 use Rattle.obim_pool.specs.Steps.{Grows}
 use Rattle.obim_pool.proofs.Lifting.{Changed, order_stays}
 use Rattle.obim_pool.proofs.Putting.{puts_nothing}
@@ -22,6 +23,21 @@ side_changes {Changes} {place} {m} {m'} {kept} {kept'} {order} {current} was cha
   order = order_stays order change was.order;
   current_is = rw (change.own, change.bags) was.current_is;
 }
+
+-- and so is one that grew
+pub side_grows : {m m' : MirrorSeen} {kept kept' : List Kept} {order order' : List At} {current : Option At}
+    → IsSide m kept order current → Grows m kept m' kept' → IsOrder order' (length kept') (metrics_in m'.places)
+    → IsSide m' kept' order' current
+side_grows {m} {m'} {kept} {kept'} {order} {order'} {current} was grows new =
+    record { own = grows.fits; order = new; current_is = stays current was.current_is }
+  where
+    stays : (current : Option At) → IsCurrent (metrics_in m.places) (length kept) current
+        → IsCurrent (metrics_in m'.places) (length kept') current
+    stays None is = tt
+    stays (Some at) is = (
+      omega (arith, is.0, grows.own),
+      prefix_get (metrics_in m.places) (metrics_in m'.places) at.place at.metric grows.bags is.1,
+    )
 
 -- a side with these parts
 abbrev pub seen : MirrorSeen → List Kept → Option ℕ → SideSeen

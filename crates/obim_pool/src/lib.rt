@@ -45,6 +45,7 @@ mod obim;
 mod order;
 mod own;
 mod pool;
+mod recent;
 mod scale;
 mod side;
 mod widening;

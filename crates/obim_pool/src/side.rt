@@ -14,6 +14,7 @@ use crate::kept::Kept;
 use crate::maker::Maker;
 use crate::order::At;
 use crate::own::{catch_up, place_for};
+use crate::recent::Recent;
 use crate::worklist::Worklist;
 use obim_bags::{BagLog, Mirror};
 use std::alloc::Global;
@@ -28,6 +29,7 @@ pub struct ObimSide {
     kept: Vec<Kept>,
     order: Vec<At>,
     current: Option<At>,
+    recent: Recent,
     maker: Maker,
 }
 
@@ -53,6 +55,7 @@ impl ObimSide {
             kept: Vec::new(alloc),
             order: Vec::new(alloc),
             current: None,
+            recent: Recent::new(),
             maker,
         }
     }
@@ -100,7 +103,7 @@ impl ObimSide {
             &mut self.mirror,
             &mut self.kept,
             &mut self.order,
-            self.current,
+            &mut self.recent,
             metric,
         ) else {
             return false;

@@ -2,13 +2,13 @@ use Rattle.std.proofs.Common.{refl, [], ◌∷◌}
 use Rattle.obim_pool.specs.Accounts.{Puts}
 use Rattle.obim_pool.specs.Sides.{Keeps, PushesTo}
 use Rattle.obim_pool.proofs.Lifting.{changed_here}
-use Rattle.obim_pool.proofs.Standing.{at_changes, keeps_changes, of_sides, pushes_none, pushes_to, side_changes}
+use Rattle.obim_pool.proofs.Standing.{at_changes, keeps_changes, of_sides, pushes_none, pushes_to, side_changes, side_grows}
 use Rattle.obim_pool.proofs.side.ObimSide.push.Goals as goal
 
 pub invariant_of-self-then-not-pushed : goal.invariant_of-self-then-not-pushed
 invariant_of-self-then-not-pushed g c =
     let change = changed_here (Puts []) _ _ c.in-Some.ensures.own.0 c.index_mut.ensures.value c.if-not-pushed.ensures.refused in
-    side_changes c.in-Some.ensures.side change
+    side_changes (side_grows c.self.invariant c.in-Some.ensures.grows c.in-Some.ensures.order) change
 
 pub returns-then-not-pushed-clause-keeps : goal.returns-then-not-pushed-clause-keeps
 returns-then-not-pushed-clause-keeps g c =
@@ -23,7 +23,7 @@ returns-then-not-pushed-clause-refused g c =
 pub invariant_of-self-2 : goal.invariant_of-self-2
 invariant_of-self-2 g c =
     let change = changed_here (Puts (c.args.v ∷ [])) _ _ c.in-Some.ensures.own.0 c.index_mut.ensures.value c.if-not-pushed.ensures.pushed in
-    side_changes c.in-Some.ensures.side change
+    side_changes (side_grows c.self.invariant c.in-Some.ensures.grows c.in-Some.ensures.order) change
 
 pub lower-requires : goal.lower-requires
 lower-requires g c =
