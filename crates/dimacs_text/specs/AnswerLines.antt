@@ -1,6 +1,6 @@
 -- The texts of an answer. Vertices, which are counted from 0, stand as their number plus 1.
 use Rattle.std.specs.Prelude.{ℕ, ◌+◌, ◌-◌, ◌==◌, List, [], ◌∷◌, ◌++◌, codes, decimal, if◌then◌else◌}
-use Rattle.std.specs.Prelude.{length, slice_index}
+use Rattle.std.specs.Prelude.{◌/◌, ◌%◌, nat_lt, length, slice_index}
 use Rattle.route_walks.specs.declared.graph.TheConstants.{INF}
 
 -- 's V'
@@ -30,6 +30,15 @@ pair_text s t label = pair_line s t (cost_text label)
 -- 'g K': how many arcs were added, which is the number itself and no vertex
 abbrev pub grown_text : ℕ → List ℕ
 grown_text k = codes "g " ++ decimal k ++ codes "\n"
+
+-- the digits of a number without the last two, for how many hundreds it has
+abbrev pub front_digits : ℕ → List ℕ
+front_digits hundreds = if hundreds == 0 then [] else decimal hundreds
+
+-- the last two digits of a number, or its only one
+abbrev pub last_digits : ℕ → List ℕ
+last_digits number =
+    if nat_lt number 10 then (48 + number) ∷ [] else (48 + number % 100 / 10) ∷ (48 + number % 10) ∷ []
 
 -- the lines of the labels, the first of which is that of the vertex v
 abbrev pub label_lines : ℕ → List ℕ → List ℕ

@@ -24,8 +24,7 @@ mod reader;
 mod stage;
 
 pub use answer::{
-    put_component, put_components, put_distances, put_grown, put_label, put_pair, put_source,
-    put_walk,
+    put_components, put_distances, put_grown, put_label, put_labels, put_pair, put_source, put_walk,
 };
 pub use arc_runs::ArcRuns;
 pub use fault::{LineKind, TextFault};

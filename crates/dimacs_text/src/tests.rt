@@ -3,9 +3,11 @@
 mod refusals;
 mod several;
 
+ghost use Rattle.std.specs.Prelude.{◌+◌, ◌≤◌, length};
+
 use crate::{
     Ask, Job, JobReader, LineKind, TextFault, put_components, put_distances, put_grown, put_label,
-    put_pair, put_source, put_walk, read_job,
+    put_labels, put_pair, put_source, put_walk, read_job,
 };
 use route_walks::{ArcRec, INF};
 use std::alloc::Global;
@@ -352,7 +354,7 @@ fn answers(rt: HostRuntime) -> Result<(), Fail> {
     put_label(&mut out, 9, INF)?;
     put_label(&mut out, 0, INF - 1)?;
     put_distances(&mut out, 2, &[INF, 0, 10])?;
-    put_components(&mut out, &[0, 0, 2])?;
+    put_components(&mut out, 0, &[0, 0, 2])?;
     put_walk(&mut out, 15, &[0, 2, 4, 1, 3, 5])?;
     put_walk(&mut out, 0, &[3])?;
     put_pair(&mut out, 0, 5, 15)?;
@@ -365,6 +367,57 @@ fn answers(rt: HostRuntime) -> Result<(), Fail> {
          q 1 6 15\nq 268435456 268435455 18446744073709551614\nq 6 1 inf\n\
          g 0\ng 1048576\n";
     assert_eq!(rt; out.as_slice(), lines.as_bytes());
+    Ok(())
+}
+
+// Lines where groups begin and end, and at the ends of what numbers there are.
+#[test]
+fn lines_of_groups(rt: HostRuntime) -> Result<(), Fail> {
+    let mut out = Vec::new(rt.alloc());
+    put_labels(&mut out, 268435456, &[])?;
+    put_labels(&mut out, 8, &[0, INF, 12])?;
+    put_labels(&mut out, 48, &[1, 2])?;
+    put_labels(&mut out, 98, &[7, INF - 1, 100])?;
+    put_labels(&mut out, 999998, &[9, 10])?;
+    put_labels(&mut out, 268435454, &[INF, INF - 1])?;
+    put_components(&mut out, 98, &[98, 0])?;
+    put_components(&mut out, 268435455, &[268435455])?;
+    let lines = "d 9 0\nd 10 inf\nd 11 12\nd 49 1\nd 50 2\n\
+         d 99 7\nd 100 18446744073709551614\nd 101 100\nd 999999 9\nd 1000000 10\n\
+         d 268435455 inf\nd 268435456 18446744073709551614\n\
+         k 99 99\nk 100 1\nk 268435456 268435456\n";
+    assert_eq!(rt; out.as_slice(), lines.as_bytes());
+    Ok(())
+}
+
+/// Asserts that the lines of labels are those that `format!` writes.
+fn assert_lines(rt: &impl Abort, alloc: Global, first: u32, labels: &[u64]) -> Result<(), Fail>
+    requires { first + length labels.now ≤ 1000000 }
+{
+    let mut want = String::new(alloc);
+    for (i, label) in labels.iter().enumerate() {
+        let number = first + i as u32 + 1;
+        want.push_str(&format!(in alloc; "d {number} {label}\n")?)?;
+    }
+    let mut out = Vec::new(alloc);
+    put_labels(&mut out, first, labels)?;
+    assert_eq!(rt; out.as_slice(), want.as_bytes());
+    Ok(())
+}
+
+#[test]
+fn lines_of_many_labels(rt: HostRuntime) -> Result<(), Fail> {
+    let mut labels = [0u64; 151];
+    for i in 0..151 {
+        labels[i] = 7u64.wrapping_pow(i as u32);
+    }
+    for count in 0..66 {
+        assert_lines(&rt, rt.alloc(), 0, &labels[..count])?;
+        assert_lines(&rt, rt.alloc(), 9990, &labels[..count])?;
+    }
+    for first in 0..102 {
+        assert_lines(&rt, rt.alloc(), first, &labels)?;
+    }
     Ok(())
 }
 

@@ -31,7 +31,7 @@ pub prefix-longer : (bytes text more : List ℕ) → IsPrefix bytes text → IsP
 prefix-longer bytes text more prefix =
     (prefix.0 ++ more, ap (λ (xs : List ℕ). xs ++ more) prefix.1 ∙ append_assoc bytes prefix.0 more)
 
-appends-nothing : (before : Option (List ℕ)) → Appends before before []
+pub appends-nothing : (before : Option (List ℕ)) → Appends before before []
 appends-nothing None = tt
 appends-nothing (Some xs) = sym (append-nil xs)
 

@@ -4,7 +4,6 @@ use Rattle.std.proofs.Common.{suc, take, drop-cons, Option, Some, refl, sym, sub
 use Rattle.std.specs.Io.KnownBytes.{Appends}
 use Rattle.std.proofs.Math.Seq.{take-add}
 use Rattle.std.proofs.lemmas.List.{append-nil, take_all, take_more}
-use Rattle.dimacs_text.specs.AnswerLines.{label_text, label_lines, component_text, component_lines}
 use Rattle.job_answer.specs.AnswerText.{AreBlocks, vertex_text, vertex_lines}
 use Rattle.job_answer.specs.Bytes.{Waits, Writes, Puts}
 use Rattle.job_answer.specs.Sent.{AreSent}
@@ -55,23 +54,6 @@ put-more before between after waiting line left lines whole put sent = record {
       (waits-put before between waiting put.text line put.waits) sent;
   is_whole = append_assoc put.text line lines ∙ put.is_whole;
 }
-
-pub label_lines-next : (v : ℕ) (labels : List ℕ)
-    → v < length labels
-    → label_lines v (drop v labels) ≡ label_text v (get_or labels v 0) ++ label_lines (v + 1) (drop (v + 1) labels)
-label_lines-next v labels below =
-    let one : suc v ≡ v + 1 = omega arith in
-    ap (label_lines v) (drop-cons labels v 0 below)
-    ∙ ap (λ (k : ℕ). label_text v (get_or labels v 0) ++ label_lines (v + 1) (drop k labels)) one
-
-pub component_lines-next : (v : ℕ) (labels : List ℕ)
-    → v < length labels
-    → component_lines v (drop v labels)
-    ≡ component_text v (get_or labels v 0) ++ component_lines (v + 1) (drop (v + 1) labels)
-component_lines-next v labels below =
-    let one : suc v ≡ v + 1 = omega arith in
-    ap (component_lines v) (drop-cons labels v 0 below)
-    ∙ ap (λ (k : ℕ). component_text v (get_or labels v 0) ++ component_lines (v + 1) (drop k labels)) one
 
 pub vertex_lines-next : (hop parent : ℕ → ℕ) (v : ℕ) (labels : List ℕ)
     → v < length labels

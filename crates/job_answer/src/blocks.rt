@@ -24,7 +24,7 @@ use crate::solves::{Solve, Start};
 use crate::teams::teams_for;
 use crate::watch::{Phase, Watch};
 use csr_graph::Csr;
-use dimacs_text::{put_component, put_grown, put_label, put_source, put_walk};
+use dimacs_text::{put_grown, put_label, put_source, put_walk};
 use obim_engine::Gate;
 use route_walks::{INF, MAX_VERTICES, Memory};
 use std::alloc::Global;
@@ -33,6 +33,9 @@ use std::sync::Wait;
 use std::thread::Threads;
 use std::time::Clock;
 use walk_report::{NONE, hops, parents, walk_to};
+
+/// So many lines are put before it is seen whether a piece is full.
+const LINES: usize = 512;
 
 /// Writes the block of each source in turn: the least labels from it along the rows, with their walks
 /// where they are asked for. Where the rows grow, the same in the grown graph comes after each block.
@@ -268,9 +271,11 @@ fn put_components<W: Write>(
         (waiting.old.bytes.items ++ components_text labels.now)) }
     ensures kinds { IfErr result IsWritingFault }
 {
-    for (v, label) in labels.iter().enumerate() {
-        put_component(&mut waiting.bytes, v as u32, *label)?;
+    let mut v = 0;
+    for group in labels.chunks(LINES) {
+        dimacs_text::put_components(&mut waiting.bytes, v, group)?;
         waiting.send_if_full(writer)?;
+        v += group.len() as u32;
     }
     Ok(())
 }
@@ -320,9 +325,11 @@ fn put_labels<W: Write>(
     ensures kinds { IfErr result IsWritingFault }
 {
     put_source(&mut waiting.bytes, source)?;
-    for (v, label) in labels.iter().enumerate() {
-        put_label(&mut waiting.bytes, v as u32, *label)?;
+    let mut v = 0;
+    for group in labels.chunks(LINES) {
+        dimacs_text::put_labels(&mut waiting.bytes, v, group)?;
         waiting.send_if_full(writer)?;
+        v += group.len() as u32;
     }
     Ok(())
 }

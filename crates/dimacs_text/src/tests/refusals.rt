@@ -5,8 +5,8 @@
 use crate::tests::several::large;
 use crate::tests::{GRAPH, assert_job, joined};
 use crate::{
-    ArcRuns, JobReader, LineKind, TextFault, put_component, put_components, put_distances,
-    put_grown, put_label, put_pair, put_source, put_walk, read_job,
+    ArcRuns, JobReader, LineKind, TextFault, put_components, put_distances, put_grown, put_label,
+    put_labels, put_pair, put_source, put_walk, read_job,
 };
 use route_walks::{ArcRec, INF, Memory, refusable, tried_again};
 use std::alloc::Global;
@@ -170,8 +170,13 @@ fn of_put_label(rt: HostRuntime) -> Result<(), Fail> {
 }
 
 #[test]
-fn of_put_component(rt: HostRuntime) -> Result<(), Fail> {
-    expect_put!(rt, out, put_component(&mut out, 2, 0), "c\nk 3 1\n");
+fn of_put_labels(rt: HostRuntime) -> Result<(), Fail> {
+    expect_put!(
+        rt,
+        out,
+        put_labels(&mut out, 47, &[0, INF, 12, 7]),
+        "c\nd 48 0\nd 49 inf\nd 50 12\nd 51 7\n"
+    );
     Ok(())
 }
 
@@ -191,8 +196,8 @@ fn of_put_components(rt: HostRuntime) -> Result<(), Fail> {
     expect_put!(
         rt,
         out,
-        put_components(&mut out, &[0, 0, 0, 0, 0, 0]),
-        "c\nk 1 1\nk 2 1\nk 3 1\nk 4 1\nk 5 1\nk 6 1\n"
+        put_components(&mut out, 47, &[0, 0, 0, 47]),
+        "c\nk 48 1\nk 49 1\nk 50 1\nk 51 48\n"
     );
     Ok(())
 }

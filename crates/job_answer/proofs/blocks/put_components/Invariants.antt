@@ -1,9 +1,17 @@
-use Rattle.std.proofs.Common.{◌++◌, drop}
+use Rattle.std.proofs.Common.{◌≡◌, ◌+◌, ◌<◌, ◌++◌, length}
+use Rattle.std.specs.Slice.Iter.{chunks_rest}
+use Rattle.std.specs.Prelude.{All}
+use Rattle.route_walks.specs.declared.graph.TheConstants.{INF}
 use Rattle.dimacs_text.specs.AnswerLines.{component_lines, components_text}
 use Rattle.job_answer.proofs.Sending.{IsPut}
 use Rattle.job_answer.proofs.blocks.put_components.Given as goal
 
-abbrev pub invariant-loop-v : goal.invariant-loop-v
-invariant-loop-v g l =
-    IsPut (g.W.Write.contents l.fn.writer) (g.W.Write.contents l.writer) l.waiting.bytes.items
-    (component_lines l.v (drop l.v l.labels)) (l.fn.waiting.bytes.items ++ components_text l.labels)
+abbrev pub invariant-loop-group : goal.invariant-loop-group
+invariant-loop-group g l = record {
+  can_next : (goal.iterator-loop-group g).can_next l.group-iterator;
+  is_finite : (goal.iterator-loop-group g).is_finite l.group-iterator;
+  count : l.v + length (chunks_rest l.group-iterator) ≡ length l.labels;
+  finite : All (λ label. label < INF) (chunks_rest l.group-iterator);
+  put : IsPut (g.W.Write.contents l.fn.writer) (g.W.Write.contents l.writer) l.waiting.bytes.items
+      (component_lines l.v (chunks_rest l.group-iterator)) (l.fn.waiting.bytes.items ++ components_text l.labels);
+}

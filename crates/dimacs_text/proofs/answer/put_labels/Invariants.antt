@@ -1,0 +1,16 @@
+use Rattle.std.proofs.Common.{◌≡◌, ◌+◌, ◌≤◌, ◌++◌, length}
+use Rattle.dimacs_text.specs.AnswerLines.{label_lines}
+use Rattle.dimacs_text.specs.declared.answer.TheConstants.{GROUP_ROOM}
+use Rattle.dimacs_text.proofs.answer.put_labels.Given as goal
+
+abbrev pub invariant-loop-rest : goal.invariant-loop-rest
+invariant-loop-rest l = record {
+  count : l.v + length l.rest ≡ l.first + length l.labels;
+  whole : l.out.items ++ label_lines l.v l.rest ≡ l.fn.out.items ++ label_lines l.first l.labels;
+  longer : length l.fn.out.items ≤ length l.out.items;
+  before : l.before ≡ length l.fn.out.items;
+  room : length l.lines ≡ GROUP_ROOM;
+}
+
+abbrev pub decreases-loop-rest : goal.decreases-loop-rest
+decreases-loop-rest l = length l.rest
