@@ -13,6 +13,8 @@ pub(crate) struct Patience {
     vertices: u32,
     left: u32,
     left_unmarked: u32,
+    /// Whether a pop was fruitless since there was work: mostly none was, and nothing is to be renewed.
+    is_spent: bool,
 }
 
 impl Patience {
@@ -21,19 +23,23 @@ impl Patience {
             vertices,
             left: POPS,
             left_unmarked: vertices.max(POPS),
+            is_spent: false,
         }
     }
 
     /// There was work.
+    #[inline(always)]
     pub(crate) fn renew(&mut self) {
-        self.left = POPS;
-        self.left_unmarked = self.vertices.max(POPS);
+        if self.is_spent {
+            *self = Patience::new(self.vertices);
+        }
     }
 
     /// After a fruitless pop, which gave nothing or a vertex that wasn't marked: whether the worker is to look
     /// at every vertex now.
     #[inline(always)]
     pub(crate) fn ends(&mut self, popped: Option<u32>) -> bool {
+        self.is_spent = true;
         let left = match popped {
             Some(_) => &mut self.left_unmarked,
             None => &mut self.left,

@@ -20,6 +20,8 @@ const LONGEST: u64 = 400;
 pub(crate) struct Pauses {
     backoff: Backoff,
     micros: u64,
+    /// Whether there was a pause since there was work: mostly there was none.
+    has_waited: bool,
 }
 
 impl Pauses {
@@ -27,16 +29,19 @@ impl Pauses {
         Pauses {
             backoff: Backoff::new(),
             micros: FIRST,
+            has_waited: false,
         }
     }
 
-    /// There was work: the next pause is short again.
+    /// The pool gave a vertex: the next pause is short again.
+    #[inline(always)]
     pub(crate) fn reset(&mut self) {
-        self.backoff.reset();
-        self.micros = FIRST;
+        if self.has_waited {
+            *self = Pauses::new();
+        }
     }
 
-    /// Waits after a fruitless pop. Where a sweep is due, the sooner it comes the better: so the processor is
+    /// Waits after a pop that gave nothing. Where a sweep is due, the sooner it comes the better: so the processor is
     /// kept. The clock only sleeps.
     pub(crate) fn wait<C: Clock>(&mut self, clock: &C, due: bool) {
         if due {
@@ -48,5 +53,6 @@ impl Pauses {
         } else {
             self.backoff.snooze();
         }
+        self.has_waited = true;
     }
 }

@@ -53,7 +53,6 @@ pub(crate) fn work<H: Wait + Clock, P: WorkPool, G: Gate>(
     let mut watch = Watch::new(worker);
     let mut patience = Patience::new(shared.csr.n());
     let mut budget = shared.budget;
-    let mut is_fruitless = false;
     for _ in rt.forever() {
         if budget == Some(0) {
             shared.pace.leave(worker);
@@ -67,18 +66,15 @@ pub(crate) fn work<H: Wait + Clock, P: WorkPool, G: Gate>(
             Some(u) if u < shared.csr.n() && shared.words.take(&mut seat, u) => {
                 visit(rt, shared, worker, &mut seat, side, u);
                 budget = spent(budget);
-                if is_fruitless {
-                    is_fruitless = false;
-                    patience.renew();
-                    pauses.reset();
-                }
+                patience.renew();
+                pauses.reset();
                 watch.visited(rt, shared.pace);
             }
             _ => {
-                is_fruitless = true;
                 let ends = patience.ends(popped);
                 // A pool that gave a vertex isn't empty: the next one may be marked.
                 if popped.is_some() && !ends {
+                    pauses.reset();
                     continue;
                 }
                 if shared.words.see(&mut seat) {
