@@ -111,19 +111,6 @@ pub text-says : (before after : Option (List ℕ)) (text : List ℕ) (fault : Te
 text-says before after text Memory whole says = tt
 text-says before after text (Line line kind) whole says = record { text = text; whole = whole; first = says }
 
--- whatever the fault is, no more than the limit was taken
-pub taken-says : (limit : ℕ) (before after : Option (List ℕ)) (fault : TextFault) → TakesAtMost limit before after
-    → HasTaken limit before after (fault_of fault)
-taken-says limit before after Memory taken = taken
-taken-says limit before after (Line line kind) taken = taken
-
--- all that was taken
-pub fed-all : (reader : JobReader) (at_hand : List ℕ) (limit left : ℕ) (before after : Option (List ℕ))
-    → IsFed reader at_hand limit left before after
-    → TakesAtMost limit before after
-fed-all reader at_hand limit left before after fed =
-    record { bytes = fed.text ++ at_hand; taken = fed.taken; few = omega (arith, fed.count) }
-
 -- the front of a buffer after a write behind what was filled
 pub take-filled : (filled room count : ℕ) (buffer part : List ℕ) → filled ≤ length buffer → count ≤ length part
     → take (filled + count) (put_mid filled room buffer part) ≡ take filled buffer ++ take count part
