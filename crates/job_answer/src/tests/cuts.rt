@@ -15,8 +15,8 @@ use std::test::Fail;
 use std::thread::Threads;
 use std::time::Clock;
 
-/// Bytes of a block that one worker reads, and that two do.
-const BLOCKS: [(u32, usize); 2] = [(1, 1 << 16), (2, 1 << 20)];
+/// Bytes of a piece as long as no arcs have come.
+const PIECE: usize = 1 << 16;
 
 /// Two sources, with walks.
 const WALKED: &[u8] =
@@ -132,11 +132,11 @@ fn is_of_text(outcome: Result<(), Fault>) -> bool {
     matches!(outcome, Err(Fault::Text { .. } | Fault::NoAsk))
 }
 
-/// The job of six vertices behind a comment, after which so many of its bytes lie in the first block.
-fn behind_a_comment(alloc: Global, block: usize, inside: usize) -> Result<Vec<u8>, AllocError> {
+/// The job of six vertices behind a comment, after which so many of its bytes lie in the first piece.
+fn behind_a_comment(alloc: Global, inside: usize) -> Result<Vec<u8>, AllocError> {
     let mut text = Vec::new(alloc);
     text.push(b'c')?;
-    text.resize(block.saturating_sub(inside).saturating_sub(1), b' ')?;
+    text.resize(PIECE.saturating_sub(inside).saturating_sub(1), b' ')?;
     text.push(b'\n')?;
     text.extend_from_slice(SIX)?;
     Ok(text)
@@ -172,18 +172,18 @@ fn assert_cut(
     }
 }
 
-// Each byte of a job comes first after a block, or beside that, in reads of blocks and of bytes.
+// Each byte of a job comes first after a piece, or beside that, in reads of pieces and of bytes.
 #[test]
-fn jobs_cut_at_blocks(rt: HostRuntime) -> Result<(), Fail> {
+fn jobs_cut_at_pieces(rt: HostRuntime) -> Result<(), Fail> {
     let alloc = rt.alloc();
-    for (workers, block) in BLOCKS {
+    for workers in [1, 2] {
         for inside in 0..=SIX.len() {
-            let text = behind_a_comment(alloc, block, inside)?;
+            let text = behind_a_comment(alloc, inside)?;
             for reads in [
-                (block, block),
-                (block - 1, block),
-                (1, block),
-                (block - 1, 1),
+                (PIECE, PIECE),
+                (PIECE - 1, PIECE),
+                (1, PIECE),
+                (PIECE - 1, 1),
             ] {
                 assert_cut(&rt, alloc, workers, &text, reads);
             }
