@@ -8,7 +8,7 @@ mkdir "$work/bin"
 PATH=$work/bin:$PATH
 
 # As the launcher does, for both programs: see there.
-tunables=glibc.malloc.hugetlb=1:glibc.malloc.arena_max=1
+tunables=glibc.malloc.hugetlb=1:glibc.malloc.arena_max=8
 tunables+=:glibc.malloc.mmap_threshold=33554432:glibc.malloc.trim_threshold=4294967296
 export GLIBC_TUNABLES=${GLIBC_TUNABLES:-$tunables}
 
