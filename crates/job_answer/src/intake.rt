@@ -69,18 +69,21 @@ fn read_pieces<H: Threads + Clock + Sync, R: Read>(
     let mut ended = false;
     while !ended {
         let limit = readers.piece().min(left + 1);
+        let fed = front.len();
         ended = step(rt, reader, &mut job, &mut readers, front, back, limit)?;
         if front.len() > left {
             return Err(Fault::TooLong);
         }
         left -= front.len();
-        watch.see_text(front.len(), job.arcs_so_far());
+        if fed > 0 {
+            watch.see_text(fed, job.arcs_so_far());
+        }
         swap(front, back);
     }
     front.feed_to(&mut job)?;
     read_ahead(rt, &job, back, readers.threads());
     back.feed_to(&mut job)?;
-    watch.see_text(0, job.arcs_so_far());
+    watch.see_text(front.len().saturating_add(back.len()), job.arcs_so_far());
     Ok(job.finish()?)
 }
 
