@@ -10,6 +10,8 @@
 //! The lowest crate: it stands on the standard library alone.
 #![tactic(auto)]
 
+mod checks;
+mod example;
 mod graph;
 pub mod laws;
 mod operators;
@@ -18,6 +20,8 @@ mod refusal;
 #[cfg(test)]
 mod tests;
 
+pub use checks::{are_seeds, is_graph};
+pub use example::{EXAMPLE_ARCS, EXAMPLE_SEEDS};
 pub use graph::{ArcRec, INF, MAX_ARCS, MAX_VERTICES, Seed, offer};
 pub use operators::{both_ways, seeds_all, seeds_from, unit_weights};
 pub use plain::{is_settled, plain_labels};

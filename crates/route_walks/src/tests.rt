@@ -1,123 +1,43 @@
 //! Do labels, arcs and seeds come out as worked by hand?
 
-ghost use Rattle.std.specs.Prelude.{◌↔◌, length, IsTrue};
-ghost use Rattle.route_walks.specs.Walk.{IsGraph, AreSeeds};
-
 mod refusals;
 
 use crate::{
-    ArcRec, INF, Seed, both_ways, is_settled, plain_labels, seeds_all, seeds_from, unit_weights,
+    ArcRec, EXAMPLE_ARCS, INF, Seed, arcs, are_seeds, both_ways, is_graph, is_settled,
+    plain_labels, seeds_all, seeds_from, unit_weights,
 };
-use std::alloc::Global;
-use std::process::Abort;
 use std::test::Fail;
-
-fn is_graph(n: u32, arcs: &[ArcRec]) -> bool
-    ensures { IsTrue result ↔ IsGraph n arcs.now }
-{
-    arcs.iter().all(|arc| arc.tail < n && arc.head < n)
-}
-
-fn are_seeds(n: u32, seeds: &[Seed]) -> bool
-    ensures { IsTrue result ↔ AreSeeds n seeds.now }
-{
-    seeds.iter().all(|seed| seed.vertex < n)
-}
-
-/// Six vertices, with free arcs and a circle of them.
-fn six() -> [ArcRec; 8] {
-    [
-        ArcRec::new(0, 1, 17),
-        ArcRec::new(0, 2, 10),
-        ArcRec::new(1, 3, 2),
-        ArcRec::new(2, 4, 0),
-        ArcRec::new(3, 2, 0),
-        ArcRec::new(3, 5, 3),
-        ArcRec::new(4, 1, 0),
-        ArcRec::new(4, 5, 20),
-    ]
-}
-
-fn expect_labels(
-    rt: &impl Abort,
-    alloc: Global,
-    n: u32,
-    arcs: &[ArcRec],
-    seeds: &[Seed],
-    want: &[u64],
-) -> Result<(), Fail> {
-    let graph = is_graph(n, arcs);
-    let sown = are_seeds(n, seeds);
-    assert!(rt; graph && sown);
-    let labels = plain_labels(alloc, n, arcs, seeds)?;
-    assert_eq!(rt; labels.as_slice(), want);
-    assert!(rt; is_settled(labels.as_slice(), arcs, seeds));
-    Ok(())
-}
 
 #[test]
 fn labels_of_small_graphs(rt: HostRuntime) -> Result<(), Fail> {
     let alloc = rt.alloc();
-    let six = six();
-    expect_labels(
-        &rt,
-        alloc,
-        6,
-        &six,
-        &seeds_from(alloc, 0)?,
-        &[0, 10, 10, 12, 10, 15],
-    )?;
-    expect_labels(
-        &rt,
-        alloc,
-        6,
-        &six,
-        &seeds_from(alloc, 2)?,
-        &[INF, 0, 0, 2, 0, 5],
-    )?;
-    expect_labels(
-        &rt,
-        alloc,
-        6,
-        &unit_weights(alloc, &six)?,
-        &seeds_from(alloc, 0)?,
-        &[0, 1, 1, 2, 2, 3],
-    )?;
-    expect_labels(
-        &rt,
-        alloc,
-        6,
-        &both_ways(alloc, &six)?,
-        &seeds_all(alloc, 6)?,
-        &[0; 6],
-    )?;
-    let heavy = [ArcRec::new(0, 1, u32::MAX), ArcRec::new(1, 2, u32::MAX)];
-    expect_labels(
-        &rt,
-        alloc,
-        3,
-        &heavy,
-        &seeds_from(alloc, 0)?,
-        &[0, 4294967295, 8589934590],
-    )?;
-    let parallel = [
-        ArcRec::new(0, 1, 7),
-        ArcRec::new(0, 1, 3),
-        ArcRec::new(0, 0, 0),
-    ];
-    expect_labels(&rt, alloc, 2, &parallel, &seeds_from(alloc, 0)?, &[0, 3])?;
-    let split = [ArcRec::new(1, 0, 5)];
-    expect_labels(
-        &rt,
-        alloc,
-        3,
-        &both_ways(alloc, &split)?,
-        &seeds_all(alloc, 3)?,
-        &[0, 0, 2],
-    )?;
+    let (from_0, from_2) = (seeds_from(alloc, 0)?, seeds_from(alloc, 2)?);
+    let (all_six, all_three) = (seeds_all(alloc, 6)?, seeds_all(alloc, 3)?);
     let late = [Seed::new(0, INF - 1), Seed::new(0, INF)];
-    expect_labels(&rt, alloc, 2, &parallel, &late, &[INF - 1, INF])?;
-    expect_labels(&rt, alloc, 0, &[], &[], &[])
+    let six = EXAMPLE_ARCS;
+    let (units, both) = (unit_weights(alloc, &six)?, both_ways(alloc, &six)?);
+    let heavy = arcs![(0, 1, u32::MAX), (1, 2, u32::MAX)];
+    let parallel = arcs![(0, 1, 7), (0, 1, 3), (0, 0, 0)];
+    let split = both_ways(alloc, &arcs![(1, 0, 5)])?;
+    let rows: [(u32, &[ArcRec], &[Seed], &[u64]); 9] = [
+        (6, &six, &from_0, &[0, 10, 10, 12, 10, 15]),
+        (6, &six, &from_2, &[INF, 0, 0, 2, 0, 5]),
+        (6, &units, &from_0, &[0, 1, 1, 2, 2, 3]),
+        (6, &both, &all_six, &[0; 6]),
+        (3, &heavy, &from_0, &[0, 4294967295, 8589934590]),
+        (2, &parallel, &from_0, &[0, 3]),
+        (3, &split, &all_three, &[0, 0, 2]),
+        (2, &parallel, &late, &[INF - 1, INF]),
+        (0, &[], &[], &[]),
+    ];
+    for (n, arcs, seeds, want) in rows {
+        let within = is_graph(n, arcs) && are_seeds(n, seeds);
+        assert!(rt; within);
+        let labels = plain_labels(alloc, n, arcs, seeds)?;
+        assert_eq!(rt; labels.as_slice(), want);
+        assert!(rt; is_settled(labels.as_slice(), arcs, seeds));
+    }
+    Ok(())
 }
 
 #[test]

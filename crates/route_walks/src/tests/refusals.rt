@@ -1,22 +1,18 @@
 //! Each call that takes memory, with one allocation of it refused: `Memory` then, and made once more it gives what
 //! was worked by hand. `tests/refusals` refuses each in turn; `tests/refusals.tsv` has the calls.
 
-use crate::tests::{are_seeds, is_graph, six};
 use crate::{
-    ArcRec, Memory, Seed, both_ways, plain_labels, seeds_all, seeds_from, tried_again, unit_weights,
+    ArcRec, EXAMPLE_ARCS, Memory, Seed, arcs, are_seeds, both_ways, is_graph, plain_labels,
+    seeds_all, seeds_from, tried_again, unit_weights,
 };
 use std::test::Fail;
 
-const ONE: [ArcRec; 1] = [ArcRec {
-    tail: 0,
-    head: 1,
-    weight: 7,
-}];
+const ONE: [ArcRec; 1] = arcs![(0, 1, 7)];
 
 #[test]
 fn of_plain_labels(rt: HostRuntime) -> Result<(), Fail> {
     let alloc = rt.alloc();
-    let (arcs, seeds) = (six(), [Seed::new(0, 0)]);
+    let (arcs, seeds) = (EXAMPLE_ARCS, [Seed::new(0, 0)]);
     let (graph, sown) = (is_graph(6, &arcs), are_seeds(6, &seeds));
     assert!(rt; graph && sown);
     let labels = tried_again!(rt, alloc, Memory, plain_labels(alloc, 6, &arcs, &seeds));

@@ -1,0 +1,30 @@
+//! Lists of arcs for tests and examples, and the graph and the seed that they share.
+
+use crate::graph::{ArcRec, Seed};
+
+/// A list of arcs, each as its tail, its head and its weight: `arcs![(0, 1, 17), (1, 0, 3)]`.
+#[macro_export]
+macro_rules! arcs {
+    ($(($tail:expr, $head:expr, $weight:expr)),* $(,)?) => {
+        [$($crate::ArcRec { tail: $tail, head: $head, weight: $weight }),*]
+    };
+}
+
+/// The arcs of an example of six vertices, with free arcs and a circle of them. The distances from vertex 0
+/// are 0, 10, 10, 12, 10 and 15.
+pub const EXAMPLE_ARCS: [ArcRec; 8] = arcs![
+    (0, 1, 17),
+    (0, 2, 10),
+    (1, 3, 2),
+    (2, 4, 0),
+    (3, 2, 0),
+    (3, 5, 3),
+    (4, 1, 0),
+    (4, 5, 20),
+];
+
+/// The seed of walks from vertex 0.
+pub const EXAMPLE_SEEDS: [Seed; 1] = [Seed {
+    vertex: 0,
+    start: 0,
+}];
