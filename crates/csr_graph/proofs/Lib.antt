@@ -1,7 +1,7 @@
 pub mod Facts
 mod Filters
 mod Items
-mod Blocks
+mod Bins
 mod Sorting
 mod Placing
 mod Layouts

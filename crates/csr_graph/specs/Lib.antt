@@ -1,4 +1,4 @@
 pub mod Graph
 pub mod Layout
 pub mod Free
-pub mod Blocks
+pub mod Bins

@@ -1,54 +1,31 @@
 //! A graph of six vertices, whose places were worked out by hand.
 
-ghost use Rattle.std.specs.Prelude.{◌<◌, ◌↔◌, ℕ, IsTrue};
-ghost use Rattle.route_walks.specs.Walk.{IsGraph};
+ghost use Rattle.std.specs.Prelude.{◌<◌};
 
 mod refusals;
 mod threads;
 
 use crate::{Csr, MAX_ARCS, Target};
-use route_walks::{ArcRec, Memory, both_ways};
+use route_walks::{ArcRec, EXAMPLE_ARCS, Memory, arcs, both_ways, is_graph};
 use std::alloc::Global;
 use std::test::Fail;
 
-// The arcs as given, not by tail: two leave 3 and come last here.
-fn given() -> [ArcRec; 8] {
-    [
-        ArcRec::new(4, 1, 0),
-        ArcRec::new(0, 1, 17),
-        ArcRec::new(1, 3, 2),
-        ArcRec::new(0, 2, 10),
-        ArcRec::new(2, 4, 0),
-        ArcRec::new(4, 5, 20),
-        ArcRec::new(3, 2, 0),
-        ArcRec::new(3, 5, 3),
-    ]
-}
-
-fn by_tail() -> [ArcRec; 8] {
-    [
-        ArcRec::new(0, 1, 17),
-        ArcRec::new(0, 2, 10),
-        ArcRec::new(1, 3, 2),
-        ArcRec::new(2, 4, 0),
-        ArcRec::new(3, 2, 0),
-        ArcRec::new(3, 5, 3),
-        ArcRec::new(4, 1, 0),
-        ArcRec::new(4, 5, 20),
-    ]
-}
-
-fn is_graph(n: u32, arcs: &[ArcRec]) -> bool
-    ensures { IsTrue result ↔ IsGraph n arcs.now }
-{
-    arcs.iter().all(|arc| arc.tail < n && arc.head < n)
-}
+// The arcs of the example, not by tail: two leave 3 and come last here.
+const GIVEN: [ArcRec; 8] = arcs![
+    (4, 1, 0),
+    (0, 1, 17),
+    (1, 3, 2),
+    (0, 2, 10),
+    (2, 4, 0),
+    (4, 5, 20),
+    (3, 2, 0),
+    (3, 5, 3),
+];
 
 #[test]
 fn rows_of_six_vertices(rt: HostRuntime) -> Result<(), Fail> {
-    let given = given();
-    assert!(rt; is_graph(6, &given));
-    let csr = Csr::build(rt.alloc(), 6, &given)?;
+    assert!(rt; is_graph(6, &GIVEN));
+    let csr = Csr::build(rt.alloc(), 6, &GIVEN)?;
     assert_eq!(rt; csr.n(), 6);
     assert_eq!(rt; csr.arc_count(), 8);
     for (u, first, end) in [
@@ -62,21 +39,20 @@ fn rows_of_six_vertices(rt: HostRuntime) -> Result<(), Fail> {
         assert_eq!(rt; csr.first(u), first, "first of {u}");
         assert_eq!(rt; csr.end(u), end, "end of {u}");
     }
-    for (k, arc) in by_tail().iter().enumerate() {
+    for (k, arc) in EXAMPLE_ARCS.iter().enumerate() {
         assert_eq!(rt; csr.arc(k), *arc, "at {k}");
         let Target { head, weight } = csr.target(k);
         assert_eq!(rt; (head, weight), (arc.head, arc.weight), "at {k}");
     }
     let arcs = csr.arcs(rt.alloc())?;
-    assert!(rt; arcs.as_slice() == by_tail().as_slice());
+    assert!(rt; arcs.as_slice() == EXAMPLE_ARCS.as_slice());
     Ok(())
 }
 
 #[test]
 fn arcs_that_enter(rt: HostRuntime) -> Result<(), Fail> {
-    let given = given();
-    assert!(rt; is_graph(6, &given));
-    let reversed = Csr::build(rt.alloc(), 6, &given)?.reversed(rt.alloc())?;
+    assert!(rt; is_graph(6, &GIVEN));
+    let reversed = Csr::build(rt.alloc(), 6, &GIVEN)?.reversed(rt.alloc())?;
     assert_eq!(rt; reversed.n(), 6);
     assert_eq!(rt; reversed.arc_count(), 8);
     let arcs = reversed.arcs(rt.alloc())?;
@@ -90,10 +66,9 @@ fn arcs_that_enter(rt: HostRuntime) -> Result<(), Fail> {
 // The arc 0 → 5 comes after the arcs that leave 0, and the other rows stay.
 #[test]
 fn an_arc_is_added(rt: HostRuntime) -> Result<(), Fail> {
-    let given = given();
     let added = [ArcRec::new(0, 5, 4)];
-    assert!(rt; is_graph(6, &given) && is_graph(6, &added));
-    let csr = Csr::build(rt.alloc(), 6, &given)?;
+    assert!(rt; is_graph(6, &GIVEN) && is_graph(6, &added));
+    let csr = Csr::build(rt.alloc(), 6, &GIVEN)?;
     let grown = csr.with_arcs(rt.alloc(), &added)?;
     assert_eq!(rt; (grown.n(), grown.arc_count()), (6, 9));
     for (u, first) in [(0, 0), (1, 3), (2, 4), (3, 5), (4, 7), (5, 9)] {
@@ -104,7 +79,7 @@ fn an_arc_is_added(rt: HostRuntime) -> Result<(), Fail> {
         let arc = grown.arc(k);
         assert_eq!(rt; (arc.tail, arc.head, arc.weight), *want, "at {k}");
     }
-    assert!(rt; csr.arcs(rt.alloc())?.as_slice() == by_tail().as_slice());
+    assert!(rt; csr.arcs(rt.alloc())?.as_slice() == EXAMPLE_ARCS.as_slice());
     Ok(())
 }
 
@@ -140,7 +115,7 @@ fn drawn(alloc: Global, n: u32, count: usize) -> Result<Vec<ArcRec>, Memory>
     Ok(arcs)
 }
 
-// 64 arcs are few, and sorted as they stand; 300000 among 50000 vertices are dealt into blocks first.
+// 64 arcs are few, and sorted as they stand; 300000 among 50000 vertices are put into bins first.
 #[test]
 fn built_from_a_list_that_is_given_up(rt: HostRuntime) -> Result<(), Fail> {
     let alloc = rt.alloc();
@@ -184,7 +159,7 @@ fn with_arcs_beside_the_whole_list(rt: HostRuntime) -> Result<(), Fail> {
 }
 
 // The rows are those of the list of arcs both ways: of no arc, of a loop, of arcs that stand twice, of few
-// arcs, and of arcs that are dealt into blocks first.
+// arcs, and of arcs that are put into bins first.
 #[test]
 fn both_ways_in_rows(rt: HostRuntime) -> Result<(), Fail> {
     let alloc = rt.alloc();

@@ -31,7 +31,7 @@ IsIdle seat = seat.known.view.hand ≡ Idle
 
 -- take: where the mark was set, the seat holds the vertex
 abbrev pub after_take : Bool → ℕ → Known → Known
-after_take was u known = record known { view = taken was u known.view }
+after_take was_marked u known = record known { view = taken was_marked u known.view }
 
 -- read: the row is open with the label that was found, and the label is known
 abbrev pub after_read : ℕ → Known → Known
@@ -55,7 +55,7 @@ after_raise known = record known { view = raised known.view }
 
 -- set_mark: the flag says whether the mark was set before
 abbrev pub after_set_mark : Bool → Known → Known
-after_set_mark was known = record known { view = marked was known.view }
+after_set_mark was_marked known = record known { view = marked was_marked known.view }
 
 abbrev pub after_finish : Known → Known
 after_finish known = record known { view = finished known.view }

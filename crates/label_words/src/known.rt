@@ -33,6 +33,6 @@ impl TableRule<(), Known, Key> for WordsRule {
     ghost first = { λ key. first_known key.0.value (seeds_told key.1.value.items key.2.value.items) };
 }
 
-pub(crate) type Board = Table<(), Known, Key, WordsRule, Global>;
+pub(crate) type WordTable = Table<(), Known, Key, WordsRule, Global>;
 
-pub(crate) type Place = Seat<(), Known>;
+pub(crate) type TableSeat = Seat<(), Known>;

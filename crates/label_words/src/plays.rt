@@ -51,9 +51,9 @@ impl Play<(), Known> for Raises {
     ghost then = { λ step old found new. (new ≡ (after_raise old.0, old.1)) × IsReady new.0 };
 }
 
-pub(crate) struct Marks;
+pub(crate) struct SetsMark;
 
-impl Play<(), Known> for Marks {
+impl Play<(), Known> for SetsMark {
     ghost use Rattle.std.specs.Prelude.{◌≡◌, nat_lt};
     ghost use Rattle.label_words.specs.Known.{after_set_mark};
     ghost use Rattle.label_words.specs.Seats.{IsReady};
@@ -83,9 +83,9 @@ impl Play<(), Known> for Sees {
         (new ≡ (after_see (found == 0) old.0, old.1)) × IsReady new.0 };
 }
 
-pub(crate) struct Halves;
+pub(crate) struct SplitsOrJoins;
 
-impl Split<Known> for Halves {
+impl Split<Known> for SplitsOrJoins {
     ghost use Rattle.label_words.specs.Known.{left_half, right_half};
 
     ghost left = { left_half };
@@ -93,7 +93,7 @@ impl Split<Known> for Halves {
     ghost right = { right_half };
 }
 
-impl Join<Known> for Halves {
+impl Join<Known> for SplitsOrJoins {
     ghost use Rattle.label_words.specs.Known.{both_known, gone};
 
     ghost both = { both_known };

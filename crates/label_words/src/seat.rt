@@ -4,7 +4,7 @@ ghost use Rattle.std.specs.Prelude.{◌≡◌, ◌≤◌};
 ghost use Rattle.relax_core.specs.declared.views.TheConstants.{SHARES};
 ghost use Rattle.label_words.specs.Known.{hand_of};
 
-use crate::known::Place;
+use crate::known::TableSeat;
 use relax_core::{Hand, View};
 use std::marker::Model;
 
@@ -14,7 +14,7 @@ use std::marker::Model;
 /// something keeps its credits, so no seat sees 0 from then on.
 #[derive(Drop)]
 pub struct WorkSeat {
-    pub(crate) place: Place,
+    pub(crate) table_seat: TableSeat,
     pub(crate) view: View,
 }
 
@@ -25,9 +25,9 @@ impl Model for WorkSeat {
 
     ghost Value = { Held };
 
-    ghost view = { λ s. record { words = s.place.table_id; known = s.place.me.0 } };
+    ghost view = { λ s. record { words = s.table_seat.table_id; known = s.table_seat.me.0 } };
 
-    ghost invariant = { λ s. IsTied s.place.table_id s.place.me.0 s.view × (s.place.me.1 ≡ []) };
+    ghost invariant = { λ s. IsTied s.table_seat.table_id s.table_seat.me.0 s.view × (s.table_seat.me.1 ≡ []) };
 }
 
 impl WorkSeat {

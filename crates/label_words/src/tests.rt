@@ -9,38 +9,12 @@ mod refusals;
 use crate::{Closed, Step, Words, WorkSeat};
 use csr_graph::Csr;
 use relax_core::{Hand, SHARES};
-use route_walks::{ArcRec, INF, Seed};
+use route_walks::{ArcRec, EXAMPLE_SEEDS, INF, Seed, arcs};
 use std::alloc::Global;
 use std::process::Abort;
 use std::test::Fail;
 
-const ARCS: [ArcRec; 4] = [
-    ArcRec {
-        tail: 0,
-        head: 1,
-        weight: 10,
-    },
-    ArcRec {
-        tail: 0,
-        head: 2,
-        weight: 1,
-    },
-    ArcRec {
-        tail: 2,
-        head: 1,
-        weight: 1,
-    },
-    ArcRec {
-        tail: 1,
-        head: 3,
-        weight: 1,
-    },
-];
-
-const SEEDS: [Seed; 1] = [Seed {
-    vertex: 0,
-    start: 0,
-}];
+const ARCS: [ArcRec; 4] = arcs![(0, 1, 10), (0, 2, 1), (2, 1, 1), (1, 3, 1)];
 
 // A call, and what it returns.
 #[derive(Clone, Copy, Debug)]
@@ -149,7 +123,7 @@ fn play(rt: &impl Abort, words: &Words, left: &mut WorkSeat, right: &mut WorkSea
 #[test]
 fn two_seats_go_through_the_schedule(rt: HostRuntime) -> Result<(), Fail> {
     let csr = graph(rt.alloc())?;
-    let (words, mut left) = Words::open(rt.alloc(), &csr, &SEEDS)?;
+    let (words, mut left) = Words::open(rt.alloc(), &csr, &EXAMPLE_SEEDS)?;
     let mut right = words.split(&mut left);
     assert_eq!(rt; (left.share(), right.share()), (32768, 32768));
     play(&rt, &words, &mut left, &mut right, &csr);
@@ -179,7 +153,7 @@ fn marked_just_after_opening(rt: HostRuntime) -> Result<(), Fail> {
 #[test]
 fn closed_just_after_opening(rt: HostRuntime) -> Result<(), Fail> {
     let csr = graph(rt.alloc())?;
-    let (words, mut seat) = Words::open(rt.alloc(), &csr, &SEEDS)?;
+    let (words, mut seat) = Words::open(rt.alloc(), &csr, &EXAMPLE_SEEDS)?;
     assert!(rt; !words.take(&mut seat, 1));
     assert!(rt; !words.see(&mut seat));
     let Closed::Paused(rest) = words.close(rt.alloc(), seat)? else {

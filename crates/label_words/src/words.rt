@@ -14,11 +14,11 @@ ghost use Rattle.label_words.specs.Paused.{CanGoOn};
 ghost use Rattle.label_words.specs.Rule.{AreLawful, seeds_told};
 
 use crate::closed::{Closed, read_labels, read_marks};
-use crate::known::{Board, Key};
+use crate::known::{Key, WordTable};
 use crate::layout::{TOTAL, label_word, mark_word};
 use crate::opening::{lay, lay_rest};
 use crate::pause::Paused;
-use crate::plays::{Finishes, Halves, Marks, Raises, Reads, Relaxes, Sees, Takes};
+use crate::plays::{Finishes, Raises, Reads, Relaxes, Sees, SetsMark, SplitsOrJoins, Takes};
 use crate::seat::WorkSeat;
 use atomic_table::Table;
 use csr_graph::{Csr, Target};
@@ -46,7 +46,7 @@ pub enum Step {
 /// step on them through a `&`, each with its own seat.
 #[derive(Drop)]
 pub struct Words {
-    pub(crate) table: Board,
+    pub(crate) table: WordTable,
 }
 
 impl Model for Words {
@@ -103,9 +103,9 @@ impl Words {
         ensures seat { IfOk result (λ opened. opened.1
             ≡ record { words = opened.0; known = first_known key.0.value (seeds_told key.1.value.items key.2.value.items) }) }
     {
-        let (table, place) = Table::of_words(alloc, &words, &key)?;
+        let (table, table_seat) = Table::of_words(alloc, &words, &key)?;
         let view = View::idle(SHARES);
-        Ok((Words { table }, WorkSeat { place, view }))
+        Ok((Words { table }, WorkSeat { table_seat, view }))
     }
 
     /// The label at which `v` is marked, or `None` where it isn't marked. It is a look that takes no step
@@ -132,9 +132,9 @@ impl Words {
         ensures { seat.new ≡ record seat.old { known = after_take result u seat.old.known } }
     {
         let shared = &self.table.shared;
-        let was = shared.swap::<Takes>(&mut seat.place, mark_word(u), 0) > 0;
-        seat.view.take(was, u);
-        was
+        let was_marked = shared.swap::<Takes>(&mut seat.table_seat, mark_word(u), 0) > 0;
+        seat.view.take(was_marked, u);
+        was_marked
     }
 
     /// Reads the label of the vertex that the seat holds, by one load, and opens its row.
@@ -149,7 +149,7 @@ impl Words {
             unreachable!()
         };
         let shared = &self.table.shared;
-        let d = shared.load::<Reads>(&mut seat.place, label_word(u));
+        let d = shared.load::<Reads>(&mut seat.table_seat, label_word(u));
         seat.view.read(d, csr.first(u));
         d
     }
@@ -198,7 +198,7 @@ impl Words {
         let Target { head, weight } = csr.target(k);
         let label = offer(d, weight);
         let shared = &self.table.shared;
-        let found = shared.fetch_min::<Relaxes>(&mut seat.place, label_word(head), label);
+        let found = shared.fetch_min::<Relaxes>(&mut seat.table_seat, label_word(head), label);
         seat.view.relax(label < found, u, d, k, head);
         if label < found {
             Step::Lowered { head, label }
@@ -215,7 +215,7 @@ impl Words {
         ensures { seat.new ≡ record seat.old { known = after_raise seat.old.known } }
     {
         let shared = &self.table.shared;
-        shared.fetch_add::<Raises>(&mut seat.place, TOTAL, 1);
+        shared.fetch_add::<Raises>(&mut seat.table_seat, TOTAL, 1);
         seat.view.raise();
     }
 
@@ -231,9 +231,9 @@ impl Words {
             unreachable!()
         };
         let shared = &self.table.shared;
-        let was = shared.swap::<Marks>(&mut seat.place, mark_word(head), 1) > 0;
-        seat.view.set_mark(was, u, d, k);
-        !was
+        let was_marked = shared.swap::<SetsMark>(&mut seat.table_seat, mark_word(head), 1) > 0;
+        seat.view.set_mark(was_marked, u, d, k);
+        !was_marked
     }
 
     /// Takes the seat's credits from the total, by one `fetch_sub`, at the end of its row. The seat is
@@ -249,7 +249,7 @@ impl Words {
         let _ = csr;
         let credits = u64::from(seat.view.credits);
         let shared = &self.table.shared;
-        shared.fetch_sub::<Finishes>(&mut seat.place, TOTAL, credits);
+        shared.fetch_sub::<Finishes>(&mut seat.table_seat, TOTAL, credits);
         seat.view.finish();
     }
 
@@ -259,7 +259,7 @@ impl Words {
         requires idle { IsIdle seat.old }
         ensures { seat.new ≡ record seat.old { known = after_see result seat.old.known } }
     {
-        let zero = self.table.shared.load::<Sees>(&mut seat.place, TOTAL) == 0;
+        let zero = self.table.shared.load::<Sees>(&mut seat.table_seat, TOTAL) == 0;
         seat.view.see(zero);
         zero
     }
@@ -272,9 +272,12 @@ impl Words {
         ensures this { seat.new ≡ record seat.old { known = left_half seat.old.known } }
         ensures new { result ≡ record seat.old { known = right_half seat.old.known } }
     {
-        let place = self.table.shared.split_seat::<Halves>(&mut seat.place);
+        let table_seat = self
+            .table
+            .shared
+            .split_seat::<SplitsOrJoins>(&mut seat.table_seat);
         let view = seat.view.split();
-        WorkSeat { place, view }
+        WorkSeat { table_seat, view }
     }
 
     /// Takes in another seat of these words: its share, what it knows, and that it saw.
@@ -284,10 +287,10 @@ impl Words {
         requires other_idle { IsIdle other }
         ensures { seat.new ≡ record seat.old { known = both_known seat.old.known other.known } }
     {
-        let WorkSeat { place, view } = other;
+        let WorkSeat { table_seat, view } = other;
         self.table
             .shared
-            .join_seat::<Halves>(&mut seat.place, place);
+            .join_seat::<SplitsOrJoins>(&mut seat.table_seat, table_seat);
         seat.view.join(view);
     }
 
@@ -304,8 +307,8 @@ impl Words {
         let mut labels = vec![in alloc; 0; n]?;
         // Where the seat saw 0 there are no marks to read.
         let mut marks = vec![in alloc; false; if seat.view.saw { 0 } else { n }]?;
-        let WorkSeat { place, view } = seat;
-        let last = self.table.close_with(place);
+        let WorkSeat { table_seat, view } = seat;
+        let last = self.table.close_with(table_seat);
         read_labels(&last, &mut labels);
         read_marks(&last, &mut marks);
         last.free();

@@ -9,9 +9,9 @@ use mathlib.Core.Option.{some, some-injective, some-ne-none}
 use lib.ListN.{get_elem?}
 use Rattle.crossbeam_queue.specs.Fifo.{Pushes, Pops, Forks, Merges, Learns}
 use Rattle.obim_bags.specs.Chunks.{ChunkSeen}
-use Rattle.obim_bags.specs.declared.account.Tally.{Tally}
-use Rattle.obim_bags.specs.Accounts.{weight_of, shares_of, IsSpent, IsFair, AreLawful, IsSeenIn}
-use Rattle.obim_bags.specs.Accounts.{with_put, with_got, grown, dealt_rest, dealt, joined, spent_tally}
+use Rattle.obim_bags.specs.declared.bag_rule.Tally.{Tally}
+use Rattle.obim_bags.specs.BagRule.{weight_of, shares_of, IsSpent, IsFair, AreLawful, IsSeenIn}
+use Rattle.obim_bags.specs.BagRule.{with_put, with_got, grown, rest_of_shares, cut_share, joined, spent_tally}
 
 abbrev Boxed : Type 0
 Boxed = Box ChunkSeen Global
@@ -149,9 +149,9 @@ sum_cut tallies place tally at f left right =
     omega (arith, sum_by_push f (set tallies place left) right, sum_set tallies place tally at f left)
 
 -- the pass with all shares gets one more, for a worker more
-pub grows : (place : ℕ) (tally : Tally) → tally.share ≡ tally.workers → 1 ≤ tally.share
+pub adds_worker : (place : ℕ) (tally : Tally) → tally.share ≡ tally.workers → 1 ≤ tally.share
     → Forks Holds place tally (grown tally) spent_tally
-grows place tally all live boxes tallies was at =
+adds_worker place tally all live boxes tallies was at =
     let new = grown tally in
     let n = tally.workers + 1 in
     let cut = λ (f : Tally → ℕ). sum_cut tallies place tally at f new spent_tally in
@@ -169,10 +169,10 @@ grows place tally all live boxes tallies was at =
     }
 
 -- a share is cut off
-pub deals : (place : ℕ) (tally : Tally) → 2 ≤ tally.share → Forks Holds place tally (dealt_rest tally) (dealt tally)
-deals place tally two boxes tallies was at =
-    let left = dealt_rest tally in
-    let right = dealt tally in
+pub cuts_share : (place : ℕ) (tally : Tally) → 2 ≤ tally.share → Forks Holds place tally (rest_of_shares tally) (cut_share tally)
+cuts_share place tally two boxes tallies was at =
+    let left = rest_of_shares tally in
+    let right = cut_share tally in
     let n = shares_of tallies in
     let cut = λ (f : Tally → ℕ). sum_cut tallies place tally at f left right in
     let workers = knows_all tallies place tally at (omega arith) was.fair in

@@ -1,11 +1,11 @@
-mod Accounting
+mod BagRule
 mod Cuts
 mod Distinct
 pub mod Facts
 mod Indexing
 mod Listed
 mod LogRule
-mod PlaceSteps
+mod AccessSteps
 mod Prefixes
 mod Ties
 mod Totals

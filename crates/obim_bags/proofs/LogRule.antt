@@ -9,28 +9,28 @@ use lib.ListN.{get_elem?}
 use Rattle.atomic_table.specs.Table.{State, Me, keeps, takes, gives, Allows, Enters, Joins}
 use Rattle.crossbeam_queue.proofs.Lists.{at_set, at_snoc, at_longer, set_here, set_else, set_again}
 use Rattle.obim_bags.specs.Bags.{BagSeen}
-use Rattle.obim_bags.specs.declared.roll.Roll.{Roll}
-use Rattle.obim_bags.specs.Rolls.{IsWithin, EachRoll, IsOnlyHolder, new_roll, with_slot, without_slot, joined_roll, IsLog, MayTake, GivesBack}
+use Rattle.obim_bags.specs.declared.log_rule.LogKnown.{LogKnown}
+use Rattle.obim_bags.specs.LogRule.{IsWithin, EachKnown, IsOnlyHolder, new_known, with_slot, without_slot, joined_known, IsLog, MayTake, GivesBack}
 use Rattle.obim_bags.proofs.Prefixes.{prefix_self, prefix_trans}
 
-each_snoc : (P : Roll → Type 0) (rolls : List Roll) (new : Roll) → EachRoll P rolls → P new → EachRoll P (rolls ++ new ∷ [])
-each_snoc P rolls new was own seat roll at = ⊎_elim (was seat roll) (λ e. subst P e own) (at_snoc rolls new roll seat at)
+each_snoc : (P : LogKnown → Type 0) (all_known : List LogKnown) (new : LogKnown) → EachKnown P all_known → P new → EachKnown P (all_known ++ new ∷ [])
+each_snoc P all_known new was own seat known at = ⊎_elim (was seat known) (λ e. subst P e own) (at_snoc all_known new known seat at)
 
-each_set : (P : Roll → Type 0) (rolls : List Roll) (id : ℕ) (new : Roll) → EachRoll P rolls → P new → EachRoll P (set rolls id new)
-each_set P rolls id new was own seat roll at =
-    ⊎_elim (λ (here : (seat ≡ id) × (new ≡ roll)). subst P here.1 own) (λ (other : (seat ≢ id) × (get_elem? rolls seat ≡ some roll)). was seat roll other.1)
-    (at_set rolls id seat new roll at)
+each_set : (P : LogKnown → Type 0) (all_known : List LogKnown) (id : ℕ) (new : LogKnown) → EachKnown P all_known → P new → EachKnown P (set all_known id new)
+each_set P all_known id new was own seat known at =
+    ⊎_elim (λ (here : (seat ≡ id) × (new ≡ known)). subst P here.1 own) (λ (other : (seat ≢ id) × (get_elem? all_known seat ≡ some known)). was seat known other.1)
+    (at_set all_known id seat new known at)
 
 -- what a list begins with, a longer list begins with
-within_longer : (bags more : List BagSeen) (roll : Roll) → IsPrefix bags more → IsWithin bags roll → IsWithin more roll
-within_longer bags more roll longer was = record {
-  list = prefix_trans roll.list bags more was.list longer;
+within_longer : (bags more : List BagSeen) (known : LogKnown) → IsPrefix bags more → IsWithin bags known → IsWithin more known
+within_longer bags more known longer was = record {
+  list = prefix_trans known.list bags more was.list longer;
   others =
       All-weaker (λ (list : List BagSeen). IsPrefix list bags) (λ (list : List BagSeen). IsPrefix list more)
-      (λ list p. prefix_trans list bags more p longer) roll.others was.others;
+      (λ list p. prefix_trans list bags more p longer) known.others was.others;
 }
 
-new_within : (bags : List BagSeen) → IsWithin bags new_roll
+new_within : (bags : List BagSeen) → IsWithin bags new_known
 new_within bags = record { list = (bags, refl); others = All-nil (λ (list : List BagSeen). IsPrefix list bags) }
 
 true_false : true ≡ false → ⊥
@@ -39,25 +39,25 @@ true_false e = cc
 zero_one : (found : ℕ) → found ≡ 0 → found ≡ 1 → ⊥
 zero_one found zero_found one_found = omega arith
 
-at_within : (rolls : List Roll) (id : ℕ) (roll : Roll) → get_elem? rolls id ≡ some roll → id < length rolls
-at_within [] id roll at = absurd (some-ne-none roll (sym at))
-at_within (x ∷ xs) zero roll at = omega arith
-at_within (x ∷ xs) (suc id) roll at = let rest = at_within xs id roll at in omega arith
+at_within : (all_known : List LogKnown) (id : ℕ) (known : LogKnown) → get_elem? all_known id ≡ some known → id < length all_known
+at_within [] id known at = absurd (some-ne-none known (sym at))
+at_within (x ∷ xs) zero known at = omega arith
+at_within (x ∷ xs) (suc id) known at = let rest = at_within xs id known at in omega arith
 
 -- a seat that holds the slot is the one that may
-is_holder : (rolls : List Roll) (holder id : ℕ) (roll : Roll) → IsOnlyHolder holder rolls → get_elem? rolls id ≡ some roll → roll.holds ≡ true → id ≡ holder
-is_holder rolls holder id roll only at holding =
+is_holder : (all_known : List LogKnown) (holder id : ℕ) (known : LogKnown) → IsOnlyHolder holder all_known → get_elem? all_known id ≡ some known → known.holds ≡ true → id ≡ holder
+is_holder all_known holder id known only at holding =
     elim (cases_eq id holder) [
       | inl same ↦ same
-      | inr other ↦ absurd (true_false (sym holding ∙ only id roll at other))
+      | inr other ↦ absurd (true_false (sym holding ∙ only id known at other))
     ]
 
 -- no other seat holds the slot where one that doesn't changed
-only_still : (rolls : List Roll) (id : ℕ) (new : Roll) (holder : ℕ) → IsOnlyHolder holder rolls → new.holds ≡ false → IsOnlyHolder holder (set rolls id new)
-only_still rolls id new holder only free seat roll at other =
-    ⊎_elim (λ (here : (seat ≡ id) × (new ≡ roll)). ap (λ (r : Roll). r.holds) (sym here.1) ∙ free)
-    (λ (far : (seat ≢ id) × (get_elem? rolls seat ≡ some roll)). only seat roll far.1 other)
-    (at_set rolls id seat new roll at)
+only_still : (all_known : List LogKnown) (id : ℕ) (new : LogKnown) (holder : ℕ) → IsOnlyHolder holder all_known → new.holds ≡ false → IsOnlyHolder holder (set all_known id new)
+only_still all_known id new holder only free seat known at other =
+    ⊎_elim (λ (here : (seat ≡ id) × (new ≡ known)). ap (λ (r : LogKnown). r.holds) (sym here.1) ∙ free)
+    (λ (far : (seat ≢ id) × (get_elem? all_known seat ≡ some known)). only seat known far.1 other)
+    (at_set all_known id seat new known at)
 
 module _ {S : Type 0} where
   value_in : S → List (ℕ × S) → S
@@ -69,46 +69,46 @@ module _ {S : Type 0} where
   same_value slots more value other is is' = ap (value_in value) (sym is ∙ is')
 
 module _ {S : Type 0} (bags_of : S → List BagSeen) where
-  abbrev Holds : State S Roll → Type 0
+  abbrev Holds : State S LogKnown → Type 0
   Holds state = IsLog bags_of state.words state.homes state.views
 
-  pub opens : (value : S) → bags_of value ≡ [] → IsLog bags_of (0 ∷ []) (some value ∷ []) (new_roll ∷ [])
+  pub opens : (value : S) → bags_of value ≡ [] → IsLog bags_of (0 ∷ []) (some value ∷ []) (new_known ∷ [])
   opens value none_yet = record {
     bags = [];
-    within = each_snoc (IsWithin []) [] new_roll (λ seat roll at. absurd (some-ne-none roll (sym at))) (new_within []);
+    within = each_snoc (IsWithin []) [] new_known (λ seat known at. absurd (some-ne-none known (sym at))) (new_within []);
     slot = inl (record {
       word = refl;
       value = value;
       home = refl;
       list = none_yet;
-      holds = each_snoc (λ roll. roll.holds ≡ false) [] new_roll (λ seat roll at. absurd (some-ne-none roll (sym at))) refl;
+      holds = each_snoc (λ known. known.holds ≡ false) [] new_known (λ seat known at. absurd (some-ne-none known (sym at))) refl;
     });
   }
 
-  pub seats : (slots : ℕ) → Enters Holds slots 0 (λ found w. w ≡ new_roll)
+  pub seats : (slots : ℕ) → Enters Holds slots 0 (λ found w. w ≡ new_known)
   seats slots state was count below = (
-    new_roll,
+    new_known,
     record {
       bags = was.bags;
-      within = each_snoc (IsWithin was.bags) state.views new_roll was.within (new_within was.bags);
+      within = each_snoc (IsWithin was.bags) state.views new_known was.within (new_within was.bags);
       slot = elim was.slot [
-        | inl free ↦ inl (record { word = free.word; value = free.value; home = free.home; list = free.list; holds = each_snoc (λ roll. roll.holds ≡ false) state.views new_roll free.holds refl })
+        | inl free ↦ inl (record { word = free.word; value = free.value; home = free.home; list = free.list; holds = each_snoc (λ known. known.holds ≡ false) state.views new_known free.holds refl })
         | inr taken ↦ inr (record {
           word = taken.word;
           home = taken.home;
           holder = taken.holder;
-          roll = taken.roll;
+          known = taken.known;
           holds = taken.holds;
           list = taken.list;
-          holder_is = at_longer state.views (new_roll ∷ []) taken.holder taken.roll taken.holder_is;
-          only = λ seat roll at other. ⊎_elim (λ old. taken.only seat roll old other) (λ new. ap (λ (r : Roll). r.holds) (sym new)) (at_snoc state.views new_roll roll seat at);
+          holder_is = at_longer state.views (new_known ∷ []) taken.holder taken.known taken.holder_is;
+          only = λ seat known at other. ⊎_elim (λ old. taken.only seat known old other) (λ new. ap (λ (r : LogKnown). r.holds) (sym new)) (at_snoc state.views new_known known seat at);
         })
       ];
     },
     refl,
   )
 
-  pub acquires : (slots id : ℕ) (me : Me S Roll) → me.1 ≡ [] → Allows Holds slots id me 0 (λ found. 1) (MayTake bags_of me)
+  pub acquires : (slots id : ℕ) (me : Me S LogKnown) → me.1 ≡ [] → Allows Holds slots id me 0 (λ found. 1) (MayTake bags_of me)
   acquires slots id me empty state was count at below = elim was.slot [
     | inl free ↦
         let mine = was.within id me.0 at in (
@@ -122,11 +122,11 @@ module _ {S : Type 0} (bags_of : S → List BagSeen) where
               word = ap (λ words. set words 0 1) free.word;
               home = ap (λ homes. set homes 0 none) free.home;
               holder = id;
-              roll = with_slot was.bags me.0;
+              known = with_slot was.bags me.0;
               holder_is = set_here state.views id (with_slot was.bags me.0) (at_within state.views id me.0 at);
               holds = refl;
               list = refl;
-              only = λ seat roll at' other. free.holds seat roll (sym (set_else state.views id seat (with_slot was.bags me.0) other) ∙ at');
+              only = λ seat known at' other. free.holds seat known (sym (set_else state.views id seat (with_slot was.bags me.0) other) ∙ at');
             });
           },
           (
@@ -141,7 +141,7 @@ module _ {S : Type 0} (bags_of : S → List BagSeen) where
       record {
         bags = was.bags;
         within = rw (set_again state.views id me.0 at) was.within;
-        slot = inr (rw (set_again state.views id me.0 at) (record { word = ap (λ words. set words 0 1) taken.word; home = taken.home; holder = taken.holder; roll = taken.roll; holder_is = taken.holder_is; holds = taken.holds; list = taken.list; only = taken.only }));
+        slot = inr (rw (set_again state.views id me.0 at) (record { word = ap (λ words. set words 0 1) taken.word; home = taken.home; holder = taken.holder; known = taken.known; holder_is = taken.holder_is; holds = taken.holds; list = taken.list; only = taken.only }));
       },
       (
         (λ none_found. absurd (zero_one _ none_found (ap (λ words. slice_index words 0) taken.word))),
@@ -150,13 +150,13 @@ module _ {S : Type 0} (bags_of : S → List BagSeen) where
     )
   ]
 
-  pub releases : (slots id : ℕ) (me : Me S Roll) (value : S) → me.1 ≡ (0, value) ∷ [] → me.0.holds ≡ true → IsPrefix me.0.list (bags_of value)
+  pub releases : (slots id : ℕ) (me : Me S LogKnown) (value : S) → me.1 ≡ (0, value) ∷ [] → me.0.holds ≡ true → IsPrefix me.0.list (bags_of value)
       → Allows Holds slots id me 0 (λ found. 0) (λ found. GivesBack bags_of me)
   releases slots id me value mine holding longer state was count at below = elim was.slot [
     | inl free ↦ absurd (true_false (sym holding ∙ free.holds id me.0 at))
     | inr taken ↦
         let same : id ≡ taken.holder = is_holder state.views taken.holder id me.0 taken.only at holding in
-        let whole : me.0.list ≡ was.bags = ap (λ (r : Roll). r.list) (some-injective me.0 taken.roll (sym at ∙ (ap (get_elem? state.views) same ∙ taken.holder_is))) ∙ taken.list in
+        let whole : me.0.list ≡ was.bags = ap (λ (r : LogKnown). r.list) (some-injective me.0 taken.known (sym at ∙ (ap (get_elem? state.views) same ∙ taken.holder_is))) ∙ taken.list in
         let grown : IsPrefix was.bags (bags_of value) = rw (← whole) longer in
         let new = without_slot (bags_of value) me.0 in (
           new,
@@ -165,16 +165,16 @@ module _ {S : Type 0} (bags_of : S → List BagSeen) where
           record {
             bags = bags_of value;
             within = each_set (IsWithin (bags_of value)) state.views id new
-                (λ seat roll at'. within_longer was.bags (bags_of value) roll grown (was.within seat roll at'))
+                (λ seat known at'. within_longer was.bags (bags_of value) known grown (was.within seat known at'))
                 (record { list = prefix_self (bags_of value); others = (within_longer was.bags (bags_of value) me.0 grown (was.within id me.0 at)).others });
             slot = inl (record {
               word = ap (λ words. set words 0 0) taken.word;
               value = value;
               home = rw (mine, taken.home) refl;
               list = refl;
-              holds = λ seat roll at'. ⊎_elim (λ (here : (seat ≡ id) × (new ≡ roll)). ap (λ (r : Roll). r.holds) (sym here.1))
-                  (λ (other : (seat ≢ id) × (get_elem? state.views seat ≡ some roll)). taken.only seat roll other.1 (λ e. other.0 (e ∙ sym same)))
-                  (at_set state.views id seat new roll at');
+              holds = λ seat known at'. ⊎_elim (λ (here : (seat ≡ id) × (new ≡ known)). ap (λ (r : LogKnown). r.holds) (sym here.1))
+                  (λ (other : (seat ≢ id) × (get_elem? state.views seat ≡ some known)). taken.only seat known other.1 (λ e. other.0 (e ∙ sym same)))
+                  (at_set state.views id seat new known at');
             });
           },
           (λ known is. let e : value ≡ known = same_value me.1 [] value known mine is in rw (← e, mine) refl),
@@ -182,23 +182,23 @@ module _ {S : Type 0} (bags_of : S → List BagSeen) where
   ]
 
   -- who found the slot free has a list in it that begins with all that the seat knew
-  pub taken_within : (me new : Me S Roll) (found : ℕ) (value : S) (more : List (ℕ × S))
+  pub taken_within : (me new : Me S LogKnown) (found : ℕ) (value : S) (more : List (ℕ × S))
       → MayTake bags_of me found new → found ≡ 0 → new.1 ≡ (0, value) ∷ more → IsWithin (bags_of value) me.0
   taken_within me new found value more may free slot =
       let took = may.0 free in
-      let same : took.0 ≡ value = same_value new.1 more took.0 value (ap (λ (m : Me S Roll). m.1) took.1) slot in
+      let same : took.0 ≡ value = same_value new.1 more took.0 value (ap (λ (m : Me S LogKnown). m.1) took.1) slot in
       subst (λ v. IsWithin (bags_of v) me.0) same took.2
 
-  pub joins : (id other : ℕ) (mine theirs : Roll) → mine.holds ≡ false → theirs.holds ≡ false
-      → Joins Holds id mine other theirs (joined_roll mine theirs) new_roll
+  pub joins : (id other : ℕ) (mine theirs : LogKnown) → mine.holds ≡ false → theirs.holds ≡ false
+      → Joins Holds id mine other theirs (joined_known mine theirs) new_known
   joins id other mine theirs free_mine free_theirs state was at apart at' =
-      let both = joined_roll mine theirs in
+      let both = joined_known mine theirs in
       let there : get_elem? state.views other ≡ some theirs = sym (set_else state.views id other both apart) ∙ at' in
       let here = was.within id mine at in
       let far = was.within other theirs there in
       record {
         bags = was.bags;
-        within = each_set (IsWithin was.bags) (set state.views id both) other new_roll
+        within = each_set (IsWithin was.bags) (set state.views id both) other new_known
             (each_set (IsWithin was.bags) state.views id both was.within
             (record {
               list = here.list;
@@ -213,21 +213,21 @@ module _ {S : Type 0} (bags_of : S → List BagSeen) where
             value = free.value;
             home = free.home;
             list = free.list;
-            holds = each_set (λ roll. roll.holds ≡ false) (set state.views id both) other new_roll
-                (each_set (λ roll. roll.holds ≡ false) state.views id both free.holds free_mine) refl;
+            holds = each_set (λ known. known.holds ≡ false) (set state.views id both) other new_known
+                (each_set (λ known. known.holds ≡ false) state.views id both free.holds free_mine) refl;
           })
           | inr taken ↦
-              let not_mine : taken.holder ≢ id = λ e. true_false (sym taken.holds ∙ (ap (λ (r : Roll). r.holds) (some-injective taken.roll mine (sym taken.holder_is ∙ (ap (get_elem? state.views) e ∙ at))) ∙ free_mine)) in
-              let not_theirs : taken.holder ≢ other = λ e. true_false (sym taken.holds ∙ (ap (λ (r : Roll). r.holds) (some-injective taken.roll theirs (sym taken.holder_is ∙ (ap (get_elem? state.views) e ∙ there))) ∙ free_theirs)) in
+              let not_mine : taken.holder ≢ id = λ e. true_false (sym taken.holds ∙ (ap (λ (r : LogKnown). r.holds) (some-injective taken.known mine (sym taken.holder_is ∙ (ap (get_elem? state.views) e ∙ at))) ∙ free_mine)) in
+              let not_theirs : taken.holder ≢ other = λ e. true_false (sym taken.holds ∙ (ap (λ (r : LogKnown). r.holds) (some-injective taken.known theirs (sym taken.holder_is ∙ (ap (get_elem? state.views) e ∙ there))) ∙ free_theirs)) in
               inr (record {
                 word = taken.word;
                 home = taken.home;
                 holder = taken.holder;
-                roll = taken.roll;
+                known = taken.known;
                 holds = taken.holds;
                 list = taken.list;
-                holder_is = set_else (set state.views id both) other taken.holder new_roll not_theirs ∙ (set_else state.views id taken.holder both not_mine ∙ taken.holder_is);
-                only = only_still (set state.views id both) other new_roll taken.holder (only_still state.views id both taken.holder taken.only free_mine) refl;
+                holder_is = set_else (set state.views id both) other taken.holder new_known not_theirs ∙ (set_else state.views id taken.holder both not_mine ∙ taken.holder_is);
+                only = only_still (set state.views id both) other new_known taken.holder (only_still state.views id both taken.holder taken.only free_mine) refl;
               })
         ];
       }

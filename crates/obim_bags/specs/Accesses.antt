@@ -1,14 +1,14 @@
 -- What a mirror keeps of the log.
 use Rattle.std.specs.Prelude.{◌≡◌, ℕ, List, ◌++◌, All}
-use Rattle.obim_bags.specs.Logs.{PlaceSeen, IsNew}
+use Rattle.obim_bags.specs.Logs.{AccessSeen, IsNew}
 
--- its places, and the metrics that its index has
-pub record PlacesSeen : Type 0 where
-  pub list : List PlaceSeen
+-- its accesses, and the metrics that its index has
+pub record AccessesSeen : Type 0 where
+  pub list : List AccessSeen
   pub index : List ℕ
 
--- the places that were there are as before, and new ones follow
-pub record AreGained (old new : List PlaceSeen) : Type 0 where
-  pub more : List PlaceSeen
+-- the accesses that were there are as before, and new ones follow
+pub record AreGained (old new : List AccessSeen) : Type 0 where
+  pub more : List AccessSeen
   pub kept : new ≡ old ++ more
   pub gained : All IsNew more

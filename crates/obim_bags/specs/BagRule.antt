@@ -3,7 +3,7 @@ use Rattle.std.specs.Prelude.{◌≡◌, ◌≢◌, ℕ, ◌+◌, ◌-◌, List,
 use mathlib.Core.Option.{some}
 use lib.ListN.{get_elem?}
 use Rattle.obim_bags.specs.Chunks.{ChunkSeen}
-use Rattle.obim_bags.specs.declared.account.Tally.{Tally}
+use Rattle.obim_bags.specs.declared.bag_rule.Tally.{Tally}
 
 -- the weights of these chunks, added up
 abbrev pub weight_of : (ChunkSeen → ℕ) → List ChunkSeen → ℕ
@@ -79,12 +79,12 @@ abbrev pub grown : Tally → Tally
 grown tally = record tally { share = tally.share + 1; workers = tally.workers + 1 }
 
 -- a share was cut off
-abbrev pub dealt_rest : Tally → Tally
-dealt_rest tally = record tally { share = tally.share - 1 }
+abbrev pub rest_of_shares : Tally → Tally
+rest_of_shares tally = record tally { share = tally.share - 1 }
 
 -- the share that was cut off
-abbrev pub dealt : Tally → Tally
-dealt tally = new_tally 1 tally.workers
+abbrev pub cut_share : Tally → Tally
+cut_share tally = new_tally 1 tally.workers
 
 -- both as one
 abbrev pub joined : Tally → Tally → Tally

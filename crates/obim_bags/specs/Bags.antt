@@ -3,8 +3,8 @@ use Rattle.std.specs.Prelude.{◌≡◌, ℕ, ◌+◌, ◌%◌, ◌^◌, List, �
 use Rattle.std.specs.declared.alloc.Global.{Global}
 use Rattle.crossbeam_queue.specs.SegTies.{SegId}
 use Rattle.obim_bags.specs.Chunks.{ChunkSeen}
-use Rattle.obim_bags.specs.Accounts.{with_put, with_got, new_tally, put_by, got_by, weight_of, shares_of}
-use Rattle.obim_bags.specs.declared.account.Tally.{Tally}
+use Rattle.obim_bags.specs.BagRule.{with_put, with_got, new_tally, put_by, got_by, weight_of, shares_of}
+use Rattle.obim_bags.specs.declared.bag_rule.Tally.{Tally}
 
 -- a bag: its metric, how many workers it has, and its queue by name
 pub record BagSeen : Type 0 where

@@ -2,12 +2,12 @@
 use Rattle.std.specs.Prelude.{◌≡◌, ℕ, ◌≤◌, ◌<◌, List, [], ◌∷◌, ◌++◌, map, length, Option, Some, slice_get, All}
 use Rattle.obim_bags.specs.Bags.{AreAllPasses, BagSeen, PassSeen}
 use Rattle.obim_bags.specs.Indexes.{AreDistinct}
-use Rattle.obim_bags.specs.Logs.{PlaceSeen, metrics_of, pass_in, IsNew}
+use Rattle.obim_bags.specs.Logs.{AccessSeen, metrics_of, pass_in, IsNew}
 
 -- an entry: its bag, and by worker the place that its mirror hasn't claimed yet
 pub record EntrySeen : Type 0 where
   pub bag : BagSeen
-  pub unclaimed : List (Option PlaceSeen)
+  pub unclaimed : List (Option AccessSeen)
 
 pub record EntriesSeen : Type 0 where
   pub list : List EntrySeen
@@ -16,29 +16,29 @@ abbrev pub bags_of : EntriesSeen → List BagSeen
 bags_of entries = map (λ (entry : EntrySeen). entry.bag) entries.list
 
 -- each unclaimed place is of the entry's bag, and its pass has put and got nothing
-abbrev pub IsUnclaimed : BagSeen → Option PlaceSeen → Type 0
-IsUnclaimed bag unclaimed = (place : PlaceSeen) → unclaimed ≡ Some place → (place.bag ≡ bag) × IsNew place
+abbrev pub IsUnclaimed : BagSeen → Option AccessSeen → Type 0
+IsUnclaimed bag unclaimed = (place : AccessSeen) → unclaimed ≡ Some place → (place.bag ≡ bag) × IsNew place
 
 abbrev pub AreEntries : List EntrySeen → Type 0
 AreEntries entries = AreDistinct (metrics_of (map (λ (entry : EntrySeen). entry.bag) entries))
 
 -- the worker's place is still in the entry
-abbrev pub HasPlaceOf : ℕ → EntrySeen → Type 0
-HasPlaceOf worker entry = (place : PlaceSeen) × (slice_get entry.unclaimed worker ≡ Some (Some place))
+abbrev pub HasAccessOf : ℕ → EntrySeen → Type 0
+HasAccessOf worker entry = (place : AccessSeen) × (slice_get entry.unclaimed worker ≡ Some (Some place))
 
 -- the entry at this place still has the worker's place
-abbrev pub HasPlaceAt : ℕ → ℕ → EntriesSeen → Type 0
-HasPlaceAt worker place entries = (entry : EntrySeen) × (slice_get entries.list place ≡ Some entry) × HasPlaceOf worker entry
+abbrev pub HasAccessAt : ℕ → ℕ → EntriesSeen → Type 0
+HasAccessAt worker place entries = (entry : EntrySeen) × (slice_get entries.list place ≡ Some entry) × HasAccessOf worker entry
 
 -- each entry from this place on does
-abbrev pub HasPlacesFrom : ℕ → ℕ → EntriesSeen → Type 0
-HasPlacesFrom worker first entries =
-    (place : ℕ) → first ≤ place → place < length entries.list → HasPlaceAt worker place entries
+abbrev pub HasAccessesFrom : ℕ → ℕ → EntriesSeen → Type 0
+HasAccessesFrom worker first entries =
+    (place : ℕ) → first ≤ place → place < length entries.list → HasAccessAt worker place entries
 
--- the passes of these places
-abbrev pub unclaimed_of : List (Option PlaceSeen) → List PassSeen
+-- the passes of these accesses
+abbrev pub unclaimed_of : List (Option AccessSeen) → List PassSeen
 unclaimed_of [] = []
-unclaimed_of (place ∷ places) = pass_in place ++ unclaimed_of places
+unclaimed_of (place ∷ accesses) = pass_in place ++ unclaimed_of accesses
 
 -- these passes and those that are still in the entry have all shares of its bag
 abbrev pub AreAllOf : EntrySeen → List PassSeen → Type 0

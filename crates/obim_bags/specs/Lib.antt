@@ -1,10 +1,10 @@
 pub mod Chunks
-pub mod Accounts
+pub mod BagRule
 pub mod Bags
 pub mod Indexes
 pub mod Logs
-pub mod Rolls
+pub mod LogRule
 pub mod Entries
-pub mod Places
+pub mod Accesses
 pub mod Mirrors
 pub mod Settling

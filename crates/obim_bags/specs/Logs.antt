@@ -3,86 +3,86 @@ use Rattle.std.specs.Prelude.{◌≡◌, ◌⊎◌, ℕ, List, [], ◌∷◌, �
 use mathlib.Core.List.{IsPrefix}
 use Rattle.atomic_table.specs.Seated.{TableId}
 use Rattle.obim_bags.specs.Chunks.{ChunkSeen}
-use Rattle.obim_bags.specs.Accounts.{WasEmptyIfAlone}
+use Rattle.obim_bags.specs.BagRule.{WasEmptyIfAlone}
 use Rattle.obim_bags.specs.Bags.{AreAdded, AreAllPasses, BagSeen, PassSeen, AreSettled, after_put, after_get, after_empty_find, new_pass}
 use Rattle.obim_bags.specs.Indexes.{AreDistinct}
 
 -- a bag of the log, and a pass of it
-pub record PlaceSeen : Type 0 where
+pub record AccessSeen : Type 0 where
   pub bag : BagSeen
   pub pass : PassSeen
 
--- a mirror: of which log, and its places
+-- a mirror: of which log, and its accesses
 pub record MirrorSeen : Type 0 where
   pub log : TableId
-  pub places : List PlaceSeen
+  pub accesses : List AccessSeen
 
-abbrev pub bags_in : List PlaceSeen → List BagSeen
-bags_in places = map (λ (place : PlaceSeen). place.bag) places
+abbrev pub bags_in : List AccessSeen → List BagSeen
+bags_in accesses = map (λ (access : AccessSeen). access.bag) accesses
 
 abbrev pub metrics_of : List BagSeen → List ℕ
 metrics_of bags = map (λ (bag : BagSeen). bag.metric) bags
 
-abbrev pub metrics_in : List PlaceSeen → List ℕ
-metrics_in places = metrics_of (bags_in places)
+abbrev pub metrics_in : List AccessSeen → List ℕ
+metrics_in accesses = metrics_of (bags_in accesses)
 
 abbrev pub IsMirrorOf : TableId → MirrorSeen → Type 0
 IsMirrorOf log mirror = mirror.log ≡ log
 
 abbrev pub new_mirror : TableId → MirrorSeen
-new_mirror log = record { log = log; places = [] }
+new_mirror log = record { log = log; accesses = [] }
 
 -- a place whose pass has put and got nothing and found nothing
-abbrev pub IsNew : PlaceSeen → Type 0
+abbrev pub IsNew : AccessSeen → Type 0
 IsNew place = place.pass ≡ new_pass place.bag
 
--- The mirror is longer by new places, or as it was: the places that it had are as before, passes
+-- The mirror is longer by new accesses, or as it was: the accesses that it had are as before, passes
 -- included, and no metric stands twice.
 pub record Gains (old new : MirrorSeen) : Type 0 where
   pub log : new.log ≡ old.log
-  pub kept : IsPrefix old.places new.places
-  pub gained : All IsNew (drop (length old.places) new.places)
-  pub distinct : AreDistinct (metrics_in new.places)
+  pub kept : IsPrefix old.accesses new.accesses
+  pub gained : All IsNew (drop (length old.accesses) new.accesses)
+  pub distinct : AreDistinct (metrics_in new.accesses)
 
 -- ---- what put_at and get_at make of a place
 
-abbrev pub place_after_put : ChunkSeen → PlaceSeen → PlaceSeen
-place_after_put chunk place = record place { pass = after_put chunk place.pass }
+abbrev pub access_after_put : ChunkSeen → AccessSeen → AccessSeen
+access_after_put chunk place = record place { pass = after_put chunk place.pass }
 
-abbrev pub place_after_get : ChunkSeen → PlaceSeen → PlaceSeen
-place_after_get chunk place = record place { pass = after_get chunk place.pass }
+abbrev pub access_after_get : ChunkSeen → AccessSeen → AccessSeen
+access_after_get chunk place = record place { pass = after_get chunk place.pass }
 
-abbrev pub place_after_empty_find : PlaceSeen → PlaceSeen
-place_after_empty_find place = record place { pass = after_empty_find place.pass }
+abbrev pub access_after_empty_find : AccessSeen → AccessSeen
+access_after_empty_find place = record place { pass = after_empty_find place.pass }
 
 -- one place is changed by this, and no other
-abbrev pub ChangesPlace : ℕ → (PlaceSeen → PlaceSeen) → List PlaceSeen → List PlaceSeen → Type 0
-ChangesPlace place change old new =
-    (was : PlaceSeen) × (slice_get old place ≡ Some was) × (new ≡ slice_set old place (change was))
+abbrev pub ChangesAccess : ℕ → (AccessSeen → AccessSeen) → List AccessSeen → List AccessSeen → Type 0
+ChangesAccess place change old new =
+    (was : AccessSeen) × (slice_get old place ≡ Some was) × (new ≡ slice_set old place (change was))
 
 -- one place is changed by this, and nothing else of the mirror
-abbrev pub ChangesAt : ℕ → (PlaceSeen → PlaceSeen) → MirrorSeen → MirrorSeen → Type 0
+abbrev pub ChangesAt : ℕ → (AccessSeen → AccessSeen) → MirrorSeen → MirrorSeen → Type 0
 ChangesAt place change old new =
-    (was : PlaceSeen) × (slice_get old.places place ≡ Some was)
-    × (new ≡ record old { places = slice_set old.places place (change was) })
+    (was : AccessSeen) × (slice_get old.accesses place ≡ Some was)
+    × (new ≡ record old { accesses = slice_set old.accesses place (change was) })
 
 -- the bag at this place was empty, if its pass is alone in it
-abbrev pub WasEmptyIfAloneIn : ℕ → List PlaceSeen → Type 0
-WasEmptyIfAloneIn place places = (was : PlaceSeen) × (slice_get places place ≡ Some was) × WasEmptyIfAlone was.pass.tally
+abbrev pub WasEmptyIfAloneIn : ℕ → List AccessSeen → Type 0
+WasEmptyIfAloneIn place accesses = (was : AccessSeen) × (slice_get accesses place ≡ Some was) × WasEmptyIfAlone was.pass.tally
 
 -- the same of a mirror
 abbrev pub WasEmptyIfAloneAt : ℕ → MirrorSeen → Type 0
-WasEmptyIfAloneAt place mirror = WasEmptyIfAloneIn place mirror.places
+WasEmptyIfAloneAt place mirror = WasEmptyIfAloneIn place mirror.accesses
 
 -- ---- draining
 
-abbrev pub pass_in : Option PlaceSeen → List PassSeen
+abbrev pub pass_in : Option AccessSeen → List PassSeen
 pass_in None = []
 pass_in (Some here) = here.pass ∷ []
 
 -- the pass that a mirror has at a place, if it has one
 abbrev pub pass_at : ℕ → MirrorSeen → List PassSeen
-pass_at place mirror = pass_in (slice_get mirror.places place)
+pass_at place mirror = pass_in (slice_get mirror.accesses place)
 
 -- the passes that these mirrors have at a place
 abbrev pub passes_at : ℕ → List MirrorSeen → List PassSeen
@@ -105,7 +105,7 @@ pub record AreAllWithNew (bag : BagSeen) (passes : List PassSeen) : Type 0 where
 pub record IsLogSettled (mirrors : List MirrorSeen) (left : List ChunkSeen) : Type 0 where
   pub bags : List BagSeen
   pub distinct : AreDistinct (metrics_of bags)
-  pub prefixes : All (λ (mirror : MirrorSeen). IsPrefix (bags_in mirror.places) bags) mirrors
+  pub prefixes : All (λ (mirror : MirrorSeen). IsPrefix (bags_in mirror.accesses) bags) mirrors
   pub parts : List (List ChunkSeen)
   pub left_is : left ≡ all_of parts
   pub whole : length parts ≡ length bags
@@ -116,7 +116,7 @@ pub record IsLogSettled (mirrors : List MirrorSeen) (left : List ChunkSeen) : Ty
 -- that no mirror has claimed, aren't all.
 pub record LackPasses (mirrors : List MirrorSeen) : Type 0 where
   pub bags : List BagSeen
-  pub prefixes : All (λ (mirror : MirrorSeen). IsPrefix (bags_in mirror.places) bags) mirrors
+  pub prefixes : All (λ (mirror : MirrorSeen). IsPrefix (bags_in mirror.accesses) bags) mirrors
   pub place : ℕ
   pub bag : BagSeen
   pub there : slice_get bags place ≡ Some bag

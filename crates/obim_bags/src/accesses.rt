@@ -1,50 +1,50 @@
-//! What a mirror keeps of the log: its places, and an index of their metrics.
+//! What a mirror keeps of the log: its accesses, and an index of their metrics.
 
 ghost use Rattle.std.specs.Prelude.{◌≡◌, ◌≢◌, ◌≤◌, ◌<◌, [], Some, length, slice_get};
 ghost use Rattle.std.specs.Prelude.{IfErr, IfNone, IfOk, IfSome, OnErr, OnOk};
 ghost use Rattle.std.specs.Bool.{OnFalse, OnTrue};
 ghost use mathlib.Core.List.{IsPrefix};
 ghost use Rattle.obim_bags.specs.Indexes.{AreDistinct, IsAlone, Lacks};
-ghost use Rattle.obim_bags.specs.Logs.{ChangesPlace, WasEmptyIfAloneIn, bags_in, metrics_in, metrics_of};
-ghost use Rattle.obim_bags.specs.Logs.{place_after_put, place_after_get, place_after_empty_find};
-ghost use Rattle.obim_bags.specs.Entries.{bags_of, HasPlacesFrom};
-ghost use Rattle.obim_bags.specs.Places.{AreGained};
+ghost use Rattle.obim_bags.specs.Logs.{ChangesAccess, WasEmptyIfAloneIn, bags_in, metrics_in, metrics_of};
+ghost use Rattle.obim_bags.specs.Logs.{access_after_put, access_after_get, access_after_empty_find};
+ghost use Rattle.obim_bags.specs.Entries.{bags_of, HasAccessesFrom};
+ghost use Rattle.obim_bags.specs.Accesses.{AreGained};
 
+use crate::access::Access;
 use crate::chunk::Chunk;
 use crate::entries::Entries;
 use crate::fault::LogFault;
 use crate::index::Index;
-use crate::place::Place;
 use route_walks::Memory;
 use std::alloc::Global;
 use std::marker::Model;
 use std::sync::Wait;
 
-/// A worker's places, and the index, which may be ahead of them: so a refused growth needs no way back.
+/// A worker's accesses, and the index, which may be ahead of them: so a refused growth needs no way back.
 #[derive(Drop)]
-pub(crate) struct Places {
+pub(crate) struct Accesses {
     worker: u32,
-    pub(crate) list: Vec<Place>,
+    pub(crate) list: Vec<Access>,
     index: Index,
 }
 
-impl Model for Places {
+impl Model for Accesses {
     ghost use mathlib.Core.List.{IsPrefix};
     ghost use Rattle.obim_bags.specs.Logs.{metrics_in};
-    ghost use Rattle.obim_bags.specs.Places.{PlacesSeen};
+    ghost use Rattle.obim_bags.specs.Accesses.{AccessesSeen};
 
-    ghost Value = { PlacesSeen };
+    ghost Value = { AccessesSeen };
 
     ghost view = { λ p. record { list = p.list.items; index = p.index } };
 
     ghost invariant = { λ p. IsPrefix (metrics_in p.list.items) p.index };
 }
 
-impl Places {
-    pub(crate) fn new(alloc: Global, worker: u32) -> Places
+impl Accesses {
+    pub(crate) fn new(alloc: Global, worker: u32) -> Accesses
         ensures { result ≡ record { list = []; index = [] } }
     {
-        Places {
+        Accesses {
             worker,
             list: Vec::new(alloc),
             index: Index::new(alloc),
@@ -124,7 +124,7 @@ impl Places {
         Ok(self.list.len())
     }
 
-    /// `Place::put_boxed` at a place.
+    /// `Access::put_boxed` at a place.
     #[inline(always)]
     pub(crate) fn put_boxed<R: Wait>(
         &mut self,
@@ -134,7 +134,7 @@ impl Places {
     ) -> Result<(), Box<Chunk>>
         requires place { place < length self.old.list }
         requires filled { chunk.value.vertices ≢ [] }
-        ensures put { OnOk result (ChangesPlace place (place_after_put chunk.value) self.old.list self.new.list) }
+        ensures put { OnOk result (ChangesAccess place (access_after_put chunk.value) self.old.list self.new.list) }
         ensures returned { IfErr result (λ back. back ≡ chunk) }
         ensures refused { OnErr result (self.new.list ≡ self.old.list) }
         ensures bags { bags_in self.new.list ≡ bags_in self.old.list }
@@ -143,13 +143,13 @@ impl Places {
         self.list[place].put_boxed(rt, chunk)
     }
 
-    /// `Place::get_boxed` at a place.
+    /// `Access::get_boxed` at a place.
     #[inline(always)]
     pub(crate) fn get_boxed<R: Wait>(&mut self, rt: &R, place: usize) -> Option<Box<Chunk>>
         requires { place < length self.old.list }
-        ensures got { IfSome result (λ chunk. ChangesPlace place (place_after_get chunk.value) self.old.list self.new.list) }
+        ensures got { IfSome result (λ chunk. ChangesAccess place (access_after_get chunk.value) self.old.list self.new.list) }
         ensures filled { IfSome result (λ chunk. chunk.value.vertices ≢ []) }
-        ensures found_empty { IfNone result (ChangesPlace place place_after_empty_find self.old.list self.new.list) }
+        ensures found_empty { IfNone result (ChangesAccess place access_after_empty_find self.old.list self.new.list) }
         ensures alone { IfNone result (WasEmptyIfAloneIn place self.old.list) }
         ensures bags { bags_in self.new.list ≡ bags_in self.old.list }
         ensures index { self.new.index ≡ self.old.index }
@@ -157,11 +157,11 @@ impl Places {
         self.list[place].get_boxed(rt)
     }
 
-    /// `Place::finds_empty` at a place.
+    /// `Access::finds_empty` at a place.
     #[inline(always)]
     pub(crate) fn finds_empty(&mut self, place: usize) -> bool
         requires { place < length self.old.list }
-        ensures found_empty { OnTrue result (ChangesPlace place place_after_empty_find self.old.list self.new.list) }
+        ensures found_empty { OnTrue result (ChangesAccess place access_after_empty_find self.old.list self.new.list) }
         ensures alone { OnTrue result (WasEmptyIfAloneIn place self.old.list) }
         ensures unchanged { OnFalse result (self.new ≡ self.old) }
         ensures index { self.new.index ≡ self.old.index }
@@ -214,7 +214,7 @@ fn learn(index: &mut Index, entries: &Entries) -> Result<(), Memory>
 }
 
 // Claims the worker's place of each entry that the list lacks: all are there and have room before one moves.
-fn claim(list: &mut Vec<Place>, worker: u32, entries: &mut Entries) -> Result<(), LogFault>
+fn claim(list: &mut Vec<Access>, worker: u32, entries: &mut Entries) -> Result<(), LogFault>
     requires { IsPrefix (bags_in list.old.items) (bags_of entries.old) }
     ensures entries { bags_of entries.new ≡ bags_of entries.old }
     ensures gained { OnOk result (AreGained list.old.items list.new.items) }
@@ -231,10 +231,10 @@ fn claim(list: &mut Vec<Place>, worker: u32, entries: &mut Entries) -> Result<()
     Ok(())
 }
 
-// Claims the places that are there, and for which there is room.
-fn claim_rest(list: &mut Vec<Place>, worker: u32, entries: &mut Entries)
+// Claims the accesses that are there, and for which there is room.
+fn claim_rest(list: &mut Vec<Access>, worker: u32, entries: &mut Entries)
     requires list { IsPrefix (bags_in list.old.items) (bags_of entries.old) }
-    requires there { HasPlacesFrom worker (length list.old.items) entries.old }
+    requires there { HasAccessesFrom worker (length list.old.items) entries.old }
     requires room { length entries.old.list ≤ list.old.cap }
     ensures entries { bags_of entries.new ≡ bags_of entries.old }
     ensures gained { AreGained list.old.items list.new.items }

@@ -4,14 +4,14 @@ ghost use Rattle.std.specs.Prelude.{◌≡◌, ◌≢◌, ◌≤◌, [], replica
 ghost use Rattle.std.specs.Prelude.{IfErr, IfNone, IfOk, IfSome, OnErr, OnOk};
 ghost use Rattle.std.specs.Bool.{OnFalse, OnTrue};
 ghost use Rattle.obim_bags.specs.declared.fault.SettleFault.TheVariants.{Missing};
-ghost use Rattle.obim_bags.specs.Accounts.{WasEmptyIfAlone};
+ghost use Rattle.obim_bags.specs.BagRule.{WasEmptyIfAlone};
 ghost use Rattle.obim_bags.specs.Bags.{IsPassOf, new_pass, after_put, after_get, after_empty_find};
 ghost use Rattle.obim_bags.specs.Bags.{AreAllPasses, AreSettled};
 
-use crate::account::{ChunkQueue, Gets, Puts};
+use crate::bag_rule::{ChunkQueue, Gets, Puts};
 use crate::chunk::Chunk;
 use crate::fault::SettleFault;
-use crate::passes::{BagPass, deal, grow, join_all, take_all};
+use crate::passes::{BagPass, add_workers, cut_shares, join_all, take_all};
 use route_walks::Memory;
 use std::alloc::Global;
 use std::marker::Model;
@@ -51,8 +51,8 @@ impl Bag {
     {
         let passes = Vec::with_capacity(alloc, workers as usize)?;
         let (queue, mut first) = ChunkQueue::with_rule(alloc)?;
-        grow(&queue, &mut first, workers);
-        let passes = deal(&queue, first, workers, passes);
+        add_workers(&queue, &mut first, workers);
+        let passes = cut_shares(&queue, first, workers, passes);
         let bag = Bag {
             metric,
             workers,

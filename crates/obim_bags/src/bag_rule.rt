@@ -17,18 +17,18 @@ pub struct Tally {
 
 pub(crate) type Boxed = Box<Chunk, Global>;
 
-pub(crate) struct Account;
+pub(crate) struct BagRule;
 
-impl Protocol<Boxed, Tally> for Account {
+impl Protocol<Boxed, Tally> for BagRule {
     ghost use Rattle.std.specs.Prelude.{map};
-    ghost use Rattle.obim_bags.specs.Accounts.{AreLawful, first_tally};
+    ghost use Rattle.obim_bags.specs.BagRule.{AreLawful, first_tally};
 
     ghost holds = { λ boxes tallies. AreLawful (map (λ b. b.value) boxes) tallies };
 
     ghost first = { first_tally };
 }
 
-pub(crate) type ChunkQueue = RuledSegQueue<Boxed, Tally, Account>;
+pub(crate) type ChunkQueue = RuledSegQueue<Boxed, Tally, BagRule>;
 
 pub(crate) type QueuePass = SegPass<Boxed, Tally>;
 
@@ -36,7 +36,7 @@ pub(crate) struct Puts;
 
 impl Outcome<Boxed, Tally> for Puts {
     ghost use Rattle.std.specs.Prelude.{◌≡◌};
-    ghost use Rattle.obim_bags.specs.Accounts.{with_put};
+    ghost use Rattle.obim_bags.specs.BagRule.{with_put};
 
     ghost then = { λ tally chunk new. new ≡ with_put chunk.value tally };
 }
@@ -45,23 +45,23 @@ pub(crate) struct Gets;
 
 impl Outcome<Boxed, Tally> for Gets {
     ghost use Rattle.std.specs.Prelude.{◌≡◌, ◌≢◌, []};
-    ghost use Rattle.obim_bags.specs.Accounts.{with_got};
+    ghost use Rattle.obim_bags.specs.BagRule.{with_got};
 
     ghost then = { λ tally chunk new. (new ≡ with_got chunk.value tally) × (chunk.value.vertices ≢ []) };
 }
 
 impl Lesson<Boxed, Tally> for Gets {
     ghost use Rattle.std.specs.Prelude.{map};
-    ghost use Rattle.obim_bags.specs.Accounts.{IsSeenIn};
+    ghost use Rattle.obim_bags.specs.BagRule.{IsSeenIn};
 
     ghost fact = { λ tally boxes. IsSeenIn (map (λ b. b.value) boxes) tally };
 }
 
 // One worker more, while the first pass is alone: the new pass is spent.
-pub(crate) struct Grows;
+pub(crate) struct AddsWorker;
 
-impl Split<Tally> for Grows {
-    ghost use Rattle.obim_bags.specs.Accounts.{grown, spent_tally};
+impl Split<Tally> for AddsWorker {
+    ghost use Rattle.obim_bags.specs.BagRule.{grown, spent_tally};
 
     ghost left = { grown };
 
@@ -69,20 +69,20 @@ impl Split<Tally> for Grows {
 }
 
 // A share of 1 is cut off.
-pub(crate) struct Deals;
+pub(crate) struct CutsShare;
 
-impl Split<Tally> for Deals {
-    ghost use Rattle.obim_bags.specs.Accounts.{dealt_rest, dealt};
+impl Split<Tally> for CutsShare {
+    ghost use Rattle.obim_bags.specs.BagRule.{rest_of_shares, cut_share};
 
-    ghost left = { dealt_rest };
+    ghost left = { rest_of_shares };
 
-    ghost right = { dealt };
+    ghost right = { cut_share };
 }
 
 pub(crate) struct Joins;
 
 impl Join<Tally> for Joins {
-    ghost use Rattle.obim_bags.specs.Accounts.{joined, spent_tally};
+    ghost use Rattle.obim_bags.specs.BagRule.{joined, spent_tally};
 
     ghost both = { joined };
 

@@ -3,16 +3,16 @@
 ghost use Rattle.std.specs.Prelude.{◌≡◌, ◌≢◌, ◌≤◌, ◌<◌, ◌++◌, ◌∷◌, ℕ, [], Some, length, map, slice_get};
 ghost use Rattle.std.specs.Prelude.{All, IsTrue, IfNone, IfOk, IfSome, OnErr, OnOk};
 ghost use mathlib.Core.List.{IsPrefix};
-ghost use Rattle.obim_bags.specs.Accounts.{shares_of};
+ghost use Rattle.obim_bags.specs.BagRule.{shares_of};
 ghost use Rattle.obim_bags.specs.Bags.{AreAdded, AreAllPasses, BagSeen, tallies_of};
 ghost use Rattle.obim_bags.specs.Indexes.{AreDistinct, Lacks};
 ghost use Rattle.obim_bags.specs.Logs.{IsNew, metrics_of, pass_in};
 ghost use Rattle.obim_bags.specs.Entries.{bags_of, AreAllOf, IsEntry, IsUnclaimed, unclaimed_of};
-ghost use Rattle.obim_bags.specs.Entries.{HasPlaceOf, HasPlaceAt, HasPlacesFrom};
+ghost use Rattle.obim_bags.specs.Entries.{HasAccessOf, HasAccessAt, HasAccessesFrom};
 
+use crate::access::Access;
 use crate::bag::Bag;
 use crate::passes::BagPass;
-use crate::place::Place;
 use route_walks::Memory;
 use std::alloc::Global;
 use std::marker::Model;
@@ -22,7 +22,7 @@ use std::sync::{Arc, Wait};
 #[derive(Drop)]
 pub(crate) struct Entry {
     bag: Arc<Bag>,
-    unclaimed: Vec<Option<Place>>,
+    unclaimed: Vec<Option<Access>>,
 }
 
 impl Model for Entry {
@@ -52,7 +52,7 @@ impl Entry {
         let bag = Arc::new(alloc, bag)?;
         while let Some(pass) = passes.pop() {
             let bag = Arc::try_clone(&bag)?;
-            unclaimed.push(Some(Place::new(bag, pass)))?;
+            unclaimed.push(Some(Access::new(bag, pass)))?;
         }
         Ok(Entry { bag, unclaimed })
     }
@@ -71,7 +71,7 @@ impl Entry {
 
     /// Whether the worker's place is still here.
     pub(crate) fn has(&self, worker: u32) -> bool
-        ensures { IsTrue result → HasPlaceOf worker self.now }
+        ensures { IsTrue result → HasAccessOf worker self.now }
     {
         match self.unclaimed.get(worker as usize) {
             Some(place) => place.is_some(),
@@ -80,10 +80,10 @@ impl Entry {
     }
 
     /// The worker's place, if it is still here.
-    pub(crate) fn claim(&mut self, worker: u32) -> Option<Place>
+    pub(crate) fn claim(&mut self, worker: u32) -> Option<Access>
         ensures bag { self.new.bag ≡ self.old.bag }
         ensures place { IfSome result (λ place. (place.bag ≡ self.old.bag) × IsNew place) }
-        ensures none { IfNone result (HasPlaceOf worker self.old → ⊥) }
+        ensures none { IfNone result (HasAccessOf worker self.old → ⊥) }
     {
         match self.unclaimed.get_mut(worker as usize) {
             Some(place) => place.take(),
@@ -103,8 +103,8 @@ impl Entry {
     }
 }
 
-// The passes of all places, put last.
-fn keep_all(unclaimed: &mut Vec<Option<Place>>, passes: &mut Vec<BagPass>) -> Result<(), Memory>
+// The passes of all accesses, put last.
+fn keep_all(unclaimed: &mut Vec<Option<Access>>, passes: &mut Vec<BagPass>) -> Result<(), Memory>
     ensures rest { (bag : BagSeen) → All (IsUnclaimed bag) unclaimed.old.items → All (IsUnclaimed bag) unclaimed.new.items }
     ensures added { OnOk result
         ((bag : BagSeen) → All (IsUnclaimed bag) unclaimed.old.items → AreAdded bag passes.old.items passes.new.items) }
@@ -118,7 +118,7 @@ fn keep_all(unclaimed: &mut Vec<Option<Place>>, passes: &mut Vec<BagPass>) -> Re
 }
 
 // The pass of a place, if there is one, put last.
-fn keep(place: Option<Place>, passes: &mut Vec<BagPass>) -> Result<(), Memory>
+fn keep(place: Option<Access>, passes: &mut Vec<BagPass>) -> Result<(), Memory>
     ensures added { OnOk result ((bag : BagSeen) → IsUnclaimed bag place → AreAdded bag passes.old.items passes.new.items) }
     ensures pass { OnOk result (passes.new.items ≡ passes.old.items ++ pass_in place) }
 {
@@ -192,7 +192,7 @@ impl Entries {
 
     /// Whether the worker's place is still here in each entry from this one on.
     pub(crate) fn has_from(&self, worker: u32, first: usize) -> bool
-        ensures { IsTrue result → HasPlacesFrom worker first self.now }
+        ensures { IsTrue result → HasAccessesFrom worker first self.now }
     {
         let mut place = first;
         while place < self.list.len() {
@@ -205,13 +205,13 @@ impl Entries {
     }
 
     /// The worker's place of one entry, if it is still there.
-    pub(crate) fn claim_at(&mut self, worker: u32, place: usize) -> Option<Place>
+    pub(crate) fn claim_at(&mut self, worker: u32, place: usize) -> Option<Access>
         requires { place < length self.old.list }
         ensures bags { bags_of self.new ≡ bags_of self.old }
         ensures others { (other : ℕ) → other ≢ place → slice_get self.new.list other ≡ slice_get self.old.list other }
         ensures found { IfSome result (λ found. slice_get (bags_of self.old) place ≡ Some found.bag) }
         ensures new { IfSome result (λ found. IsNew found) }
-        ensures none { IfNone result (HasPlaceAt worker place self.old → ⊥) }
+        ensures none { IfNone result (HasAccessAt worker place self.old → ⊥) }
     {
         self.list[place].claim(worker)
     }

@@ -2,7 +2,7 @@
 //!
 //! What waits for workers lies in chunks of vertices, the chunks in bags, and there is one bag for each metric.
 //! A `Bag` is a queue without a lock, of which each worker has a `BagPass`. A `BagLog` is the list of all bags,
-//! which only grows; each worker has a `Mirror` of it with a pass of each bag, so it takes the log's slot only
+//! which only adds_worker; each worker has a `Mirror` of it with a pass of each bag, so it takes the log's slot only
 //! where it asks for a metric that its mirror doesn't have, or catches up.
 //!
 //! Between any two steps of any threads the chunks that all passes of a bag put are those that they got and
@@ -23,28 +23,28 @@
 //! the chunks, on `crossbeam_utils` for the pause between two tries, and on `route_walks` for `Memory`.
 #![tactic(auto)]
 
-mod account;
+mod access;
+mod accesses;
 mod bag;
+mod bag_rule;
 mod chunk;
 mod entries;
 mod fault;
 mod index;
 mod log;
+mod log_rule;
 mod mirror;
 mod passes;
-mod place;
-mod places;
-mod roll;
 mod settle;
 
-pub use account::Tally;
 pub use bag::Bag;
+pub use bag_rule::Tally;
 pub use chunk::{Chunk, ChunkId, Full, MAX_SIZE};
 pub use fault::{LogFault, SettleFault};
 pub use log::BagLog;
+pub use log_rule::LogKnown;
 pub use mirror::Mirror;
 pub use passes::BagPass;
-pub use roll::Roll;
 
 #[cfg(test)]
 mod tests;

@@ -1,4 +1,4 @@
-//! The log of bags: one list, which only grows, and a mirror of it for each worker.
+//! The log of bags: one list, which only adds_worker, and a mirror of it for each worker.
 
 ghost use Rattle.std.specs.Prelude.{◌≡◌, ◌≢◌, ◌≤◌, ◌<◌, [], ◌∷◌, Some, length, replicate, slice_get};
 ghost use Rattle.std.specs.Prelude.{IfErr, IfNone, IfOk, IfSome, OnErr, OnOk};
@@ -7,16 +7,16 @@ ghost use Rattle.std.specs.Bool.{OnFalse, OnTrue};
 ghost use mathlib.Core.List.{IsPrefix};
 ghost use Rattle.obim_bags.specs.Bags.{after_put};
 ghost use Rattle.obim_bags.specs.Entries.{bags_of};
-ghost use Rattle.obim_bags.specs.Rolls.{IsWithin, HoldsSlot, with_slot, without_slot};
+ghost use Rattle.obim_bags.specs.LogRule.{IsWithin, HoldsSlot, with_slot, without_slot};
 ghost use Rattle.obim_bags.specs.Logs.{Gains, ChangesAt, WasEmptyIfAloneAt, metrics_in, new_mirror};
-ghost use Rattle.obim_bags.specs.Logs.{place_after_put, place_after_get, place_after_empty_find};
+ghost use Rattle.obim_bags.specs.Logs.{access_after_put, access_after_get, access_after_empty_find};
 
+use crate::accesses::Accesses;
 use crate::chunk::Chunk;
 use crate::entries::Entries;
 use crate::fault::LogFault;
+use crate::log_rule::{Acquires, LogSeat, LogTable, OpensSeat, Releases};
 use crate::mirror::Mirror;
-use crate::places::Places;
-use crate::roll::{Acquires, LogSeat, LogTable, Releases, Seats};
 use crossbeam_utils::Backoff;
 use route_walks::Memory;
 use std::alloc::Global;
@@ -62,13 +62,13 @@ impl BagLog {
         };
         mirrors.push_reserved(Mirror {
             seat,
-            places: Places::new(alloc, 0),
+            accesses: Accesses::new(alloc, 0),
         });
         for worker in 1..workers {
-            let (_, seat) = table.shared.load_new_seat::<Seats>(WORD);
+            let (_, seat) = table.shared.load_new_seat::<OpensSeat>(WORD);
             mirrors.push_reserved(Mirror {
                 seat,
-                places: Places::new(alloc, worker),
+                accesses: Accesses::new(alloc, worker),
             });
         }
         let log = BagLog {
@@ -91,7 +91,7 @@ impl BagLog {
     ) -> Result<usize, LogFault>
         requires { mirror.old.log ≡ self.now }
         ensures gains { OnOk result (Gains mirror.old mirror.new) }
-        ensures place { IfOk result (λ place. slice_get (metrics_in mirror.new.places) place ≡ Some metric) }
+        ensures place { IfOk result (λ place. slice_get (metrics_in mirror.new.accesses) place ≡ Some metric) }
         ensures refused { OnErr result (mirror.new ≡ mirror.old) }
     {
         match mirror.place_of(metric) {
@@ -111,12 +111,12 @@ impl BagLog {
     ) -> Result<usize, LogFault>
         requires { mirror.old.log ≡ self.now }
         ensures gains { OnOk result (Gains mirror.old mirror.new) }
-        ensures place { IfOk result (λ place. slice_get (metrics_in mirror.new.places) place ≡ Some metric) }
+        ensures place { IfOk result (λ place. slice_get (metrics_in mirror.new.accesses) place ≡ Some metric) }
         ensures refused { OnErr result (mirror.new ≡ mirror.old) }
     {
         let mut entries = self.take(rt, &mut mirror.seat);
         let found = mirror
-            .places
+            .accesses
             .find_or_append(rt, alloc, &mut entries, metric, self.workers);
         self.give(&mut mirror.seat, entries);
         found
@@ -131,11 +131,11 @@ impl BagLog {
     ) -> Result<usize, LogFault>
         requires { mirror.old.log ≡ self.now }
         ensures gains { OnOk result (Gains mirror.old mirror.new) }
-        ensures len { IfOk result (λ len. len ≡ length mirror.new.places) }
+        ensures len { IfOk result (λ len. len ≡ length mirror.new.accesses) }
         ensures refused { OnErr result (mirror.new ≡ mirror.old) }
     {
         let mut entries = self.take(rt, &mut mirror.seat);
-        let caught = mirror.places.catch_up(&mut entries);
+        let caught = mirror.accesses.catch_up(&mut entries);
         self.give(&mut mirror.seat, entries);
         caught
     }
@@ -149,9 +149,9 @@ impl BagLog {
         chunk: Chunk,
     ) -> Result<(), Chunk>
         requires log { mirror.old.log ≡ self.now }
-        requires place { place < length mirror.old.places }
+        requires place { place < length mirror.old.accesses }
         requires filled { chunk.vertices ≢ [] }
-        ensures put { OnOk result (ChangesAt place (place_after_put chunk) mirror.old mirror.new) }
+        ensures put { OnOk result (ChangesAt place (access_after_put chunk) mirror.old mirror.new) }
         ensures returned { IfErr result (λ back. back ≡ chunk) }
         ensures refused { OnErr result (mirror.new ≡ mirror.old) }
     {
@@ -174,22 +174,22 @@ impl BagLog {
         chunk: Box<Chunk>,
     ) -> Result<(), Box<Chunk>>
         requires log { mirror.old.log ≡ self.now }
-        requires place { place < length mirror.old.places }
+        requires place { place < length mirror.old.accesses }
         requires filled { chunk.value.vertices ≢ [] }
-        ensures put { OnOk result (ChangesAt place (place_after_put chunk.value) mirror.old mirror.new) }
+        ensures put { OnOk result (ChangesAt place (access_after_put chunk.value) mirror.old mirror.new) }
         ensures returned { IfErr result (λ back. back ≡ chunk) }
         ensures refused { OnErr result (mirror.new ≡ mirror.old) }
     {
-        mirror.places.put_boxed(rt, place, chunk)
+        mirror.accesses.put_boxed(rt, place, chunk)
     }
 
     /// `Bag::get` on the bag at a place, through the mirror's pass.
     pub fn get_at<R: Wait>(&self, rt: &R, mirror: &mut Mirror, place: usize) -> Option<Chunk>
         requires log { mirror.old.log ≡ self.now }
-        requires place { place < length mirror.old.places }
-        ensures got { IfSome result (λ chunk. ChangesAt place (place_after_get chunk) mirror.old mirror.new) }
+        requires place { place < length mirror.old.accesses }
+        ensures got { IfSome result (λ chunk. ChangesAt place (access_after_get chunk) mirror.old mirror.new) }
         ensures filled { IfSome result (λ chunk. chunk.vertices ≢ []) }
-        ensures found_empty { IfNone result (ChangesAt place place_after_empty_find mirror.old mirror.new) }
+        ensures found_empty { IfNone result (ChangesAt place access_after_empty_find mirror.old mirror.new) }
         ensures alone { IfNone result (WasEmptyIfAloneAt place mirror.old) }
     {
         Some(Box::into_inner(self.get_boxed_at(rt, mirror, place)?))
@@ -204,25 +204,25 @@ impl BagLog {
         place: usize,
     ) -> Option<Box<Chunk>>
         requires log { mirror.old.log ≡ self.now }
-        requires place { place < length mirror.old.places }
-        ensures got { IfSome result (λ chunk. ChangesAt place (place_after_get chunk.value) mirror.old mirror.new) }
+        requires place { place < length mirror.old.accesses }
+        ensures got { IfSome result (λ chunk. ChangesAt place (access_after_get chunk.value) mirror.old mirror.new) }
         ensures filled { IfSome result (λ chunk. chunk.value.vertices ≢ []) }
-        ensures found_empty { IfNone result (ChangesAt place place_after_empty_find mirror.old mirror.new) }
+        ensures found_empty { IfNone result (ChangesAt place access_after_empty_find mirror.old mirror.new) }
         ensures alone { IfNone result (WasEmptyIfAloneAt place mirror.old) }
     {
-        mirror.places.get_boxed(rt, place)
+        mirror.accesses.get_boxed(rt, place)
     }
 
     /// `Bag::finds_empty` on the bag at a place, through the mirror's pass: the cheapest look.
     #[inline(always)]
     pub fn finds_empty_at(&self, mirror: &mut Mirror, place: usize) -> bool
         requires log { mirror.old.log ≡ self.now }
-        requires place { place < length mirror.old.places }
-        ensures found_empty { OnTrue result (ChangesAt place place_after_empty_find mirror.old mirror.new) }
+        requires place { place < length mirror.old.accesses }
+        ensures found_empty { OnTrue result (ChangesAt place access_after_empty_find mirror.old mirror.new) }
         ensures alone { OnTrue result (WasEmptyIfAloneAt place mirror.old) }
         ensures unchanged { OnFalse result (mirror.new ≡ mirror.old) }
     {
-        mirror.places.finds_empty(place)
+        mirror.accesses.finds_empty(place)
     }
 
     // Swaps the word to 1 until it was 0; then the seat holds the slot, and the entries are taken out of it.
@@ -230,7 +230,7 @@ impl BagLog {
         requires table { seat.old.table_id ≡ self.now }
         requires slots { seat.old.me.1 ≡ [] }
         ensures table { seat.new.table_id ≡ seat.old.table_id }
-        ensures roll { seat.new.me.0 ≡ with_slot (bags_of result) seat.old.me.0 }
+        ensures known { seat.new.me.0 ≡ with_slot (bags_of result) seat.old.me.0 }
         ensures within { IsWithin (bags_of result) seat.old.me.0 }
         ensures slot { HoldsSlot seat.new.me }
     {

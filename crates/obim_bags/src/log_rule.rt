@@ -8,7 +8,7 @@ use std::collections::LinkedList;
 
 /// What a seat of a log knows: the list of bags that it saw, the lists that seats joined into it saw, and
 /// whether it holds the slot. No value of it is made.
-pub struct Roll {
+pub struct LogKnown {
     pub list: LinkedList<Bag>,
     pub others: LinkedList<LinkedList<Bag>>,
     pub holds: bool,
@@ -16,25 +16,25 @@ pub struct Roll {
 
 pub(crate) struct LogRule;
 
-impl TableRule<Entries, Roll, ()> for LogRule {
-    ghost use Rattle.obim_bags.specs.Rolls.{IsLog, new_roll};
+impl TableRule<Entries, LogKnown, ()> for LogRule {
+    ghost use Rattle.obim_bags.specs.LogRule.{IsLog, new_known};
     ghost use Rattle.obim_bags.specs.Entries.{bags_of};
 
     ghost holds = { λ _ state. IsLog bags_of state.words state.homes state.views };
 
-    ghost first = { λ _. new_roll };
+    ghost first = { λ _. new_known };
 }
 
-pub(crate) type LogTable = Table<Entries, Roll, (), LogRule, Global>;
+pub(crate) type LogTable = Table<Entries, LogKnown, (), LogRule, Global>;
 
-pub(crate) type LogSeat = Seat<Entries, Roll>;
+pub(crate) type LogSeat = Seat<Entries, LogKnown>;
 
 // The word becomes 1. Where it was 0 the seat takes the slot, and its list becomes the whole list.
 pub(crate) struct Acquires;
 
-impl Play<Entries, Roll> for Acquires {
+impl Play<Entries, LogKnown> for Acquires {
     ghost use Rattle.obim_bags.specs.Entries.{bags_of};
-    ghost use Rattle.obim_bags.specs.Rolls.{MayTake};
+    ghost use Rattle.obim_bags.specs.LogRule.{MayTake};
 
     ghost then = { λ step old found new. MayTake bags_of old found new };
 }
@@ -42,29 +42,29 @@ impl Play<Entries, Roll> for Acquires {
 // The word becomes 0, and the seat gives back the slot, whose list it knows.
 pub(crate) struct Releases;
 
-impl Play<Entries, Roll> for Releases {
+impl Play<Entries, LogKnown> for Releases {
     ghost use Rattle.obim_bags.specs.Entries.{bags_of};
-    ghost use Rattle.obim_bags.specs.Rolls.{GivesBack};
+    ghost use Rattle.obim_bags.specs.LogRule.{GivesBack};
 
     ghost then = { λ step old found new. GivesBack bags_of old new };
 }
 
 // A new mirror's seat, which saw nothing.
-pub(crate) struct Seats;
+pub(crate) struct OpensSeat;
 
-impl Play<Entries, Roll> for Seats {
+impl Play<Entries, LogKnown> for OpensSeat {
     ghost use Rattle.std.specs.Prelude.{◌≡◌};
-    ghost use Rattle.obim_bags.specs.Rolls.{new_roll};
+    ghost use Rattle.obim_bags.specs.LogRule.{new_known};
 
-    ghost then = { λ step old found new. new.0 ≡ new_roll };
+    ghost then = { λ step old found new. new.0 ≡ new_known };
 }
 
 pub(crate) struct Joins;
 
-impl Join<Roll> for Joins {
-    ghost use Rattle.obim_bags.specs.Rolls.{joined_roll, new_roll};
+impl Join<LogKnown> for Joins {
+    ghost use Rattle.obim_bags.specs.LogRule.{joined_known, new_known};
 
-    ghost both = { joined_roll };
+    ghost both = { joined_known };
 
-    ghost spent = { new_roll };
+    ghost spent = { new_known };
 }

@@ -5,9 +5,9 @@ ghost use mathlib.Core.List.{IsPrefix};
 ghost use Rattle.obim_bags.specs.Indexes.{AreDistinct, IsAlone, Lacks};
 ghost use Rattle.obim_bags.specs.Logs.{bags_in, metrics_in};
 
-use crate::place::Place;
-use crate::places::Places;
-use crate::roll::LogSeat;
+use crate::access::Access;
+use crate::accesses::Accesses;
+use crate::log_rule::LogSeat;
 use std::marker::Model;
 
 /// A worker's copy of the log, as far as it has caught up: of each bag in it, by place, its metric and
@@ -15,7 +15,7 @@ use std::marker::Model;
 #[derive(Drop)]
 pub struct Mirror {
     pub(crate) seat: LogSeat,
-    pub(crate) places: Places,
+    pub(crate) accesses: Accesses,
 }
 
 impl Model for Mirror {
@@ -24,54 +24,54 @@ impl Model for Mirror {
 
     ghost Value = { MirrorSeen };
 
-    ghost view = { λ m. record { log = m.seat.table_id; places = m.places.list } };
+    ghost view = { λ m. record { log = m.seat.table_id; accesses = m.accesses.list } };
 
-    ghost invariant = { λ m. IsTied m.seat.me m.places };
+    ghost invariant = { λ m. IsTied m.seat.me m.accesses };
 }
 
 impl Mirror {
     /// The number of bags that it has.
     #[inline(always)]
     pub fn len(&self) -> usize
-        ensures { result ≡ length self.now.places }
+        ensures { result ≡ length self.now.accesses }
     {
-        self.places.len()
+        self.accesses.len()
     }
 
     /// The place of a metric's bag, or `None` where the mirror doesn't have it.
     #[inline(always)]
     pub fn place_of(&self, metric: u64) -> Option<usize>
-        ensures at { IfSome result (λ place. IsAlone metric place (metrics_in self.now.places)) }
-        ensures none { IfNone result (Lacks metric (metrics_in self.now.places)) }
-        ensures distinct { AreDistinct (metrics_in self.now.places) }
+        ensures at { IfSome result (λ place. IsAlone metric place (metrics_in self.now.accesses)) }
+        ensures none { IfNone result (Lacks metric (metrics_in self.now.accesses)) }
+        ensures distinct { AreDistinct (metrics_in self.now.accesses) }
     {
-        self.places.place_of(metric)
+        self.accesses.place_of(metric)
     }
 
     /// The metric of the bag at a place.
     pub fn metric_at(&self, place: usize) -> u64
-        requires { place < length self.now.places }
-        ensures { slice_get (metrics_in self.now.places) place ≡ Some result }
+        requires { place < length self.now.accesses }
+        ensures { slice_get (metrics_in self.now.accesses) place ≡ Some result }
     {
-        self.places.metric_at(place)
+        self.accesses.metric_at(place)
     }
 
     /// How often this worker found the bag at a place empty, modulo 2^64.
     pub fn empty_finds_at(&self, place: usize) -> u64
-        requires { place < length self.now.places }
-        ensures { IfSome (slice_get self.now.places place) (λ seen. seen.pass.empties ≡ result) }
+        requires { place < length self.now.accesses }
+        ensures { IfSome (slice_get self.now.accesses place) (λ seen. seen.pass.empties ≡ result) }
     {
-        self.places.empty_finds_at(place)
+        self.accesses.empty_finds_at(place)
     }
 
-    pub(crate) fn into_parts(self) -> (LogSeat, Vec<Place>)
+    pub(crate) fn into_parts(self) -> (LogSeat, Vec<Access>)
         ensures log { result.0.table_id ≡ self.log }
-        ensures places { result.1.items ≡ self.places }
+        ensures accesses { result.1.items ≡ self.accesses }
         ensures slots { result.0.me.1 ≡ [] }
         ensures holds { result.0.me.0.holds ≡ false }
-        ensures list { IsPrefix (bags_in self.places) result.0.me.0.list }
+        ensures list { IsPrefix (bags_in self.accesses) result.0.me.0.list }
     {
-        let Mirror { seat, places } = self;
-        (seat, places.list)
+        let Mirror { seat, accesses } = self;
+        (seat, accesses.list)
     }
 }

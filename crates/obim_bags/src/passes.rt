@@ -3,10 +3,10 @@
 ghost use Rattle.std.specs.Prelude.{◌≡◌, ◌≤◌, ℕ, ◌+◌, [], replicate, All, vec_capacity, IfNone, IfOk, IfSome};
 ghost use Rattle.crossbeam_queue.specs.SegTies.{IsSegPassOf};
 ghost use Rattle.obim_bags.specs.Chunks.{ChunkSeen};
-ghost use Rattle.obim_bags.specs.Accounts.{first_tally, new_tally, shares_of, weight_of};
+ghost use Rattle.obim_bags.specs.BagRule.{first_tally, new_tally, shares_of, weight_of};
 ghost use Rattle.obim_bags.specs.Bags.{IsPassAmong, pass_among, tallies_of, AreJoined};
 
-use crate::account::{ChunkQueue, Deals, Gets, Grows, Joins, QueuePass};
+use crate::bag_rule::{AddsWorker, ChunkQueue, CutsShare, Gets, Joins, QueuePass};
 use crate::chunk::Chunk;
 use std::alloc::{AllocError, Global};
 use std::marker::Model;
@@ -49,7 +49,7 @@ impl BagPass {
 }
 
 /// Gives the first pass of a new queue a share for each worker.
-pub(crate) fn grow(queue: &ChunkQueue, first: &mut QueuePass, workers: u32)
+pub(crate) fn add_workers(queue: &ChunkQueue, first: &mut QueuePass, workers: u32)
     requires pass { IsSegPassOf queue.now first.old }
     requires new { first.old.me.view.client ≡ first_tally }
     requires some { 1 ≤ workers }
@@ -57,12 +57,12 @@ pub(crate) fn grow(queue: &ChunkQueue, first: &mut QueuePass, workers: u32)
     ensures shares { first.new.me.view.client ≡ new_tally workers workers }
 {
     for _ in 1..workers {
-        queue.another::<Grows>(first);
+        queue.another::<AddsWorker>(first);
     }
 }
 
-/// Deals the shares of the first pass out, one to each pass, into a vector with room for them.
-pub(crate) fn deal(
+/// CutsShare the shares of the first pass out, one to each pass, into a vector with room for them.
+pub(crate) fn cut_shares(
     queue: &ChunkQueue,
     mut first: QueuePass,
     workers: u32,
@@ -76,7 +76,7 @@ pub(crate) fn deal(
     ensures { result.items ≡ replicate workers (pass_among queue.now workers) }
 {
     for _ in 1..workers {
-        let pass = queue.another::<Deals>(&mut first);
+        let pass = queue.another::<CutsShare>(&mut first);
         passes.push_reserved(BagPass { pass, empties: 0 });
     }
     passes.push_reserved(BagPass {

@@ -6,20 +6,20 @@ ghost use mathlib.Core.List.{IsPrefix};
 ghost use Rattle.obim_bags.specs.declared.fault.SettleFault.TheVariants.{Memory, Missing};
 ghost use Rattle.obim_bags.specs.Bags.{AreSettled, BagSeen, IsPassOf};
 ghost use Rattle.obim_bags.specs.Indexes.{AreDistinct};
-ghost use Rattle.obim_bags.specs.Logs.{IsLogSettled, IsMirrorOf, PlaceSeen, WantsMirrors};
+ghost use Rattle.obim_bags.specs.Logs.{IsLogSettled, IsMirrorOf, AccessSeen, WantsMirrors};
 ghost use Rattle.obim_bags.specs.Logs.{all_of, bags_in, metrics_of, pass_in};
 ghost use Rattle.obim_bags.specs.Entries.{AreAllOf, EntrySeen, IsEntry, bags_of};
 ghost use Rattle.obim_bags.specs.Settling.{AreDrainedFrom, AreOf, AreWholeFrom, KnowsAllOf, LackSome};
-ghost use Rattle.obim_bags.specs.Settling.{lists_of, passes_in, places_of};
+ghost use Rattle.obim_bags.specs.Settling.{lists_of, passes_in, accesses_of};
 
+use crate::access::Access;
 use crate::chunk::Chunk;
 use crate::entries::{Entries, Entry};
 use crate::fault::SettleFault;
 use crate::log::BagLog;
+use crate::log_rule::{Joins, LogSeat};
 use crate::mirror::Mirror;
 use crate::passes::BagPass;
-use crate::place::Place;
-use crate::roll::{Joins, LogSeat};
 use std::alloc::Global;
 use std::sync::Wait;
 
@@ -45,30 +45,30 @@ impl BagLog {
         flatten(alloc, parts?)
     }
 
-    // Joins the seats of these mirrors, and keeps their places, the last mirror's first.
+    // Joins the seats of these mirrors, and keeps their accesses, the last mirror's first.
     fn join(
         &self,
         alloc: Global,
         mut mirrors: Vec<Mirror>,
-    ) -> Result<(LogSeat, Vec<Vec<Place>>), SettleFault>
+    ) -> Result<(LogSeat, Vec<Vec<Access>>), SettleFault>
         requires { All (IsMirrorOf self.now) mirrors.items }
         ensures some { OnOk result (mirrors.items ≢ []) }
         ensures none { IfErr result (λ fault. fault ≡ Missing → mirrors.items ≡ []) }
         ensures log { IfOk result (λ joined. joined.0.table_id ≡ self.now) }
         ensures slots { IfOk result (λ joined. joined.0.me.1 ≡ []) }
         ensures known { IfOk result (λ joined. KnowsAllOf joined.0.me.0 (lists_of joined.1.items)) }
-        ensures held { IfOk result (λ joined. lists_of joined.1.items ≡ reverse (places_of mirrors.items)) }
+        ensures held { IfOk result (λ joined. lists_of joined.1.items ≡ reverse (accesses_of mirrors.items)) }
     {
         let mut held = Vec::new(alloc);
         let Some(mirror) = mirrors.pop() else {
             return Err(SettleFault::Missing);
         };
-        let (mut seat, places) = mirror.into_parts();
-        held.push(places)?;
+        let (mut seat, accesses) = mirror.into_parts();
+        held.push(accesses)?;
         while let Some(mirror) = mirrors.pop() {
-            let (other, places) = mirror.into_parts();
+            let (other, accesses) = mirror.into_parts();
             self.table.shared.join_seat::<Joins>(&mut seat, other);
-            held.push(places)?;
+            held.push(accesses)?;
         }
         Ok((seat, held))
     }
@@ -122,7 +122,7 @@ fn drain_all<R: Wait>(
     rt: &R,
     alloc: Global,
     entries: &mut Entries,
-    mut held: Vec<Vec<Place>>,
+    mut held: Vec<Vec<Access>>,
 ) -> Result<Vec<Vec<Chunk>>, SettleFault>
     requires { AreOf (bags_of entries.old) (lists_of held.items) }
     ensures bags { bags_of entries.new ≡ bags_of entries.old }
@@ -145,10 +145,10 @@ fn drain_all<R: Wait>(
 // The passes at a place, which is the last of the longest lists.
 fn claimed(
     alloc: Global,
-    held: &mut Vec<Vec<Place>>,
+    held: &mut Vec<Vec<Access>>,
     place: usize,
 ) -> Result<Vec<BagPass>, SettleFault>
-    requires { All (λ (places : List PlaceSeen). length places ≤ place + 1) (lists_of held.old.items) }
+    requires { All (λ (accesses : List AccessSeen). length accesses ≤ place + 1) (lists_of held.old.items) }
     ensures held { OnOk result (lists_of held.new.items ≡ map (take place) (lists_of held.old.items)) }
     ensures passes { IfOk result (λ passes. passes.items ≡ passes_in place (lists_of held.old.items)) }
     ensures of_bag { IfOk result (λ passes. (bags : List BagSeen) (bag : BagSeen)
@@ -164,22 +164,22 @@ fn claimed(
 
 // The pass at a place, where the list is so long, put last.
 fn move_last(
-    places: &mut Vec<Place>,
+    accesses: &mut Vec<Access>,
     place: usize,
     passes: &mut Vec<BagPass>,
 ) -> Result<(), SettleFault>
-    requires { length places.old.items ≤ place + 1 }
-    ensures rest { OnOk result (places.new.items ≡ take place places.old.items) }
-    ensures added { OnOk result (passes.new.items ≡ passes.old.items ++ pass_in (slice_get places.old.items place)) }
+    requires { length accesses.old.items ≤ place + 1 }
+    ensures rest { OnOk result (accesses.new.items ≡ take place accesses.old.items) }
+    ensures added { OnOk result (passes.new.items ≡ passes.old.items ++ pass_in (slice_get accesses.old.items place)) }
     ensures of_bag { OnOk result ((bags : List BagSeen) (bag : BagSeen)
-        → IsPrefix (bags_in places.old.items) bags → slice_get bags place ≡ Some bag
+        → IsPrefix (bags_in accesses.old.items) bags → slice_get bags place ≡ Some bag
         → All (IsPassOf bag) passes.old.items → All (IsPassOf bag) passes.new.items) }
     ensures refused { IfErr result (λ fault. fault ≡ Memory) }
 {
-    if places.len() <= place {
+    if accesses.len() <= place {
         return Ok(());
     }
-    if let Some(last) = places.pop() {
+    if let Some(last) = accesses.pop() {
         passes.push(last.into_pass())?;
     }
     Ok(())

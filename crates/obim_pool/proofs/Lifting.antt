@@ -4,11 +4,11 @@ use Rattle.std.specs.Prelude.{slice_get}
 use Rattle.std.proofs.lemmas.List.{get_or-set_other, map-set}
 use Rattle.std.proofs.lemmas.Option.{get_or_from_slice_get, slice_get_within}
 use Rattle.obim_bags.proofs.Facts.{found_at, at_map, at_set_else, map_kept}
-use Rattle.obim_bags.specs.Logs.{MirrorSeen, PlaceSeen, metrics_in, metrics_of}
-use Rattle.obim_pool.specs.declared.kept.Kept.{Kept}
-use Rattle.obim_pool.specs.declared.order.At.{At}
+use Rattle.obim_bags.specs.Logs.{MirrorSeen, AccessSeen, metrics_in, metrics_of}
+use Rattle.obim_pool.specs.declared.chunks.BagChunks.{BagChunks}
+use Rattle.obim_pool.specs.declared.order.OwnBag.{OwnBag}
 use Rattle.obim_pool.specs.Accounts.{Account, account_of}
-use Rattle.obim_pool.specs.Kept.{all_held, held_of}
+use Rattle.obim_pool.specs.Held.{all_held, held_of}
 use Rattle.obim_pool.specs.Orders.{IsOrder}
 use Rattle.obim_pool.specs.Sides.{account_in}
 use Rattle.obim_pool.specs.Steps.{OneBag}
@@ -32,78 +32,78 @@ set_same (z ∷ zs) zero x at = cc
 set_same (z ∷ zs) (suc i) x at = ap (λ rest. z ∷ rest) (set_same zs i x at)
 
 -- the account of a bag whose place and chunks are known
-pub account_here : (i : ℕ) (places : List PlaceSeen) (p : PlaceSeen) (kept : List Kept) (k : Kept) → slice_get places i ≡ Some p
-    → slice_get kept i ≡ Some k → account_in i places (all_held kept) ≡ account_of (Some p) (held_of k)
-account_here i places p kept k place own =
-    let held : get_or (all_held kept) i [] ≡ held_of k =
-    get_or_from_slice_get (all_held kept) i (held_of k) [] (at_map held_of kept i k own) in
-    ap (λ found. account_of found (get_or (all_held kept) i [])) place ∙ ap (account_of (Some p)) held
+pub account_here : (i : ℕ) (accesses : List AccessSeen) (p : AccessSeen) (chunks : List BagChunks) (k : BagChunks) → slice_get accesses i ≡ Some p
+    → slice_get chunks i ≡ Some k → account_in i accesses (all_held chunks) ≡ account_of (Some p) (held_of k)
+account_here i accesses p chunks k place own =
+    let held : get_or (all_held chunks) i [] ≡ held_of k =
+    get_or_from_slice_get (all_held chunks) i (held_of k) [] (at_map held_of chunks i k own) in
+    ap (λ found. account_of found (get_or (all_held chunks) i [])) place ∙ ap (account_of (Some p)) held
 
 -- the account of another bag stays
-pub account_else : (i j : ℕ) (places : List PlaceSeen) (p : PlaceSeen) (kept : List Kept) (k : Kept) → j ≢ i
-    → account_in j (set places i p) (all_held (set kept i k)) ≡ account_in j places (all_held kept)
-account_else i j places p kept k other =
-    let held : get_or (all_held (set kept i k)) j [] ≡ get_or (all_held kept) j [] =
-    ap (λ (list : List (List ℕ)). get_or list j []) (map-set held_of kept i k) ∙ get_or-set_other (all_held kept) i j (held_of k) [] other in
-    ap (λ found. account_of found (get_or (all_held (set kept i k)) j [])) (at_set_else places i j p other)
-    ∙ ap (account_of (slice_get places j)) held
+pub account_else : (i j : ℕ) (accesses : List AccessSeen) (p : AccessSeen) (chunks : List BagChunks) (k : BagChunks) → j ≢ i
+    → account_in j (set accesses i p) (all_held (set chunks i k)) ≡ account_in j accesses (all_held chunks)
+account_else i j accesses p chunks k other =
+    let held : get_or (all_held (set chunks i k)) j [] ≡ get_or (all_held chunks) j [] =
+    ap (λ (list : List (List ℕ)). get_or list j []) (map-set held_of chunks i k) ∙ get_or-set_other (all_held chunks) i j (held_of k) [] other in
+    ap (λ found. account_of found (get_or (all_held (set chunks i k)) j [])) (at_set_else accesses i j p other)
+    ∙ ap (account_of (slice_get accesses j)) held
 
 -- The account of this place changed so, and no other; log, metrics and the number of bags are as before.
 pub record Changed (Changes : Account → Account → Type 0) (place : ℕ)
-    (old : MirrorSeen) (old_kept : List Kept) (new : MirrorSeen) (new_kept : List Kept) : Type 0 where
+    (old : MirrorSeen) (old_chunks : List BagChunks) (new : MirrorSeen) (new_chunks : List BagChunks) : Type 0 where
   pub log : new.log ≡ old.log
-  pub bags : metrics_in new.places ≡ metrics_in old.places
-  pub places : length new.places ≡ length old.places
-  pub own : length new_kept ≡ length old_kept
-  pub here : Changes (account_in place old.places (all_held old_kept)) (account_in place new.places (all_held new_kept))
+  pub bags : metrics_in new.accesses ≡ metrics_in old.accesses
+  pub accesses : length new.accesses ≡ length old.accesses
+  pub own : length new_chunks ≡ length old_chunks
+  pub here : Changes (account_in place old.accesses (all_held old_chunks)) (account_in place new.accesses (all_held new_chunks))
   pub others : (other : ℕ) → other ≢ place
-      → account_in other new.places (all_held new_kept) ≡ account_in other old.places (all_held old_kept)
+      → account_in other new.accesses (all_held new_chunks) ≡ account_in other old.accesses (all_held old_chunks)
 
 -- a change of one bag of the side, among all its bags
-pub changed_all : (Changes : Account → Account → Type 0) (place : ℕ) (old new : MirrorSeen) (kept : List Kept) (k k' : Kept)
-    → slice_get kept place ≡ Some k → OneBag Changes place old k new k' → Changed Changes place old kept new (set kept place k')
-changed_all Changes place old new kept k k' own one =
-    let after = λ (m : MirrorSeen). Changed Changes place old kept m (set kept place k') in
-    let was = account_here place old.places one.was kept k one.was_there own in
+pub changed_all : (Changes : Account → Account → Type 0) (place : ℕ) (old new : MirrorSeen) (chunks : List BagChunks) (k k' : BagChunks)
+    → slice_get chunks place ≡ Some k → OneBag Changes place old k new k' → Changed Changes place old chunks new (set chunks place k')
+changed_all Changes place old new chunks k k' own one =
+    let after = λ (m : MirrorSeen). Changed Changes place old chunks m (set chunks place k') in
+    let was = account_here place old.accesses one.was chunks k one.was_there own in
     let is =
-    account_here place (set old.places place one.is) one.is (set kept place k') k' (at_set old.places place one.was one.is one.was_there) (at_set kept place k k' own) in
+    account_here place (set old.accesses place one.is) one.is (set chunks place k') k' (at_set old.accesses place one.was one.is one.was_there) (at_set chunks place k k' own) in
     subst after (sym one.is_there) record {
       log = refl;
-      bags = ap metrics_of (map_kept (λ (p : PlaceSeen). p.bag) old.places place one.was one.is one.was_there one.bag);
-      places = length-set old.places place one.is;
-      own = length-set kept place k';
+      bags = ap metrics_of (map_kept (λ (p : AccessSeen). p.bag) old.accesses place one.was one.is one.was_there one.bag);
+      accesses = length-set old.accesses place one.is;
+      own = length-set chunks place k';
       here = rw (was, is) one.change;
-      others = λ other apart. account_else place other old.places one.is kept k' apart;
+      others = λ other apart. account_else place other old.accesses one.is chunks k' apart;
     }
 
 -- the same, of a bag that was read
-pub changed_here : (Changes : Account → Account → Type 0) (place : ℕ) {old new : MirrorSeen} (kept : List Kept) {k k' : Kept}
-    → place < length kept → k ≡ get_or kept place k → OneBag Changes place old k new k'
-    → Changed Changes place old kept new (set kept place k')
-changed_here Changes place {old} {new} kept {k} {k'} within read one =
-    changed_all Changes place old new kept k k' (found_at kept place k within read) one
+pub changed_here : (Changes : Account → Account → Type 0) (place : ℕ) {old new : MirrorSeen} (chunks : List BagChunks) {k k' : BagChunks}
+    → place < length chunks → k ≡ get_or chunks place k → OneBag Changes place old k new k'
+    → Changed Changes place old chunks new (set chunks place k')
+changed_here Changes place {old} {new} chunks {k} {k'} within read one =
+    changed_all Changes place old new chunks k k' (found_at chunks place k within read) one
 
 -- the place of a bag that changed
-pub one_within : {Changes : Account → Account → Type 0} {place : ℕ} {old new : MirrorSeen} {k k' : Kept} → OneBag Changes place old k new k'
-    → place < length new.places
+pub one_within : {Changes : Account → Account → Type 0} {place : ℕ} {old new : MirrorSeen} {k k' : BagChunks} → OneBag Changes place old k new k'
+    → place < length new.accesses
 one_within {Changes} {place} {old} {new} one =
-    let there : slice_get new.places place ≡ Some one.is =
-    ap (λ (m : MirrorSeen). slice_get m.places place) one.is_there ∙ at_set old.places place one.was one.is one.was_there in
-    slice_get_within new.places place one.is there
+    let there : slice_get new.accesses place ≡ Some one.is =
+    ap (λ (m : MirrorSeen). slice_get m.accesses place) one.is_there ∙ at_set old.accesses place one.was one.is one.was_there in
+    slice_get_within new.accesses place one.is there
 
 -- two changes of one bag are one
-pub one_then : {P Q R : Account → Account → Type 0} {place : ℕ} {m1 m2 m3 : MirrorSeen} {k1 k2 k3 : Kept}
+pub one_then : {P Q R : Account → Account → Type 0} {place : ℕ} {m1 m2 m3 : MirrorSeen} {k1 k2 k3 : BagChunks}
     → ((a b c : Account) → P a b → Q b c → R a c) → OneBag P place m1 k1 m2 k2 → OneBag Q place m2 k2 m3 k3
     → OneBag R place m1 k1 m3 k3
 one_then {P} {Q} {R} {place} {m1} {m2} {m3} {k1} {k2} {k3} joins first second =
-    let there = at_set m1.places place first.was first.is first.was_there in
-    let found : slice_get m2.places place ≡ Some first.is = ap (λ (m : MirrorSeen). slice_get m.places place) first.is_there ∙ there in
+    let there = at_set m1.accesses place first.was first.is first.was_there in
+    let found : slice_get m2.accesses place ≡ Some first.is = ap (λ (m : MirrorSeen). slice_get m.accesses place) first.is_there ∙ there in
     let same : second.was ≡ first.is = cc (second.was_there, found) in
-    let bag : second.is.bag ≡ first.was.bag = second.bag ∙ (ap (λ (p : PlaceSeen). p.bag) same ∙ first.bag) in
-    let change = subst (λ (p : PlaceSeen). Q (account_of (Some p) (held_of k2)) (account_of (Some second.is) (held_of k3))) same second.change in
-    let last : m3 ≡ record m1 { places = set m1.places place second.is } =
-    second.is_there ∙ (ap (λ (m : MirrorSeen). record m { places = set m.places place second.is }) first.is_there
-    ∙ ap (λ (ps : List PlaceSeen). record m1 { places = ps }) (set_twice m1.places place first.is second.is)) in
+    let bag : second.is.bag ≡ first.was.bag = second.bag ∙ (ap (λ (p : AccessSeen). p.bag) same ∙ first.bag) in
+    let change = subst (λ (p : AccessSeen). Q (account_of (Some p) (held_of k2)) (account_of (Some second.is) (held_of k3))) same second.change in
+    let last : m3 ≡ record m1 { accesses = set m1.accesses place second.is } =
+    second.is_there ∙ (ap (λ (m : MirrorSeen). record m { accesses = set m.accesses place second.is }) first.is_there
+    ∙ ap (λ (ps : List AccessSeen). record m1 { accesses = ps }) (set_twice m1.accesses place first.is second.is)) in
     record {
       was = first.was;
       is = second.is;
@@ -120,22 +120,22 @@ here (x ∷ xs) zero within = (x, refl)
 here (x ∷ xs) (suc i) within = here xs i (omega arith)
 
 -- a change of the side's two chunks of a bag alone
-pub one_of_kept : (Changes : Account → Account → Type 0) (place : ℕ) (m : MirrorSeen) (k k' : Kept) → place < length m.places
-    → ((p : PlaceSeen) → Changes (account_of (Some p) (held_of k)) (account_of (Some p) (held_of k')))
+pub one_of_held : (Changes : Account → Account → Type 0) (place : ℕ) (m : MirrorSeen) (k k' : BagChunks) → place < length m.accesses
+    → ((p : AccessSeen) → Changes (account_of (Some p) (held_of k)) (account_of (Some p) (held_of k')))
     → OneBag Changes place m k m k'
-one_of_kept Changes place m k k' within change =
-    let p = here m.places place within in
+one_of_held Changes place m k k' within change =
+    let p = here m.accesses place within in
     record {
       was = p.0;
       is = p.0;
       was_there = p.1;
-      is_there = ap (λ (ps : List PlaceSeen). record m { places = ps }) (sym (set_same m.places place p.0 p.1));
+      is_there = ap (λ (ps : List AccessSeen). record m { accesses = ps }) (sym (set_same m.accesses place p.0 p.1));
       bag = refl;
       change = change p.0;
     }
 
 -- what is so of a side's order and its current bag stays so where metrics and the number of bags do
-pub order_stays : {Changes : Account → Account → Type 0} {place : ℕ} {old new : MirrorSeen} {kept kept' : List Kept} (order : List At)
-    → Changed Changes place old kept new kept' → IsOrder order (length kept) (metrics_in old.places)
-    → IsOrder order (length kept') (metrics_in new.places)
+pub order_stays : {Changes : Account → Account → Type 0} {place : ℕ} {old new : MirrorSeen} {chunks chunks' : List BagChunks} (order : List OwnBag)
+    → Changed Changes place old chunks new chunks' → IsOrder order (length chunks) (metrics_in old.accesses)
+    → IsOrder order (length chunks') (metrics_in new.accesses)
 order_stays order change was = rw (change.own, change.bags) was

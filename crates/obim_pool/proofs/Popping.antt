@@ -6,12 +6,12 @@ use Rattle.std.proofs.lemmas.Bool.{cases_eq}
 use Rattle.std.proofs.lemmas.List.{length-map}
 use Rattle.std.proofs.lemmas.List.Elements.{All-map}
 use Rattle.atomic_table.specs.Seated.{TableId}
-use Rattle.obim_bags.specs.Logs.{IsMirrorOf, MirrorSeen, PlaceSeen, bags_in, metrics_in, new_mirror}
+use Rattle.obim_bags.specs.Logs.{IsMirrorOf, MirrorSeen, AccessSeen, bags_in, metrics_in, new_mirror}
 use Rattle.obim_bags.proofs.Facts.{prefix_self}
-use Rattle.obim_pool.specs.declared.kept.Kept.{Kept}
-use Rattle.obim_pool.specs.declared.order.At.{At}
+use Rattle.obim_pool.specs.declared.chunks.BagChunks.{BagChunks}
+use Rattle.obim_pool.specs.declared.order.OwnBag.{OwnBag}
 use Rattle.obim_pool.specs.Accounts.{Account, FindsMore, Gets, OnlyLooks, account_of}
-use Rattle.obim_pool.specs.Kept.{all_held, held_of}
+use Rattle.obim_pool.specs.Held.{all_held, held_of}
 use Rattle.obim_pool.specs.Orders.{IsOrder}
 use Rattle.obim_pool.specs.Sides.{FoundEmptyAt, HasLookedBelow, IsCurrent, IsSideOf, mirrors_of, new_side, IsSide, Keeps, Pops, PopsNone, SideSeen, account_at, account_in, current_of}
 use Rattle.obim_pool.specs.Steps.{AreBare, Draws, FindsAllEmpty, FindsEmpty, FoundOnceAt, Grows, IsBare, OneBag, OneFind, PopsLowest, TriesCurrent}
@@ -23,43 +23,43 @@ use Rattle.obim_pool.proofs.Standing.{seen}
 -- ---- the lowest bag that gives a vertex
 
 -- a side grew, and bags of its own were tried in this order
-pub record Searched (entries : List At) (m0 : MirrorSeen) (k0 : List Kept) (m1 : MirrorSeen) (k1 : List Kept)
-    (m2 : MirrorSeen) (k2 : List Kept) : Type 0 where
+pub record Searched (entries : List OwnBag) (m0 : MirrorSeen) (k0 : List BagChunks) (m1 : MirrorSeen) (k1 : List BagChunks)
+    (m2 : MirrorSeen) (k2 : List BagChunks) : Type 0 where
   pub grows : Grows m0 k0 m1 k1
-  pub order : IsOrder entries (length k1) (metrics_in m1.places)
-  pub bags : metrics_in m2.places ≡ metrics_in m1.places
+  pub order : IsOrder entries (length k1) (metrics_in m1.accesses)
+  pub bags : metrics_in m2.accesses ≡ metrics_in m1.accesses
   pub own : length k2 ≡ length k1
 
 -- the same, where the order was read as a list
-pub searched_in : {entries list : List At} {m0 m1 m2 : MirrorSeen} {k0 k1 k2 : List Kept} → list ≡ entries
-    → Grows m0 k0 m1 k1 → IsOrder entries (length k1) (metrics_in m1.places)
-    → metrics_in m2.places ≡ metrics_in m1.places → length k2 ≡ length k1 → Searched list m0 k0 m1 k1 m2 k2
+pub searched_in : {entries list : List OwnBag} {m0 m1 m2 : MirrorSeen} {k0 k1 k2 : List BagChunks} → list ≡ entries
+    → Grows m0 k0 m1 k1 → IsOrder entries (length k1) (metrics_in m1.accesses)
+    → metrics_in m2.accesses ≡ metrics_in m1.accesses → length k2 ≡ length k1 → Searched list m0 k0 m1 k1 m2 k2
 searched_in read grows order bags own = record { grows = grows; order = rw read order; bags = bags; own = own }
 
 -- a bag that was found empty after the side grew was so in the call
-found_once : {entries : List At} {m0 m1 m2 : MirrorSeen} {k0 k1 k2 : List Kept} (before after : Option ℕ) (place : ℕ)
+found_once : {entries : List OwnBag} {m0 m1 m2 : MirrorSeen} {k0 k1 k2 : List BagChunks} (before after : Option ℕ) (place : ℕ)
     → Searched entries m0 k0 m1 k1 m2 k2 → IsBare place m1 k1 m2 k2 → FoundOnceAt place (seen m0 k0 before) (seen m2 k2 after)
 found_once {m2 = m2} {k2 = k2} before after place searched bare = record {
-  find = subst (λ (a : Account). OneFind a (account_in place m2.places (all_held k2))) (searched.grows.accounts place) bare.find;
+  find = subst (λ (a : Account). OneFind a (account_in place m2.accesses (all_held k2))) (searched.grows.accounts place) bare.find;
   alone = bare.alone;
 }
 
-looks_grown : {entries : List At} {m0 m1 m2 : MirrorSeen} {k0 k1 k2 : List Kept} (place : ℕ) → Searched entries m0 k0 m1 k1 m2 k2
-    → OnlyLooks (account_in place m1.places (all_held k1)) (account_in place m2.places (all_held k2))
-    → OnlyLooks (account_in place m0.places (all_held k0)) (account_in place m2.places (all_held k2))
+looks_grown : {entries : List OwnBag} {m0 m1 m2 : MirrorSeen} {k0 k1 k2 : List BagChunks} (place : ℕ) → Searched entries m0 k0 m1 k1 m2 k2
+    → OnlyLooks (account_in place m1.accesses (all_held k1)) (account_in place m2.accesses (all_held k2))
+    → OnlyLooks (account_in place m0.accesses (all_held k0)) (account_in place m2.accesses (all_held k2))
 looks_grown {m2 = m2} {k2 = k2} place searched looks =
-    subst (λ (a : Account). OnlyLooks a (account_in place m2.places (all_held k2))) (searched.grows.accounts place) looks
+    subst (λ (a : Account). OnlyLooks a (account_in place m2.accesses (all_held k2))) (searched.grows.accounts place) looks
 
 -- what is lower comes earlier, where what comes later isn't lower
 less_from : (a b x y : ℕ) → (b ≤ a → x ≤ y) → y < x → a < b
 less_from a b x y up less = grind arith
 
 -- a mirror has a metric for each place
-count_metrics : (places : List PlaceSeen) → length (metrics_in places) ≡ length places
-count_metrics places = length-map (bags_in places) _ ∙ length-map places _
+count_metrics : (accesses : List AccessSeen) → length (metrics_in accesses) ≡ length accesses
+count_metrics accesses = length-map (bags_in accesses) _ ∙ length-map accesses _
 
 -- a vertex out of the first bag of the order that gave one came out of the lowest
-pub draws_lowest : {v : ℕ} {at : At} {entries : List At} {m0 m1 m2 : MirrorSeen} {k0 k1 k2 : List Kept} (before : Option ℕ)
+pub draws_lowest : {v : ℕ} {at : OwnBag} {entries : List OwnBag} {m0 m1 m2 : MirrorSeen} {k0 k1 k2 : List BagChunks} (before : Option ℕ)
     → Searched entries m0 k0 m1 k1 m2 k2 → Draws at v entries m1 k1 m2 k2
     → PopsLowest v (seen m0 k0 before) (seen m2 k2 (Some at.metric))
 draws_lowest {v} {at} {entries} {m0} {m1} {m2} {k0} {k1} {k2} before searched draws =
@@ -73,7 +73,7 @@ draws_lowest {v} {at} {entries} {m0} {m1} {m2} {k0} {k1} {k2} before searched dr
         metric = at.metric;
         current = refl;
         own = (omega (arith, here.0), rw searched.bags here.1);
-        here = subst (λ (a : Account). Gets v a (account_in at.place m2.places (all_held k2))) (searched.grows.accounts at.place) draws.here;
+        here = subst (λ (a : Account). Gets v a (account_in at.place m2.accesses (all_held k2))) (searched.grows.accounts at.place) draws.here;
         others = λ other apart. looks_grown other searched (draws.others other apart);
       };
       below = λ place metric own less.
@@ -81,14 +81,14 @@ draws_lowest {v} {at} {entries} {m0} {m1} {m2} {k0} {k1} {k2} before searched dr
           let is = order.are stands.0 stands.1 stands.2 in
           let metrics : metric ≡ stands.1.metric =
           some_same (sym own.1 ∙ (ap (λ (ms : List ℕ). slice_get ms place) searched.bags
-          ∙ (ap (slice_get (metrics_in m1.places)) (sym stands.3) ∙ is.1))) in
+          ∙ (ap (slice_get (metrics_in m1.accesses)) (sym stands.3) ∙ is.1))) in
           let up = order.rising draws.rank stands.0 at stands.1 draws.there stands.2 in
           subst (λ (p : ℕ). FoundOnceAt p (seen m0 k0 before) (seen m2 k2 (Some at.metric))) stands.3
           (found_once before (Some at.metric) stands.1.place searched (draws.before stands.0 stands.1 (less_from stands.0 draws.rank at.metric stands.1.metric up (omega arith)) stands.2));
     }
 
 -- where no bag of the order gave a vertex, each of the side's own was found empty
-pub finds_all : {entries : List At} {m0 m1 m2 : MirrorSeen} {k0 k1 k2 : List Kept} (before : Option ℕ)
+pub finds_all : {entries : List OwnBag} {m0 m1 m2 : MirrorSeen} {k0 k1 k2 : List BagChunks} (before : Option ℕ)
     → Searched entries m0 k0 m1 k1 m2 k2 → AreBare entries m1 k1 m2 k2
     → FindsAllEmpty (seen m0 k0 before) (seen m2 k2 None)
 finds_all {entries} {m0} {m1} {m2} {k0} {k1} {k2} before searched bare =
@@ -104,14 +104,14 @@ finds_all {entries} {m0} {m1} {m2} {k0} {k1} {k2} before searched bare =
     }
 
 -- what is so of every side is so after a search, where the current bag is one of the order
-pub is_side_still : {at : At} {entries : List At} {m0 m1 m2 : MirrorSeen} {k0 k1 k2 : List Kept} (rank : ℕ)
+pub is_side_still : {at : OwnBag} {entries : List OwnBag} {m0 m1 m2 : MirrorSeen} {k0 k1 k2 : List BagChunks} (rank : ℕ)
     → slice_get entries rank ≡ Some at → Searched entries m0 k0 m1 k1 m2 k2 → IsSide m2 k2 entries (Some at)
 is_side_still {at} {entries} {m0} {m1} {m2} {k0} {k1} {k2} rank there searched =
     let fits = searched.grows.fits in
     let own = searched.own in
-    let places = ap length searched.bags in
+    let accesses = ap length searched.bags in
     record {
-      own = omega (arith, count_metrics m1.places, count_metrics m2.places);
+      own = omega (arith, count_metrics m1.accesses, count_metrics m2.accesses);
       order = rw (searched.own, searched.bags) searched.order;
       current_is = rw (searched.own, searched.bags) (searched.order.are rank at there);
     }
@@ -128,7 +128,7 @@ twice_more : (a b c : ℕ) → b ≡ (a + 1) % 2 ^ 64 → c ≡ (b + 1) % 2 ^ 64
 twice_more a b c first second = twice_mod (2 ^ 64) a b c first second
 
 -- what an account holds
-held_is : (found : Option PlaceSeen) (held : List ℕ) → (account_of found held).held ≡ held
+held_is : (found : Option AccessSeen) (held : List ℕ) → (account_of found held).held ≡ held
 held_is None held = refl
 held_is (Some place) held = refl
 
@@ -136,7 +136,7 @@ held_is (Some place) held = refl
 tried_found : {old mid new : SideSeen} (place : ℕ) → TriesCurrent old mid → FoundOnceAt place mid new → FoundEmptyAt place old new
 tried_found {old} {mid} {new} place tries once =
     let bare : get_or new.held place [] ≡ [] =
-    sym (held_is (slice_get new.mirror.places place) (get_or new.held place [])) ∙ once.find.bare in
+    sym (held_is (slice_get new.mirror.accesses place) (get_or new.held place [])) ∙ once.find.bare in
     ⊎_elim
     (λ (same : (account_at place mid).empties ≡ (account_at place old).empties). record {
       bare = bare;
@@ -173,22 +173,22 @@ tried_none tries all = record {
 -- ---- the try of the current bag
 
 -- a side keeps what it has where one bag changes
-pub change_keeps : {Changes : Account → Account → Type 0} {place : ℕ} {m0 m1 : MirrorSeen} {k0 k1 : List Kept} (before after : Option ℕ)
+pub change_keeps : {Changes : Account → Account → Type 0} {place : ℕ} {m0 m1 : MirrorSeen} {k0 k1 : List BagChunks} (before after : Option ℕ)
     → Changed Changes place m0 k0 m1 k1 → Keeps (seen m0 k0 before) (seen m1 k1 after)
 change_keeps {m0 = m0} {m1 = m1} {k0 = k0} {k1 = k1} before after change =
     let own = change.own in
     record {
       log = change.log;
-      bags = rw change.bags (prefix_self (metrics_in m0.places));
+      bags = rw change.bags (prefix_self (metrics_in m0.accesses));
       own = omega (arith, length-map k0 held_of, length-map k1 held_of);
     }
 
 -- a vertex came out of the current bag
-pub pops_current : {v : ℕ} {at : At} {m0 m1 : MirrorSeen} {k0 k1 : List Kept} (current : Option At)
-    → current ≡ Some at → IsCurrent (metrics_in m0.places) (length k0) current → Changed (Gets v) at.place m0 k0 m1 k1
+pub pops_current : {v : ℕ} {at : OwnBag} {m0 m1 : MirrorSeen} {k0 k1 : List BagChunks} (current : Option OwnBag)
+    → current ≡ Some at → IsCurrent (metrics_in m0.accesses) (length k0) current → Changed (Gets v) at.place m0 k0 m1 k1
     → Pops v (seen m0 k0 (current_of current)) (seen m1 k1 (current_of current))
 pops_current {at = at} {m0 = m0} {k0 = k0} {k1 = k1} current is stands change =
-    let here = subst (IsCurrent (metrics_in m0.places) (length k0)) is stands in
+    let here = subst (IsCurrent (metrics_in m0.accesses) (length k0)) is stands in
     let own = change.own in
     record {
       place = at.place;
@@ -200,11 +200,11 @@ pops_current {at = at} {m0 = m0} {k0 = k0} {k1 = k1} current is stands change =
     }
 
 -- the current bag was found empty
-pub tries_current : {place : ℕ} {m0 m1 : MirrorSeen} {k0 k1 : List Kept} (current : Option ℕ)
+pub tries_current : {place : ℕ} {m0 m1 : MirrorSeen} {k0 k1 : List BagChunks} (current : Option ℕ)
     → Changed OneFind place m0 k0 m1 k1 → TriesCurrent (seen m0 k0 current) (seen m1 k1 current)
 tries_current {place} {m0} {m1} {k0} {k1} current change =
-    let before = λ (q : ℕ). account_in q m0.places (all_held k0) in
-    let after = λ (q : ℕ). account_in q m1.places (all_held k1) in
+    let before = λ (q : ℕ). account_in q m0.accesses (all_held k0) in
+    let after = λ (q : ℕ). account_in q m1.accesses (all_held k1) in
     record {
       log = change.log;
       bags = change.bags;
@@ -218,7 +218,7 @@ tries_current {place} {m0} {m1} {k0} {k1} current change =
     }
 
 -- that one bag changed somehow
-one_weaker : {Changes : Account → Account → Type 0} {place : ℕ} {m0 m1 : MirrorSeen} {k k' : Kept} → OneBag Changes place m0 k m1 k'
+one_weaker : {Changes : Account → Account → Type 0} {place : ℕ} {m0 m1 : MirrorSeen} {k k' : BagChunks} → OneBag Changes place m0 k m1 k'
     → OneBag (λ _ _. ⊤) place m0 k m1 k'
 one_weaker one = record {
   was = one.was;
@@ -230,16 +230,16 @@ one_weaker one = record {
 }
 
 -- whether a vertex came out of a bag or not, one bag changed
-pub one_of_both : {place : ℕ} {m0 m1 : MirrorSeen} {k k' : Kept} (found : Option ℕ)
+pub one_of_both : {place : ℕ} {m0 m1 : MirrorSeen} {k k' : BagChunks} (found : Option ℕ)
     → IfSome found (λ v. OneBag (Gets v) place m0 k m1 k') → IfNone found (FindsEmpty place m0 k m1 k')
     → OneBag (λ _ _. ⊤) place m0 k m1 k'
 one_of_both None gets finds = one_weaker finds.here
 one_of_both (Some v) gets finds = one_weaker gets
 
 -- the current bag is one of the side's own
-pub current_own : {at : At} {mirror : MirrorSeen} {kept : List Kept} {entries : List At} {current : Option At}
-    → current ≡ Some at → IsSide mirror kept entries current → at.place < length kept
-current_own {mirror = mirror} {kept = kept} is side = (subst (IsCurrent (metrics_in mirror.places) (length kept)) is side.current_is).0
+pub current_own : {at : OwnBag} {mirror : MirrorSeen} {chunks : List BagChunks} {entries : List OwnBag} {current : Option OwnBag}
+    → current ≡ Some at → IsSide mirror chunks entries current → at.place < length chunks
+current_own {mirror = mirror} {chunks = chunks} is side = (subst (IsCurrent (metrics_in mirror.accesses) (length chunks)) is side.current_is).0
 
 -- ---- sides of a pool
 

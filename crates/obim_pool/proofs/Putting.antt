@@ -4,12 +4,12 @@ use Rattle.std.specs.Prelude.{sum_by}
 use Rattle.std.proofs.lemmas.List.{append-nil}
 use Rattle.std.proofs.lemmas.List.Sums.{sum_by-append}
 use Rattle.obim_bags.specs.Chunks.{ChunkSeen}
-use Rattle.obim_bags.specs.Logs.{ChangesAt, MirrorSeen, PlaceSeen, place_after_put}
-use Rattle.obim_pool.specs.declared.kept.Kept.{Kept}
+use Rattle.obim_bags.specs.Logs.{ChangesAt, MirrorSeen, AccessSeen, access_after_put}
+use Rattle.obim_pool.specs.declared.chunks.BagChunks.{BagChunks}
 use Rattle.obim_pool.specs.Accounts.{Account, AreSame, Puts, account_of, vertices_of}
-use Rattle.obim_pool.specs.Kept.{held_of, vertices_in}
+use Rattle.obim_pool.specs.Held.{held_of, vertices_in}
 use Rattle.obim_pool.specs.Steps.{OneBag}
-use Rattle.obim_pool.proofs.Lifting.{one_of_kept, one_then, one_within}
+use Rattle.obim_pool.proofs.Lifting.{one_of_held, one_then, one_within}
 
 -- the vertices of one list of chunks and another
 pub vertices_append : (xs ys : List ChunkSeen) → vertices_of (xs ++ ys) ≡ vertices_of xs ++ vertices_of ys
@@ -22,7 +22,7 @@ weigh_both : (weight : ℕ → ℕ) (xs ys : List ℕ) → sum_by weight (xs ++ 
 weigh_both weight xs ys = sum_by-append weight xs ys
 
 -- vertices that came to what is held, with no chunk put
-pub puts_here : (came : List ℕ) (p : PlaceSeen) (held held' : List ℕ) → AreSame held' (came ++ held)
+pub puts_here : (came : List ℕ) (p : AccessSeen) (held held' : List ℕ) → AreSame held' (came ++ held)
     → Puts came (account_of (Some p) held) (account_of (Some p) held')
 puts_here came p held held' same = record {
   chunks = [];
@@ -67,23 +67,23 @@ puts_then xs ys a b c first second = record {
 }
 
 -- two changes of one bag by puts
-pub one_puts_then : (xs ys : List ℕ) {place : ℕ} {m1 m2 m3 : MirrorSeen} {k1 k2 k3 : Kept} → OneBag (Puts xs) place m1 k1 m2 k2
+pub one_puts_then : (xs ys : List ℕ) {place : ℕ} {m1 m2 m3 : MirrorSeen} {k1 k2 k3 : BagChunks} → OneBag (Puts xs) place m1 k1 m2 k2
     → OneBag (Puts ys) place m2 k2 m3 k3 → OneBag (Puts (xs ++ ys)) place m1 k1 m3 k3
 one_puts_then xs ys first second = one_then (puts_then xs ys) first second
 
 -- vertices came to the two chunks of a bag, and nothing was put
-pub one_keeps : (came : List ℕ) (place : ℕ) (m : MirrorSeen) (k k' : Kept) → place < length m.places
+pub one_keeps : (came : List ℕ) (place : ℕ) (m : MirrorSeen) (k k' : BagChunks) → place < length m.accesses
     → AreSame (held_of k') (came ++ held_of k) → OneBag (Puts came) place m k m k'
 one_keeps came place m k k' within same =
-    one_of_kept (Puts came) place m k k' within (λ p. puts_here came p (held_of k) (held_of k') same)
+    one_of_held (Puts came) place m k k' within (λ p. puts_here came p (held_of k) (held_of k') same)
 
 -- where the two chunks of a bag are as before, nothing came
-pub one_stays : (place : ℕ) (m : MirrorSeen) (k k' : Kept) → place < length m.places → held_of k' ≡ held_of k
+pub one_stays : (place : ℕ) (m : MirrorSeen) (k k' : BagChunks) → place < length m.accesses → held_of k' ≡ held_of k
     → OneBag (Puts []) place m k m k'
 one_stays place m k k' within same = one_keeps [] place m k k' within (λ weight. ap (sum_by weight) same)
 
 -- where the filling chunk is put back, nothing came
-pub one_put_back : (place : ℕ) (m m' : MirrorSeen) (k k' : Kept) → place < length m.places → k'.filling ≡ k.filling
+pub one_put_back : (place : ℕ) (m m' : MirrorSeen) (k k' : BagChunks) → place < length m.accesses → k'.filling ≡ k.filling
     → k'.draining ≡ k.draining → m' ≡ m → OneBag (Puts []) place m k m' k'
 one_put_back place m m' k k' within filling draining same =
     subst (λ (new : MirrorSeen). OneBag (Puts []) place m k new k') (sym same)
@@ -91,8 +91,8 @@ one_put_back place m m' k k' within filling draining same =
     (ap (λ o. vertices_in o ++ vertices_in k'.draining) filling ∙ ap (λ o. vertices_in k.filling ++ vertices_in o) draining))
 
 -- the filling chunk was put
-pub one_hands_on : (place : ℕ) (old new : MirrorSeen) (k k' : Kept) (chunk : Box ChunkSeen Global) → k.filling ≡ Some chunk
-    → k'.filling ≡ None → k'.draining ≡ k.draining → ChangesAt place (place_after_put chunk.value) old new
+pub one_hands_on : (place : ℕ) (old new : MirrorSeen) (k k' : BagChunks) (chunk : Box ChunkSeen Global) → k.filling ≡ Some chunk
+    → k'.filling ≡ None → k'.draining ≡ k.draining → ChangesAt place (access_after_put chunk.value) old new
     → OneBag (Puts []) place old k new k'
 one_hands_on place old new k k' chunk filling empty draining put =
     let held : held_of k ≡ chunk.value.vertices ++ vertices_in k.draining =
@@ -100,7 +100,7 @@ one_hands_on place old new k k' chunk filling empty draining put =
     let held' : held_of k' ≡ vertices_in k.draining = ap (λ o. vertices_in o ++ vertices_in k'.draining) empty ∙ ap vertices_in draining in
     record {
       was = put.0;
-      is = place_after_put chunk.value put.0;
+      is = access_after_put chunk.value put.0;
       was_there = put.1;
       is_there = put.2;
       bag = refl;
@@ -121,7 +121,7 @@ one_hands_on place old new k k' chunk filling empty draining put =
     }
 
 -- a vertex came to the chunks after that
-pub one_adds : (v : ℕ) {place : ℕ} {m1 m2 : MirrorSeen} {k1 k2 : Kept} (k3 k4 : Kept) → OneBag (Puts []) place m1 k1 m2 k2
+pub one_adds : (v : ℕ) {place : ℕ} {m1 m2 : MirrorSeen} {k1 k2 : BagChunks} (k3 k4 : BagChunks) → OneBag (Puts []) place m1 k1 m2 k2
     → held_of k3 ≡ held_of k2 → AreSame (held_of k4) (v ∷ held_of k3) → OneBag (Puts (v ∷ [])) place m1 k1 m2 k4
 one_adds v {place} {m1} {m2} {k1} {k2} k3 k4 first same added =
     let came : AreSame (held_of k4) (v ∷ held_of k2) = subst (λ held. AreSame (held_of k4) (v ∷ held)) same added in

@@ -1,7 +1,7 @@
 -- What a side did with a bag, and what it holds of it.
 use Rattle.std.specs.Prelude.{◌≡◌, ℕ, ◌+◌, ◌%◌, ◌^◌, List, [], ◌∷◌, ◌++◌, Option, Some, None, sum_by}
 use Rattle.obim_bags.specs.Chunks.{ChunkSeen}
-use Rattle.obim_bags.specs.Logs.{PlaceSeen}
+use Rattle.obim_bags.specs.Logs.{AccessSeen}
 
 -- the chunks that the side's pass put into the bag and got from it, how often it found the bag empty, modulo 2^64, and
 -- the vertices in the side's two chunks of the bag
@@ -12,7 +12,7 @@ pub record Account : Type 0 where
   pub held : List ℕ
 
 -- the account of a place with these vertices held; a side that has no such place did nothing with it
-abbrev pub account_of : Option PlaceSeen → List ℕ → Account
+abbrev pub account_of : Option AccessSeen → List ℕ → Account
 account_of None held = record { put = []; got = []; empties = 0; held = held }
 account_of (Some place) held = record {
   put = place.pass.tally.put;

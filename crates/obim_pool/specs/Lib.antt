@@ -1,6 +1,6 @@
 pub mod Bags
 pub mod Accounts
-pub mod Kept
+pub mod Held
 pub mod Orders
 pub mod Scales
 pub mod Sides

@@ -2,9 +2,9 @@
 use Rattle.std.specs.Prelude.{◌≡◌, ◌≢◌, ℕ, ◌≤◌, ◌<◌, ⊤, min, List, [], ◌∷◌, map, length, Option, Some, None, slice_get, get_or}
 use mathlib.Core.List.{IsPrefix}
 use Rattle.atomic_table.specs.Seated.{TableId}
-use Rattle.obim_bags.specs.Logs.{MirrorSeen, PlaceSeen, WasEmptyIfAloneAt, metrics_in, new_mirror}
-use Rattle.obim_pool.specs.declared.order.At.{At}
-use Rattle.obim_pool.specs.declared.kept.Kept.{Kept}
+use Rattle.obim_bags.specs.Logs.{MirrorSeen, AccessSeen, WasEmptyIfAloneAt, metrics_in, new_mirror}
+use Rattle.obim_pool.specs.declared.order.OwnBag.{OwnBag}
+use Rattle.obim_pool.specs.declared.chunks.BagChunks.{BagChunks}
 use Rattle.obim_pool.specs.Accounts.{Account, FindsMore, Gets, OnlyLooks, Puts, account_of}
 use Rattle.obim_pool.specs.Orders.{IsAt, IsOrder}
 
@@ -25,22 +25,22 @@ new_side log = record { mirror = new_mirror log; held = []; current = None }
 abbrev pub mirrors_of : List SideSeen → List MirrorSeen
 mirrors_of sides = map (λ (side : SideSeen). side.mirror) sides
 
--- the account of a place, of a list of places and a list of what is held
-abbrev pub account_in : ℕ → List PlaceSeen → List (List ℕ) → Account
-account_in place places held = account_of (slice_get places place) (get_or held place [])
+-- the account of a place, of a list of accesses and a list of what is held
+abbrev pub account_in : ℕ → List AccessSeen → List (List ℕ) → Account
+account_in place accesses held = account_of (slice_get accesses place) (get_or held place [])
 
 -- the side's account of the bag at a place
 abbrev pub account_at : ℕ → SideSeen → Account
-account_at place side = account_in place side.mirror.places side.held
+account_at place side = account_in place side.mirror.accesses side.held
 
 -- the bag at this place is one of the side's own, and this is its metric
 abbrev pub IsOwn : ℕ → ℕ → SideSeen → Type 0
-IsOwn place metric side = (place < length side.held) × (slice_get (metrics_in side.mirror.places) place ≡ Some metric)
+IsOwn place metric side = (place < length side.held) × (slice_get (metrics_in side.mirror.accesses) place ≡ Some metric)
 
 -- a side stays of its log, and bags keep their places
 pub record Keeps (old new : SideSeen) : Type 0 where
   pub log : new.mirror.log ≡ old.mirror.log
-  pub bags : IsPrefix (metrics_in old.mirror.places) (metrics_in new.mirror.places)
+  pub bags : IsPrefix (metrics_in old.mirror.accesses) (metrics_in new.mirror.accesses)
   pub own : length old.held ≤ length new.held
 
 -- ---- push
@@ -96,16 +96,16 @@ pub record PopsNone (old new : SideSeen) : Type 0 where
 
 -- ---- what is so of every side between two calls; not part of what a caller is promised
 
-abbrev pub current_of : Option At → Option ℕ
+abbrev pub current_of : Option OwnBag → Option ℕ
 current_of None = None
 current_of (Some at) = Some at.metric
 
-abbrev pub IsCurrent : List ℕ → ℕ → Option At → Type 0
+abbrev pub IsCurrent : List ℕ → ℕ → Option OwnBag → Type 0
 IsCurrent metrics count None = ⊤
 IsCurrent metrics count (Some at) = IsAt metrics count at
 
 -- it has no more bags of its own than the mirror has, knows them by rising metric, and one of them is current, if any
-pub record IsSide (mirror : MirrorSeen) (kept : List Kept) (entries : List At) (current : Option At) : Type 0 where
-  pub own : length kept ≤ length mirror.places
-  pub order : IsOrder entries (length kept) (metrics_in mirror.places)
-  pub current_is : IsCurrent (metrics_in mirror.places) (length kept) current
+pub record IsSide (mirror : MirrorSeen) (chunks : List BagChunks) (entries : List OwnBag) (current : Option OwnBag) : Type 0 where
+  pub own : length chunks ≤ length mirror.accesses
+  pub order : IsOrder entries (length chunks) (metrics_in mirror.accesses)
+  pub current_is : IsCurrent (metrics_in mirror.accesses) (length chunks) current

@@ -2,7 +2,7 @@
 
 ghost use Rattle.std.specs.Prelude.{◌≡◌, ◌≤◌, [], IfSome};
 ghost use Rattle.obim_bags.specs.declared.chunk.TheConstants.{MAX_SIZE};
-ghost use Rattle.obim_pool.specs.declared.maker.TheConstants.{MAX_SERIAL};
+ghost use Rattle.obim_pool.specs.declared.chunk_maker.TheConstants.{MAX_SERIAL};
 
 use obim_bags::{Chunk, ChunkId, MAX_SIZE};
 use std::alloc::Global;
@@ -13,7 +13,7 @@ const MAX_SERIAL: u64 = 1 << 62;
 /// Opens the chunks of one worker. It keeps one box whose chunk ran empty for the next one, since most
 /// chunks are opened soon after another was used up.
 #[derive(Drop)]
-pub(crate) struct Maker {
+pub(crate) struct ChunkMaker {
     alloc: Global,
     size: usize,
     next: ChunkId,
@@ -22,12 +22,12 @@ pub(crate) struct Maker {
     ghost serial_is: { next.serial ≤ MAX_SERIAL },
 }
 
-impl Maker {
+impl ChunkMaker {
     /// Opens chunks of this size for a worker, with serials from 0.
-    pub(crate) fn new(alloc: Global, worker: u32, size: usize) -> Maker
+    pub(crate) fn new(alloc: Global, worker: u32, size: usize) -> ChunkMaker
         requires { (1 ≤ size) × (size ≤ MAX_SIZE) }
     {
-        Maker {
+        ChunkMaker {
             alloc,
             size,
             next: ChunkId { worker, serial: 0 },

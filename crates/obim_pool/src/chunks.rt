@@ -3,23 +3,23 @@
 ghost use Rattle.std.specs.Prelude.{◌≡◌, [], ◌∷◌, IfNone, IfSome};
 ghost use Rattle.std.specs.Bool.{OnFalse, OnTrue};
 ghost use Rattle.obim_pool.specs.Accounts.{AreSame};
-ghost use Rattle.obim_pool.specs.Kept.{held_of, vertices_in};
+ghost use Rattle.obim_pool.specs.Held.{held_of, vertices_in};
 
-use crate::maker::Maker;
+use crate::chunk_maker::ChunkMaker;
 use obim_bags::Chunk;
 
 /// Of one bag, the chunk that pushes fill and the chunk that pops drain, each perhaps absent.
 #[derive(Drop)]
-pub(crate) struct Kept {
+pub(crate) struct BagChunks {
     pub filling: Option<Box<Chunk>>,
     pub draining: Option<Box<Chunk>>,
 }
 
-impl Kept {
-    pub(crate) fn none() -> Kept
+impl BagChunks {
+    pub(crate) fn absent() -> BagChunks
         ensures { held_of result ≡ [] }
     {
-        Kept {
+        BagChunks {
             filling: None,
             draining: None,
         }
@@ -27,7 +27,7 @@ impl Kept {
 
     /// Whether both chunks are absent.
     #[inline(always)]
-    pub(crate) fn is_none(&self) -> bool
+    pub(crate) fn are_absent(&self) -> bool
         ensures { OnTrue result (held_of self.now ≡ []) }
     {
         self.filling.is_none() && self.draining.is_none()
@@ -56,7 +56,7 @@ impl Kept {
 
     /// Takes the last vertex of the draining chunk. A chunk whose last vertex is taken gives up its box.
     #[inline(always)]
-    pub(crate) fn take_last(&mut self, maker: &mut Maker) -> Option<u32>
+    pub(crate) fn take_last(&mut self, maker: &mut ChunkMaker) -> Option<u32>
         ensures taken { IfSome result (λ v. AreSame (v ∷ held_of self.new) (held_of self.old)) }
         ensures unchanged { IfNone result (held_of self.new ≡ held_of self.old) }
         ensures empty { IfNone result (vertices_in self.new.draining ≡ []) }
@@ -67,7 +67,7 @@ impl Kept {
         };
         let last = chunk.pop();
         if chunk.len() == 0 {
-            self.give_up(maker);
+            self.recycle(maker);
         }
         last
     }
@@ -83,7 +83,7 @@ impl Kept {
 
     /// Hands the box of the draining chunk, which is empty, to the maker.
     #[inline(never)]
-    fn give_up(&mut self, maker: &mut Maker)
+    fn recycle(&mut self, maker: &mut ChunkMaker)
         requires { vertices_in self.old.draining ≡ [] }
         ensures filling { self.new.filling ≡ self.old.filling }
         ensures draining { vertices_in self.new.draining ≡ [] }
@@ -94,17 +94,17 @@ impl Kept {
     }
 
     /// Makes this chunk the draining one, which was empty or absent.
-    pub(crate) fn drain(&mut self, maker: &mut Maker, chunk: Box<Chunk>)
+    pub(crate) fn drain(&mut self, maker: &mut ChunkMaker, chunk: Box<Chunk>)
         requires { vertices_in self.old.draining ≡ [] }
         ensures filling { self.new.filling ≡ self.old.filling }
         ensures draining { self.new.draining ≡ Some chunk }
     {
-        self.give_up(maker);
+        self.recycle(maker);
         self.draining = Some(chunk);
     }
 
     /// Makes the filling chunk, if there is one, the draining one, which was empty or absent.
-    pub(crate) fn turn(&mut self, maker: &mut Maker)
+    pub(crate) fn drain_filling(&mut self, maker: &mut ChunkMaker)
         requires { vertices_in self.old.draining ≡ [] }
         ensures same { AreSame (held_of self.new) (held_of self.old) }
         ensures filling { self.new.filling ≡ None }

@@ -36,15 +36,15 @@
 //! `route_walks`, whose `Memory` it returns.
 #![tactic(auto)]
 
-mod draw;
-mod feed;
-mod kept;
+mod bags;
+mod chunk_maker;
+mod chunks;
 mod locked;
-mod maker;
 mod obim;
 mod order;
-mod own;
 mod pool;
+mod pop;
+mod push;
 mod recent;
 mod scale;
 mod side;

@@ -9,7 +9,7 @@ ghost use Rattle.obim_bags.specs.Logs.{IsLogSettled, WantsMirrors};
 ghost use Rattle.obim_pool.specs.Sides.{IsSideOf, Keeps, PushesTo, PushesNone, Pops, PopsNone, HasLowered, HasLookedBelow};
 ghost use Rattle.obim_pool.specs.Sides.{mirrors_of, new_side};
 
-use crate::maker::Maker;
+use crate::chunk_maker::ChunkMaker;
 use crate::pool::WorkPool;
 use crate::side::ObimSide;
 use obim_bags::{BagLog, Chunk, SettleFault};
@@ -52,7 +52,7 @@ impl ObimPool {
         let mut sides = Vec::with_capacity(alloc, workers as usize)?;
         let mut worker = 0;
         for mirror in mirrors {
-            let maker = Maker::new(alloc, worker, chunk);
+            let maker = ChunkMaker::new(alloc, worker, chunk);
             sides.push(ObimSide::new(alloc, mirror, maker))?;
             worker = worker.wrapping_add(1);
         }

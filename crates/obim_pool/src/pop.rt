@@ -4,12 +4,12 @@ ghost use Rattle.std.specs.Prelude.{◌≡◌, ◌≤◌, ◌<◌, [], length, I
 ghost use Rattle.obim_bags.specs.Logs.{IsMirrorOf, metrics_in};
 ghost use Rattle.obim_pool.specs.Accounts.{Gets};
 ghost use Rattle.obim_pool.specs.Orders.{IsOrder};
-ghost use Rattle.obim_pool.specs.Kept.{vertices_in};
+ghost use Rattle.obim_pool.specs.Held.{vertices_in};
 ghost use Rattle.obim_pool.specs.Steps.{AreBare, Draws, FindsEmpty, OneBag};
 
-use crate::kept::Kept;
-use crate::maker::Maker;
-use crate::order::At;
+use crate::chunk_maker::ChunkMaker;
+use crate::chunks::BagChunks;
+use crate::order::OwnBag;
 use obim_bags::{BagLog, Mirror};
 use std::sync::Wait;
 
@@ -18,20 +18,20 @@ use std::sync::Wait;
 pub(crate) fn try_at<R: Wait>(
     rt: &R,
     log: &BagLog,
-    maker: &mut Maker,
+    maker: &mut ChunkMaker,
     mirror: &mut Mirror,
     place: usize,
-    kept: &mut Kept,
+    chunks: &mut BagChunks,
 ) -> Option<u32>
     requires log { IsMirrorOf log.now mirror.old }
-    requires place { place < length mirror.old.places }
-    ensures popped { IfSome result (λ v. OneBag (Gets v) place mirror.old kept.old mirror.new kept.new) }
-    ensures none { IfNone result (FindsEmpty place mirror.old kept.old mirror.new kept.new) }
+    requires place { place < length mirror.old.accesses }
+    ensures popped { IfSome result (λ v. OneBag (Gets v) place mirror.old chunks.old mirror.new chunks.new) }
+    ensures none { IfNone result (FindsEmpty place mirror.old chunks.old mirror.new chunks.new) }
 {
-    if kept.is_none() && log.finds_empty_at(mirror, place) {
+    if chunks.are_absent() && log.finds_empty_at(mirror, place) {
         return None;
     }
-    pop_at(rt, log, maker, mirror, place, kept)
+    pop_at(rt, log, maker, mirror, place, chunks)
 }
 
 /// Takes a vertex out of the draining chunk; else gets a chunk from the bag; else drains the filling one.
@@ -39,19 +39,19 @@ pub(crate) fn try_at<R: Wait>(
 pub(crate) fn pop_at<R: Wait>(
     rt: &R,
     log: &BagLog,
-    maker: &mut Maker,
+    maker: &mut ChunkMaker,
     mirror: &mut Mirror,
     place: usize,
-    kept: &mut Kept,
+    chunks: &mut BagChunks,
 ) -> Option<u32>
     requires log { IsMirrorOf log.now mirror.old }
-    requires place { place < length mirror.old.places }
-    ensures popped { IfSome result (λ v. OneBag (Gets v) place mirror.old kept.old mirror.new kept.new) }
-    ensures none { IfNone result (FindsEmpty place mirror.old kept.old mirror.new kept.new) }
+    requires place { place < length mirror.old.accesses }
+    ensures popped { IfSome result (λ v. OneBag (Gets v) place mirror.old chunks.old mirror.new chunks.new) }
+    ensures none { IfNone result (FindsEmpty place mirror.old chunks.old mirror.new chunks.new) }
 {
-    match kept.take_last(maker) {
+    match chunks.take_last(maker) {
         Some(v) => Some(v),
-        None => refill(rt, log, maker, mirror, place, kept),
+        None => refill(rt, log, maker, mirror, place, chunks),
     }
 }
 
@@ -60,46 +60,46 @@ pub(crate) fn pop_at<R: Wait>(
 fn refill<R: Wait>(
     rt: &R,
     log: &BagLog,
-    maker: &mut Maker,
+    maker: &mut ChunkMaker,
     mirror: &mut Mirror,
     place: usize,
-    kept: &mut Kept,
+    chunks: &mut BagChunks,
 ) -> Option<u32>
     requires log { IsMirrorOf log.now mirror.old }
-    requires place { place < length mirror.old.places }
-    requires empty { vertices_in kept.old.draining ≡ [] }
-    ensures popped { IfSome result (λ v. OneBag (Gets v) place mirror.old kept.old mirror.new kept.new) }
-    ensures none { IfNone result (FindsEmpty place mirror.old kept.old mirror.new kept.new) }
+    requires place { place < length mirror.old.accesses }
+    requires empty { vertices_in chunks.old.draining ≡ [] }
+    ensures popped { IfSome result (λ v. OneBag (Gets v) place mirror.old chunks.old mirror.new chunks.new) }
+    ensures none { IfNone result (FindsEmpty place mirror.old chunks.old mirror.new chunks.new) }
 {
     match log.get_boxed_at(rt, mirror, place) {
-        Some(chunk) => kept.drain(maker, chunk),
-        None => kept.turn(maker),
+        Some(chunk) => chunks.drain(maker, chunk),
+        None => chunks.drain_filling(maker),
     }
-    kept.take_last(maker)
+    chunks.take_last(maker)
 }
 
 /// Tries the bags of the order in turn: the first that gives a vertex, and the vertex.
 pub(crate) fn scan<R: Wait>(
     rt: &R,
     log: &BagLog,
-    maker: &mut Maker,
+    maker: &mut ChunkMaker,
     mirror: &mut Mirror,
-    kept: &mut Vec<Kept>,
-    order: &[At],
-) -> Option<(At, u32)>
+    chunks: &mut Vec<BagChunks>,
+    order: &[OwnBag],
+) -> Option<(OwnBag, u32)>
     requires log { IsMirrorOf log.now mirror.old }
-    requires fits { length kept.old.items ≤ length mirror.old.places }
-    requires order { IsOrder order.now (length kept.old.items) (metrics_in mirror.old.places) }
+    requires fits { length chunks.old.items ≤ length mirror.old.accesses }
+    requires order { IsOrder order.now (length chunks.old.items) (metrics_in mirror.old.accesses) }
     ensures log { mirror.new.log ≡ mirror.old.log }
-    ensures bags { metrics_in mirror.new.places ≡ metrics_in mirror.old.places }
-    ensures own { length kept.new.items ≡ length kept.old.items }
+    ensures bags { metrics_in mirror.new.accesses ≡ metrics_in mirror.old.accesses }
+    ensures own { length chunks.new.items ≡ length chunks.old.items }
     ensures popped { IfSome result
-        (λ found. Draws found.0 found.1 order.now mirror.old kept.old.items mirror.new kept.new.items) }
-    ensures none { IfNone result (AreBare order.now mirror.old kept.old.items mirror.new kept.new.items) }
+        (λ found. Draws found.0 found.1 order.now mirror.old chunks.old.items mirror.new chunks.new.items) }
+    ensures none { IfNone result (AreBare order.now mirror.old chunks.old.items mirror.new chunks.new.items) }
 {
     for at in order {
         let place = at.place;
-        match try_at(rt, log, maker, mirror, place, &mut kept[place]) {
+        match try_at(rt, log, maker, mirror, place, &mut chunks[place]) {
             Some(v) => return Some((*at, v)),
             None => {}
         }

@@ -4,11 +4,11 @@ ghost use Rattle.std.specs.Prelude.{◌≡◌, ◌<◌, [], ◌∷◌, length};
 ghost use Rattle.std.specs.Bool.{OnFalse, OnTrue};
 ghost use Rattle.obim_bags.specs.Logs.{IsMirrorOf};
 ghost use Rattle.obim_pool.specs.Accounts.{Puts};
-ghost use Rattle.obim_pool.specs.Kept.{held_of};
+ghost use Rattle.obim_pool.specs.Held.{held_of};
 ghost use Rattle.obim_pool.specs.Steps.{OneBag};
 
-use crate::kept::Kept;
-use crate::maker::Maker;
+use crate::chunk_maker::ChunkMaker;
+use crate::chunks::BagChunks;
 use obim_bags::{BagLog, Mirror};
 use std::sync::Wait;
 
@@ -17,79 +17,85 @@ use std::sync::Wait;
 pub(crate) fn push_at<R: Wait>(
     rt: &R,
     log: &BagLog,
-    maker: &mut Maker,
+    maker: &mut ChunkMaker,
     mirror: &mut Mirror,
     place: usize,
-    kept: &mut Kept,
+    chunks: &mut BagChunks,
     v: u32,
 ) -> bool
     requires log { IsMirrorOf log.now mirror.old }
-    requires place { place < length mirror.old.places }
-    ensures pushed { OnTrue result (OneBag (Puts (v ∷ [])) place mirror.old kept.old mirror.new kept.new) }
-    ensures refused { OnFalse result (OneBag (Puts []) place mirror.old kept.old mirror.new kept.new) }
+    requires place { place < length mirror.old.accesses }
+    ensures pushed { OnTrue result (OneBag (Puts (v ∷ [])) place mirror.old chunks.old mirror.new chunks.new) }
+    ensures refused { OnFalse result (OneBag (Puts []) place mirror.old chunks.old mirror.new chunks.new) }
 {
-    if !kept.add(v) {
-        return push_anew(rt, log, maker, mirror, place, kept, v);
+    if !chunks.add(v) {
+        return start_chunk(rt, log, maker, mirror, place, chunks, v);
     }
-    if kept.filled() == maker.size() {
-        hand_on(rt, log, mirror, place, kept);
+    if chunks.filled() == maker.size() {
+        put_filling(rt, log, mirror, place, chunks);
     }
     true
 }
 
 /// The same where the filling chunk is absent, or full since its put was refused.
 #[inline(never)]
-fn push_anew<R: Wait>(
+fn start_chunk<R: Wait>(
     rt: &R,
     log: &BagLog,
-    maker: &mut Maker,
+    maker: &mut ChunkMaker,
     mirror: &mut Mirror,
     place: usize,
-    kept: &mut Kept,
+    chunks: &mut BagChunks,
     v: u32,
 ) -> bool
     requires log { IsMirrorOf log.now mirror.old }
-    requires place { place < length mirror.old.places }
-    ensures pushed { OnTrue result (OneBag (Puts (v ∷ [])) place mirror.old kept.old mirror.new kept.new) }
-    ensures refused { OnFalse result (OneBag (Puts []) place mirror.old kept.old mirror.new kept.new) }
+    requires place { place < length mirror.old.accesses }
+    ensures pushed { OnTrue result (OneBag (Puts (v ∷ [])) place mirror.old chunks.old mirror.new chunks.new) }
+    ensures refused { OnFalse result (OneBag (Puts []) place mirror.old chunks.old mirror.new chunks.new) }
 {
-    hand_on(rt, log, mirror, place, kept);
-    if !open(maker, kept) || !kept.add(v) {
+    put_filling(rt, log, mirror, place, chunks);
+    if !open(maker, chunks) || !chunks.add(v) {
         return false;
     }
-    if kept.filled() == maker.size() {
-        hand_on(rt, log, mirror, place, kept);
+    if chunks.filled() == maker.size() {
+        put_filling(rt, log, mirror, place, chunks);
     }
     true
 }
 
 /// Opens a filling chunk. False where there is one, or where it was refused.
-fn open(maker: &mut Maker, kept: &mut Kept) -> bool
-    ensures { held_of kept.new ≡ held_of kept.old }
+fn open(maker: &mut ChunkMaker, chunks: &mut BagChunks) -> bool
+    ensures { held_of chunks.new ≡ held_of chunks.old }
 {
-    if kept.filling.is_some() {
+    if chunks.filling.is_some() {
         return false;
     }
-    kept.filling = maker.open();
-    kept.filling.is_some()
+    chunks.filling = maker.open();
+    chunks.filling.is_some()
 }
 
 /// Puts the filling chunk into the bag, if it has a vertex. Where the put is refused, it stays.
 #[inline(never)]
-fn hand_on<R: Wait>(rt: &R, log: &BagLog, mirror: &mut Mirror, place: usize, kept: &mut Kept)
+fn put_filling<R: Wait>(
+    rt: &R,
+    log: &BagLog,
+    mirror: &mut Mirror,
+    place: usize,
+    chunks: &mut BagChunks,
+)
     requires log { IsMirrorOf log.now mirror.old }
-    requires place { place < length mirror.old.places }
-    ensures { OneBag (Puts []) place mirror.old kept.old mirror.new kept.new }
+    requires place { place < length mirror.old.accesses }
+    ensures { OneBag (Puts []) place mirror.old chunks.old mirror.new chunks.new }
 {
-    let Some(chunk) = kept.filling.take() else {
+    let Some(chunk) = chunks.filling.take() else {
         return;
     };
     if chunk.len() == 0 {
-        kept.filling = Some(chunk);
+        chunks.filling = Some(chunk);
         return;
     }
     match log.put_boxed_at(rt, mirror, place, chunk) {
         Ok(()) => {}
-        Err(back) => kept.filling = Some(back),
+        Err(back) => chunks.filling = Some(back),
     }
 }

@@ -8,12 +8,12 @@ ghost use Rattle.obim_pool.specs.Sides.{IsSideOf, Keeps, PushesTo, PushesNone, P
 ghost use Rattle.obim_pool.specs.Sides.{new_side};
 ghost use Rattle.obim_pool.specs.Steps.{FindsAllEmpty, PopsLowest, TriesCurrent};
 
-use crate::draw::{pop_at, scan};
-use crate::feed::push_at;
-use crate::kept::Kept;
-use crate::maker::Maker;
-use crate::order::At;
-use crate::own::{catch_up, place_for};
+use crate::bags::{catch_up, place_for};
+use crate::chunk_maker::ChunkMaker;
+use crate::chunks::BagChunks;
+use crate::order::OwnBag;
+use crate::pop::{pop_at, scan};
+use crate::push::push_at;
 use crate::recent::Recent;
 use crate::worklist::Worklist;
 use obim_bags::{BagLog, Mirror};
@@ -26,33 +26,33 @@ use std::sync::Wait;
 #[derive(Drop)]
 pub struct ObimSide {
     mirror: Mirror,
-    kept: Vec<Kept>,
-    order: Vec<At>,
-    current: Option<At>,
+    chunks: Vec<BagChunks>,
+    order: Vec<OwnBag>,
+    current: Option<OwnBag>,
     recent: Recent,
-    maker: Maker,
+    maker: ChunkMaker,
 }
 
 impl Model for ObimSide {
     ghost use Rattle.obim_pool.specs.Sides.{SideSeen, current_of, IsSide};
-    ghost use Rattle.obim_pool.specs.Kept.{all_held};
+    ghost use Rattle.obim_pool.specs.Held.{all_held};
 
     ghost Value = { SideSeen };
 
-    ghost view = { λ s. record { mirror = s.mirror; held = all_held s.kept.items; current = current_of s.current } };
+    ghost view = { λ s. record { mirror = s.mirror; held = all_held s.chunks.items; current = current_of s.current } };
 
-    ghost invariant = { λ s. IsSide s.mirror s.kept.items s.order.items s.current };
+    ghost invariant = { λ s. IsSide s.mirror s.chunks.items s.order.items s.current };
 }
 
 impl ObimSide {
     /// A side that knows no bag, over a mirror of none.
-    pub(crate) fn new(alloc: Global, mirror: Mirror, maker: Maker) -> ObimSide
-        requires { mirror.places ≡ [] }
+    pub(crate) fn new(alloc: Global, mirror: Mirror, maker: ChunkMaker) -> ObimSide
+        requires { mirror.accesses ≡ [] }
         ensures { result ≡ new_side mirror.log }
     {
         ObimSide {
             mirror,
-            kept: Vec::new(alloc),
+            chunks: Vec::new(alloc),
             order: Vec::new(alloc),
             current: None,
             recent: Recent::new(),
@@ -101,7 +101,7 @@ impl ObimSide {
             log,
             alloc,
             &mut self.mirror,
-            &mut self.kept,
+            &mut self.chunks,
             &mut self.order,
             &mut self.recent,
             metric,
@@ -114,20 +114,20 @@ impl ObimSide {
             &mut self.maker,
             &mut self.mirror,
             place,
-            &mut self.kept[place],
+            &mut self.chunks[place],
             v,
         );
         if !pushed {
             return false;
         }
-        self.lower(At { metric, place });
+        self.lower(OwnBag { metric, place });
         true
     }
 
     /// Makes this bag the current one where none is, or where the current one has a larger metric.
     #[inline(always)]
-    fn lower(&mut self, at: At)
-        requires { IsAt (metrics_in self.old.mirror.places) (length self.old.held) at }
+    fn lower(&mut self, at: OwnBag)
+        requires { IsAt (metrics_in self.old.mirror.accesses) (length self.old.held) at }
         ensures mirror { self.new.mirror ≡ self.old.mirror }
         ensures held { self.new.held ≡ self.old.held }
         ensures current { HasLowered at.metric self.old.current self.new.current }
@@ -157,7 +157,7 @@ impl ObimSide {
     #[inline(always)]
     pub(crate) fn ahead(&self, by: usize) -> Option<u32> {
         let at = self.current?;
-        self.kept.get(at.place)?.ahead(by)
+        self.chunks.get(at.place)?.ahead(by)
     }
 
     /// Takes a vertex out of the current bag.
@@ -176,7 +176,7 @@ impl ObimSide {
                 &mut self.maker,
                 &mut self.mirror,
                 at.place,
-                &mut self.kept[at.place],
+                &mut self.chunks[at.place],
             ),
             None => None,
         }
@@ -195,7 +195,7 @@ impl ObimSide {
             log,
             alloc,
             &mut self.mirror,
-            &mut self.kept,
+            &mut self.chunks,
             &mut self.order,
         );
         let drawn = scan(
@@ -203,7 +203,7 @@ impl ObimSide {
             log,
             &mut self.maker,
             &mut self.mirror,
-            &mut self.kept,
+            &mut self.chunks,
             &self.order,
         );
         match drawn {

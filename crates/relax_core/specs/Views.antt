@@ -104,9 +104,9 @@ idle_view share = record { hand = Idle; credits = 0; saw = false; share = share 
 
 -- Take: a vertex that was marked is held, with one credit
 abbrev pub taken : Bool → ℕ → View → View
-taken was u v = record v {
-  hand = if was then Fresh u else v.hand;
-  credits = if was then 1 else v.credits;
+taken was_marked u v = record v {
+  hand = if was_marked then Fresh u else v.hand;
+  credits = if was_marked then 1 else v.credits;
 }
 
 -- Read: the row is open with the label that was read
@@ -128,9 +128,9 @@ raised v = record v { credits = 2 }
 
 -- SetMark: nothing is owed; one of two credits went to the mark, unless it was set before
 abbrev pub marked : Bool → View → View
-marked was v = record v {
+marked was_marked v = record v {
   hand = Open (vertex_of v.hand) (read_of v.hand) (place_of v.hand);
-  credits = if was then 2 else 1;
+  credits = if was_marked then 2 else 1;
 }
 
 -- Finish: nothing is held

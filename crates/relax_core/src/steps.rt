@@ -60,9 +60,9 @@ impl Core {
         if u >= csr.n() {
             return false;
         }
-        let was = self.marks[u as usize];
+        let was_marked = self.marks[u as usize];
         self.marks[u as usize] = false;
-        view.take(was, u);
+        view.take(was_marked, u);
         self.views[seat] = view;
         true
     }
@@ -136,9 +136,9 @@ impl Core {
         if view.credits != 2 {
             return false;
         }
-        let was = self.marks[head as usize];
+        let was_marked = self.marks[head as usize];
         self.marks[head as usize] = true;
-        view.set_mark(was, u, d, k);
+        view.set_mark(was_marked, u, d, k);
         self.views[seat] = view;
         true
     }

@@ -47,10 +47,10 @@ impl View {
     }
 
     /// `Take`: where the mark of `u` was set, the seat holds `u` with one credit.
-    pub fn take(&mut self, was: bool, u: u32)
-        ensures { self.new ≡ taken was u self.old }
+    pub fn take(&mut self, was_marked: bool, u: u32)
+        ensures { self.new ≡ taken was_marked u self.old }
     {
-        if was {
+        if was_marked {
             self.hand = Hand::Fresh { u };
             self.credits = 1;
         }
@@ -91,12 +91,12 @@ impl View {
 
     /// `SetMark`: nothing is owed any more. One credit went to the mark, unless it was set before. The
     /// caller hands in the parts of the hand that it still holds.
-    pub fn set_mark(&mut self, was: bool, u: u32, d: u64, k: usize)
+    pub fn set_mark(&mut self, was_marked: bool, u: u32, d: u64, k: usize)
         requires { self.old.hand ≡ Owe u d k (owed_of self.old.hand) }
-        ensures { self.new ≡ marked was self.old }
+        ensures { self.new ≡ marked was_marked self.old }
     {
         self.hand = Hand::Open { u, d, k };
-        self.credits = if was { 2 } else { 1 };
+        self.credits = if was_marked { 2 } else { 1 };
     }
 
     /// `Finish`: nothing is held.

@@ -1,7 +1,6 @@
 //! Worked examples of hops, parents and walks, and a random graph beside a slow way.
 
-ghost use Rattle.std.specs.Prelude.{◌≡◌, ◌<◌, ◌↔◌, IsTrue, IfOk};
-ghost use Rattle.route_walks.specs.Walk.{IsGraph};
+ghost use Rattle.std.specs.Prelude.{◌≡◌, ◌<◌, IfOk};
 ghost use Rattle.route_walks.specs.Label.{AreLeastLabels};
 ghost use Rattle.route_walks.specs.Operators.{seeds_from};
 
@@ -9,16 +8,12 @@ mod refusals;
 
 use crate::{NONE, hops, parents, walk_to};
 use csr_graph::{Csr, MAX_ARCS, MAX_VERTICES};
-use route_walks::{ArcRec, INF, Memory, plain_labels, seeds_from, unit_weights};
+use route_walks::{
+    ArcRec, EXAMPLE_ARCS, INF, Memory, is_graph, plain_labels, seeds_from, unit_weights,
+};
 use std::alloc::Global;
 use std::process::Abort;
 use std::test::Fail;
-
-fn is_graph(n: u32, arcs: &[ArcRec]) -> bool
-    ensures { IsTrue result ↔ IsGraph n arcs.now }
-{
-    arcs.iter().all(|arc| arc.tail < n && arc.head < n)
-}
 
 /// The least distances from `s`.
 fn distances(alloc: Global, csr: &Csr, s: u32) -> Result<Vec<u64>, Memory>
@@ -29,20 +24,6 @@ fn distances(alloc: Global, csr: &Csr, s: u32) -> Result<Vec<u64>, Memory>
     let arcs = csr.arcs(alloc)?;
     let seeds = seeds_from(alloc, s)?;
     plain_labels(alloc, csr.n(), &arcs, &seeds)
-}
-
-/// Six vertices, with free arcs and a circle of them.
-fn six() -> [ArcRec; 8] {
-    [
-        ArcRec::new(0, 1, 17),
-        ArcRec::new(0, 2, 10),
-        ArcRec::new(1, 3, 2),
-        ArcRec::new(2, 4, 0),
-        ArcRec::new(3, 2, 0),
-        ArcRec::new(3, 5, 3),
-        ArcRec::new(4, 1, 0),
-        ArcRec::new(4, 5, 20),
-    ]
 }
 
 /// What is expected of a graph: for each vertex its hop, its parent and its walk, empty for none.
@@ -90,7 +71,7 @@ fn expect_walks(
 #[test]
 fn walks_of_six_vertices(rt: HostRuntime) -> Result<(), Fail> {
     let alloc = rt.alloc();
-    let six = six();
+    let six = EXAMPLE_ARCS;
     let from_0 = Want {
         hops: &[0, 3, 1, 4, 2, 5],
         parents: &[NONE, 4, 0, 1, 2, 3],

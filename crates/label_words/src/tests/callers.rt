@@ -1,10 +1,10 @@
 //! Callers that know the words by the contracts of the calls alone.
 
 ghost use Rattle.std.specs.Prelude.{◌≡◌, true, false, ◌<◌, ◌≤◌, ◌+◌, ◌∷◌, All, Contains};
-ghost use Rattle.std.specs.Prelude.{◌↔◌, IfOk, IfSome, IsTrue, slice_index};
+ghost use Rattle.std.specs.Prelude.{IfOk, IfSome, slice_index};
 ghost use Rattle.relax_core.specs.declared.views.Hand.TheVariants.{Idle};
 ghost use Rattle.route_walks.specs.Label.{AreLeast};
-ghost use Rattle.route_walks.specs.Walk.{AreSeeds, IsGraph};
+ghost use Rattle.route_walks.specs.Walk.{AreSeeds};
 ghost use Rattle.csr_graph.specs.Graph.{end_place};
 ghost use Rattle.label_words.specs.Known.{IsIdle};
 ghost use Rattle.label_words.specs.Callers.{Stays, HasRowOpen};
@@ -13,7 +13,9 @@ ghost use Rattle.relax_core.specs.Views.{place_of};
 use crate::{Closed, Step, Words, WorkSeat};
 use csr_graph::Csr;
 use relax_core::{Hand, SHARES};
-use route_walks::{ArcRec, MAX_ARCS, Memory, Seed, plain_labels};
+use route_walks::{
+    ArcRec, EXAMPLE_ARCS, EXAMPLE_SEEDS, MAX_ARCS, Memory, Seed, is_graph, plain_labels,
+};
 use std::alloc::Global;
 use std::test::Fail;
 use std::thread::{self, Threads};
@@ -241,35 +243,18 @@ fn sweep_thrice(words: &Words, mut seat: WorkSeat, csr: &Csr) -> WorkSeat
     seat
 }
 
-const SIX: [(u32, u32, u32); 8] = [
-    (0, 1, 17),
-    (0, 2, 10),
-    (1, 3, 2),
-    (2, 4, 0),
-    (3, 2, 0),
-    (3, 5, 3),
-    (4, 1, 0),
-    (4, 5, 20),
-];
-
 pub(crate) const LEAST: [u64; 6] = [0, 10, 10, 12, 10, 15];
-
-pub(crate) const SEEDS: [Seed; 1] = [Seed {
-    vertex: 0,
-    start: 0,
-}];
 
 pub(crate) fn six(alloc: Global) -> Result<Csr, Fail>
     ensures { IfOk result (λ csr. csr.n ≡ 6) }
 {
-    let arcs = SIX.map(|(tail, head, weight)| ArcRec::new(tail, head, weight));
-    Ok(Csr::build(alloc, 6, &arcs)?)
+    Ok(Csr::build(alloc, 6, &EXAMPLE_ARCS)?)
 }
 
 #[test]
 fn one_caller_settles(rt: HostRuntime) -> Result<(), Fail> {
     let csr = six(rt.alloc())?;
-    let labels = settle(rt.alloc(), &csr, &SEEDS)?;
+    let labels = settle(rt.alloc(), &csr, &EXAMPLE_SEEDS)?;
     assert_eq!(rt; labels.as_deref(), Some(LEAST.as_slice()));
     Ok(())
 }
@@ -278,7 +263,7 @@ fn one_caller_settles(rt: HostRuntime) -> Result<(), Fail> {
 fn two_callers(rt: HostRuntime) -> Result<(), Fail> {
     let csr = six(rt.alloc())?;
     for round in 0..500_u32 {
-        let (words, mut left) = Words::open(rt.alloc(), &csr, &SEEDS)?;
+        let (words, mut left) = Words::open(rt.alloc(), &csr, &EXAMPLE_SEEDS)?;
         let right = words.split(&mut left);
         let (mut seat, other) = thread::join(
             &rt,
@@ -334,12 +319,6 @@ fn far_arcs(alloc: Global) -> Result<Vec<ArcRec>, Fail> {
     Ok(arcs)
 }
 
-fn is_graph(n: u32, arcs: &[ArcRec]) -> bool
-    ensures { IsTrue result ↔ IsGraph n arcs.now }
-{
-    arcs.iter().all(|arc| arc.tail < n && arc.head < n)
-}
-
 // Three sweeps by each of two threads, with one seat's share between them.
 fn sweep_by_two<R: Threads + Sync>(rt: &R, words: &Words, mut seat: WorkSeat, csr: &Csr) -> WorkSeat
     requires words { seat.words ≡ words.now }
@@ -366,7 +345,7 @@ fn four_callers_over_many_vertices(rt: HostRuntime) -> Result<(), Fail> {
     let within = arcs.len() <= MAX_ARCS && is_graph(MANY, &arcs);
     assert!(rt; within);
     let csr = Csr::build(rt.alloc(), MANY, &arcs)?;
-    let (words, mut seat) = Words::open(rt.alloc(), &csr, &SEEDS)?;
+    let (words, mut seat) = Words::open(rt.alloc(), &csr, &EXAMPLE_SEEDS)?;
     let other = words.split(&mut seat);
     let (mut seat, other) = thread::join(
         &rt,
@@ -379,7 +358,7 @@ fn four_callers_over_many_vertices(rt: HostRuntime) -> Result<(), Fail> {
     let Closed::Settled(labels) = words.close(rt.alloc(), seat)? else {
         unreachable!()
     };
-    let plain = plain_labels(rt.alloc(), MANY, &arcs, &SEEDS)?;
+    let plain = plain_labels(rt.alloc(), MANY, &arcs, &EXAMPLE_SEEDS)?;
     assert!(rt; labels.as_slice() == plain.as_slice());
     Ok(())
 }

@@ -4,10 +4,10 @@ ghost use Rattle.std.specs.Prelude.{◌≡◌, length, IfOk};
 ghost use Rattle.route_walks.specs.Walk.{AreSeeds};
 ghost use Rattle.label_words.specs.Paused.{IsPause};
 
-use crate::tests::callers::{LEAST, SEEDS, six, sweep_until_seen};
+use crate::tests::callers::{LEAST, six, sweep_until_seen};
 use crate::{Closed, Paused, Words};
 use csr_graph::Csr;
-use route_walks::{INF, Memory, Seed};
+use route_walks::{EXAMPLE_SEEDS, INF, Memory, Seed};
 use std::alloc::Global;
 use std::process::Abort;
 use std::test::Fail;
@@ -36,7 +36,7 @@ fn settled_pause(
 fn settled_labels_are_no_work(rt: HostRuntime) -> Result<(), Fail> {
     let alloc = rt.alloc();
     let csr = six(alloc)?;
-    let rest = settled_pause(&rt, alloc, &csr, &SEEDS)?;
+    let rest = settled_pause(&rt, alloc, &csr, &EXAMPLE_SEEDS)?;
     let (words, mut seat) = Words::reopen(alloc, &csr, &rest)?;
     for v in 0..6_u32 {
         assert_eq!(rt; words.marked_label(&seat, v), None, "{v} is marked");

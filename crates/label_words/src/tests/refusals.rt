@@ -7,11 +7,11 @@ ghost use Rattle.relax_core.specs.declared.views.TheConstants.{SHARES};
 ghost use Rattle.label_words.specs.Known.{IsIdle};
 ghost use Rattle.label_words.specs.Paused.{CanGoOn};
 
-use crate::tests::{SEEDS, graph, play};
+use crate::tests::{graph, play};
 use crate::{Closed, Paused, Words, WorkSeat};
 use csr_graph::Csr;
 use relax_core::{Hand, SHARES};
-use route_walks::{INF, Memory, refusable, tried_again};
+use route_walks::{EXAMPLE_SEEDS, INF, Memory, refusable, tried_again};
 use std::alloc::Global;
 use std::process::Abort;
 use std::test::Fail;
@@ -53,7 +53,7 @@ fn open_and_close(rt: &impl Abort, alloc: Global, csr: &Csr) -> Result<Paused, M
     requires { 0 < csr.now.n }
     ensures { IfOk result (λ rest. CanGoOn csr.now rest) }
 {
-    let (words, seat) = Words::open(alloc, csr, &SEEDS)?;
+    let (words, seat) = Words::open(alloc, csr, &EXAMPLE_SEEDS)?;
     close_at_once(rt, alloc, words, seat)
 }
 
@@ -61,7 +61,7 @@ fn open_and_close(rt: &impl Abort, alloc: Global, csr: &Csr) -> Result<Paused, M
 fn of_words_open(rt: HostRuntime) -> Result<(), Fail> {
     let alloc = rt.alloc();
     let csr = graph(alloc)?;
-    let (words, seat) = tried_again!(rt, alloc, Memory, Words::open(alloc, &csr, &SEEDS));
+    let (words, seat) = tried_again!(rt, alloc, Memory, Words::open(alloc, &csr, &EXAMPLE_SEEDS));
     assert!(rt; seat.hand() == Hand::Idle && seat.share() == SHARES && !seat.saw());
     expect_opening(&rt, &csr, &close_at_once(&rt, alloc, words, seat)?);
     Ok(())
@@ -83,7 +83,7 @@ fn of_words_reopen(rt: HostRuntime) -> Result<(), Fail> {
 fn labels_of_schedule(rt: &impl Abort, alloc: Global, csr: &Csr) -> Result<Vec<u64>, Memory>
     requires { csr.now.n ≡ 4 }
 {
-    let (words, mut left) = Words::open(alloc, csr, &SEEDS)?;
+    let (words, mut left) = Words::open(alloc, csr, &EXAMPLE_SEEDS)?;
     let mut right = words.split(&mut left);
     play(rt, &words, &mut left, &mut right, csr);
     assert!(rt; left.saw() && left.hand() == Hand::Idle && right.hand() == Hand::Idle);
@@ -100,7 +100,7 @@ fn labels_of_schedule(rt: &impl Abort, alloc: Global, csr: &Csr) -> Result<Vec<u
 fn of_words_close(rt: HostRuntime) -> Result<(), Fail> {
     let alloc = rt.alloc();
     let csr = graph(alloc)?;
-    let (words, seat) = Words::open(alloc, &csr, &SEEDS)?;
+    let (words, seat) = Words::open(alloc, &csr, &EXAMPLE_SEEDS)?;
     let rest = tried_again!(
         rt,
         alloc,

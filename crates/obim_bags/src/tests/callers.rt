@@ -4,10 +4,10 @@ ghost use Rattle.std.specs.Prelude.{◌≡◌, ◌≢◌, ◌+◌, ◌<◌, ◌�
 ghost use Rattle.std.specs.Prelude.{All, IfErr, IfNone, IfOk, IfSome, OnErr, OnOk};
 ghost use Rattle.obim_bags.specs.declared.fault.SettleFault.TheVariants.{Memory};
 ghost use Rattle.obim_bags.specs.Chunks.{ChunkSeen};
-ghost use Rattle.obim_bags.specs.Accounts.{weight_of};
+ghost use Rattle.obim_bags.specs.BagRule.{weight_of};
 ghost use Rattle.obim_bags.specs.Bags.{new_pass};
-ghost use Rattle.obim_bags.specs.Logs.{ChangesAt, IsNew, PlaceSeen, new_mirror};
-ghost use Rattle.obim_bags.specs.Logs.{place_after_put, place_after_get, place_after_empty_find};
+ghost use Rattle.obim_bags.specs.Logs.{ChangesAt, IsNew, AccessSeen, new_mirror};
+ghost use Rattle.obim_bags.specs.Logs.{access_after_put, access_after_get, access_after_empty_find};
 
 use crate::tests::helpers::chunk_of;
 use crate::{Bag, BagLog, BagPass, Chunk, LogFault, Mirror, SettleFault};
@@ -76,7 +76,7 @@ fn ask_twice<R: Wait>(
 ) -> Result<(usize, usize), LogFault>
     requires { mirror.old.log ≡ log.now }
     ensures log { mirror.new.log ≡ log.now }
-    ensures same { IfOk result (λ places. places.0 ≡ places.1) }
+    ensures same { IfOk result (λ accesses. accesses.0 ≡ accesses.1) }
 {
     let first = log.find_or_append(rt, alloc, mirror, metric)?;
     let second = log.find_or_append(rt, alloc, mirror, metric)?;
@@ -94,7 +94,7 @@ fn ask_by_two<R: Wait>(
 ) -> Result<(usize, usize), Fail>
     requires first { first.log ≡ log.now }
     requires second { second.log ≡ log.now }
-    ensures { IfOk result (λ places. places.0 ≡ places.1) }
+    ensures { IfOk result (λ accesses. accesses.0 ≡ accesses.1) }
 {
     let place = log.find_or_append(rt, alloc, &mut first, metric)?;
     let other = log.find_or_append(rt, alloc, &mut second, metric)?;
@@ -124,14 +124,14 @@ fn put_and_get_at<R: Wait>(
     chunk: Chunk,
 ) -> Result<Option<Chunk>, Chunk>
     requires log { mirror.old.log ≡ log.now }
-    requires place { place < length mirror.old.places }
+    requires place { place < length mirror.old.accesses }
     requires filled { chunk.vertices ≢ [] }
     ensures log { mirror.new.log ≡ log.now }
     ensures got { IfOk result (λ found. IfSome found (λ got.
-        ChangesAt place (λ was. place_after_get got (place_after_put chunk was)) mirror.old mirror.new)) }
+        ChangesAt place (λ was. access_after_get got (access_after_put chunk was)) mirror.old mirror.new)) }
     ensures filled { IfOk result (λ found. IfSome found (λ got. got.vertices ≢ [])) }
     ensures none { IfOk result (λ found. IfNone found
-        (ChangesAt place (λ was. place_after_empty_find (place_after_put chunk was)) mirror.old mirror.new)) }
+        (ChangesAt place (λ was. access_after_empty_find (access_after_put chunk was)) mirror.old mirror.new)) }
     ensures returned { IfErr result (λ back. back ≡ chunk) }
     ensures refused { OnErr result (mirror.new ≡ mirror.old) }
 {
@@ -148,10 +148,10 @@ fn put_and_find_at<R: Wait>(
     chunk: Chunk,
 ) -> Result<Option<Chunk>, Chunk>
     requires log { mirror.old.log ≡ log.now }
-    requires place { place < length mirror.old.places }
+    requires place { place < length mirror.old.accesses }
     requires filled { chunk.vertices ≢ [] }
     ensures log { mirror.new.log ≡ log.now }
-    ensures found { (was : PlaceSeen) → slice_get mirror.old.places place ≡ Some was → IsNew was
+    ensures found { (was : AccessSeen) → slice_get mirror.old.accesses place ≡ Some was → IsNew was
         → was.bag.workers ≡ 1 → IfOk result (λ found. IfNone found ⊥) }
 {
     log.put_at(rt, mirror, place, chunk)?;
@@ -187,7 +187,7 @@ fn drain_two<R: Wait>(
 ) -> Result<Vec<Chunk>, SettleFault>
     requires first { first.log ≡ log.now }
     requires second { second.log ≡ log.now }
-    ensures { OnOk result ((one two : PlaceSeen) → slice_get first.places place ≡ Some one → slice_get second.places place ≡ Some two
+    ensures { OnOk result ((one two : AccessSeen) → slice_get first.accesses place ≡ Some one → slice_get second.accesses place ≡ Some two
         → IsNew one → IsNew two → 2 ≤ one.bag.workers) }
 {
     let _place = place;

@@ -50,8 +50,8 @@ fn gain<R: Wait + Abort>(
 fn expect_five_and_two(rt: &impl Abort, mirror: &Mirror) {
     assert!(rt; mirror.len() == 2);
     assert!(rt; mirror.metric_at(0) == 5 && mirror.metric_at(1) == 2);
-    let places = [mirror.place_of(5), mirror.place_of(2), mirror.place_of(7)];
-    assert_eq!(rt; places, [Some(0), Some(1), None]);
+    let accesses = [mirror.place_of(5), mirror.place_of(2), mirror.place_of(7)];
+    assert_eq!(rt; accesses, [Some(0), Some(1), None]);
 }
 
 // A log of which both mirrors know the metrics 5 and 2.
@@ -79,7 +79,7 @@ fn a_metric_has_one_place(rt: HostRuntime) -> Result<(), Fail> {
     Ok(())
 }
 
-// Place 1 has the chunk of this serial, and place 0 has none.
+// Access 1 has the chunk of this serial, and place 0 has none.
 fn expect_at_1<R: Wait + Abort>(rt: &R, log: &BagLog, mirror: &mut Mirror, serial: u64)
     requires { mirror.old.log ≡ log.now }
     ensures { mirror.new.log ≡ log.now }

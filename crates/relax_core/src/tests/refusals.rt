@@ -5,10 +5,10 @@
 ghost use Rattle.std.specs.Prelude.{◌≡◌};
 ghost use Rattle.relax_core.specs.State.{IsOf};
 
-use crate::tests::{SCHEDULE, SEEDS, events, graph, stands};
+use crate::tests::{SCHEDULE, events, graph, stands};
 use crate::{Core, CoreFault, Event, Hand, ReplayFault, SHARES, View, apply, open_core, replay};
 use csr_graph::Csr;
-use route_walks::{INF, Memory, refusable, tried_again};
+use route_walks::{EXAMPLE_SEEDS, INF, Memory, refusable, tried_again};
 use std::alloc::Global;
 use std::process::Abort;
 use std::test::Fail;
@@ -19,7 +19,12 @@ const SPLITS: usize = 16;
 #[test]
 fn of_open_core(rt: HostRuntime) -> Result<(), Fail> {
     let csr = graph(rt.alloc())?;
-    let core = tried_again!(rt, rt.alloc(), Memory, open_core(rt.alloc(), &csr, &SEEDS));
+    let core = tried_again!(
+        rt,
+        rt.alloc(),
+        Memory,
+        open_core(rt.alloc(), &csr, &EXAMPLE_SEEDS)
+    );
     for v in 0..4_u32 {
         assert_eq!(rt; core.label(v), if v == 0 { 0 } else { INF });
         assert_eq!(rt; core.mark(v), v == 0);
@@ -82,7 +87,7 @@ fn split_again(rt: &impl Abort, alloc: Global, core: &mut Core, csr: &Csr) -> Re
 fn of_apply(rt: HostRuntime) -> Result<(), Fail> {
     let alloc = rt.alloc();
     let csr = graph(alloc)?;
-    let mut core = open_core(alloc, &csr, &SEEDS)?;
+    let mut core = open_core(alloc, &csr, &EXAMPLE_SEEDS)?;
     play_again(&rt, alloc, &mut core, &csr)?;
     split_again(&rt, alloc, &mut core, &csr)?;
     assert_eq!(rt; core.views().len(), SPLITS + 2);
@@ -100,11 +105,11 @@ fn of_replay(rt: HostRuntime) -> Result<(), Fail> {
         rt,
         alloc,
         ReplayFault::Memory,
-        replay(alloc, &csr, &SEEDS, &events)
+        replay(alloc, &csr, &EXAMPLE_SEEDS, &events)
     );
     stands(&rt, &core, &csr, 32);
     let stop = [Event::Split(0), Event::Take(0, 0), Event::Relax(0)];
-    match refusable!(alloc, replay(alloc, &csr, &SEEDS, &stop)) {
+    match refusable!(alloc, replay(alloc, &csr, &EXAMPLE_SEEDS, &stop)) {
         Ok(_) => assert!(rt; false, "an event that is not enabled"),
         Err(ReplayFault::Memory) => {}
         Err(fault) => assert_eq!(rt; fault, ReplayFault::At(2)),

@@ -1,9 +1,9 @@
 //! Each call that takes memory, with one allocation of it refused: `Memory` then, and made once more it gives the
 //! walks that were worked by hand. `tests/refusals` refuses each in turn; `tests/refusals.tsv` has the calls.
 
-use crate::tests::{build, distances, six};
+use crate::tests::{build, distances};
 use crate::{NONE, hops, parents, walk_to};
-use route_walks::{Memory, tried_again};
+use route_walks::{EXAMPLE_ARCS, Memory, tried_again};
 use std::test::Fail;
 
 // Hops and parents of the six vertices from the first.
@@ -14,7 +14,7 @@ const PARENTS: [u32; 6] = [NONE, 4, 0, 1, 2, 3];
 #[test]
 fn of_hops(rt: HostRuntime) -> Result<(), Fail> {
     let alloc = rt.alloc();
-    let csr = build(&rt, alloc, 6, &six())?;
+    let csr = build(&rt, alloc, 6, &EXAMPLE_ARCS)?;
     let labels = distances(alloc, &csr, 0)?;
     let hops = tried_again!(rt, alloc, Memory, hops(alloc, &csr, &labels, 0));
     assert_eq!(rt; hops.as_slice(), HOPS.as_slice());
@@ -24,7 +24,7 @@ fn of_hops(rt: HostRuntime) -> Result<(), Fail> {
 #[test]
 fn of_parents(rt: HostRuntime) -> Result<(), Fail> {
     let alloc = rt.alloc();
-    let csr = build(&rt, alloc, 6, &six())?;
+    let csr = build(&rt, alloc, 6, &EXAMPLE_ARCS)?;
     let labels = distances(alloc, &csr, 0)?;
     let hops = hops(alloc, &csr, &labels, 0)?;
     let parents = tried_again!(rt, alloc, Memory, parents(alloc, &csr, &labels, &hops));
@@ -35,7 +35,7 @@ fn of_parents(rt: HostRuntime) -> Result<(), Fail> {
 #[test]
 fn of_walk_to(rt: HostRuntime) -> Result<(), Fail> {
     let alloc = rt.alloc();
-    let csr = build(&rt, alloc, 6, &six())?;
+    let csr = build(&rt, alloc, 6, &EXAMPLE_ARCS)?;
     let labels = distances(alloc, &csr, 0)?;
     let hops = hops(alloc, &csr, &labels, 0)?;
     let parents = parents(alloc, &csr, &labels, &hops)?;

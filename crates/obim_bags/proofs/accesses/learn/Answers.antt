@@ -4,7 +4,7 @@ use Rattle.std.specs.Prelude.{slice_get}
 use Rattle.obim_bags.specs.Logs.{metrics_of}
 use Rattle.obim_bags.specs.Entries.{bags_of}
 use Rattle.obim_bags.proofs.Prefixes.{prefix_longer, prefix_next, prefix_trans}
-use Rattle.obim_bags.proofs.places.learn.Goals as goal
+use Rattle.obim_bags.proofs.accesses.learn.Goals as goal
 
 pub loop-index-preserved : goal.loop-index-preserved
 loop-index-preserved c =

@@ -3,7 +3,7 @@ use Rattle.std.proofs.Common.{length, ◌-◌}
 use mathlib.Core.List.{IsPrefix}
 use Rattle.obim_bags.specs.Logs.{metrics_of}
 use Rattle.obim_bags.specs.Entries.{bags_of}
-use Rattle.obim_bags.proofs.places.learn.Given as goal
+use Rattle.obim_bags.proofs.accesses.learn.Given as goal
 
 abbrev pub invariant-loop-index : goal.invariant-loop-index
 invariant-loop-index l = record {

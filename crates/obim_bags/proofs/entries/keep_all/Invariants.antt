@@ -1,6 +1,6 @@
--- Passes of the places taken were put last.
+-- Passes of the accesses taken were put last.
 use Rattle.std.specs.Prelude.{◌≡◌, ◌++◌, All}
-use Rattle.obim_bags.specs.Accounts.{shares_of}
+use Rattle.obim_bags.specs.BagRule.{shares_of}
 use Rattle.obim_bags.specs.Bags.{AreAdded, BagSeen, tallies_of}
 use Rattle.obim_bags.specs.Entries.{IsUnclaimed, unclaimed_of}
 use Rattle.obim_bags.proofs.entries.keep_all.Given as goal

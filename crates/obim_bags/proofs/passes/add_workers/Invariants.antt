@@ -1,7 +1,7 @@
 use Rattle.std.proofs.Common.{◌≡◌}
 use Rattle.crossbeam_queue.specs.SegTies.{IsSegPassOf}
-use Rattle.obim_bags.specs.Accounts.{new_tally}
-use Rattle.obim_bags.proofs.passes.grow.Given as goal
+use Rattle.obim_bags.specs.BagRule.{new_tally}
+use Rattle.obim_bags.proofs.passes.add_workers.Given as goal
 
 abbrev pub invariant-loop : goal.invariant-loop
 invariant-loop l = record {

@@ -1,8 +1,8 @@
 use Rattle.std.proofs.Common.{◌≡◌, ◌≤◌, ◌+◌, ◌-◌, replicate, vec_len, vec_capacity}
 use Rattle.crossbeam_queue.specs.SegTies.{IsSegPassOf}
-use Rattle.obim_bags.specs.Accounts.{new_tally}
+use Rattle.obim_bags.specs.BagRule.{new_tally}
 use Rattle.obim_bags.specs.Bags.{pass_among}
-use Rattle.obim_bags.proofs.passes.deal.Given as goal
+use Rattle.obim_bags.proofs.passes.cut_shares.Given as goal
 
 abbrev pub invariant-loop : goal.invariant-loop
 invariant-loop l = record {

@@ -3,10 +3,10 @@ use Rattle.std.specs.Prelude.{sum_by}
 use Rattle.std.proofs.lemmas.Grind.{common_steps}
 use Rattle.std.proofs.lemmas.List.{map-append}
 use Rattle.std.proofs.lemmas.List.Sums.{sum_by-append, sum_by_push}
-use Rattle.obim_bags.specs.declared.account.Tally.{Tally}
-use Rattle.obim_bags.specs.Accounts.{weight_of, joined}
+use Rattle.obim_bags.specs.declared.bag_rule.Tally.{Tally}
+use Rattle.obim_bags.specs.BagRule.{weight_of, joined}
 use Rattle.obim_bags.specs.Bags.{PassSeen, AreJoined, tallies_of}
-use Rattle.obim_bags.proofs.Accounting.{joins}
+use Rattle.obim_bags.proofs.BagRule.{joins}
 use Rattle.obim_bags.proofs.passes.join_all.Goals as goal
 
 sum_last : (f : Tally → ℕ) (rest : List PassSeen) (pass : PassSeen)

@@ -1,7 +1,7 @@
 use Rattle.std.proofs.Common.{ap, ◌∙◌, arith}
 use Rattle.std.proofs.lemmas.List.Sums.{sum_by-append}
-use Rattle.obim_bags.specs.declared.account.Tally.{Tally}
-use Rattle.obim_bags.proofs.Accounting.{gets, looks, settles}
+use Rattle.obim_bags.specs.declared.bag_rule.Tally.{Tally}
+use Rattle.obim_bags.proofs.BagRule.{gets, looks, settles}
 use Rattle.obim_bags.proofs.passes.take_all.Goals as goal
 
 pub pop_as-requires-clause-rule : goal.pop_as-requires-clause-rule

@@ -11,7 +11,7 @@ use mathlib.Core.List.{IsPrefix}
 use Rattle.obim_bags.specs.declared.fault.SettleFault.TheVariants.{Missing}
 use Rattle.obim_bags.specs.Chunks.{ChunkSeen}
 use Rattle.obim_bags.specs.Bags.{AreSettled, BagSeen, PassSeen}
-use Rattle.obim_bags.specs.Logs.{PlaceSeen, bags_in}
+use Rattle.obim_bags.specs.Logs.{AccessSeen, bags_in}
 use Rattle.obim_bags.specs.Entries.{AreAllOf, EntriesSeen, EntrySeen, bags_of}
 use Rattle.obim_bags.specs.Settling.{AreDrainedFrom, AreOf, AreWholeFrom, IsWholeAt, LackSome, lists_of, passes_in}
 use Rattle.obim_bags.proofs.Listed.{err_and}
@@ -22,28 +22,28 @@ use Rattle.obim_bags.proofs.settle.drain_all.Goals as goal
 count_of : (entries : EntriesSeen) → length (bags_of entries) ≡ length entries.list
 count_of entries = length-map entries.list (λ (e : EntrySeen). e.bag)
 
--- lists of places of these bags are no longer than the bags
-of_short : (bags : List BagSeen) (n : ℕ) (held : List (List PlaceSeen)) → length bags ≡ n → AreOf bags held
-    → All (λ (places : List PlaceSeen). length places ≤ n) held
+-- lists of accesses of these bags are no longer than the bags
+of_short : (bags : List BagSeen) (n : ℕ) (held : List (List AccessSeen)) → length bags ≡ n → AreOf bags held
+    → All (λ (accesses : List AccessSeen). length accesses ≤ n) held
 of_short bags n held count of =
-    All-weaker (λ (places : List PlaceSeen). IsPrefix (bags_in places) bags) (λ (places : List PlaceSeen). length places ≤ n)
-    (λ places begins. omega (arith, prefix_length (bags_in places) bags begins, length-map places (λ (p : PlaceSeen). p.bag))) held of
+    All-weaker (λ (accesses : List AccessSeen). IsPrefix (bags_in accesses) bags) (λ (accesses : List AccessSeen). length accesses ≤ n)
+    (λ accesses begins. omega (arith, prefix_length (bags_in accesses) bags begins, length-map accesses (λ (p : AccessSeen). p.bag))) held of
 
 -- lists that are cut are of these bags still
-cut_of : (bags : List BagSeen) (n : ℕ) (held : List (List PlaceSeen)) → AreOf bags held → AreOf bags (map (take n) held)
+cut_of : (bags : List BagSeen) (n : ℕ) (held : List (List AccessSeen)) → AreOf bags held → AreOf bags (map (take n) held)
 cut_of bags n held of =
-    let P = λ (places : List PlaceSeen). IsPrefix (bags_in places) bags in
+    let P = λ (accesses : List AccessSeen). IsPrefix (bags_in accesses) bags in
     All-map P (take n) held
-    (All-weaker P (λ (places : List PlaceSeen). P (take n places))
-    (λ places begins.
-    prefix_trans (bags_in (take n places)) (bags_in places) bags
-    (prefix_map (λ (p : PlaceSeen). p.bag) (take n places) places (drop n places, take-append-drop n places)) begins) held of)
+    (All-weaker P (λ (accesses : List AccessSeen). P (take n accesses))
+    (λ accesses begins.
+    prefix_trans (bags_in (take n accesses)) (bags_in accesses) bags
+    (prefix_map (λ (p : AccessSeen). p.bag) (take n accesses) accesses (drop n accesses, take-append-drop n accesses)) begins) held of)
 
-cut_short : (n : ℕ) (held : List (List PlaceSeen)) → All (λ (places : List PlaceSeen). length places ≤ n) (map (take n) held)
+cut_short : (n : ℕ) (held : List (List AccessSeen)) → All (λ (accesses : List AccessSeen). length accesses ≤ n) (map (take n) held)
 cut_short n held =
-    All-map (λ (places : List PlaceSeen). length places ≤ n) (take n) held (λ k d within. omega (arith, length-take n (get_or held k d)))
+    All-map (λ (accesses : List AccessSeen). length accesses ≤ n) (take n) held (λ k d within. omega (arith, length-take n (get_or held k d)))
 
-drained_more : (n : ℕ) (held : List (List PlaceSeen)) (parts : List (List ChunkSeen)) (part : List ChunkSeen) → AreDrainedFrom (n + 1) held parts
+drained_more : (n : ℕ) (held : List (List AccessSeen)) (parts : List (List ChunkSeen)) (part : List ChunkSeen) → AreDrainedFrom (n + 1) held parts
     → AreSettled (passes_in n held) part → AreDrainedFrom n held (part ∷ parts)
 drained_more n held parts part was this zero p at =
     let same : part ≡ p = cc at in let here : n + 0 ≡ n = omega arith in rw (here, ← same) this
@@ -63,7 +63,7 @@ some_at (x ∷ xs) zero within = (x, refl)
 some_at (x ∷ xs) (suc i) within = some_at xs i (omega (arith, within))
 
 -- one entry more is whole
-whole_more : (n : ℕ) (held : List (List PlaceSeen)) (entries : EntriesSeen)
+whole_more : (n : ℕ) (held : List (List AccessSeen)) (entries : EntriesSeen)
     → ((entry : EntrySeen) → slice_get entries.list n ≡ Some entry → IsWholeAt n held entry)
     → AreWholeFrom (n + 1) held entries → AreWholeFrom n held entries
 whole_more n held entries this was place entry from there =

@@ -3,7 +3,7 @@ use Rattle.std.proofs.lemmas.Option.{slice_get-get_or}
 use Rattle.obim_pool.specs.Accounts.{Gets}
 use Rattle.obim_pool.proofs.Lifting.{changed_here}
 use Rattle.obim_pool.proofs.Looking.{tried_own, tried_all, tried_draws, tried_next}
-use Rattle.obim_pool.proofs.draw.scan.Goals as goal
+use Rattle.obim_pool.proofs.pop.scan.Goals as goal
 
 pub index_mut-requires : goal.index_mut-requires
 index_mut-requires g c =
@@ -13,7 +13,7 @@ index_mut-requires g c =
 pub try_at-requires-clause-place : goal.try_at-requires-clause-place
 try_at-requires-clause-place g c =
     let there = slice_get-get_or c.args.order.now c.loop-at.at-index (record { metric = 0; place = 0 }) c.loop-at-test.true in
-    let places = c.loop-at.invariant.places in
+    let accesses = c.loop-at.invariant.accesses in
     let fits = c.requires.fits in
     omega (arith, (c.requires.order.are c.loop-at.at-index _ there).0)
 
@@ -22,7 +22,7 @@ returns-in-Some-clause-bags g c =
     let tried = c.loop-at.invariant in
     let there = slice_get-get_or c.args.order.now c.loop-at.at-index (record { metric = 0; place = 0 }) c.loop-at-test.true in
     let own = tried_own c.loop-at.at-index c.requires.order tried there in
-    (changed_here (Gets c.in-Some.v) _ c.loop-at.kept.items own c.index_mut.ensures.value c.in-Some.ensures.popped).bags ∙ tried.bags
+    (changed_here (Gets c.in-Some.v) _ c.loop-at.chunks.items own c.index_mut.ensures.value c.in-Some.ensures.popped).bags ∙ tried.bags
 
 pub returns-in-Some-clause-popped : goal.returns-in-Some-clause-popped
 returns-in-Some-clause-popped g c =

@@ -1,6 +1,6 @@
 use Rattle.std.proofs.Common.{refl}
 use Rattle.obim_pool.proofs.Putting.{one_hands_on, one_put_back}
-use Rattle.obim_pool.proofs.feed.hand_on.Goals as goal
+use Rattle.obim_pool.proofs.push.put_filling.Goals as goal
 
 pub returns-in_default : goal.returns-in_default
 returns-in_default g c = one_put_back _ _ _ _ _ c.requires.place (cc) refl refl

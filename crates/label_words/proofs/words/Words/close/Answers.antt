@@ -8,7 +8,7 @@ use Rattle.label_words.proofs.words.Words.close.Goals.{then-seat, else-seat}
 pub returns-then-view-clause-closed : goal.returns-then-view-clause-closed
 returns-then-view-clause-closed c =
     let tie = c.seat.invariant.0 in
-    let me = c.seat.inside.place.me.0 in
+    let me = c.seat.inside.table_seat.me.0 in
     let same = rw (← c.seat.view_is, ← c.self.view_is) at c.requires.words in
     let n = half_of c.word_count.result me.graph.n (omega (arith, ap (λ t. t.words) same)) in
     let final = c.close_with-last.ensures.values.2 in
@@ -21,7 +21,7 @@ returns-then-view-clause-closed c =
 pub returns-else-view-clause-closed : goal.returns-else-view-clause-closed
 returns-else-view-clause-closed c =
     let tie = c.seat.invariant.0 in
-    let me = c.seat.inside.place.me.0 in
+    let me = c.seat.inside.table_seat.me.0 in
     let same = rw (← c.seat.view_is, ← c.self.view_is) at c.requires.words in
     let n = half_of c.word_count.result me.graph.n (omega (arith, ap (λ t. t.words) same)) in
     let final = c.close_with-last.ensures.values.2 in

@@ -15,7 +15,7 @@ fetch_min-found-requires c =
     tie.ready.hand c.end.ensures.place c.if-k-end.false c.target-head.ensures.head c.target-head.ensures.weight
     c.offer-label.ensures in
     let same = rw (← c.seat.view_is, ← c.self.view_is) at c.requires.words in
-    let known = c.seat.inside.place.me.0 in
+    let known = c.seat.inside.table_seat.me.0 in
     let within = head_in known.graph known.view.hand tie.ready.rows face.before in
     let row = rw (← c.seat.view_is) at c.requires.open in
     let allowed = relax_allowed _ _ _ tie.ready row face.before face.heads face.offers in
@@ -43,7 +43,7 @@ returns c =
     elim c.if-label-found.branch [
       | then-label-found w ↦
           let less = rw (← face.offers) at w.if-label-found.true in
-          let fell = step ∙ ap (λ b. after_relax b c.seat.inside.place.me.0) (lt-ltb _ _ less) in
+          let fell = step ∙ ap (λ b. after_relax b c.seat.inside.table_seat.me.0) (lt-ltb _ _ less) in
           let attained = c.fetch_min-found.ensures.2.2 less in
           rw (← c.seat.view_is, w.result-is) (record {
             words = c.fetch_min-found.ensures.0;
@@ -54,7 +54,7 @@ returns c =
           let stays = le-ltb _ _ (rw face.offers w.if-label-found.false) in
           rw (← c.seat.view_is, w.result-is) (record {
             words = c.fetch_min-found.ensures.0;
-            step = (face.before, step ∙ ap (λ b. after_relax b c.seat.inside.place.me.0) stays);
+            step = (face.before, step ∙ ap (λ b. after_relax b c.seat.inside.table_seat.me.0) stays);
             attained = tt;
           })
     ]

@@ -4,8 +4,8 @@ use Rattle.relax_core.specs.Views.{owed_of}
 use Rattle.label_words.proofs.Moves.{set_mark_allowed}
 use Rattle.label_words.proofs.words.Words.set_mark.Goals as goal
 
-pub swap-was-requires : goal.swap-was-requires
-swap-was-requires c =
+pub swap-was_marked-requires : goal.swap-was_marked-requires
+swap-was_marked-requires c =
     let tie = c.seat.invariant.0 in
     let same = rw (← c.seat.view_is, ← c.self.view_is) at c.requires.words in
     let owe = rw (← c.seat.view_is) at c.requires.owes in

@@ -3,8 +3,8 @@ use Rattle.std.proofs.Common.{ap, arith}
 use Rattle.label_words.proofs.Moves.{take_allowed}
 use Rattle.label_words.proofs.words.Words.take.Goals as goal
 
-pub swap-was-requires : goal.swap-was-requires
-swap-was-requires c =
+pub swap-was_marked-requires : goal.swap-was_marked-requires
+swap-was_marked-requires c =
     let same = rw (← c.seat.view_is, ← c.self.view_is) at c.requires.words in
     let vertex = rw (← c.seat.view_is) at c.requires.vertex in
     let idle = rw (← c.seat.view_is) at c.requires.idle in

@@ -1,8 +1,8 @@
 -- The place that was called is changed, and its bag isn't.
-use Rattle.obim_bags.specs.Logs.{place_after_empty_find}
+use Rattle.obim_bags.specs.Logs.{access_after_empty_find}
 use Rattle.obim_bags.proofs.Listed.{true_then}
-use Rattle.obim_bags.proofs.PlaceSteps.{called_at, bags_stay, changed}
-use Rattle.obim_bags.proofs.places.Places.finds_empty.Goals as goal
+use Rattle.obim_bags.proofs.AccessSteps.{called_at, bags_stay, changed}
+use Rattle.obim_bags.proofs.accesses.Accesses.finds_empty.Goals as goal
 
 pub invariant_of-self : goal.invariant_of-self
 invariant_of-self c =
@@ -17,7 +17,7 @@ returns-clause-bags c =
 pub returns-clause-found_empty : goal.returns-clause-found_empty
 returns-clause-found_empty c =
     let at = called_at {now = c.finds_empty.new.self} c.self.inside.list.items (rw (← c.self.view_is) at c.requires) c.index_mut.ensures.value c.finds_empty.ensures.bag in
-    rw (← c.self.view_is) (true_then _ _ c.finds_empty.result (changed place_after_empty_find at) c.finds_empty.ensures.found_empty)
+    rw (← c.self.view_is) (true_then _ _ c.finds_empty.result (changed access_after_empty_find at) c.finds_empty.ensures.found_empty)
 
 pub returns-clause-alone : goal.returns-clause-alone
 returns-clause-alone c =

@@ -1,5 +1,5 @@
 use Rattle.std.proofs.Common.{arith}
-use Rattle.obim_bags.proofs.Accounting.{settles}
+use Rattle.obim_bags.proofs.BagRule.{settles}
 use Rattle.obim_bags.proofs.Listed.{true_gives}
 use Rattle.obim_bags.proofs.bag.Bag.finds_empty.Goals as goal
 

@@ -1,5 +1,5 @@
 use Rattle.std.proofs.Common.{arith}
-use Rattle.obim_bags.proofs.Accounting.{puts}
+use Rattle.obim_bags.proofs.BagRule.{puts}
 use Rattle.obim_bags.proofs.bag.Bag.put_boxed.Goals as goal
 
 pub push_as-requires-clause-rule : goal.push_as-requires-clause-rule

@@ -1,5 +1,5 @@
 use Rattle.std.proofs.Common.{arith}
-use Rattle.obim_bags.proofs.Accounting.{gets, looks, settles}
+use Rattle.obim_bags.proofs.BagRule.{gets, looks, settles}
 use Rattle.obim_bags.proofs.Listed.{none_gives}
 use Rattle.obim_bags.proofs.bag.Bag.take_front.Goals as goal
 

@@ -1,6 +1,6 @@
 -- Only one entry is changed, and its bag isn't.
 use Rattle.std.proofs.Common.{◌≡◌, ◌∙◌, ap, sym, subst, Some}
-use Rattle.obim_bags.specs.Entries.{EntrySeen, HasPlaceOf, HasPlaceAt}
+use Rattle.obim_bags.specs.Entries.{EntrySeen, HasAccessOf, HasAccessAt}
 use Rattle.obim_bags.proofs.Listed.{found_at, at_map, map_kept, at_set_else, none_then}
 use Rattle.std.proofs.lemmas.Option.{IfSome_then}
 use Rattle.obim_bags.proofs.entries.Entries.claim_at.Goals as goal
@@ -28,7 +28,7 @@ returns-clause-found c =
 pub returns-clause-none : goal.returns-clause-none
 returns-clause-none c =
     let here = found_at c.self.inside.list.items c.args.place c.index_mut.result.now (rw (← c.self.view_is) at c.requires) c.index_mut.ensures.value in
-    none_then (HasPlaceOf c.args.worker c.index_mut.result.now → ⊥) (HasPlaceAt c.args.worker c.args.place c.args.self.now → ⊥) c.claim.result
+    none_then (HasAccessOf c.args.worker c.index_mut.result.now → ⊥) (HasAccessAt c.args.worker c.args.place c.args.self.now → ⊥) c.claim.result
     (λ none has.
     let at = rw (← c.self.view_is) at has.1 in
-    let same : has.0 ≡ c.index_mut.result.now = cc (at, here) in none (subst (HasPlaceOf c.args.worker) same has.2)) c.claim.ensures.none
+    let same : has.0 ≡ c.index_mut.result.now = cc (at, here) in none (subst (HasAccessOf c.args.worker) same has.2)) c.claim.ensures.none

@@ -1,4 +1,4 @@
--- The places left are unclaimed still.
+-- The accesses left are unclaimed still.
 use Rattle.obim_bags.proofs.entries.Entry.claim_all.Goals as goal
 
 pub invariant_of-self : goal.invariant_of-self

@@ -1,11 +1,11 @@
 -- A place that was looked up is there.
 use Rattle.std.proofs.Common.{◌≡◌, ◌∙◌, ap, refl, Some, None}
 use Rattle.std.specs.Prelude.{Option, is_some, IsTrue}
-use Rattle.obim_bags.specs.Logs.{PlaceSeen}
+use Rattle.obim_bags.specs.Logs.{AccessSeen}
 use Rattle.obim_bags.proofs.Listed.{found_at}
 use Rattle.obim_bags.proofs.entries.Entry.has.Goals as goal
 
-there : (found : Option PlaceSeen) → IsTrue (is_some found) → (place : PlaceSeen) × (found ≡ Some place)
+there : (found : Option AccessSeen) → IsTrue (is_some found) → (place : AccessSeen) × (found ≡ Some place)
 there None some = absurd cc
 there (Some place) some = (place, refl)
 

@@ -2,15 +2,15 @@
 use Rattle.std.proofs.Common.{◌≡◌, ap, refl, [], ◌∷◌, Some}
 use Rattle.std.proofs.lemmas.List.Elements.{All-append, All-cons, All-nil, All-pop}
 use Rattle.obim_bags.specs.Bags.{BagSeen, PassSeen, new_pass}
-use Rattle.obim_bags.specs.Logs.{PlaceSeen}
+use Rattle.obim_bags.specs.Logs.{AccessSeen}
 use Rattle.obim_bags.specs.Entries.{IsUnclaimed}
 use Rattle.obim_bags.proofs.entries.Entry.open.Goals as goal
 
-place_unclaimed : (bag bag' : BagSeen) (pass : PassSeen) (place : PlaceSeen) → pass ≡ new_pass bag → bag' ≡ bag
+place_unclaimed : (bag bag' : BagSeen) (pass : PassSeen) (place : AccessSeen) → pass ≡ new_pass bag → bag' ≡ bag
     → place ≡ record { bag = bag'; pass = pass } → IsUnclaimed bag (Some place)
 place_unclaimed bag bag' pass place new same is found at =
     let e : found ≡ record { bag = bag; pass = new_pass bag } = cc (at, is, same, new) in
-    (ap (λ (p : PlaceSeen). p.bag) e, rw e refl)
+    (ap (λ (p : AccessSeen). p.bag) e, rw e refl)
 
 pub loop-pass-preserved : goal.loop-pass-preserved
 loop-pass-preserved g c =

@@ -1,6 +1,6 @@
 -- What the mirror keeps begins the list in the slot.
 use Rattle.std.proofs.Common.{refl}
-use Rattle.obim_bags.proofs.Ties.{places_begin, index_begins}
+use Rattle.obim_bags.proofs.Ties.{accesses_begin, index_begins}
 use Rattle.obim_bags.proofs.log.BagLog.catch_up.Goals as goal
 
 pub catch_up-caught-requires-clause-index : goal.catch_up-caught-requires-clause-index
@@ -13,7 +13,7 @@ invariant_of-mirror g c =
     rw c.give.ensures.me (record {
       slots = refl;
       holds = refl;
-      list = places_begin c.catch_up-caught.result _ _ _ _ c.mirror.invariant.list longer caught.bags caught.refused;
+      list = accesses_begin c.catch_up-caught.result _ _ _ _ c.mirror.invariant.list longer caught.bags caught.refused;
       index = caught.index;
       distinct = caught.distinct;
     })

@@ -8,38 +8,38 @@ use Rattle.std.proofs.lemmas.List.{length-map, length-reverse}
 use Rattle.std.proofs.lemmas.Result.{IfOk-weaker}
 use mathlib.Core.List.{IsPrefix}
 use Rattle.obim_bags.specs.Chunks.{ChunkSeen}
-use Rattle.obim_bags.specs.Accounts.{shares_of}
+use Rattle.obim_bags.specs.BagRule.{shares_of}
 use Rattle.obim_bags.specs.Bags.{AreAdded, BagSeen, PassSeen, new_pass, tallies_of}
 use Rattle.obim_bags.specs.Indexes.{AreDistinct}
-use Rattle.obim_bags.specs.Logs.{AreAllWithNew, IsLogSettled, LackPasses, MirrorSeen, PlaceSeen, all_of, bags_in, metrics_of, passes_at}
+use Rattle.obim_bags.specs.Logs.{AreAllWithNew, IsLogSettled, LackPasses, MirrorSeen, AccessSeen, all_of, bags_in, metrics_of, passes_at}
 use Rattle.obim_bags.specs.Entries.{EntriesSeen, EntrySeen, IsEntry, IsUnclaimed, bags_of, unclaimed_of}
-use Rattle.obim_bags.specs.Settling.{AreDrainedFrom, AreOf, AreWholeFrom, IsWholeAt, LackSome, lists_of, passes_in, places_of}
+use Rattle.obim_bags.specs.Settling.{AreDrainedFrom, AreOf, AreWholeFrom, IsWholeAt, LackSome, lists_of, passes_in, accesses_of}
 use Rattle.obim_bags.proofs.Listed.{all_mapped, all_reverse, at_map, err_and, mapped_at}
 use Rattle.obim_bags.proofs.Totals.{passes_of_mirrors, settled_reverse, shares_reverse}
 use Rattle.obim_bags.proofs.log.BagLog.drain.Goals as goal
 
-log_settled : (mirrors : List MirrorSeen) (bags : List BagSeen) (held : List (List PlaceSeen)) (parts : List (List ChunkSeen)) (left : List ChunkSeen)
-    → AreDistinct (metrics_of bags) → AreOf bags held → held ≡ reverse (places_of mirrors) → length parts ≡ length bags
+log_settled : (mirrors : List MirrorSeen) (bags : List BagSeen) (held : List (List AccessSeen)) (parts : List (List ChunkSeen)) (left : List ChunkSeen)
+    → AreDistinct (metrics_of bags) → AreOf bags held → held ≡ reverse (accesses_of mirrors) → length parts ≡ length bags
     → AreDrainedFrom 0 held parts → left ≡ all_of parts
     → ((place : ℕ) (bag : BagSeen) → slice_get bags place ≡ Some bag → AreAllWithNew bag (passes_at place mirrors))
     → IsLogSettled mirrors left
 log_settled mirrors bags held parts left distinct of is count drained left_is all =
-    let P = λ (places : List PlaceSeen). IsPrefix (bags_in places) bags in
+    let P = λ (accesses : List AccessSeen). IsPrefix (bags_in accesses) bags in
     record {
       bags = bags;
       distinct = distinct;
-      prefixes = all_mapped P (λ (mirror : MirrorSeen). mirror.places) mirrors (all_reverse P (places_of mirrors) (rw is at of));
+      prefixes = all_mapped P (λ (mirror : MirrorSeen). mirror.accesses) mirrors (all_reverse P (accesses_of mirrors) (rw is at of));
       parts = parts;
       left_is = left_is;
       whole = count;
       settled = λ place part at.
           let here : 0 + place ≡ place = omega arith in
-          rw (passes_of_mirrors place mirrors) (settled_reverse place (places_of mirrors) part (rw (here, is) at (drained place part at)));
+          rw (passes_of_mirrors place mirrors) (settled_reverse place (accesses_of mirrors) part (rw (here, is) at (drained place part at)));
       all = all;
     }
 
 -- what an entry still has is new
-new_of_entry : (bag : BagSeen) (unclaimed : List (Option PlaceSeen)) → All (IsUnclaimed bag) unclaimed
+new_of_entry : (bag : BagSeen) (unclaimed : List (Option AccessSeen)) → All (IsUnclaimed bag) unclaimed
     → All (λ (pass : PassSeen). pass ≡ new_pass bag) (unclaimed_of unclaimed)
 new_of_entry bag [] all = All-nil (λ (pass : PassSeen). pass ≡ new_pass bag)
 new_of_entry bag (None ∷ unclaimed) all = new_of_entry bag unclaimed (All-tail (IsUnclaimed bag) None unclaimed all)
@@ -49,7 +49,7 @@ new_of_entry bag (Some place ∷ unclaimed) all =
     (is.1 ∙ ap new_pass is.0) (new_of_entry bag unclaimed (All-tail (IsUnclaimed bag) (Some place) unclaimed all))
 
 -- the passes of the mirrors with those that the entry still has
-module _ (mirrors : List MirrorSeen) (held : List (List PlaceSeen)) (is : held ≡ reverse (places_of mirrors)) (place : ℕ) (entry : EntrySeen) where
+module _ (mirrors : List MirrorSeen) (held : List (List AccessSeen)) (is : held ≡ reverse (accesses_of mirrors)) (place : ℕ) (entry : EntrySeen) where
   abbrev Both : List PassSeen
   Both = passes_at place mirrors ++ unclaimed_of entry.unclaimed
 
@@ -60,19 +60,19 @@ module _ (mirrors : List MirrorSeen) (held : List (List PlaceSeen)) (is : held �
     are_new = new_of_entry entry.bag entry.unclaimed entry_is;
   }
 
-  -- their shares are those of the lists of places
+  -- their shares are those of the lists of accesses
   same_shares : shares_of (tallies_of (passes_in place held ++ unclaimed_of entry.unclaimed)) ≡ shares_of (tallies_of Both)
   same_shares =
       let more = unclaimed_of entry.unclaimed in
-      ap (λ (ls : List (List PlaceSeen)). shares_of (tallies_of (passes_in place ls ++ more))) is
-      ∙ shares_reverse place (places_of mirrors) more
+      ap (λ (ls : List (List AccessSeen)). shares_of (tallies_of (passes_in place ls ++ more))) is
+      ∙ shares_reverse place (accesses_of mirrors) more
       ∙ ap (λ (ps : List PassSeen). shares_of (tallies_of (ps ++ more))) (sym (passes_of_mirrors place mirrors))
 
   whole_with_new : IsWholeAt place held entry → AreAllWithNew entry.bag (passes_at place mirrors)
   whole_with_new whole = record { whole = Both; added = both_added whole.entry_is; are_all = sym same_shares ∙ whole.all }
 
 -- each bag's passes are all
-all_whole : (mirrors : List MirrorSeen) (held : List (List PlaceSeen)) (entries : EntriesSeen) → held ≡ reverse (places_of mirrors)
+all_whole : (mirrors : List MirrorSeen) (held : List (List AccessSeen)) (entries : EntriesSeen) → held ≡ reverse (accesses_of mirrors)
     → AreWholeFrom 0 held entries → (place : ℕ) (bag : BagSeen) → slice_get (bags_of entries) place ≡ Some bag
     → AreAllWithNew bag (passes_at place mirrors)
 all_whole mirrors held entries is whole place bag there =
@@ -81,13 +81,13 @@ all_whole mirrors held entries is whole place bag there =
     (whole_with_new mirrors held is place found.0 (whole place found.0 (omega arith) found.1))
 
 -- some bag's passes aren't
-lacks_passes : (mirrors : List MirrorSeen) (held : List (List PlaceSeen)) (entries : EntriesSeen) → held ≡ reverse (places_of mirrors)
+lacks_passes : (mirrors : List MirrorSeen) (held : List (List AccessSeen)) (entries : EntriesSeen) → held ≡ reverse (accesses_of mirrors)
     → AreOf (bags_of entries) held → LackSome held entries → LackPasses mirrors
 lacks_passes mirrors held entries is of lack =
-    let P = λ (places : List PlaceSeen). IsPrefix (bags_in places) (bags_of entries) in
+    let P = λ (accesses : List AccessSeen). IsPrefix (bags_in accesses) (bags_of entries) in
     record {
       bags = bags_of entries;
-      prefixes = all_mapped P (λ (mirror : MirrorSeen). mirror.places) mirrors (all_reverse P (places_of mirrors) (rw is at of));
+      prefixes = all_mapped P (λ (mirror : MirrorSeen). mirror.accesses) mirrors (all_reverse P (accesses_of mirrors) (rw is at of));
       place = lack.place;
       bag = lack.entry.bag;
       there = at_map (λ (entry : EntrySeen). entry.bag) entries.list lack.place lack.entry lack.there;

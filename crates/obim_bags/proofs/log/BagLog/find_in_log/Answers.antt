@@ -1,7 +1,7 @@
 -- What the mirror keeps begins the list in the slot, also where it grew.
 use Rattle.std.proofs.Common.{refl}
 use Rattle.obim_bags.proofs.Prefixes.{prefix_trans}
-use Rattle.obim_bags.proofs.Ties.{places_begin, index_begins}
+use Rattle.obim_bags.proofs.Ties.{accesses_begin, index_begins}
 use Rattle.obim_bags.proofs.log.BagLog.find_in_log.Goals as goal
 
 pub find_or_append-found-requires-clause-index : goal.find_or_append-found-requires-clause-index
@@ -14,7 +14,7 @@ invariant_of-mirror g c =
     rw c.give.ensures.me (record {
       slots = refl;
       holds = refl;
-      list = places_begin c.find_or_append-found.result _ _ _ _ c.mirror.invariant.list longer found.bags found.refused;
+      list = accesses_begin c.find_or_append-found.result _ _ _ _ c.mirror.invariant.list longer found.bags found.refused;
       index = found.index;
       distinct = found.distinct;
     })

@@ -1,7 +1,7 @@
 -- The rule allows the step.
 use Rattle.std.proofs.Common.{◌≡◌, ◌∙◌, ap, arith, List, [], ◌∷◌, ℕ}
 use Rattle.atomic_table.specs.Table.{Me, rest}
-use Rattle.obim_bags.specs.declared.roll.Roll.{Roll}
+use Rattle.obim_bags.specs.declared.log_rule.LogKnown.{LogKnown}
 use Rattle.obim_bags.specs.Entries.{EntriesSeen, bags_of}
 use Rattle.obim_bags.proofs.LogRule.{releases}
 use Rattle.obim_bags.proofs.log.BagLog.give.Goals as goal
@@ -14,7 +14,7 @@ swap-requires c =
     let same = rw (← c.self.view_is) at c.requires.table in (
       c.exchange.ensures.0 ∙ same,
       omega (arith, c.self.invariant.1),
-      releases bags_of _ _ c.exchange.new.seat.me c.args.entries (ap (λ (m : Me EntriesSeen Roll). m.1) filled)
-          (ap (λ (m : Me EntriesSeen Roll). m.0.holds) filled ∙ c.requires.holds)
-          (rw (ap (λ (m : Me EntriesSeen Roll). m.0.list) filled) c.requires.longer),
+      releases bags_of _ _ c.exchange.new.seat.me c.args.entries (ap (λ (m : Me EntriesSeen LogKnown). m.1) filled)
+          (ap (λ (m : Me EntriesSeen LogKnown). m.0.holds) filled ∙ c.requires.holds)
+          (rw (ap (λ (m : Me EntriesSeen LogKnown). m.0.list) filled) c.requires.longer),
     )

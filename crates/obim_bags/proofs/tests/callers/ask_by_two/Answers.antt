@@ -10,16 +10,16 @@ use Rattle.obim_bags.proofs.Prefixes.{prefix_get, prefix_map}
 use Rattle.obim_bags.proofs.tests.callers.ask_by_two.Goals as goal
 
 one_place : (first second : MirrorSeen) (left : List ChunkSeen) (metric place other : ℕ) → IsLogSettled (first ∷ second ∷ []) left
-    → slice_get (metrics_in first.places) place ≡ Some metric → slice_get (metrics_in second.places) other ≡ Some metric → place ≡ other
+    → slice_get (metrics_in first.accesses) place ≡ Some metric → slice_get (metrics_in second.accesses) other ≡ Some metric → place ≡ other
 one_place first second left metric place other settled was is =
-    let P = λ (mirror : MirrorSeen). IsPrefix (bags_in mirror.places) settled.bags in
+    let P = λ (mirror : MirrorSeen). IsPrefix (bags_in mirror.accesses) settled.bags in
     let metric_of = λ (bag : BagSeen). bag.metric in
-    let one = prefix_map metric_of (bags_in first.places) settled.bags (All-head P first (second ∷ []) settled.prefixes) in
-    let two = prefix_map metric_of (bags_in second.places) settled.bags
+    let one = prefix_map metric_of (bags_in first.accesses) settled.bags (All-head P first (second ∷ []) settled.prefixes) in
+    let two = prefix_map metric_of (bags_in second.accesses) settled.bags
     (All-head P second [] (All-tail P first (second ∷ []) settled.prefixes)) in
     settled.distinct other place metric
-    (prefix_get (metrics_in second.places) (metrics_of settled.bags) other metric two is)
-    (prefix_get (metrics_in first.places) (metrics_of settled.bags) place metric one was)
+    (prefix_get (metrics_in second.accesses) (metrics_of settled.bags) other metric two is)
+    (prefix_get (metrics_in first.accesses) (metrics_of settled.bags) place metric one was)
 
 pub returns : goal.returns
 returns g c =

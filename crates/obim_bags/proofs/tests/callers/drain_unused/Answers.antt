@@ -4,9 +4,9 @@ use Rattle.std.specs.Prelude.{Option, slice_get}
 use Rattle.std.proofs.lemmas.List.Sums.{sum_by-cons}
 use Rattle.atomic_table.specs.Seated.{TableId}
 use Rattle.obim_bags.specs.Chunks.{ChunkSeen}
-use Rattle.obim_bags.specs.Accounts.{got_by, put_by, weight_of}
+use Rattle.obim_bags.specs.BagRule.{got_by, put_by, weight_of}
 use Rattle.obim_bags.specs.Bags.{tallies_of}
-use Rattle.obim_bags.specs.Logs.{Gains, IsLogSettled, IsNew, MirrorSeen, PlaceSeen, all_of, new_mirror, pass_in}
+use Rattle.obim_bags.specs.Logs.{Gains, IsLogSettled, IsNew, MirrorSeen, AccessSeen, all_of, new_mirror, pass_in}
 use Rattle.obim_bags.proofs.Listed.{all_at}
 use Rattle.obim_bags.proofs.tests.callers.drain_unused.Goals as goal
 
@@ -14,13 +14,13 @@ use Rattle.obim_bags.proofs.tests.callers.drain_unused.Goals as goal
 abbrev one : ChunkSeen → ℕ
 one _ = 1
 
-put_nothing : (found : Option PlaceSeen) → ((place : PlaceSeen) → found ≡ Some place → IsNew place)
+put_nothing : (found : Option AccessSeen) → ((place : AccessSeen) → found ≡ Some place → IsNew place)
     → put_by one (tallies_of (pass_in found ++ [])) ≡ 0
 put_nothing None new = refl
 put_nothing (Some place) new =
     rw (new place refl) (omega (arith, sum_by-cons (λ tally. weight_of one tally.put) place.pass.tally []))
 
-got_nothing : (found : Option PlaceSeen) → ((place : PlaceSeen) → found ≡ Some place → IsNew place)
+got_nothing : (found : Option AccessSeen) → ((place : AccessSeen) → found ≡ Some place → IsNew place)
     → got_by one (tallies_of (pass_in found ++ [])) ≡ 0
 got_nothing None new = refl
 got_nothing (Some place) new =
@@ -40,8 +40,8 @@ unused : (log : TableId) (first : MirrorSeen) (left : List ChunkSeen) → Gains 
 unused log first left gains settled =
     settled.left_is
     ∙ none_left settled.parts (λ place part at.
-    let found = slice_get first.places place in
-    let new = λ (here : PlaceSeen) (is : found ≡ Some here). all_at IsNew first.places place here gains.gained is in
+    let found = slice_get first.accesses place in
+    let new = λ (here : AccessSeen) (is : found ≡ Some here). all_at IsNew first.accesses place here gains.gained is in
     let balance : put_by one (tallies_of (pass_in found ++ [])) ≡ got_by one (tallies_of (pass_in found ++ [])) + weight_of one part
     = settled.settled place part at one in
     no_chunk part (omega (arith, balance, put_nothing found new, got_nothing found new)))

@@ -4,7 +4,7 @@ use Rattle.std.specs.Prelude.{slice_get}
 use Rattle.std.proofs.lemmas.List.Sums.{sum_by-cons}
 use Rattle.obim_bags.specs.Chunks.{ChunkSeen}
 use Rattle.obim_bags.specs.Bags.{PassSeen, new_pass}
-use Rattle.obim_bags.specs.Logs.{ChangesAt, IsNew, MirrorSeen, PlaceSeen, WasEmptyIfAloneAt, place_after_put}
+use Rattle.obim_bags.specs.Logs.{ChangesAt, IsNew, MirrorSeen, AccessSeen, WasEmptyIfAloneAt, access_after_put}
 use Rattle.obim_bags.proofs.Listed.{none_then}
 use Rattle.obim_bags.proofs.Written.{at_set, some_same}
 use Rattle.obim_bags.proofs.tests.callers.put_and_find_at.Goals as goal
@@ -13,15 +13,15 @@ use Rattle.obim_bags.proofs.tests.callers.put_and_find_at.Goals as goal
 abbrev one : ChunkSeen → ℕ
 one _ = 1
 
-not_empty : (place : ℕ) (chunk : ChunkSeen) (old mid : MirrorSeen) (was : PlaceSeen) → slice_get old.places place ≡ Some was
-    → IsNew was → was.bag.workers ≡ 1 → ChangesAt place (place_after_put chunk) old mid → WasEmptyIfAloneAt place mid → ⊥
+not_empty : (place : ℕ) (chunk : ChunkSeen) (old mid : MirrorSeen) (was : AccessSeen) → slice_get old.accesses place ≡ Some was
+    → IsNew was → was.bag.workers ≡ 1 → ChangesAt place (access_after_put chunk) old mid → WasEmptyIfAloneAt place mid → ⊥
 not_empty place chunk old mid was is new alone put empty =
     let first : put.0 ≡ was = some_same (sym put.1 ∙ is) in
-    let here = ap (λ (m : MirrorSeen). slice_get m.places place) put.2 ∙ at_set old.places place put.0 (place_after_put chunk put.0) put.1 in
-    let now : empty.0 ≡ place_after_put chunk was = some_same (sym empty.1 ∙ here) ∙ ap (place_after_put chunk) first in
-    let pass : empty.0.pass.tally ≡ (place_after_put chunk (record was { pass = new_pass was.bag })).pass.tally =
-    ap (λ (p : PlaceSeen). p.pass.tally) now
-    ∙ ap (λ (q : PassSeen). (place_after_put chunk (record was { pass = q })).pass.tally) new in
+    let here = ap (λ (m : MirrorSeen). slice_get m.accesses place) put.2 ∙ at_set old.accesses place put.0 (access_after_put chunk put.0) put.1 in
+    let now : empty.0 ≡ access_after_put chunk was = some_same (sym empty.1 ∙ here) ∙ ap (access_after_put chunk) first in
+    let pass : empty.0.pass.tally ≡ (access_after_put chunk (record was { pass = new_pass was.bag })).pass.tally =
+    ap (λ (p : AccessSeen). p.pass.tally) now
+    ∙ ap (λ (q : PassSeen). (access_after_put chunk (record was { pass = q })).pass.tally) new in
     let balance = rw pass at empty.2 in
     let nothing : 1 + 0 ≡ 0 = sym (sum_by-cons one chunk []) ∙ balance (sym alone) one in
     absurd (omega (arith, nothing))

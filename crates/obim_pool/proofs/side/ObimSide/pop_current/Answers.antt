@@ -12,7 +12,7 @@ pub invariant_of-self : goal.invariant_of-self
 invariant_of-self g c =
     let own = current_own c.in-Some.is c.self.invariant in
     let one = one_of_both c.pop_at.result c.pop_at.ensures.popped c.pop_at.ensures.none in
-    side_changes c.self.invariant (changed_here _ _ c.self.inside.kept.items own c.index_mut.ensures.value one)
+    side_changes c.self.invariant (changed_here _ _ c.self.inside.chunks.items own c.index_mut.ensures.value one)
 
 pub returns-in-Some-clause-keeps : goal.returns-in-Some-clause-keeps
 returns-in-Some-clause-keeps g c =
@@ -20,7 +20,7 @@ returns-in-Some-clause-keeps g c =
     let one = one_of_both c.pop_at.result c.pop_at.ensures.popped c.pop_at.ensures.none in
     let current = current_of c.self.inside.current in
     of_sides Keeps _ _ c.self.view_is refl refl
-    (change_keeps current current (changed_here _ _ c.self.inside.kept.items own c.index_mut.ensures.value one))
+    (change_keeps current current (changed_here _ _ c.self.inside.chunks.items own c.index_mut.ensures.value one))
 
 pub returns-in-Some-clause-popped : goal.returns-in-Some-clause-popped
 returns-in-Some-clause-popped g c =
@@ -28,7 +28,7 @@ returns-in-Some-clause-popped g c =
     some_then _ _ c.pop_at.result (λ v one.
     of_sides (Pops v) _ _ c.self.view_is refl refl
     (pops_current c.self.inside.current c.in-Some.is c.self.invariant.current_is
-    (changed_here (Gets v) _ c.self.inside.kept.items own c.index_mut.ensures.value one)))
+    (changed_here (Gets v) _ c.self.inside.chunks.items own c.index_mut.ensures.value one)))
     c.pop_at.ensures.popped
 
 pub returns-in-Some-clause-none : goal.returns-in-Some-clause-none
@@ -37,5 +37,5 @@ returns-in-Some-clause-none g c =
     none_then _ _ c.pop_at.result (λ finds.
     of_sides TriesCurrent _ _ c.self.view_is refl refl
     (tries_current (current_of c.self.inside.current)
-    (changed_here OneFind _ c.self.inside.kept.items own c.index_mut.ensures.value finds.here)))
+    (changed_here OneFind _ c.self.inside.chunks.items own c.index_mut.ensures.value finds.here)))
     c.pop_at.ensures.none

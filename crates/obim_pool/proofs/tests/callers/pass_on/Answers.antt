@@ -9,9 +9,9 @@ use Rattle.std.proofs.lemmas.Option.{slice_get_within}
 use mathlib.Core.List.{IsPrefix}
 use Rattle.atomic_table.specs.Seated.{TableId}
 use Rattle.obim_bags.specs.Chunks.{ChunkSeen}
-use Rattle.obim_bags.specs.Accounts.{got_by, put_by, weight_of}
+use Rattle.obim_bags.specs.BagRule.{got_by, put_by, weight_of}
 use Rattle.obim_bags.specs.Bags.{BagSeen, PassSeen, tallies_of}
-use Rattle.obim_bags.specs.Logs.{IsLogSettled, MirrorSeen, PlaceSeen, bags_in, metrics_in, metrics_of, pass_in}
+use Rattle.obim_bags.specs.Logs.{IsLogSettled, MirrorSeen, AccessSeen, bags_in, metrics_in, metrics_of, pass_in}
 use Rattle.obim_bags.proofs.Facts.{prefix_length, prefix_map}
 use Rattle.obim_pool.specs.Accounts.{Account, account_of, vertices_of}
 use Rattle.obim_pool.specs.Sides.{Pops, PushesTo, SideSeen, account_at, new_side}
@@ -38,14 +38,14 @@ module _ (f : ℕ → ℕ) where
       sum_by-cons weigh chunk chunks ∙ ap (λ (n : ℕ). sum_by f chunk.vertices + n) (weighed chunks)
       ∙ sym (sum_by-append f chunk.vertices (vertices_of chunks))
 
-  put_more : (found : Option PlaceSeen) (held : List ℕ) (rest : List PassSeen)
+  put_more : (found : Option AccessSeen) (held : List ℕ) (rest : List PassSeen)
       → put_by weigh (tallies_of (pass_in found ++ rest)) ≡ sum_by weigh (account_of found held).put + put_by weigh (tallies_of rest)
   put_more None held rest =
       let same : put_by weigh (tallies_of rest) ≡ 0 + put_by weigh (tallies_of rest) = omega arith in
       same
   put_more (Some place) held rest = sum_by-cons (λ tally. weight_of weigh tally.put) place.pass.tally (tallies_of rest)
 
-  got_more : (found : Option PlaceSeen) (held : List ℕ) (rest : List PassSeen)
+  got_more : (found : Option AccessSeen) (held : List ℕ) (rest : List PassSeen)
       → got_by weigh (tallies_of (pass_in found ++ rest)) ≡ sum_by weigh (account_of found held).got + got_by weigh (tallies_of rest)
   got_more None held rest =
       let same : got_by weigh (tallies_of rest) ≡ 0 + got_by weigh (tallies_of rest) = omega arith in
@@ -54,13 +54,13 @@ module _ (f : ℕ → ℕ) where
 
 -- the bag that gave a vertex to the second side has a part
 has_part : (first second : MirrorSeen) (left : List ChunkSeen) (settled : IsLogSettled (first ∷ second ∷ []) left) (place metric : ℕ)
-    → slice_get (metrics_in second.places) place ≡ Some metric → place < length settled.parts
+    → slice_get (metrics_in second.accesses) place ≡ Some metric → place < length settled.parts
 has_part first second left settled place metric own =
-    let P = λ (mirror : MirrorSeen). IsPrefix (bags_in mirror.places) settled.bags in
+    let P = λ (mirror : MirrorSeen). IsPrefix (bags_in mirror.accesses) settled.bags in
     let begins = All-head P second [] (All-tail P first (second ∷ []) settled.prefixes) in
     let metric_of = λ (bag : BagSeen). bag.metric in
-    let longer = prefix_length (metrics_in second.places) (metrics_of settled.bags) (prefix_map metric_of (bags_in second.places) settled.bags begins) in
-    omega (arith, longer, length-map settled.bags metric_of, settled.whole, slice_get_within (metrics_in second.places) place metric own)
+    let longer = prefix_length (metrics_in second.accesses) (metrics_of settled.bags) (prefix_map metric_of (bags_in second.accesses) settled.bags begins) in
+    omega (arith, longer, length-map settled.bags metric_of, settled.whole, slice_get_within (metrics_in second.accesses) place metric own)
 
 module _ (log : TableId) (from to : SideSeen) (metric v x : ℕ) (left : List ChunkSeen)
     (pushed : PushesTo metric v (new_side log) from) (popped : Pops x (new_side log) to)
@@ -94,8 +94,8 @@ module _ (log : TableId) (from to : SideSeen) (metric v x : ℕ) (left : List Ch
       let q = popped.place in
       let part = some_at settled.parts q (has_part from.mirror to.mirror left settled q popped.metric popped.own.1) in
       let balance = settled.settled q part.0 part.1 (weigh f) in
-      let one = slice_get from.mirror.places q in
-      let two = slice_get to.mirror.places q in
+      let one = slice_get from.mirror.accesses q in
+      let two = slice_get to.mirror.accesses q in
       let w = weigh f in
       let put_from = sum_by w (account_at q from).put in
       let put_to = sum_by w (account_at q to).put in
