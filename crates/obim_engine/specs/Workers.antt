@@ -1,8 +1,10 @@
 -- What workers need of a seat, and what they make of it.
-use Rattle.std.specs.Prelude.{◌≡◌, ℕ, ◌≤◌, true, Option, None}
+use Rattle.std.specs.Prelude.{◌≡◌, ℕ, ◌≤◌, ◌⊎◌, true, Option, None}
 use Rattle.csr_graph.specs.Graph.{Graph}
 use Rattle.relax_core.specs.declared.views.Hand.TheVariants.{Idle}
 use Rattle.relax_core.specs.declared.views.TheConstants.{SHARES}
+use Rattle.relax_core.specs.declared.views.View.{View}
+use Rattle.relax_core.specs.Views.{Owes, vertex_of}
 use Rattle.label_words.specs.Callers.{Stays}
 use Rattle.label_words.specs.Known.{Held}
 
@@ -19,3 +21,9 @@ pub record AreDone (budget : Option ℕ) (old new : Held) : Type 0 where
   pub stays : Stays old new
   pub idle : new.known.view.hand ≡ Idle
   pub saw : budget ≡ None → new.known.view.saw ≡ true
+
+-- in the row of u a label was lowered whose vertex is owed a mark, and the seat has one credit or two
+pub record OwesMark (u : ℕ) (view : View) : Type 0 where
+  pub hand : Owes view.hand
+  pub vertex : vertex_of view.hand ≡ u
+  pub credits : (view.credits ≡ 1) ⊎ (view.credits ≡ 2)

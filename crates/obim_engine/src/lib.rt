@@ -18,6 +18,7 @@
 #![tactic(auto)]
 
 mod gate;
+mod gates;
 mod group;
 mod growing;
 mod operators;
@@ -31,6 +32,7 @@ mod widths;
 mod worker;
 
 pub use gate::{Gate, OpenGate};
+pub use gates::{Recorder, Yielding};
 pub use growing::grow;
 pub use label_words::{Closed, Paused};
 pub use obim_pool::Worklist;

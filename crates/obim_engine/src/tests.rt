@@ -16,17 +16,20 @@ ghost use Rattle.route_walks.specs.Label.{AreLeastLabels};
 ghost use Rattle.route_walks.specs.Operators.{seeds_from};
 
 use crate::{
-    MAX_CHUNK, MAX_SHIFT, MAX_WORKERS, OpenGate, RunFault, Settings, components, distances,
-    least_labels, levels, run,
+    MAX_CHUNK, MAX_SHIFT, MAX_WORKERS, OpenGate, Recorder, RunFault, Settings, Yielding,
+    components, distances, least_labels, levels, run,
 };
 use csr_graph::Csr;
 use draws::Draws;
-use gates::{Holding, Recorder, Yielding};
-use graphs::{SIX, SIX_LABELS, WORKED, arcs_of, are_seeds, grid_arcs, is_graph, random_arcs, six};
+use gates::Holding;
+use graphs::{SIX_LABELS, WORKED, fit_rows, grid_arcs, random_arcs, six};
 use hostile::Hostile;
 use obim_pool::{LockedPool, ObimPool};
 use pools::{FirstIn, Misleading, Repeating, Useless};
-use route_walks::{ArcRec, Seed, both_ways, plain_labels, seeds_all, seeds_from, unit_weights};
+use route_walks::{
+    ArcRec, EXAMPLE_ARCS, EXAMPLE_SEEDS, Seed, arcs, are_seeds, both_ways, plain_labels, seeds_all,
+    seeds_from, unit_weights,
+};
 use std::alloc::Global;
 use std::process::Abort;
 use std::sync::Wait;
@@ -58,7 +61,7 @@ fn plainly(
     arcs: &[ArcRec],
     seeds: &[Seed],
 ) -> Result<Vec<u64>, Fail> {
-    let graph = is_graph(n, arcs);
+    let graph = fit_rows(n, arcs);
     let sown = are_seeds(n, seeds);
     assert!(rt; graph && sown);
     Ok(plain_labels(alloc, n, arcs, seeds)?)
@@ -69,21 +72,20 @@ fn plainly(
 fn operators_beside_the_plain_way(rt: HostRuntime) -> Result<(), Fail> {
     let alloc = rt.alloc();
     for graph in &WORKED {
-        let arcs = arcs_of(alloc, graph.arcs)?;
-        let n = graph.n;
-        let within = is_graph(n, &arcs) && graph.source < n;
+        let (n, arcs) = (graph.n, graph.arcs);
+        let within = fit_rows(n, arcs) && graph.source < n;
         assert!(rt; within);
-        let csr = Csr::build(alloc, n, &arcs)?;
+        let csr = Csr::build(alloc, n, arcs)?;
         let few = csr.arc_count() <= 1 << 31;
         assert!(rt; few);
         let from = seeds_from(alloc, graph.source)?;
-        let far = plainly(&rt, alloc, n, &arcs, &from)?;
-        let hops = plainly(&rt, alloc, n, &unit_weights(alloc, &arcs)?, &from)?;
+        let far = plainly(&rt, alloc, n, arcs, &from)?;
+        let hops = plainly(&rt, alloc, n, &unit_weights(alloc, arcs)?, &from)?;
         let joined = plainly(
             &rt,
             alloc,
             n,
-            &both_ways(alloc, &arcs)?,
+            &both_ways(alloc, arcs)?,
             &seeds_all(alloc, n)?,
         )?;
         for (workers, widening) in [(1, false), (2, false), (8, false), (1, true), (8, true)] {
@@ -177,7 +179,7 @@ fn a_hostile_pool(rt: HostRuntime) -> Result<(), Fail> {
     let n = 3_000;
     let arcs = random_arcs(alloc, n, 12_000)?;
     let seeds = [Seed::new(0, 5), Seed::new(7, 0)];
-    let within = is_graph(n, &arcs) && are_seeds(n, &seeds);
+    let within = fit_rows(n, &arcs) && are_seeds(n, &seeds);
     assert!(rt; within);
     let csr = Csr::build(alloc, n, &arcs)?;
     let plain = plainly(&rt, alloc, n, &arcs, &seeds)?;
@@ -197,7 +199,7 @@ fn a_hostile_pool(rt: HostRuntime) -> Result<(), Fail> {
 /// seed at vertex 0: what it pushes, at which metrics, and what the gate sees.
 struct Order {
     n: u32,
-    arcs: &'static [(u32, u32, u32)],
+    arcs: &'static [ArcRec],
     start: u64,
     shift: u32,
     pushes: &'static [(u32, u64)],
@@ -207,7 +209,7 @@ struct Order {
 const ORDERS: [Order; 4] = [
     Order {
         n: 6,
-        arcs: &SIX,
+        arcs: &EXAMPLE_ARCS,
         start: 0,
         shift: 0,
         pushes: &[
@@ -225,7 +227,7 @@ const ORDERS: [Order; 4] = [
     },
     Order {
         n: 6,
-        arcs: &SIX,
+        arcs: &EXAMPLE_ARCS,
         start: 0,
         shift: 2,
         pushes: &[
@@ -243,7 +245,7 @@ const ORDERS: [Order; 4] = [
     },
     Order {
         n: 6,
-        arcs: &SIX,
+        arcs: &EXAMPLE_ARCS,
         start: 9,
         shift: 2,
         pushes: &[
@@ -262,7 +264,7 @@ const ORDERS: [Order; 4] = [
     // Vertex 1 is lowered twice before it is visited, and pushed each time.
     Order {
         n: 3,
-        arcs: &[(0, 1, 9), (0, 1, 4), (1, 2, 1)],
+        arcs: &arcs![(0, 1, 9), (0, 1, 4), (1, 2, 1)],
         start: 0,
         shift: 0,
         pushes: &[(0, 0), (1, 9), (1, 4), (2, 5)],
@@ -274,18 +276,17 @@ const ORDERS: [Order; 4] = [
 fn visits_and_pushes_of_one_worker(rt: HostRuntime) -> Result<(), Fail> {
     let alloc = rt.alloc();
     for order in &ORDERS {
-        let arcs = arcs_of(alloc, order.arcs)?;
         let seeds = [Seed::new(0, order.start)];
-        let within = is_graph(order.n, &arcs) && are_seeds(order.n, &seeds);
+        let within = fit_rows(order.n, order.arcs) && are_seeds(order.n, &seeds);
         assert!(rt; within);
-        let csr = Csr::build(alloc, order.n, &arcs)?;
+        let csr = Csr::build(alloc, order.n, order.arcs)?;
         let gate = Recorder::new(alloc);
         let mut sides = FirstIn::sides(alloc)?;
         let settings = settings(&rt, 1, order.shift);
         let labels = run(
             &rt, alloc, &csr, &seeds, &settings, &FirstIn, &mut sides, &gate,
         )?;
-        let plain = plainly(&rt, alloc, order.n, &arcs, &seeds)?;
+        let plain = plainly(&rt, alloc, order.n, order.arcs, &seeds)?;
         assert_eq!(rt; labels.as_slice(), plain.as_slice());
         assert_eq!(rt; sides[0].pushes.as_slice(), order.pushes);
         assert_eq!(rt; gate.into_passed().as_slice(), order.visits);
@@ -302,10 +303,10 @@ fn a_sweep_of_a_large_star(rt: HostRuntime) -> Result<(), Fail> {
     for v in 1..n {
         arcs.push(ArcRec::new(0, v, v % 100))?;
     }
-    let within = is_graph(n, &arcs);
+    let within = fit_rows(n, &arcs);
     assert!(rt; within);
     let csr = Csr::build(alloc, n, &arcs)?;
-    let seeds = [Seed::new(0, 0)];
+    let seeds = EXAMPLE_SEEDS;
     let settings = settings(&rt, 2, 4);
     let pool = Useless {
         accepts: false,
@@ -331,7 +332,7 @@ fn a_pool_that_repeats_is_borne(rt: HostRuntime) -> Result<(), Fail> {
     for v in 1..n {
         falling.push(ArcRec::new(0, n - v, 1))?;
     }
-    let within = is_graph(n, &falling);
+    let within = fit_rows(n, &falling);
     assert!(rt; within);
     let csr = Csr::build(alloc, n, &falling)?;
     for (times, second) in [(0, n - 1), (n - 1, n - 1), (n, 1)] {
@@ -339,7 +340,7 @@ fn a_pool_that_repeats_is_borne(rt: HostRuntime) -> Result<(), Fail> {
         let mut sides = Repeating::sides(alloc)?;
         let settings = settings(&rt, 1, 0);
         let pool = Repeating { times };
-        let seeds = [Seed::new(0, 0)];
+        let seeds = EXAMPLE_SEEDS;
         run(
             &rt, alloc, &csr, &seeds, &settings, &pool, &mut sides, &gate,
         )?;
@@ -355,7 +356,7 @@ fn a_pool_that_repeats_is_borne(rt: HostRuntime) -> Result<(), Fail> {
 fn two_workers_beside_one(rt: HostRuntime) -> Result<(), Fail> {
     let alloc = rt.alloc();
     let arcs = random_arcs(alloc, 10_000, 40_000)?;
-    let within = is_graph(10_000, &arcs);
+    let within = fit_rows(10_000, &arcs);
     assert!(rt; within);
     let csr = Csr::build(alloc, 10_000, &arcs)?;
     let one = distances(&rt, alloc, &csr, 0, &settings(&rt, 1, 7), &OpenGate)?;
@@ -392,7 +393,7 @@ fn either_pool_of_four_workers(rt: HostRuntime) -> Result<(), Fail> {
 fn workers_that_yield_at_random(rt: HostRuntime) -> Result<(), Fail> {
     let alloc = rt.alloc();
     let arcs = random_arcs(alloc, 100_000, 400_000)?;
-    let within = is_graph(100_000, &arcs);
+    let within = fit_rows(100_000, &arcs);
     assert!(rt; within);
     let csr = Csr::build(alloc, 100_000, &arcs)?;
     let one = distances(&rt, alloc, &csr, 0, &settings(&rt, 1, 7), &OpenGate)?;
@@ -418,7 +419,7 @@ const HELD_AT: [u64; 4] = [1, 20, 200, 5000];
 fn a_worker_that_is_held(rt: HostRuntime) -> Result<(), Fail> {
     let alloc = rt.alloc();
     let arcs = grid_arcs(alloc, 500)?;
-    let within = is_graph(250_000, &arcs);
+    let within = fit_rows(250_000, &arcs);
     assert!(rt; within);
     let csr = Csr::build(alloc, 250_000, &arcs)?;
     let alone = Holding::new(&rt, 1, 1);

@@ -1,12 +1,12 @@
 //! One worker: draw a vertex, take it, relax its arcs, and again until the pending total is 0 or the
 //! worker's budget is spent.
 
-ghost use Rattle.std.specs.Prelude.{◌≡◌, ◌↔◌, ◌+◌, ◌<◌, true, false, None};
+ghost use Rattle.std.specs.Prelude.{◌≡◌, ◌↔◌, ◌≤◌, ◌<◌, None, IfNone, IfSome};
 ghost use Rattle.relax_core.specs.declared.views.Hand.TheVariants.{Idle, Fresh};
 ghost use Rattle.csr_graph.specs.Graph.{end_place};
 ghost use Rattle.label_words.specs.Callers.{Stays, HasRowOpen};
 ghost use Rattle.relax_core.specs.Views.{place_of};
-ghost use Rattle.obim_engine.specs.Workers.{CanLead, AreDone};
+ghost use Rattle.obim_engine.specs.Workers.{CanLead, AreDone, OwesMark};
 
 use crate::gate::Gate;
 use crate::pace::{Pace, Watch};
@@ -176,50 +176,52 @@ fn visit<H: Wait, P: WorkPool, G: Gate>(
     prefetch(shared, seat, side);
     shared.words.prefetch_labels(seat, shared.csr, u);
     shared.words.read(seat, shared.csr);
-    while relax_next(rt, shared, seat, side, u) {}
+    while let Some((head, label)) = next_lowered(shared, seat, u) {
+        mark(shared, seat, u);
+        let metric = label >> shared.settings.shift;
+        // Where the pool refuses the head, it stays marked all the same.
+        if !shared.pool.push(rt, side, head, metric) {
+            shared.pace.lose();
+        }
+    }
     shared.words.finish(seat, shared.csr);
 }
 
-/// Relaxes the next arc of the row of `u`. Where its head's label falls the head is marked and handed
-/// to the pool. False at the row's end.
+/// Relaxes the arcs of the row of `u` that come next, until the label of a head falls: the head, which is
+/// owed a mark then, and its label. `None` at the row's end. It doesn't wait: a call that may costs more.
 #[inline(always)]
-fn relax_next<H: Wait, P: WorkPool, G>(
-    rt: &H,
-    shared: &Shared<'_, P, G>,
-    seat: &mut WorkSeat,
-    side: &mut P::Side,
-    u: u32,
-) -> bool
+fn next_lowered<P, G>(shared: &Shared<'_, P, G>, seat: &mut WorkSeat, u: u32) -> Option<(u32, u64)>
     requires words { seat.old.words ≡ shared.now.words.now }
     requires graph { shared.now.csr.now ≡ seat.old.known.graph }
     requires row { HasRowOpen u seat.old.known.view }
-    requires side { P.is_side shared.now.pool.now side.old }
     ensures stays { Stays seat.old seat.new }
-    ensures row { HasRowOpen u seat.new.known.view }
-    ensures more { result ≡ true
-        → place_of seat.new.known.view.hand ≡ place_of seat.old.known.view.hand + 1 }
-    ensures arc { result ≡ true
-        → place_of seat.old.known.view.hand < end_place shared.now.csr.now.arcs u }
-    ensures end { result ≡ false
-        → place_of seat.new.known.view.hand ≡ end_place shared.now.csr.now.arcs u }
-    ensures side { P.is_side shared.now.pool.now side.new }
+    ensures owes { IfSome result (λ lowered. OwesMark u seat.new.known.view) }
+    ensures arc { IfSome result (λ lowered. place_of seat.old.known.view.hand < place_of seat.new.known.view.hand) }
+    ensures within { IfSome result
+        (λ lowered. place_of seat.new.known.view.hand ≤ end_place shared.now.csr.now.arcs u) }
+    ensures row { IfNone result (HasRowOpen u seat.new.known.view) }
+    ensures end { IfNone result (place_of seat.new.known.view.hand ≡ end_place shared.now.csr.now.arcs u) }
 {
-    match shared.words.relax(seat, shared.csr) {
-        Step::RowEnd => return false,
-        Step::Kept => {}
-        Step::Lowered { head, label } => {
-            if seat.credits() == 1 {
-                shared.words.raise(seat);
-            }
-            shared.words.set_mark(seat);
-            // Where the pool refuses the head, it stays marked all the same.
-            if !shared
-                .pool
-                .push(rt, side, head, label >> shared.settings.shift)
-            {
-                shared.pace.lose();
-            }
+    loop {
+        match shared.words.relax(seat, shared.csr) {
+            Step::RowEnd => return None,
+            Step::Kept => {}
+            Step::Lowered { head, label } => return Some((head, label)),
         }
     }
-    true
+}
+
+/// Sets the mark that is owed, with a credit of its own.
+#[inline(always)]
+fn mark<P, G>(shared: &Shared<'_, P, G>, seat: &mut WorkSeat, u: u32)
+    requires words { seat.old.words ≡ shared.now.words.now }
+    requires owes { OwesMark u seat.old.known.view }
+    ensures stays { Stays seat.old seat.new }
+    ensures row { HasRowOpen u seat.new.known.view }
+    ensures place { place_of seat.new.known.view.hand ≡ place_of seat.old.known.view.hand }
+{
+    if seat.credits() == 1 {
+        shared.words.raise(seat);
+    }
+    shared.words.set_mark(seat);
 }

@@ -1,59 +1,44 @@
 //! Small graphs, and a large one at random.
 
-ghost use Rattle.std.specs.Prelude.{◌≡◌, ◌≤◌, ◌↔◌, length, IsTrue, IfOk};
-ghost use Rattle.route_walks.specs.Walk.{IsGraph, AreSeeds};
+ghost use Rattle.std.specs.Prelude.{◌≡◌, ◌≤◌, length, IsTrue, IfOk};
+ghost use Rattle.route_walks.specs.Walk.{IsGraph};
 
 use csr_graph::{Csr, MAX_ARCS, MAX_VERTICES};
-use route_walks::{ArcRec, Memory, Seed};
+use route_walks::{ArcRec, EXAMPLE_ARCS, Memory, arcs, is_graph};
 use std::alloc::Global;
 
-/// An arc: tail, head and weight.
-type Triple = (u32, u32, u32);
-
-/// Six vertices, with free arcs and a circle of them.
-pub(crate) const SIX: [Triple; 8] = [
-    (0, 1, 17),
-    (0, 2, 10),
-    (1, 3, 2),
-    (2, 4, 0),
-    (3, 2, 0),
-    (3, 5, 3),
-    (4, 1, 0),
-    (4, 5, 20),
-];
-
-/// The distances from vertex 0 in that graph.
+/// The distances from vertex 0 in the example.
 pub(crate) const SIX_LABELS: [u64; 6] = [0, 10, 10, 12, 10, 15];
 
-const CIRCLE: [Triple; 3] = [(2, 1, 5), (0, 1, 0), (1, 0, 0)];
+const CIRCLE: [ArcRec; 3] = arcs![(2, 1, 5), (0, 1, 0), (1, 0, 0)];
 
-const HEAVY: [Triple; 2] = [(0, 1, u32::MAX), (1, 2, u32::MAX)];
+const HEAVY: [ArcRec; 2] = arcs![(0, 1, u32::MAX), (1, 2, u32::MAX)];
 
-const PARALLEL: [Triple; 3] = [(0, 1, 7), (0, 1, 3), (0, 0, 0)];
+const PARALLEL: [ArcRec; 3] = arcs![(0, 1, 7), (0, 1, 3), (0, 0, 0)];
 
-const AGAINST: [Triple; 1] = [(1, 0, 5)];
+const AGAINST: [ArcRec; 1] = arcs![(1, 0, 5)];
 
 /// A graph of `n` vertices, and a source.
 pub(crate) struct Worked {
     pub n: u32,
-    pub arcs: &'static [Triple],
+    pub arcs: &'static [ArcRec],
     pub source: u32,
 }
 
 pub(crate) const WORKED: [Worked; 9] = [
     Worked {
         n: 6,
-        arcs: &SIX,
+        arcs: &EXAMPLE_ARCS,
         source: 0,
     },
     Worked {
         n: 6,
-        arcs: &SIX,
+        arcs: &EXAMPLE_ARCS,
         source: 2,
     },
     Worked {
         n: 6,
-        arcs: &SIX,
+        arcs: &EXAMPLE_ARCS,
         source: 4,
     },
     Worked {
@@ -88,43 +73,22 @@ pub(crate) const WORKED: [Worked; 9] = [
     },
 ];
 
-pub(crate) fn arcs_of(alloc: Global, triples: &[Triple]) -> Result<Vec<ArcRec>, Memory> {
-    let mut arcs = Vec::with_capacity(alloc, triples.len())?;
-    for &(tail, head, weight) in triples {
-        arcs.push(ArcRec::new(tail, head, weight))?;
-    }
-    Ok(arcs)
-}
-
 /// Whether rows of the arcs can be built.
-pub(crate) fn is_graph(n: u32, arcs: &[ArcRec]) -> bool
+pub(crate) fn fit_rows(n: u32, arcs: &[ArcRec]) -> bool
     ensures vertices { IsTrue result → n ≤ MAX_VERTICES }
     ensures places { IsTrue result → length arcs.now ≤ MAX_ARCS }
     ensures ends { IsTrue result → IsGraph n arcs.now }
 {
-    n <= MAX_VERTICES && arcs.len() <= MAX_ARCS && are_below(n, arcs)
-}
-
-fn are_below(n: u32, arcs: &[ArcRec]) -> bool
-    ensures { IsTrue result ↔ IsGraph n arcs.now }
-{
-    arcs.iter().all(|arc| arc.tail < n && arc.head < n)
-}
-
-pub(crate) fn are_seeds(n: u32, seeds: &[Seed]) -> bool
-    ensures { IsTrue result ↔ AreSeeds n seeds.now }
-{
-    seeds.iter().all(|seed| seed.vertex < n)
+    n <= MAX_VERTICES && arcs.len() <= MAX_ARCS && is_graph(n, arcs)
 }
 
 pub(crate) fn six(alloc: Global) -> Result<Csr, Memory>
     ensures { IfOk result (λ csr. csr.n ≡ 6) }
 {
-    let arcs = SIX.map(|(tail, head, weight)| ArcRec::new(tail, head, weight));
-    Csr::build(alloc, 6, &arcs)
+    Csr::build(alloc, 6, &EXAMPLE_ARCS)
 }
 
-/// So many arcs among `n` vertices, the same ones at each call.
+/// `count` arcs among `n` vertices, the same ones at each call.
 pub(crate) fn random_arcs(alloc: Global, n: u32, count: usize) -> Result<Vec<ArcRec>, Memory> {
     let mut arcs = Vec::with_capacity(alloc, count)?;
     let mut state = 88172645463325252_u64;

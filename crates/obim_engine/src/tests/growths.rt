@@ -6,28 +6,22 @@ ghost use Rattle.route_walks.specs.Walk.{AreSeeds, IsGraph, HaveSameArcs};
 ghost use Rattle.label_words.specs.Paused.{IsPause};
 
 use crate::tests::draws::Draws;
-use crate::tests::gates::Recorder;
-use crate::tests::graphs::{SIX_LABELS, are_seeds, is_graph, random_arcs, six};
+use crate::tests::graphs::{SIX_LABELS, fit_rows, random_arcs, six};
 use crate::tests::pauses::{
     ONE_VISIT, expect_pause, labels_in_pieces, resume_to_end, run_a_little,
 };
 use crate::tests::{plainly, settings};
-use crate::{Closed, Paused, RunFault, Settings, grow, resume};
+use crate::{Closed, Paused, Recorder, RunFault, Settings, grow, resume};
 use csr_graph::{Csr, MAX_ARCS};
 use obim_pool::{ObimPool, WorkPool};
 use route_walks::laws::least_labels_follow_the_arcs;
-use route_walks::{ArcRec, Memory, Seed};
+use route_walks::{ArcRec, EXAMPLE_SEEDS, Memory, Seed, are_seeds};
 use std::alloc::Global;
 use std::process::Abort;
 use std::sync::Wait;
 use std::test::Fail;
 use std::thread::Threads;
 use std::time::Clock;
-
-const FROM_0: [Seed; 1] = [Seed {
-    vertex: 0,
-    start: 0,
-}];
 
 /// The arc that is added to the six vertices, and their labels then.
 const SHORTER: [ArcRec; 1] = [ArcRec {
@@ -119,15 +113,32 @@ fn six_vertices_get_an_arc(rt: HostRuntime) -> Result<(), Fail> {
     for workers in [1, 2] {
         let settings = settings(&rt, workers, 4);
         let (pool, mut sides) = ObimPool::open(alloc, workers, 16)?;
-        let closed = run_a_little(&rt, alloc, &csr, &FROM_0, &settings, 1)?;
+        let closed = run_a_little(&rt, alloc, &csr, &EXAMPLE_SEEDS, &settings, 1)?;
         let labels = resume_to_end(
-            &rt, alloc, &csr, &FROM_0, closed, &settings, &pool, &mut sides, 1,
+            &rt,
+            alloc,
+            &csr,
+            &EXAMPLE_SEEDS,
+            closed,
+            &settings,
+            &pool,
+            &mut sides,
+            1,
         )?;
         let labels = labels.expect(&rt, "settled");
         assert_eq!(rt; labels.as_slice(), SIX_LABELS.as_slice());
         let (pool, mut sides) = ObimPool::open(alloc, workers, 16)?;
         let labels = grown_labels(
-            &rt, alloc, &csr, &FROM_0, labels, &SHORTER, &settings, &pool, &mut sides, 1,
+            &rt,
+            alloc,
+            &csr,
+            &EXAMPLE_SEEDS,
+            labels,
+            &SHORTER,
+            &settings,
+            &pool,
+            &mut sides,
+            1,
         )?;
         let labels = labels.expect(&rt, "settled");
         assert_eq!(rt; labels.as_slice(), SHORTER_LABELS.as_slice());
@@ -142,16 +153,32 @@ fn a_pause_gets_an_arc(rt: HostRuntime) -> Result<(), Fail> {
     let csr = six(alloc)?;
     assert!(rt; csr.arc_count() == 8);
     let one = settings(&rt, 1, 4);
-    let Closed::Paused(rest) = run_a_little(&rt, alloc, &csr, &FROM_0, &one, 1)? else {
+    let Closed::Paused(rest) = run_a_little(&rt, alloc, &csr, &EXAMPLE_SEEDS, &one, 1)? else {
         assert!(rt; false, "settled");
         return Ok(());
     };
-    let (grown, rest) = grown_pause(alloc, &csr, &FROM_0, rest, &SHORTER)?;
+    let (grown, rest) = grown_pause(alloc, &csr, &EXAMPLE_SEEDS, rest, &SHORTER)?;
     let closed = Closed::Paused(rest);
-    expect_pause(&rt, alloc, &grown, &FROM_0, &closed, &ONE_VISIT, &[0, 1, 2])?;
+    expect_pause(
+        &rt,
+        alloc,
+        &grown,
+        &EXAMPLE_SEEDS,
+        &closed,
+        &ONE_VISIT,
+        &[0, 1, 2],
+    )?;
     let (pool, mut sides) = ObimPool::open(alloc, 1, 16)?;
     let labels = resume_to_end(
-        &rt, alloc, &grown, &FROM_0, closed, &one, &pool, &mut sides, 1,
+        &rt,
+        alloc,
+        &grown,
+        &EXAMPLE_SEEDS,
+        closed,
+        &one,
+        &pool,
+        &mut sides,
+        1,
     )?;
     let labels = labels.expect(&rt, "settled");
     assert_eq!(rt; labels.as_slice(), SHORTER_LABELS.as_slice());
@@ -193,7 +220,7 @@ fn growths_at_random(rt: HostRuntime) -> Result<(), Fail> {
         let more = draws.below(60) as usize % 60;
         assert!(rt; count + more <= whole.len());
         let (arcs, added) = (&whole[..count], &whole[count..count + more]);
-        let within = is_graph(n, arcs) && is_graph(n, added) && are_seeds(n, &seeds);
+        let within = fit_rows(n, arcs) && fit_rows(n, added) && are_seeds(n, &seeds);
         assert!(rt; within);
         let csr = Csr::build(alloc, n, arcs)?;
         assert!(rt; csr.arc_count() + added.len() <= MAX_ARCS);
@@ -248,7 +275,7 @@ fn only_what_changes_is_visited(rt: HostRuntime) -> Result<(), Fail> {
     let alloc = rt.alloc();
     let n = 20_000;
     let arcs = random_arcs(alloc, n, 100_000)?;
-    let within = is_graph(n, &arcs) && are_seeds(n, &FROM_0);
+    let within = fit_rows(n, &arcs) && are_seeds(n, &EXAMPLE_SEEDS);
     assert!(rt; within);
     let csr = Csr::build(alloc, n, &arcs)?;
     assert!(rt; csr.arc_count() == 100_000);
@@ -257,18 +284,18 @@ fn only_what_changes_is_visited(rt: HostRuntime) -> Result<(), Fail> {
         ArcRec::new(9, 9, 0),
         ArcRec::new(17, 0, 3),
     ];
-    let within = is_graph(n, &none) && is_graph(6, &SHORTER);
+    let within = fit_rows(n, &none) && fit_rows(6, &SHORTER);
     assert!(rt; within);
     let six = six(alloc)?;
     assert!(rt; six.arc_count() == 8);
     for workers in [1, 2] {
         let settings = settings(&rt, workers, 4);
-        let mut visited = visited_after(&rt, alloc, &csr, &FROM_0, &none, &settings)?;
+        let mut visited = visited_after(&rt, alloc, &csr, &EXAMPLE_SEEDS, &none, &settings)?;
         visited.sort()?;
         assert_eq!(rt; visited.as_slice(), [9, 17].as_slice());
-        let visited = visited_after(&rt, alloc, &csr, &FROM_0, &[], &settings)?;
+        let visited = visited_after(&rt, alloc, &csr, &EXAMPLE_SEEDS, &[], &settings)?;
         assert_eq!(rt; visited.len(), 0);
-        let visited = visited_after(&rt, alloc, &six, &FROM_0, &SHORTER, &settings)?;
+        let visited = visited_after(&rt, alloc, &six, &EXAMPLE_SEEDS, &SHORTER, &settings)?;
         assert_eq!(rt; visited.as_slice(), [0, 5].as_slice());
     }
     Ok(())

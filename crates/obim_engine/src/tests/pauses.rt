@@ -6,14 +6,14 @@ ghost use Rattle.route_walks.specs.Walk.{AreSeeds};
 ghost use Rattle.label_words.specs.Closed.{IsEnd};
 
 use crate::tests::draws::{Draws, resume_somehow};
-use crate::tests::graphs::{SIX_LABELS, are_seeds, is_graph, random_arcs, six};
+use crate::tests::graphs::{SIX_LABELS, fit_rows, random_arcs, six};
 use crate::tests::pools::Useless;
 use crate::tests::{plainly, settings};
 use crate::{Closed, OpenGate, Paused, RunFault, Settings, resume, run_for};
 use csr_graph::Csr;
 use label_words::Words;
 use obim_pool::{LockedPool, WorkPool};
-use route_walks::{INF, Memory, Seed};
+use route_walks::{EXAMPLE_SEEDS, INF, Memory, Seed, are_seeds};
 use std::alloc::Global;
 use std::process::Abort;
 use std::sync::Wait;
@@ -84,7 +84,7 @@ pub(crate) fn run_a_little<H: Threads + Wait + Clock + Sync>(
 fn pauses_of_a_budget(rt: HostRuntime) -> Result<(), Fail> {
     let alloc = rt.alloc();
     let csr = six(alloc)?;
-    let seeds = [Seed::new(0, 0)];
+    let seeds = EXAMPLE_SEEDS;
     let closed = run_a_little(&rt, alloc, &csr, &seeds, &settings(&rt, 2, 4), 0)?;
     let opening = [0, INF, INF, INF, INF, INF];
     expect_pause(&rt, alloc, &csr, &seeds, &closed, &opening, &[0])?;
@@ -103,7 +103,7 @@ fn pauses_of_a_budget(rt: HostRuntime) -> Result<(), Fail> {
 fn a_sweep_keeps_to_the_budget(rt: HostRuntime) -> Result<(), Fail> {
     let alloc = rt.alloc();
     let csr = six(alloc)?;
-    let seeds = [Seed::new(0, 0)];
+    let seeds = EXAMPLE_SEEDS;
     let pool = Useless {
         accepts: false,
         gives: None,
@@ -121,7 +121,7 @@ fn a_sweep_keeps_to_the_budget(rt: HostRuntime) -> Result<(), Fail> {
 fn pauses_come_back_as_they_were(rt: HostRuntime) -> Result<(), Fail> {
     let alloc = rt.alloc();
     let csr = six(alloc)?;
-    let seeds = [Seed::new(0, 0)];
+    let seeds = EXAMPLE_SEEDS;
     let one = settings(&rt, 1, 4);
     let Closed::Paused(rest) = run_a_little(&rt, alloc, &csr, &seeds, &one, 1)? else {
         assert!(rt; false, "settled");
@@ -182,7 +182,7 @@ where
 fn visit_by_visit_to_the_end(rt: HostRuntime) -> Result<(), Fail> {
     let alloc = rt.alloc();
     let csr = six(alloc)?;
-    let seeds = [Seed::new(0, 0)];
+    let seeds = EXAMPLE_SEEDS;
     for workers in [1, 2] {
         let settings = settings(&rt, workers, 4);
         let (pool, mut sides) = LockedPool::open(alloc, workers)?;
@@ -245,7 +245,7 @@ fn budgets_at_random(rt: HostRuntime) -> Result<(), Fail> {
     let n = 3_000;
     let arcs = random_arcs(alloc, n, 12_000)?;
     let seeds = [Seed::new(0, 5), Seed::new(7, 0)];
-    let within = is_graph(n, &arcs) && are_seeds(n, &seeds);
+    let within = fit_rows(n, &arcs) && are_seeds(n, &seeds);
     assert!(rt; within);
     let csr = Csr::build(alloc, n, &arcs)?;
     let plain = plainly(&rt, alloc, n, &arcs, &seeds)?;

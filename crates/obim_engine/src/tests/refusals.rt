@@ -15,18 +15,13 @@ use crate::{
 };
 use csr_graph::Csr;
 use obim_pool::{LockedPool, ObimPool, WorkPool};
-use route_walks::{Seed, tried_again};
+use route_walks::{EXAMPLE_SEEDS, Seed, tried_again};
 use std::alloc::Global;
 use std::process::Abort;
 use std::sync::Wait;
 use std::test::Fail;
 use std::thread::Threads;
 use std::time::Clock;
-
-const FROM_0: [Seed; 1] = [Seed {
-    vertex: 0,
-    start: 0,
-}];
 
 const FEWEST_ARCS: [u64; 6] = [0, 1, 1, 2, 2, 3];
 
@@ -45,7 +40,14 @@ fn of_run(rt: HostRuntime) -> Result<(), Fail> {
             alloc,
             RunFault::Memory,
             run(
-                &rt, alloc, &csr, &FROM_0, &settings, &pool, &mut sides, &OpenGate
+                &rt,
+                alloc,
+                &csr,
+                &EXAMPLE_SEEDS,
+                &settings,
+                &pool,
+                &mut sides,
+                &OpenGate
             )
         );
         assert_eq!(rt; labels.as_slice(), SIX_LABELS.as_slice());
@@ -96,9 +98,25 @@ fn of_run_for(rt: HostRuntime) -> Result<(), Fail> {
     for workers in [1, 2] {
         let settings = settings(&rt, workers, 4);
         let (pool, mut sides) = LockedPool::open(alloc, workers)?;
-        run_for_again(&rt, alloc, &csr, &FROM_0, &settings, &pool, &mut sides)?;
+        run_for_again(
+            &rt,
+            alloc,
+            &csr,
+            &EXAMPLE_SEEDS,
+            &settings,
+            &pool,
+            &mut sides,
+        )?;
         let (pool, mut sides) = ObimPool::open(alloc, workers, 1)?;
-        run_for_again(&rt, alloc, &csr, &FROM_0, &settings, &pool, &mut sides)?;
+        run_for_again(
+            &rt,
+            alloc,
+            &csr,
+            &EXAMPLE_SEEDS,
+            &settings,
+            &pool,
+            &mut sides,
+        )?;
     }
     Ok(())
 }
@@ -165,9 +183,25 @@ fn of_resume(rt: HostRuntime) -> Result<(), Fail> {
     for workers in [1, 2] {
         let settings = settings(&rt, workers, 4);
         let (pool, mut sides) = LockedPool::open(alloc, workers)?;
-        resume_again(&rt, alloc, &csr, &FROM_0, &settings, &pool, &mut sides)?;
+        resume_again(
+            &rt,
+            alloc,
+            &csr,
+            &EXAMPLE_SEEDS,
+            &settings,
+            &pool,
+            &mut sides,
+        )?;
         let (pool, mut sides) = ObimPool::open(alloc, workers, 1)?;
-        resume_again(&rt, alloc, &csr, &FROM_0, &settings, &pool, &mut sides)?;
+        resume_again(
+            &rt,
+            alloc,
+            &csr,
+            &EXAMPLE_SEEDS,
+            &settings,
+            &pool,
+            &mut sides,
+        )?;
     }
     Ok(())
 }
@@ -232,8 +266,8 @@ fn of_least_labels(rt: HostRuntime) -> Result<(), Fail> {
     let csr = six(alloc)?;
     for workers in [1, 2] {
         let settings = settings(&rt, workers, 4).with_widening_buckets();
-        let seeds = Vec::from_slice(alloc, &FROM_0)?;
-        let same = Vec::from_slice(alloc, &FROM_0)?;
+        let seeds = Vec::from_slice(alloc, &EXAMPLE_SEEDS)?;
+        let same = Vec::from_slice(alloc, &EXAMPLE_SEEDS)?;
         let labels = tried_again!(
             rt,
             alloc,
@@ -252,8 +286,8 @@ fn of_least_labels_resumed(rt: HostRuntime) -> Result<(), Fail> {
     let csr = six(alloc)?;
     for workers in [1, 2] {
         let settings = settings(&rt, workers, 4).with_widening_buckets();
-        let rest = paused(&rt, alloc, &csr, &FROM_0, &settings)?;
-        let same = paused(&rt, alloc, &csr, &FROM_0, &settings)?;
+        let rest = paused(&rt, alloc, &csr, &EXAMPLE_SEEDS, &settings)?;
+        let same = paused(&rt, alloc, &csr, &EXAMPLE_SEEDS, &settings)?;
         let labels = tried_again!(
             rt,
             alloc,
