@@ -13,7 +13,7 @@ use Rattle.dimacs_text.specs.declared.fault.TextFault.TheVariants.{Memory, Line}
 use Rattle.job_answer.specs.declared.fault.Fault.{Fault}
 use Rattle.job_answer.specs.declared.fault.Fault.TheVariants as fault
 use Rattle.job_answer.specs.Bytes.{TakesAtMost, TakesOneMore, TakesWhole}
-use Rattle.job_answer.specs.Intake.{StepsOn, StopsShort}
+use Rattle.job_answer.specs.Pieces.{StepsOn, StopsShort}
 use Rattle.job_answer.specs.Choices.{fault_of}
 use Rattle.job_answer.specs.Outcome.{HasTaken, IsRequestFault}
 use Rattle.job_answer.proofs.Known.{consumes-then}

@@ -3,7 +3,7 @@ pub mod Choices
 pub mod Bytes
 pub mod AnswerText
 pub mod Graphs
-pub mod Intake
+pub mod Pieces
 pub mod Outcome
 pub mod Costs
 pub mod Parts

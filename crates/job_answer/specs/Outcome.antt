@@ -80,92 +80,77 @@ pub record IsTextUnasked (kind : Answer) (text : List ℕ) : Type 0 where
   pub is_job : IsJobText text job
   pub unasked : IsUnasked kind job
 
--- how much was taken before a fault
-abbrev pub HasTaken : ℕ → Option (List ℕ) → Option (List ℕ) → Fault → Type 0
-HasTaken limit before after fault.Read = TakesAtMost limit before after
-HasTaken limit before after fault.TooLong = TakesOneMore limit before after
-HasTaken limit before after (fault.Text line kind) = TakesAtMost limit before after
-HasTaken limit before after fault.NoAsk = TakesAtMost limit before after
-HasTaken limit before after fault.Memory = TakesAtMost limit before after
-HasTaken limit before after fault.Spawn = TakesAtMost limit before after
-HasTaken limit before after fault.Write = TakesAtMost limit before after
+-- What is so once a call has ended with a fault: how much of the text was taken, what the fault says of the text,
+-- and what was written of the answer.
+pub record FaultRow : Type 1 where
+  pub taken : Type 0
+  pub says : Type 0
+  pub written : Type 0
 
--- what a fault says of the text
-abbrev pub IsTrueOfText : ℕ → Answer → Option (List ℕ) → Option (List ℕ) → Fault → Type 0
-IsTrueOfText limit kind before after fault.Read = ⊤
-IsTrueOfText limit kind before after fault.TooLong = ⊤
-IsTrueOfText limit kind before after (fault.Text line what) = IsFaulty before after line what
-IsTrueOfText limit kind before after fault.NoAsk = IsRequestUnasked limit kind before after
-IsTrueOfText limit kind before after fault.Memory = ⊤
-IsTrueOfText limit kind before after fault.Spawn = ⊤
-IsTrueOfText limit kind before after fault.Write = ⊤
+-- at most the limit was taken, and one byte more if the text is too long
+abbrev pub HasTaken : ℕ → Option (List ℕ) → Option (List ℕ) → Fault → Type 0
+HasTaken limit before after fault.TooLong = TakesOneMore limit before after
+HasTaken limit before after _ = TakesAtMost limit before after
+
+module _ (limit : ℕ) (kind : Answer) (walks : Bool) (taken_from taken_to given_from given_to : Option (List ℕ)) where
+  -- A fault by which the text is refused: nothing was written.
+  abbrev pub refused_row : Fault → Type 0 → FaultRow
+  refused_row fault says =
+      record { taken = HasTaken limit taken_from taken_to fault; says = says; written = Keeps given_from given_to }
+
+  -- A fault of the system: it says nothing of the text, and this was written.
+  abbrev pub system_row : Fault → Type 0 → FaultRow
+  system_row fault written = record { taken = HasTaken limit taken_from taken_to fault; says = ⊤; written = written }
+
+  -- The table of the faults. A fault of the text is its first one, and where nothing is asked the job is legal all the
+  -- same. Once the job is read, a prefix of its answer was written; memory may be refused before that too.
+  abbrev pub row_of : Fault → FaultRow
+  row_of fault.TooLong = refused_row fault.TooLong ⊤
+  row_of (fault.Text line what) = refused_row (fault.Text line what) (IsFaulty taken_from taken_to line what)
+  row_of fault.NoAsk = refused_row fault.NoAsk (IsRequestUnasked limit kind taken_from taken_to)
+  row_of fault.Read = system_row fault.Read (Keeps given_from given_to)
+  row_of fault.Memory =
+      system_row fault.Memory (Keeps given_from given_to ⊎ IsBegun limit kind walks taken_from taken_to given_from given_to)
+  row_of fault.Spawn = system_row fault.Spawn (IsBegun limit kind walks taken_from taken_to given_from given_to)
+  row_of fault.Write = system_row fault.Write (IsBegun limit kind walks taken_from taken_to given_from given_to)
+
+  -- what a call says that reads a job text and writes its answer
+  pub record IsReply (result : Result (Unit {0}) Fault) : Type 0 where
+    -- the whole text was read, it is a job's, and exactly its answer was written
+    pub answered : OnOk result (IsAnswered limit kind walks taken_from taken_to given_from given_to)
+    -- at a fault what the table says
+    pub taken : IfErr result (λ fault. (row_of fault).taken)
+    pub says : IfErr result (λ fault. (row_of fault).says)
+    pub written : IfErr result (λ fault. (row_of fault).written)
 
 -- what a fault says of a text in memory, and of the limit; no writer can fail there
 abbrev pub IsTrueOfBytes : ℕ → Answer → List ℕ → Fault → Type 0
-IsTrueOfBytes limit kind text fault.Read = ⊤
 IsTrueOfBytes limit kind text fault.TooLong = limit < length text
 IsTrueOfBytes limit kind text (fault.Text line what) = IsFirstFault text line what
 IsTrueOfBytes limit kind text fault.NoAsk = IsTextUnasked kind text
-IsTrueOfBytes limit kind text fault.Memory = ⊤
-IsTrueOfBytes limit kind text fault.Spawn = ⊤
 IsTrueOfBytes limit kind text fault.Write = ⊥
-
--- what was written before a fault: nothing where the text is refused, and else a prefix of the answer;
--- memory may be refused while the text is read too
-abbrev pub HasWritten : ℕ → Answer → Bool → Option (List ℕ) → Option (List ℕ)
-    → Option (List ℕ) → Option (List ℕ) → Fault → Type 0
-HasWritten limit kind walks taken_from taken_to given_from given_to fault.Read = Keeps given_from given_to
-HasWritten limit kind walks taken_from taken_to given_from given_to fault.TooLong = Keeps given_from given_to
-HasWritten limit kind walks taken_from taken_to given_from given_to (fault.Text line what) =
-    Keeps given_from given_to
-HasWritten limit kind walks taken_from taken_to given_from given_to fault.NoAsk = Keeps given_from given_to
-HasWritten limit kind walks taken_from taken_to given_from given_to fault.Memory =
-    Keeps given_from given_to
-    ⊎ IsBegun limit kind walks taken_from taken_to given_from given_to
-HasWritten limit kind walks taken_from taken_to given_from given_to fault.Spawn =
-    IsBegun limit kind walks taken_from taken_to given_from given_to
-HasWritten limit kind walks taken_from taken_to given_from given_to fault.Write =
-    IsBegun limit kind walks taken_from taken_to given_from given_to
-
--- what a call says that reads a job text and writes its answer
-pub record IsReply (limit : ℕ) (kind : Answer) (walks : Bool)
-    (taken_from taken_to given_from given_to : Option (List ℕ)) (result : Result (Unit {0}) Fault) : Type 0 where
-  -- the whole text was read, it is a job's, and exactly its answer was written
-  pub answered : OnOk result (IsAnswered limit kind walks taken_from taken_to given_from given_to)
-  -- at most the limit was read, and one byte more only where the text is too long
-  pub taken : IfErr result (HasTaken limit taken_from taken_to)
-  -- a fault of the text is its first one; where nothing was asked, the job is legal all the same
-  pub says : IfErr result (IsTrueOfText limit kind taken_from taken_to)
-  -- where the text is refused nothing was written, and else a prefix of the answer
-  pub written : IfErr result (HasWritten limit kind walks taken_from taken_to given_from given_to)
+IsTrueOfBytes limit kind text _ = ⊤
 
 -- the faults of reading a job: a fault of its text is the first one
 abbrev pub IsRequestFault : Option (List ℕ) → Option (List ℕ) → Fault → Type 0
-IsRequestFault before after fault.Read = ⊤
-IsRequestFault before after fault.TooLong = ⊤
 IsRequestFault before after (fault.Text line kind) = IsFaulty before after line kind
 IsRequestFault before after fault.NoAsk = ⊥
-IsRequestFault before after fault.Memory = ⊤
 IsRequestFault before after fault.Spawn = ⊥
 IsRequestFault before after fault.Write = ⊥
+IsRequestFault before after _ = ⊤
+
+-- the faults of working out blocks and writing them
+abbrev pub IsWritingFault : Fault → Type 0
+IsWritingFault fault.Memory = ⊤
+IsWritingFault fault.Spawn = ⊤
+IsWritingFault fault.Write = ⊤
+IsWritingFault _ = ⊥
 
 -- the faults of answering a job: nothing is written where nothing was asked, and only there it is NoAsk;
 -- and else a prefix
 abbrev pub IsReplyFault : Answer → Bool → Content → Option (List ℕ) → Option (List ℕ) → Fault → Type 0
-IsReplyFault kind walks job before after fault.Read = ⊥
-IsReplyFault kind walks job before after fault.TooLong = ⊥
-IsReplyFault kind walks job before after (fault.Text line what) = ⊥
 IsReplyFault kind walks job before after fault.NoAsk = IsUnasked kind job × Keeps before after
 IsReplyFault kind walks job before after fault.Memory = IsReplyBegun kind walks job before after
 IsReplyFault kind walks job before after fault.Spawn = IsReplyBegun kind walks job before after
 IsReplyFault kind walks job before after fault.Write = IsReplyBegun kind walks job before after
-
--- the faults of working out blocks and writing them
-abbrev pub IsWritingFault : Fault → Type 0
-IsWritingFault fault.Read = ⊥
-IsWritingFault fault.TooLong = ⊥
-IsWritingFault (fault.Text line kind) = ⊥
-IsWritingFault fault.NoAsk = ⊥
-IsWritingFault fault.Memory = ⊤
-IsWritingFault fault.Spawn = ⊤
-IsWritingFault fault.Write = ⊤
+IsReplyFault kind walks job before after _ = ⊥

@@ -13,8 +13,8 @@ use crate::blocks::{write_sources, write_start};
 use crate::fault::Fault;
 use crate::figures::Figures;
 use crate::graphs::{Graphs, graphs_for};
-use crate::intake::read_request;
 use crate::pairs::write_pairs;
+use crate::read::read_request;
 use crate::solves::Start;
 use crate::watch::{Phase, Watch};
 use dimacs_text::{Ask, Job};
@@ -43,11 +43,11 @@ pub fn answer<H: Threads + Wait + Clock + Sync, R: Read, W: Write, G: Gate + Syn
         (W.contents writer.old) (W.contents writer.new) result }
 {
     let mut figures = Figures::new(rt);
-    answer_counted(rt, alloc, reader, writer, asked, gate, &mut figures)
+    answer_watched(rt, alloc, reader, writer, asked, gate, &mut figures)
 }
 
 /// The same, which tells how far it is.
-pub fn answer_counted<H: Threads + Wait + Clock + Sync, R: Read, W: Write, G: Gate + Sync>(
+pub fn answer_watched<H: Threads + Wait + Clock + Sync, R: Read, W: Write, G: Gate + Sync>(
     rt: &H,
     alloc: Global,
     reader: &mut R,
@@ -63,7 +63,7 @@ pub fn answer_counted<H: Threads + Wait + Clock + Sync, R: Read, W: Write, G: Ga
     let threads = asked.settings.workers as usize;
     let job = read_request(rt, alloc, reader, asked.limit, threads, watch)?;
     watch.end(rt, Phase::Reading);
-    respond(rt, alloc, writer, asked, job, gate, watch)
+    answer_job(rt, alloc, writer, asked, job, gate, watch)
 }
 
 /// The same over memory: the bytes of the answer to the text. No fault is `Write`.
@@ -89,7 +89,7 @@ pub fn answer_bytes<H: Threads + Wait + Clock + Sync, G: Gate + Sync>(
 }
 
 /// Writes the answer of the job.
-fn respond<H: Threads + Wait + Clock + Sync, W: Write, G: Gate + Sync>(
+fn answer_job<H: Threads + Wait + Clock + Sync, W: Write, G: Gate + Sync>(
     rt: &H,
     alloc: Global,
     writer: &mut W,

@@ -18,7 +18,7 @@ use crate::asked::Asked;
 use crate::fault::Fault;
 use crate::graphs::{Graphs, Grown};
 use crate::laws::blocks_are_unique;
-use crate::outlet::{Held, Waiting};
+use crate::output_buffer::{Held, OutputBuffer};
 use crate::solved::{Queries, SolvedText, Solves, most_bytes};
 use crate::solves::{Solve, Start};
 use crate::teams::teams_for;
@@ -61,7 +61,7 @@ pub fn write_sources<H: Threads + Wait + Clock + Sync, W: Write, G: Gate + Sync>
 {
     // So what is a prefix of these blocks is one of the blocks that another run would write.
     blocks_are_unique();
-    let mut waiting = Waiting::new(alloc);
+    let mut waiting = OutputBuffer::new(alloc);
     let solves = Solves {
         graphs,
         queries: Queries::Sources(sources),
@@ -114,7 +114,7 @@ pub fn write_start<H: Threads + Wait + Clock + Sync, W: Write, G: Gate + Sync>(
     ensures kinds { IfErr result IsWritingFault }
 {
     blocks_are_unique();
-    let mut waiting = Waiting::new(alloc);
+    let mut waiting = OutputBuffer::new(alloc);
     put_solved(
         rt,
         alloc,
@@ -159,7 +159,7 @@ fn put_solved<H: Threads + Wait + Clock + Sync, W: Write, G: Gate + Sync>(
     rt: &H,
     alloc: Global,
     writer: &mut W,
-    waiting: &mut Waiting,
+    waiting: &mut OutputBuffer,
     graphs: &Graphs,
     start: Start,
     asked: &Asked,
@@ -195,7 +195,7 @@ fn put_grown_block<H: Threads + Wait + Clock + Sync, W: Write, G: Gate + Sync>(
     rt: &H,
     alloc: Global,
     writer: &mut W,
-    waiting: &mut Waiting,
+    waiting: &mut OutputBuffer,
     rows: &Csr,
     grown: &Grown,
     start: Start,
@@ -235,7 +235,7 @@ fn put_grown_block<H: Threads + Wait + Clock + Sync, W: Write, G: Gate + Sync>(
 fn put_block<W: Write>(
     alloc: Global,
     writer: &mut W,
-    waiting: &mut Waiting,
+    waiting: &mut OutputBuffer,
     csr: &Csr,
     walks: bool,
     start: Start,
@@ -260,7 +260,7 @@ fn put_block<W: Write>(
 /// Puts the lines of the components.
 fn put_components<W: Write>(
     writer: &mut W,
-    waiting: &mut Waiting,
+    waiting: &mut OutputBuffer,
     labels: &[u64],
 ) -> Result<(), Fault>
     requires vertices { length labels.now ≤ MAX_VERTICES }
@@ -284,7 +284,7 @@ fn put_components<W: Write>(
 fn put_source_block<W: Write>(
     alloc: Global,
     writer: &mut W,
-    waiting: &mut Waiting,
+    waiting: &mut OutputBuffer,
     csr: &Csr,
     walks: bool,
     source: u32,
@@ -312,7 +312,7 @@ fn put_source_block<W: Write>(
 /// Puts the line of a source and those of the labels from it.
 fn put_labels<W: Write>(
     writer: &mut W,
-    waiting: &mut Waiting,
+    waiting: &mut OutputBuffer,
     source: u32,
     labels: &[u64],
 ) -> Result<(), Fault>
@@ -338,7 +338,7 @@ fn put_labels<W: Write>(
 fn put_walks<W: Write>(
     alloc: Global,
     writer: &mut W,
-    waiting: &mut Waiting,
+    waiting: &mut OutputBuffer,
     source: u32,
     labels: &[u64],
     hops: &[u32],

@@ -3,7 +3,7 @@
 //! `answer` reads a job text from any reader and writes its answer to any writer. Its contract says that
 //! the bytes written are exactly those that the least labels of the job make, for all settings and
 //! however the workers' steps interleave, and what was read and written at each fault. `answer_bytes`
-//! is the same from bytes to bytes, and `answer_counted` tells how far it is besides.
+//! is the same from bytes to bytes, and `answer_watched` tells how far it is besides.
 //!
 //! The answer to a text in memory, by two workers:
 //!
@@ -21,19 +21,19 @@
 #![tactic(auto)]
 
 mod ahead;
+mod answering;
 mod asked;
 mod blocks;
 mod counter;
 mod fault;
 mod figures;
 mod graphs;
-mod intake;
 pub mod laws;
-mod outlet;
+mod output_buffer;
 mod pairs;
 mod piece;
+mod read;
 mod readers;
-mod reply;
 mod solved;
 mod solves;
 mod teams;
@@ -42,9 +42,9 @@ mod tests;
 mod walked_pairs;
 mod watch;
 
+pub use answering::{answer, answer_bytes, answer_watched};
 pub use asked::{Answer, Asked, AtOnce, MAX_AT_ONCE, MAX_BYTES};
 pub use counter::Counter;
 pub use fault::{Fault, status};
 pub use figures::Figures;
-pub use reply::{answer, answer_bytes, answer_counted};
 pub use watch::{Phase, Watch};

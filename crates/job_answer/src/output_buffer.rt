@@ -13,17 +13,17 @@ const PIECE: usize = 1 << 16;
 
 /// The bytes of an answer that wait to be written. They go out in pieces of 64 KiB as the answer grows.
 #[derive(Drop)]
-pub struct Waiting {
+pub struct OutputBuffer {
     /// What waits, in order: more is put at the end.
     pub bytes: Vec<u8>,
 }
 
-impl Waiting {
+impl OutputBuffer {
     /// Nothing waits.
-    pub fn new(alloc: Global) -> Waiting
+    pub fn new(alloc: Global) -> OutputBuffer
         ensures { result.bytes.items ≡ [] }
     {
-        Waiting {
+        OutputBuffer {
             bytes: Vec::new(alloc),
         }
     }

@@ -19,7 +19,7 @@ use crate::asked::Asked;
 use crate::fault::Fault;
 use crate::graphs::Graphs;
 use crate::laws::blocks_are_unique;
-use crate::outlet::Waiting;
+use crate::output_buffer::OutputBuffer;
 use crate::solved::{PairLabels, Queries, Solves};
 use crate::solves::{Solve, by_source};
 use crate::teams::teams_for;
@@ -61,32 +61,8 @@ pub fn write_pairs<H: Threads + Wait + Clock + Sync, W: Write, G: Gate + Sync>(
     ensures kinds { IfErr result IsWritingFault }
 {
     if asked.walks {
-        write_walked(rt, alloc, writer, graphs, pairs, asked, gate, watch)
-    } else {
-        write_plain(rt, alloc, writer, graphs, pairs, asked, gate, watch)
+        return write_walked(rt, alloc, writer, graphs, pairs, asked, gate, watch);
     }
-}
-
-/// Writes the line of each pair in turn.
-fn write_plain<H: Threads + Wait + Clock + Sync, W: Write, G: Gate + Sync>(
-    rt: &H,
-    alloc: Global,
-    writer: &mut W,
-    graphs: &Graphs,
-    pairs: &[(u32, u32)],
-    asked: &Asked,
-    gate: &G,
-    watch: &mut impl Watch,
-) -> Result<(), Fault>
-    requires graphs { AreGraphs graphs.now }
-    requires count { length pairs.now ≤ 2 ^ 20 }
-    requires pairs { All (IsPairWithin graphs.now.rows.n) pairs.now }
-    ensures blocks { OnOk result (Writes (ArePairBlocks false graphs.now.rows.n graphs.now.rows.arcs
-        (growth_of graphs.now.grown) pairs.now) (W.contents writer.old) (W.contents writer.new)) }
-    ensures prefix { OnErr result (WritesPrefix (ArePairBlocks false graphs.now.rows.n graphs.now.rows.arcs
-        (growth_of graphs.now.grown) pairs.now) (W.contents writer.old) (W.contents writer.new)) }
-    ensures kinds { IfErr result IsWritingFault }
-{
     let order = by_source(alloc, pairs)?;
     let mut labels = vec![in alloc; INF; pairs.len()]?;
     let mut after = room_after(alloc, graphs, pairs)?;
@@ -286,7 +262,7 @@ fn write_lines<W: Write>(
     ensures kinds { IfErr result IsWritingFault }
 {
     blocks_are_unique();
-    let mut waiting = Waiting::new(alloc);
+    let mut waiting = OutputBuffer::new(alloc);
     for place in 0..pairs.len() {
         let bytes = &mut waiting.bytes;
         put_pair_lines(bytes, graphs, pairs[place], place, labels, after)?;

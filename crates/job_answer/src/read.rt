@@ -3,7 +3,7 @@
 ghost use Rattle.std.specs.Prelude.{◌≡◌, ◌^◌, ◌≤◌, ◌<◌, [], length, IfOk, IfErr};
 ghost use Rattle.std.specs.Thread.{IsSync};
 ghost use Rattle.dimacs_text.specs.Jobs.{content_of};
-ghost use Rattle.job_answer.specs.Intake.{StepsOn, StopsShort};
+ghost use Rattle.job_answer.specs.Pieces.{StepsOn, StopsShort};
 ghost use Rattle.job_answer.specs.Outcome.{HasTaken, IsRequest, IsRequestFault};
 
 use crate::fault::Fault;

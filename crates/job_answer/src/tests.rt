@@ -9,15 +9,15 @@ mod pairs;
 mod refusals;
 mod streams;
 
+use crate::answering::{answer, answer_bytes, answer_watched};
 use crate::asked::{Answer, Asked};
 use crate::counter::Counter;
 use crate::fault::{Fault, status};
 use crate::figures::Figures;
-use crate::reply::{answer, answer_bytes, answer_counted};
 use callers::{append_answer, left_after_fault};
 use dimacs_text::LineKind;
-use gates::{Meeting, Recorder};
-use obim_engine::{MAX_CHUNK, MAX_SHIFT, MAX_WORKERS, OpenGate, Settings};
+use gates::Meeting;
+use obim_engine::{MAX_CHUNK, MAX_SHIFT, MAX_WORKERS, OpenGate, Recorder, Settings};
 use std::process::Abort;
 use std::test::Fail;
 use streams::{Sink, Source};
@@ -157,7 +157,7 @@ fn figures_of_jobs(rt: HostRuntime) -> Result<(), Fail> {
         let counter = Counter::open(rt.alloc(), 2)?;
         let mut reader = text;
         let mut bytes = Vec::new(rt.alloc());
-        answer_counted(
+        answer_watched(
             &rt,
             rt.alloc(),
             &mut reader,

@@ -1,16 +1,16 @@
 //! Which lines answer pairs with walks?
 
-ghost use Rattle.std.specs.Prelude.{◌≡◌, ◌<◌, ◌≤◌, ◌++◌, ◌↔◌, ℕ, List, Option, length, slice_index};
+ghost use Rattle.std.specs.Prelude.{◌≡◌, ◌<◌, ◌≤◌, ◌++◌, ◌↔◌, length, slice_index};
 ghost use Rattle.std.specs.Prelude.{All, IfErr, IfOk, OnErr, OnOk, true};
 ghost use Rattle.route_walks.specs.Label.{AreLeastLabels};
 ghost use Rattle.route_walks.specs.Operators.{seeds_from};
 ghost use Rattle.walk_report.specs.Parent.{LeadBack};
 ghost use Rattle.dimacs_text.specs.Jobs.{IsPairWithin};
-ghost use Rattle.job_answer.specs.AnswerText.{ArePairBlocks, AreReached, IsGrownPair};
+ghost use Rattle.job_answer.specs.AnswerText.{ArePairBlocks, AreReached};
 ghost use Rattle.job_answer.specs.Bytes.{Writes, WritesPrefix};
 ghost use Rattle.job_answer.specs.Graphs.{AreGraphs, growth_of};
 ghost use Rattle.job_answer.specs.Outcome.{IsWritingFault};
-ghost use Rattle.job_answer.specs.Sent.{AreSent};
+ghost use Rattle.job_answer.specs.Sent.{IsWalkedPair, SendsOn, SendsPrefix};
 ghost use Rattle.job_answer.specs.Solved.{IsLinesText};
 ghost use Rattle.job_answer.specs.Solves.{pair_at, IsForQueries, IsWalked, IsWalkedAfter};
 ghost use Rattle.job_answer.specs.Solves.{walked_text, walked_after_text, with_growth};
@@ -21,7 +21,7 @@ use crate::blocks::put_walk_line;
 use crate::fault::Fault;
 use crate::graphs::Graphs;
 use crate::laws::blocks_are_unique;
-use crate::outlet::{Held, Waiting};
+use crate::output_buffer::{Held, OutputBuffer};
 use crate::solved::{Queries, SolvedText, Solves, most_bytes};
 use crate::solves::{Solve, Start};
 use crate::teams::teams_for;
@@ -58,7 +58,7 @@ pub fn write_walked<H: Threads + Wait + Clock + Sync, W: Write, G: Gate + Sync>(
     ensures kinds { IfErr result IsWritingFault }
 {
     blocks_are_unique();
-    let mut waiting = Waiting::new(alloc);
+    let mut waiting = OutputBuffer::new(alloc);
     let solves = Solves {
         graphs,
         queries: Queries::Walked(pairs),
@@ -112,7 +112,7 @@ pub fn held_lines<H: Threads + Wait + Clock + Sync, G: Gate + Sync>(
     let rest = &pairs[first..];
     let solve = Solve::of_queries(rest, 0);
     let mut held = Held::new(alloc, most_bytes(graphs));
-    let mut waiting = Waiting::new(alloc);
+    let mut waiting = OutputBuffer::new(alloc);
     put_solved_pairs(
         rt,
         alloc,
@@ -137,7 +137,7 @@ fn put_solved_pairs<H: Threads + Wait + Clock + Sync, W: Write, G: Gate + Sync>(
     rt: &H,
     alloc: Global,
     writer: &mut W,
-    waiting: &mut Waiting,
+    waiting: &mut OutputBuffer,
     graphs: &Graphs,
     pairs: &[(u32, u32)],
     solve: Solve,
@@ -148,16 +148,10 @@ fn put_solved_pairs<H: Threads + Wait + Clock + Sync, W: Write, G: Gate + Sync>(
     requires graphs { AreGraphs graphs.now }
     requires pairs { All (IsPairWithin graphs.now.rows.n) pairs.now }
     requires solve { IsForQueries pairs.now solve }
-    ensures sent { OnOk result ((before : Option (List ℕ))
-        → AreSent (IsGrownPair true graphs.now.rows.n graphs.now.rows.arcs (growth_of graphs.now.grown))
-        pairs.now solve.first before (W.contents writer.old) waiting.old.bytes.items
-        → AreSent (IsGrownPair true graphs.now.rows.n graphs.now.rows.arcs (growth_of graphs.now.grown))
-        pairs.now solve.end before (W.contents writer.new) waiting.new.bytes.items) }
-    ensures prefix { OnErr result ((before : Option (List ℕ))
-        → AreSent (IsGrownPair true graphs.now.rows.n graphs.now.rows.arcs (growth_of graphs.now.grown))
-        pairs.now solve.first before (W.contents writer.old) waiting.old.bytes.items
-        → WritesPrefix (ArePairBlocks true graphs.now.rows.n graphs.now.rows.arcs
-        (growth_of graphs.now.grown) pairs.now) before (W.contents writer.new)) }
+    ensures sent { OnOk result (SendsOn (IsWalkedPair graphs.now) pairs.now solve.first solve.end
+        (W.contents writer.old) (W.contents writer.new) waiting.old.bytes.items waiting.new.bytes.items) }
+    ensures prefix { OnErr result (SendsPrefix (IsWalkedPair graphs.now) pairs.now solve.first
+        (W.contents writer.old) (W.contents writer.new) waiting.old.bytes.items) }
     ensures kinds { IfErr result IsWritingFault }
 {
     blocks_are_unique();
@@ -239,7 +233,7 @@ fn walked_after<H: Threads + Wait + Clock + Sync, G: Gate + Sync>(
 fn put_walked<W: Write>(
     alloc: Global,
     writer: &mut W,
-    waiting: &mut Waiting,
+    waiting: &mut OutputBuffer,
     graphs: &Graphs,
     pairs: &[(u32, u32)],
     solve: Solve,
@@ -251,16 +245,10 @@ fn put_walked<W: Write>(
     requires solve { IsForQueries pairs.now solve }
     requires walked { IsWalked graphs.now.rows.n graphs.now.rows.arcs (pair_at pairs.now solve.first).0 walked.now }
     requires after { IsWalkedAfter graphs.now.grown (pair_at pairs.now solve.first).0 after.now }
-    ensures sent { OnOk result ((before : Option (List ℕ))
-        → AreSent (IsGrownPair true graphs.now.rows.n graphs.now.rows.arcs (growth_of graphs.now.grown))
-        pairs.now solve.first before (W.contents writer.old) waiting.old.bytes.items
-        → AreSent (IsGrownPair true graphs.now.rows.n graphs.now.rows.arcs (growth_of graphs.now.grown))
-        pairs.now solve.end before (W.contents writer.new) waiting.new.bytes.items) }
-    ensures prefix { OnErr result ((before : Option (List ℕ))
-        → AreSent (IsGrownPair true graphs.now.rows.n graphs.now.rows.arcs (growth_of graphs.now.grown))
-        pairs.now solve.first before (W.contents writer.old) waiting.old.bytes.items
-        → WritesPrefix (ArePairBlocks true graphs.now.rows.n graphs.now.rows.arcs
-        (growth_of graphs.now.grown) pairs.now) before (W.contents writer.new)) }
+    ensures sent { OnOk result (SendsOn (IsWalkedPair graphs.now) pairs.now solve.first solve.end
+        (W.contents writer.old) (W.contents writer.new) waiting.old.bytes.items waiting.new.bytes.items) }
+    ensures prefix { OnErr result (SendsPrefix (IsWalkedPair graphs.now) pairs.now solve.first
+        (W.contents writer.old) (W.contents writer.new) waiting.old.bytes.items) }
     ensures kinds { IfErr result IsWritingFault }
 {
     blocks_are_unique();

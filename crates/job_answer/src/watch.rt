@@ -12,7 +12,7 @@ pub enum Phase {
     Writing,
 }
 
-/// Told by `answer_counted` how far it is, by the caller's own thread. No byte of an answer depends on it.
+/// Told by `answer_watched` how far it is, by the caller's own thread. No byte of an answer depends on it.
 pub trait Watch {
     /// So many bytes more of the text were read. Of the graph's arcs so many are read now, and so many are
     /// counted, once the problem line is read.

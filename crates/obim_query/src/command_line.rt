@@ -97,7 +97,7 @@ Status: 0 answered, 1 the command line is refused, 2 the text is refused,
 
 /// What a command line asks for.
 #[derive(Clone, Copy, Debug, PartialEq, Eq)]
-pub(crate) struct Order {
+pub(crate) struct Options {
     pub(crate) asked: Asked,
     /// Whether figures are printed after the answer.
     pub(crate) stats: bool,
@@ -126,7 +126,10 @@ impl From<AllocError> for Refusal {
 
 /// Judges the command line: what its arguments ask for, or why they are refused. The first is the
 /// program's name.
-pub(crate) fn asked_by<'a, S: AsStr>(alloc: Global, arguments: &'a [S]) -> Result<Order, Refusal> {
+pub(crate) fn parse_options<'a, S: AsStr>(
+    alloc: Global,
+    arguments: &'a [S],
+) -> Result<Options, Refusal> {
     let limits = Limits::new(alloc)?;
     let matches = match command(alloc, &limits)?.try_get_matches_from(arguments) {
         Ok(matches) => matches,
@@ -145,7 +148,7 @@ pub(crate) fn asked_by<'a, S: AsStr>(alloc: Global, arguments: &'a [S]) -> Resul
             "invalid value 'components' for '--answer' with '--walks': distances or levels"
         )?));
     };
-    Ok(Order {
+    Ok(Options {
         asked: asked.with_at_once(at_once),
         stats: matches.get_flag("stats"),
         progress: matches.get_flag("progress"),

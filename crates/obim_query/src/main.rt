@@ -15,8 +15,8 @@ mod stats;
 #[cfg(test)]
 mod tests;
 
-use command_line::{Order, Refusal, asked_by};
-use job_answer::{Counter, Fault, Phase, Watch, answer, answer_counted, status};
+use command_line::{Options, Refusal, parse_options};
+use job_answer::{Counter, Fault, Phase, Watch, answer, answer_watched, status};
 use obim_engine::OpenGate;
 use output::Output;
 use progress::{Progress, Shown};
@@ -36,11 +36,13 @@ const USAGE: u8 = 1;
 const NO_JOB: &str = "no job: obim_query [OPTIONS] < JOB, or - to type it (see obim_query --help)";
 
 fn main(rt: HostRuntime) -> ExitCode {
-    let code = match judged(&rt) {
-        Ok(order) if !order.typed && rt.stdin().is_terminal() => complain(&rt, NO_JOB, USAGE),
-        Ok(order) => {
-            let shown = shown_at(&order, rt.stderr().is_terminal());
-            reply_to(&rt, &mut rt.stdin(), &mut rt.stdout(), &order, shown)
+    let code = match parse_arguments(&rt) {
+        Ok(options) if !options.typed && rt.stdin().is_terminal() => print_error(
+            &rt, NO_JOB, USAGE,
+        ),
+        Ok(options) => {
+            let shown = shown_at(&options, rt.stderr().is_terminal());
+            answer_job(&rt, &mut rt.stdin(), &mut rt.stdout(), &options, shown)
         }
         Err(status) => status,
     };
@@ -48,35 +50,35 @@ fn main(rt: HostRuntime) -> ExitCode {
 }
 
 /// What the command line asks for; or the status to end with, after the text that says why is printed.
-fn judged<H: AllocGlobal + Env + Print + Eprint>(rt: &H) -> Result<Order, u8> {
+fn parse_arguments<H: AllocGlobal + Env + Print + Eprint>(rt: &H) -> Result<Options, u8> {
     let arguments: Vec<String> = match env::args(rt) {
         Ok(arguments) => arguments
             .collect(rt.alloc())
-            .map_err(|_| fail(rt, Fault::Memory))?,
+            .map_err(|_| print_fault(rt, Fault::Memory))?,
         Err(error) if error.kind() == ErrorKind::InvalidData => {
-            return Err(complain(rt, "the command line is not UTF-8 text", USAGE));
+            return Err(print_error(rt, "the command line is not UTF-8 text", USAGE));
         }
-        Err(_) => return Err(fail(rt, Fault::Memory)),
+        Err(_) => return Err(print_fault(rt, Fault::Memory)),
     };
-    match asked_by(rt.alloc(), &arguments) {
-        Ok(order) => Ok(order),
-        Err(Refusal::Text(text)) => Err(shown(rt, &text)),
-        Err(Refusal::Line(line)) => Err(complain(rt, line, USAGE)),
-        Err(Refusal::Memory) => Err(fail(rt, Fault::Memory)),
+    match parse_options(rt.alloc(), &arguments) {
+        Ok(options) => Ok(options),
+        Err(Refusal::Text(text)) => Err(print_clap(rt, &text)),
+        Err(Refusal::Line(line)) => Err(print_error(rt, line, USAGE)),
+        Err(Refusal::Memory) => Err(print_fault(rt, Fault::Memory)),
     }
 }
 
 /// Prints the text that the command line asks for, and gives the status to end with.
-fn shown<H: Print + Eprint>(rt: &H, text: &clap::Error) -> u8 {
+fn print_clap<H: Print + Eprint>(rt: &H, text: &clap::Error) -> u8 {
     match text.print(rt) {
         Ok(()) => 0,
-        Err(_) => fail(rt, Fault::Write),
+        Err(_) => print_fault(rt, Fault::Write),
     }
 }
 
 /// Where progress is shown.
-fn shown_at(order: &Order, is_terminal: bool) -> Shown {
-    if !order.progress {
+fn shown_at(options: &Options, is_terminal: bool) -> Shown {
+    if !options.progress {
         Shown::Nowhere
     } else if is_terminal {
         Shown::Terminal
@@ -86,38 +88,45 @@ fn shown_at(order: &Order, is_terminal: bool) -> Shown {
 }
 
 /// Answers, and gives the status to end with. Where whoever read the answer has gone, that is all.
-fn reply_to<H: AllocGlobal + Eprint + Threads + Wait + Clock + Sync, R: Read, W: Write>(
+fn answer_job<H: AllocGlobal + Eprint + Threads + Wait + Clock + Sync, R: Read, W: Write>(
     rt: &H,
     reader: &mut R,
     writer: &mut W,
-    order: &Order,
+    options: &Options,
     shown: Shown,
 ) -> u8 {
     let mut output = Output::new(writer);
-    let replied = if order.stats || order.progress {
-        reply_with_figures(rt, reader, &mut output, order, shown)
+    let replied = if options.stats || options.progress {
+        answer_with_figures(rt, reader, &mut output, options, shown)
     } else {
-        answer(rt, rt.alloc(), reader, &mut output, &order.asked, &OpenGate)
+        answer(
+            rt,
+            rt.alloc(),
+            reader,
+            &mut output,
+            &options.asked,
+            &OpenGate,
+        )
     };
     match replied {
         Ok(()) => 0,
         Err(fault) if output.has_no_reader => status(&fault),
-        Err(fault) => fail(rt, fault),
+        Err(fault) => print_fault(rt, fault),
     }
 }
 
 /// Answers, and prints how far it is and figures after the answer, as they are asked for.
-fn reply_with_figures<H: AllocGlobal + Eprint + Threads + Wait + Clock + Sync, R: Read, W: Write>(
+fn answer_with_figures<H: AllocGlobal + Eprint + Threads + Wait + Clock + Sync, R: Read, W: Write>(
     rt: &H,
     reader: &mut R,
     writer: &mut W,
-    order: &Order,
+    options: &Options,
     shown: Shown,
 ) -> Result<(), Fault> {
-    let asked = &order.asked;
+    let asked = &options.asked;
     let counter = Counter::open(rt.alloc(), asked.settings.workers)?;
     let mut progress = Progress::new(rt, shown);
-    let replied = answer_counted(
+    let replied = answer_watched(
         rt,
         rt.alloc(),
         reader,
@@ -129,19 +138,19 @@ fn reply_with_figures<H: AllocGlobal + Eprint + Threads + Wait + Clock + Sync, R
     progress.clear();
     replied?;
     progress.end(rt, Phase::Writing);
-    if order.stats {
+    if options.stats {
         print_stats(rt, asked, &progress.figures, &counter);
     }
     Ok(())
 }
 
 /// Prints the fault's text, and gives its status.
-fn fail<H: Eprint>(rt: &H, fault: Fault) -> u8 {
-    complain(rt, fault, status(&fault))
+fn print_fault<H: Eprint>(rt: &H, fault: Fault) -> u8 {
+    print_error(rt, fault, status(&fault))
 }
 
 /// Prints the text on standard error, after the program's name, and gives the status back.
-fn complain<H: Eprint, T: fmt::Display + Drop>(rt: &H, text: T, status: u8) -> u8 {
+fn print_error<H: Eprint, T: fmt::Display + Drop>(rt: &H, text: T, status: u8) -> u8 {
     // Where standard error is closed too, the status has to say it.
     let _ = eprintln!(rt; "obim_query: {text}");
     status

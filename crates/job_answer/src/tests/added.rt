@@ -1,10 +1,9 @@
 //! Added arcs: worked rows, how often labels are worked out, and which vertices are visited.
 
+use crate::answering::{answer_bytes, answer_watched};
 use crate::asked::{Answer, Asked};
 use crate::fault::Fault;
 use crate::figures::Figures;
-use crate::reply::{answer_bytes, answer_counted};
-use crate::tests::gates::Recorder;
 use crate::tests::{SIX, SIX_ANSWER, SIX_GRAPH, SIX_WALKS, fault};
 use dimacs_text::LineKind;
 use obim_engine::{OpenGate, Settings};
@@ -259,7 +258,7 @@ fn runs_with_added_arcs(rt: HostRuntime) -> Result<(), Fail> {
         let text = joined(rt.alloc(), &text)?;
         let mut figures = Figures::new(&rt);
         let mut out = Vec::new(rt.alloc());
-        answer_counted(
+        answer_watched(
             &rt,
             rt.alloc(),
             &mut text.as_slice(),

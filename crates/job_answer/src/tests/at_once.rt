@@ -1,11 +1,11 @@
 //! Sources side by side: worked rows, which workers solve them, and what happens where walks are long.
 
+use crate::answering::{answer_bytes, answer_watched};
 use crate::asked::{Answer, Asked, AtOnce};
 use crate::counter::Counter;
 use crate::figures::Figures;
-use crate::reply::{answer_bytes, answer_counted};
 use crate::teams::Team;
-use crate::tests::gates::{Meeting, Yielding};
+use crate::tests::gates::Meeting;
 use crate::tests::pairs::{SIX_PAIRS, SIX_PAIRS_ANSWER, SIX_PAIRS_WALKS};
 use obim_engine::{OpenGate, Settings};
 use std::alloc::Global;
@@ -82,7 +82,7 @@ fn figures_of_sources_at_once(rt: HostRuntime) -> Result<(), Fail> {
         let asked = asked_at_once(&rt, workers, at_once);
         let (mut reader, mut bytes) = (SIX_SOURCES, Vec::new(rt.alloc()));
         let writer = &mut bytes;
-        answer_counted(
+        answer_watched(
             &rt,
             rt.alloc(),
             &mut reader,
@@ -156,7 +156,7 @@ fn long_walks_are_not_kept(rt: HostRuntime) -> Result<(), Fail> {
             let mut figures = Figures::new(&rt);
             let (mut reader, mut bytes) = (text.as_slice(), Vec::new(rt.alloc()));
             let writer = &mut bytes;
-            answer_counted(
+            answer_watched(
                 &rt,
                 rt.alloc(),
                 &mut reader,

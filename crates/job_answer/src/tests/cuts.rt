@@ -3,9 +3,9 @@
 
 use super::streams::{Sink, Source};
 use super::{SIX, SIX_ANSWER, asked, asked_for_walks, asked_with, fault};
+use crate::answering::answer;
 use crate::asked::Answer;
 use crate::fault::Fault;
-use crate::reply::answer;
 use dimacs_text::LineKind;
 use obim_engine::OpenGate;
 use std::alloc::{AllocError, Global};

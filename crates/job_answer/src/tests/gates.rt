@@ -1,35 +1,9 @@
-//! Gates that watch workers.
+//! A gate that holds a worker back until another has come.
 
 use obim_engine::Gate;
-use std::alloc::Global;
+use std::sync::Wait;
 use std::sync::atomic::{AtomicU64, Ordering};
-use std::sync::{Mutex, Wait};
 use std::thread::yield_now;
-
-/// Keeps the vertices that passed, in their order.
-#[derive(Drop)]
-pub(crate) struct Recorder {
-    passed: Mutex<Vec<u32>>,
-}
-
-impl Recorder {
-    pub fn new(alloc: Global) -> Recorder {
-        Recorder {
-            passed: Mutex::new(Vec::new(alloc)),
-        }
-    }
-
-    pub fn into_passed(self) -> Vec<u32> {
-        self.passed.into_inner()
-    }
-}
-
-impl Gate for Recorder {
-    fn pass<H: Wait>(&self, rt: &H, _worker: u32, vertex: u32) {
-        // A test that compares what was kept notices a refused push.
-        let _ = self.passed.lock(rt).push(vertex);
-    }
-}
 
 /// The first call yields this often at most.
 const TURNS: u32 = 10_000_000;
@@ -74,31 +48,6 @@ impl Gate for Meeting {
                 self.met.store(1, Ordering::SeqCst);
                 return;
             }
-            yield_now();
-        }
-    }
-}
-
-/// Yields now and then, at random.
-#[derive(Drop)]
-pub(crate) struct Yielding {
-    state: AtomicU64,
-}
-
-impl Yielding {
-    pub fn new(seed: u64) -> Yielding {
-        Yielding {
-            state: AtomicU64::new(seed),
-        }
-    }
-}
-
-impl Gate for Yielding {
-    fn pass<H: Wait>(&self, _rt: &H, _worker: u32, _vertex: u32) {
-        let state = self
-            .state
-            .fetch_add(0x9E37_79B9_7F4A_7C15, Ordering::SeqCst);
-        for _ in 0..state >> 62 {
             yield_now();
         }
     }

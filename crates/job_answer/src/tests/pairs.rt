@@ -1,8 +1,8 @@
 //! Pairs: worked rows, and how often labels are worked out for them.
 
+use crate::answering::{answer_bytes, answer_watched};
 use crate::asked::{Answer, Asked};
 use crate::figures::Figures;
-use crate::reply::{answer_bytes, answer_counted};
 use crate::tests::{SIX, SIX_GRAPH};
 use obim_engine::{OpenGate, Settings};
 use std::alloc::Global;
@@ -86,7 +86,7 @@ fn runs_of_pairs(rt: HostRuntime) -> Result<(), Fail> {
         for (workers, at_once) in [(1, 1), (3, runs.max(1))] {
             let mut figures = Figures::new(&rt);
             let mut out = Vec::new(rt.alloc());
-            answer_counted(
+            answer_watched(
                 &rt,
                 rt.alloc(),
                 &mut text.as_slice(),

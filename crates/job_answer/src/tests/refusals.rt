@@ -2,11 +2,11 @@
 //! the answer, and made once more it writes the answer that was worked by hand. `tests/refusals` refuses each in
 //! turn; `tests/refusals.tsv` has the calls.
 
+use crate::answering::{answer, answer_bytes, answer_watched};
 use crate::asked::{Answer, AtOnce};
 use crate::counter::Counter;
 use crate::fault::Fault;
 use crate::figures::Figures;
-use crate::reply::{answer, answer_bytes, answer_counted};
 use crate::tests::added::{SIX_ADDED, SIX_ADDED_WALKS};
 use crate::tests::at_once::{SIX_SOURCES, SIX_SOURCES_ANSWER, asked_at_once};
 use crate::tests::pairs::{SIX_PAIRS, SIX_PAIRS_ANSWER, SIX_PAIRS_WALKS};
@@ -63,7 +63,7 @@ fn of_answer_counted(rt: HostRuntime) -> Result<(), Fail> {
         let mut figures = Figures::new(&rt);
         if let Err(fault) = refusable!(
             alloc,
-            answer_counted(
+            answer_watched(
                 &rt,
                 alloc,
                 &mut reader,
@@ -76,7 +76,7 @@ fn of_answer_counted(rt: HostRuntime) -> Result<(), Fail> {
             expect_refused(&rt, fault);
             assert!(rt; SIX_WALKS.starts_with(&out));
             out.clear();
-            answer_counted(
+            answer_watched(
                 &rt,
                 alloc,
                 &mut same,

@@ -1,15 +1,15 @@
 //! Which arguments ask for what, and which are refused?
 
-use crate::command_line::{Order, Refusal, asked_by};
+use crate::command_line::{Options, Refusal, parse_options};
 use clap::error::ErrorKind;
 use job_answer::{Answer, Asked, AtOnce, MAX_BYTES};
 use obim_engine::Settings;
 use std::alloc::Global;
 use std::process::Abort;
 
-fn asked_of(line: &str, alloc: Global) -> Result<Order, Refusal> {
+fn asked_of(line: &str, alloc: Global) -> Result<Options, Refusal> {
     match line.split(' ').collect::<Vec<&str>>(alloc) {
-        Ok(arguments) => asked_by(alloc, &arguments),
+        Ok(arguments) => parse_options(alloc, &arguments),
         Err(_) => Err(Refusal::Memory),
     }
 }
@@ -83,8 +83,8 @@ fn lines_beside_what_they_ask_for(rt: HostRuntime) {
     ];
     for (line, answer, walks, settings) in table {
         let asked = ask(&rt, answer, walks, settings);
-        let order = asked_of(line, rt.alloc()).ok();
-        assert_eq!(rt; order.map(|order| order.asked), asked, "{line}");
+        let options = asked_of(line, rt.alloc()).ok();
+        assert_eq!(rt; options.map(|options| options.asked), asked, "{line}");
     }
 }
 
@@ -99,8 +99,8 @@ fn lines_beside_what_they_leave_to_the_program(rt: HostRuntime) {
         ("it --progress - --stats -", (true, true, true)),
         ("it -- -", (false, false, true)),
     ] {
-        let order = asked_of(line, rt.alloc()).ok();
-        let found = order.map(|order| (order.stats, order.progress, order.typed));
+        let options = asked_of(line, rt.alloc()).ok();
+        let found = options.map(|options| (options.stats, options.progress, options.typed));
         assert_eq!(rt; found, Some(want), "{line}");
     }
 }
@@ -114,8 +114,8 @@ fn lines_beside_their_buckets(rt: HostRuntime) {
         ("it --shift 4", false),
         ("it -s 04", false),
     ] {
-        let order = asked_of(line, rt.alloc()).ok();
-        let found = order.map(|order| order.asked.settings.widening);
+        let options = asked_of(line, rt.alloc()).ok();
+        let found = options.map(|options| options.asked.settings.widening);
         assert_eq!(rt; found, Some(widening), "{line}");
     }
 }
@@ -129,9 +129,9 @@ fn lines_beside_sources_at_once(rt: HostRuntime) {
         ("it --at-once=64", AtOnce::Most(64)),
         ("it --at-once=64 --at-once 3", AtOnce::Most(3)),
     ] {
-        let order = asked_of(line, rt.alloc()).ok();
+        let options = asked_of(line, rt.alloc()).ok();
         assert_eq!(rt;
-            order.map(|order| order.asked.at_once),
+            options.map(|options| options.asked.at_once),
             Some(want),
             "{line}"
         );

@@ -4,7 +4,7 @@ use Rattle.dimacs_text.specs.Jobs.{content_of, question_of}
 use Rattle.job_answer.specs.AnswerText.{IsAnswerText}
 use Rattle.job_answer.proofs.Prefixes.{puts-nothing}
 use Rattle.job_answer.proofs.Replies.{asked-if, reply-says, text_answered, text_begun}
-use Rattle.job_answer.proofs.reply.respond.Goals as goal
+use Rattle.job_answer.proofs.answering.answer_job.Goals as goal
 
 pub returns-in_err-graphs-clause-says : goal.returns-in_err-graphs-clause-says
 returns-in_err-graphs-clause-says g c =

@@ -1,5 +1,5 @@
 use Rattle.job_answer.proofs.Known.{waits-more}
-use Rattle.job_answer.proofs.outlet.write_bytes.Goals as goal
+use Rattle.job_answer.proofs.output_buffer.write_bytes.Goals as goal
 
 pub loop-rest-preserved : goal.loop-rest-preserved
 loop-rest-preserved g c =

@@ -1,6 +1,6 @@
 use Rattle.std.proofs.Common.{length}
 use Rattle.job_answer.specs.Bytes.{Waits}
-use Rattle.job_answer.proofs.outlet.write_bytes.Given as goal
+use Rattle.job_answer.proofs.output_buffer.write_bytes.Given as goal
 
 abbrev pub invariant-loop-rest : goal.invariant-loop-rest
 invariant-loop-rest g l = Waits (g.W.Write.contents l.initial.writer) (g.W.Write.contents l.writer) l.rest l.bytes

@@ -2,7 +2,7 @@ use Rattle.std.proofs.Common.{◌++◌, [], length, sym, subst, arith, append-ni
 use Rattle.std.proofs.lemmas.Result.{err_from_is_err_and}
 use Rattle.dimacs_text.specs.Reading.{HasRead, Reads}
 use Rattle.job_answer.proofs.Feeding.{fed-both, fed-full, fed-on, fed-short, text-says}
-use Rattle.job_answer.proofs.intake.read_pieces.Goals as goal
+use Rattle.job_answer.proofs.read.read_pieces.Goals as goal
 
 pub returns-in_err-ended-clause-taken : goal.returns-in_err-ended-clause-taken
 returns-in_err-ended-clause-taken g c =

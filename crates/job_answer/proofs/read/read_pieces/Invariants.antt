@@ -1,7 +1,7 @@
 use Rattle.std.proofs.Common.{◌≡◌, ◌+◌, ◌++◌, true, cond}
 use Rattle.std.specs.Io.KnownBytes.{IsAtEnd}
 use Rattle.job_answer.proofs.Feeding.{IsFed}
-use Rattle.job_answer.proofs.intake.read_pieces.Given as goal
+use Rattle.job_answer.proofs.read.read_pieces.Given as goal
 
 abbrev pub invariant-loop-ended : goal.invariant-loop-ended
 invariant-loop-ended g l = record {

@@ -1,7 +1,7 @@
 use Rattle.std.proofs.lemmas.Result.{on_err_weaker, on_ok_weaker}
 use Rattle.job_answer.proofs.Known.{waits-none}
 use Rattle.job_answer.proofs.Prefixes.{at-err, first-cut-short, then-cut-short}
-use Rattle.job_answer.proofs.outlet.Waiting.send_with.Goals as goal
+use Rattle.job_answer.proofs.output_buffer.OutputBuffer.send_with.Goals as goal
 
 pub returns-in_err-write_bytes-clause-prefix : goal.returns-in_err-write_bytes-clause-prefix
 returns-in_err-write_bytes-clause-prefix g c =

@@ -8,7 +8,7 @@ use Rattle.job_answer.specs.declared.fault.Fault.{Fault}
 use Rattle.job_answer.specs.declared.fault.Fault.TheVariants.{Read, TooLong, Text, NoAsk, Memory, Spawn, Write}
 use Rattle.job_answer.specs.AnswerText.{IsAnswerText}
 use Rattle.job_answer.specs.Bytes.{IsPrefix}
-use Rattle.job_answer.specs.Outcome.{HasWritten, IsAnswerOf, IsBegun}
+use Rattle.job_answer.specs.Outcome.{IsAnswerOf, IsBegun, row_of}
 use Rattle.job_answer.specs.Existence.{AskedJobsHaveAnswers}
 use Rattle.job_answer.proofs.tests.callers.append_answer.Goals as goal
 
@@ -51,7 +51,7 @@ module _ (limit : ℕ) (kind : Answer) (walks : Bool) (text rest old new : List 
         let same = law text job run.job is_job (job_text run) in
         prefix-of run reply (subst (λ (j : Content). IsAnswerText kind walks j reply) same answered)
 
-    at-fault : (fault : Fault) → HasWritten limit kind walks (Some text) (Some rest) (Some old) (Some new) fault
+    at-fault : (fault : Fault) → (row_of limit kind walks (Some text) (Some rest) (Some old) (Some new) fault).written
         → IsPrefix new (old ++ reply)
     at-fault Read same = kept same
     at-fault TooLong same = kept same
