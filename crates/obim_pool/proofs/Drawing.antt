@@ -87,6 +87,11 @@ drain_filling_finds place m m' old mid new None changes empty same turned fillin
     let was = same_none (held_of old) (λ w. ap (sum_by w) (sym bare ∙ held) ∙ same w) in
     finds_bare place m m' old new changes empty was bare
 
+-- what is so in any case is so where there is none
+pub at_none : {A P : Type 0} (found : Option A) → P → IfNone found P
+at_none None p = p
+at_none (Some x) p = tt
+
 -- what follows from what is so where there is none
 pub none_then : {A : Type 0} (P Q : Type 0) (found : Option A) → (P → Q) → IfNone found P → IfNone found Q
 none_then P Q None then' p = then' p

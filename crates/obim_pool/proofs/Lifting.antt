@@ -2,7 +2,7 @@
 use Rattle.std.proofs.Common.{◌≡◌, ◌≢◌, ◌∙◌, ap, refl, subst, sym, ℕ, zero, suc, ◌<◌, List, [], ◌∷◌, set, length, get_or, Some, arith, length-set}
 use Rattle.std.specs.Prelude.{slice_get}
 use Rattle.std.proofs.lemmas.List.{get_or-set_other, map-set}
-use Rattle.std.proofs.lemmas.Option.{get_or_from_slice_get, slice_get_within}
+use Rattle.std.proofs.lemmas.Option.{get_or_from_slice_get, slice_get-get_or, slice_get_within}
 use Rattle.obim_bags.proofs.Facts.{found_at, at_map, at_set_else, map_kept}
 use Rattle.obim_bags.specs.Logs.{MirrorSeen, AccessSeen, metrics_in, metrics_of}
 use Rattle.obim_pool.specs.declared.chunks.BagChunks.{BagChunks}
@@ -30,6 +30,13 @@ pub set_same : {A : Type 0} (xs : List A) (i : ℕ) (x : A) → slice_get xs i �
 set_same [] i x at = refl
 set_same (z ∷ zs) zero x at = cc
 set_same (z ∷ zs) (suc i) x at = ap (λ rest. z ∷ rest) (set_same zs i x at)
+
+-- what is held stays where that of one bag does
+pub held_same : (chunks : List BagChunks) (i : ℕ) (k k' : BagChunks) → i < length chunks → k ≡ get_or chunks i k → held_of k' ≡ held_of k
+    → all_held (set chunks i k') ≡ all_held chunks
+held_same chunks i k k' within read same =
+    let there = at_map held_of chunks i k (slice_get-get_or chunks i k within ∙ ap Some (sym read)) in
+    map-set held_of chunks i k' ∙ ap (set (all_held chunks) i) same ∙ set_same (all_held chunks) i (held_of k) there
 
 -- the account of a bag whose place and chunks are known
 pub account_here : (i : ℕ) (accesses : List AccessSeen) (p : AccessSeen) (chunks : List BagChunks) (k : BagChunks) → slice_get accesses i ≡ Some p

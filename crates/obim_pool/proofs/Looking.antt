@@ -2,7 +2,7 @@
 use Rattle.std.proofs.Common.{◌≡◌, ◌≢◌, ◌∙◌, ap, refl, subst, sym, ℕ, ◌+◌, ◌≤◌, ◌<◌, List, length, get_or, set, Some, ⊎_elim, arith, below_more}
 use Rattle.std.specs.Prelude.{slice_get}
 use Rattle.std.proofs.lemmas.Bool.{cases_eq}
-use Rattle.std.proofs.lemmas.Option.{slice_get_within}
+use Rattle.std.proofs.lemmas.Option.{slice_get-get_or, slice_get_within}
 use Rattle.obim_bags.specs.Logs.{MirrorSeen, metrics_in}
 use Rattle.obim_bags.proofs.Facts.{at_set_else}
 use Rattle.obim_pool.specs.declared.chunks.BagChunks.{BagChunks}
@@ -13,7 +13,7 @@ use Rattle.obim_pool.specs.Orders.{IsOrder}
 use Rattle.obim_pool.specs.Sides.{account_in}
 use Rattle.obim_pool.specs.Steps.{AreBare, Draws, FindsEmpty, IsBare, OneBag, OneFind}
 use Rattle.obim_pool.proofs.Drawing.{some_same}
-use Rattle.obim_pool.proofs.Lifting.{Changed, changed_here}
+use Rattle.obim_pool.proofs.Lifting.{Changed, changed_here, set_same}
 
 -- The bags of the order before this rank were found empty, and the account of each from there on is as it was. Of no bag
 -- more than the count of empty finds changed.
@@ -41,6 +41,12 @@ tried_none entries mirror chunks = record {
   later = λ higher at from there. refl;
   others = λ place. record { put = refl; got = refl; held = refl };
 }
+
+-- the same of a mirror that is as it was
+pub tried_still : {rank : ℕ} {entries : List OwnBag} {old mid new : MirrorSeen} {old_chunks mid_chunks : List BagChunks} → new ≡ mid
+    → Tried rank entries old old_chunks mid mid_chunks → Tried rank entries old old_chunks new mid_chunks
+tried_still {rank} {entries} {old} {mid} {new} {old_chunks} {mid_chunks} same tried =
+    subst (λ (mirror : MirrorSeen). Tried rank entries old old_chunks mirror mid_chunks) (sym same) tried
 
 -- to look twice is to look
 pub looks_then : {a b c : Account} → OnlyLooks a b → OnlyLooks b c → OnlyLooks a c
@@ -110,6 +116,16 @@ tried_next rank entries at metrics old mid new old_chunks mid_chunks k k' order 
           change.others also.place (apart higher also there (omega arith)) ∙ tried.later higher also (omega arith) there;
       others = λ place. looks_then (tried.others place) (find_looks change place);
     }
+
+-- the same, where the side's two chunks of it are as they were
+pub tried_bare : (rank : ℕ) (entries : List OwnBag) (at : OwnBag) (metrics : List ℕ) (old mid new : MirrorSeen) (old_chunks mid_chunks : List BagChunks) (k : BagChunks)
+    → IsOrder entries (length old_chunks) metrics → slice_get entries rank ≡ Some at → k ≡ get_or mid_chunks at.place k
+    → Tried rank entries old old_chunks mid mid_chunks → FindsEmpty at.place mid k new k
+    → Tried (rank + 1) entries old old_chunks new mid_chunks
+tried_bare rank entries at metrics old mid new old_chunks mid_chunks k order here read tried finds =
+    let there = slice_get-get_or mid_chunks at.place k (tried_own rank order tried here) in
+    subst (Tried (rank + 1) entries old old_chunks new) (set_same mid_chunks at.place k (there ∙ ap Some (sym read)))
+    (tried_next rank entries at metrics old mid new old_chunks mid_chunks k k order here read tried finds)
 
 -- a bag gave a vertex
 pub tried_draws : (rank v : ℕ) (entries : List OwnBag) (at : OwnBag) (metrics : List ℕ) (old mid new : MirrorSeen) (old_chunks mid_chunks : List BagChunks) (k k' : BagChunks)

@@ -45,6 +45,26 @@ impl BagChunks {
         }
     }
 
+    /// Puts `v` into the filling chunk, unless that is absent, or would have `size` vertices then.
+    #[inline(always)]
+    pub(crate) fn add_within(&mut self, v: u32, size: usize) -> bool
+        ensures added { OnTrue result (AreSame (held_of self.new) (v ∷ held_of self.old)) }
+        ensures unchanged { OnFalse result (held_of self.new ≡ held_of self.old) }
+    {
+        match &mut self.filling {
+            Some(chunk) if chunk.len().wrapping_add(1) < size => chunk.push(v).is_ok(),
+            _ => false,
+        }
+    }
+
+    /// Whether the filling chunk is there and has fewer vertices than these.
+    pub(crate) fn has_room(&self, size: usize) -> bool {
+        match &self.filling {
+            Some(chunk) => chunk.len() < size,
+            None => false,
+        }
+    }
+
     /// The number of vertices in the filling chunk.
     #[inline(always)]
     pub(crate) fn filled(&self) -> usize {

@@ -1,6 +1,7 @@
 //! How a vertex gets out of a bag: one bag of a side, its two chunks and its place in the mirror.
 
 ghost use Rattle.std.specs.Prelude.{◌≡◌, ◌≤◌, ◌<◌, [], length, IfNone, IfSome};
+ghost use Rattle.std.specs.Bool.{OnFalse, OnTrue};
 ghost use Rattle.obim_bags.specs.Logs.{IsMirrorOf, metrics_in};
 ghost use Rattle.obim_pool.specs.Accounts.{Gets};
 ghost use Rattle.obim_pool.specs.Orders.{IsOrder};
@@ -13,25 +14,19 @@ use crate::order::OwnBag;
 use obim_bags::{BagLog, Mirror};
 use std::sync::Wait;
 
-/// A look into a bag that mostly is empty: two chunks that are absent, and two loads.
+/// Whether a bag has nothing for the side, which is so of most that it looks into: two chunks that are absent,
+/// and two loads. It doesn't wait.
 #[inline(always)]
-pub(crate) fn try_at<R: Wait>(
-    rt: &R,
-    log: &BagLog,
-    maker: &mut ChunkMaker,
-    mirror: &mut Mirror,
-    place: usize,
-    chunks: &mut BagChunks,
-) -> Option<u32>
+fn is_bare(log: &BagLog, mirror: &mut Mirror, place: usize, chunks: &BagChunks) -> bool
     requires log { IsMirrorOf log.now mirror.old }
     requires place { place < length mirror.old.accesses }
-    ensures popped { IfSome result (λ v. OneBag (Gets v) place mirror.old chunks.old mirror.new chunks.new) }
-    ensures none { IfNone result (FindsEmpty place mirror.old chunks.old mirror.new chunks.new) }
+    ensures bare { OnTrue result (FindsEmpty place mirror.old chunks.now mirror.new chunks.now) }
+    ensures unchanged { OnFalse result (mirror.new ≡ mirror.old) }
 {
-    if chunks.are_absent() && log.finds_empty_at(mirror, place) {
-        return None;
+    if !chunks.are_absent() {
+        return false;
     }
-    pop_at(rt, log, maker, mirror, place, chunks)
+    log.finds_empty_at(mirror, place)
 }
 
 /// Takes a vertex out of the draining chunk; else gets a chunk from the bag; else drains the filling one.
@@ -99,7 +94,10 @@ pub(crate) fn scan<R: Wait>(
 {
     for at in order {
         let place = at.place;
-        match try_at(rt, log, maker, mirror, place, &mut chunks[place]) {
+        if is_bare(log, mirror, place, &chunks[place]) {
+            continue;
+        }
+        match pop_at(rt, log, maker, mirror, place, &mut chunks[place]) {
             Some(v) => return Some((*at, v)),
             None => {}
         }

@@ -13,7 +13,6 @@ use obim_bags::{BagLog, Mirror};
 use std::sync::Wait;
 
 /// Puts `v` into the bag at a place. False where memory or a serial was refused.
-#[inline(always)]
 pub(crate) fn push_at<R: Wait>(
     rt: &R,
     log: &BagLog,
@@ -28,8 +27,9 @@ pub(crate) fn push_at<R: Wait>(
     ensures pushed { OnTrue result (OneBag (Puts (v ∷ [])) place mirror.old chunks.old mirror.new chunks.new) }
     ensures refused { OnFalse result (OneBag (Puts []) place mirror.old chunks.old mirror.new chunks.new) }
 {
+    start_chunk(rt, log, maker, mirror, place, chunks);
     if !chunks.add(v) {
-        return start_chunk(rt, log, maker, mirror, place, chunks, v);
+        return false;
     }
     if chunks.filled() == maker.size() {
         put_filling(rt, log, mirror, place, chunks);
@@ -37,8 +37,8 @@ pub(crate) fn push_at<R: Wait>(
     true
 }
 
-/// The same where the filling chunk is absent, or full since its put was refused.
-#[inline(never)]
+/// Opens a filling chunk where it is absent. Where it is full, since its put was refused, it is put first.
+/// What is refused stays as it is.
 fn start_chunk<R: Wait>(
     rt: &R,
     log: &BagLog,
@@ -46,32 +46,25 @@ fn start_chunk<R: Wait>(
     mirror: &mut Mirror,
     place: usize,
     chunks: &mut BagChunks,
-    v: u32,
-) -> bool
+)
     requires log { IsMirrorOf log.now mirror.old }
     requires place { place < length mirror.old.accesses }
-    ensures pushed { OnTrue result (OneBag (Puts (v ∷ [])) place mirror.old chunks.old mirror.new chunks.new) }
-    ensures refused { OnFalse result (OneBag (Puts []) place mirror.old chunks.old mirror.new chunks.new) }
+    ensures { OneBag (Puts []) place mirror.old chunks.old mirror.new chunks.new }
 {
+    if chunks.has_room(maker.size()) {
+        return;
+    }
     put_filling(rt, log, mirror, place, chunks);
-    if !open(maker, chunks) || !chunks.add(v) {
-        return false;
-    }
-    if chunks.filled() == maker.size() {
-        put_filling(rt, log, mirror, place, chunks);
-    }
-    true
+    open(maker, chunks);
 }
 
-/// Opens a filling chunk. False where there is one, or where it was refused.
-fn open(maker: &mut ChunkMaker, chunks: &mut BagChunks) -> bool
+/// Opens a filling chunk where it is absent.
+fn open(maker: &mut ChunkMaker, chunks: &mut BagChunks)
     ensures { held_of chunks.new ≡ held_of chunks.old }
 {
-    if chunks.filling.is_some() {
-        return false;
+    if chunks.filling.is_none() {
+        chunks.filling = maker.open();
     }
-    chunks.filling = maker.open();
-    chunks.filling.is_some()
 }
 
 /// Puts the filling chunk into the bag, if it has a vertex. Where the put is refused, it stays.

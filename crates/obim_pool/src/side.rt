@@ -8,7 +8,7 @@ ghost use Rattle.obim_pool.specs.Sides.{IsSideOf, Keeps, PushesTo, PushesNone, P
 ghost use Rattle.obim_pool.specs.Sides.{new_side};
 ghost use Rattle.obim_pool.specs.Steps.{FindsAllEmpty, PopsLowest, TriesCurrent};
 
-use crate::bags::{catch_up, place_for};
+use crate::bags::{catch_up, own_place};
 use crate::chunk_maker::ChunkMaker;
 use crate::chunks::BagChunks;
 use crate::order::OwnBag;
@@ -96,18 +96,61 @@ impl ObimSide {
         ensures current { OnTrue result (HasLowered metric self.old.current self.new.current) }
         ensures unchanged { OnFalse result (self.new.current ≡ self.old.current) }
     {
-        let Some(place) = place_for(
+        if self.push_near(v, metric) {
+            return true;
+        }
+        self.push_far(rt, log, alloc, v, metric)
+    }
+
+    /// `push` where the bag is at the place that is remembered and no chunk of it has to be opened or put. It
+    /// doesn't wait, and most pushes need no more.
+    #[inline(always)]
+    fn push_near(&mut self, v: u32, metric: u64) -> bool
+        ensures keeps { Keeps self.old self.new }
+        ensures pushed { OnTrue result (PushesTo metric v self.old self.new) }
+        ensures current { OnTrue result (HasLowered metric self.old.current self.new.current) }
+        ensures unchanged { OnFalse result (self.new ≡ self.old) }
+    {
+        let place = self.recent.place_of(metric);
+        if place >= self.chunks.len() || self.mirror.metric_at(place) != metric {
+            return false;
+        }
+        if !self.chunks[place].add_within(v, self.maker.size()) {
+            return false;
+        }
+        self.lower(OwnBag { metric, place });
+        true
+    }
+
+    /// `push`, whatever it takes.
+    #[inline(never)]
+    fn push_far<R: Wait>(
+        &mut self,
+        rt: &R,
+        log: &BagLog,
+        alloc: Global,
+        v: u32,
+        metric: u64,
+    ) -> bool
+        requires { IsSideOf log.now self.old }
+        ensures keeps { Keeps self.old self.new }
+        ensures pushed { OnTrue result (PushesTo metric v self.old self.new) }
+        ensures refused { OnFalse result (PushesNone self.old self.new) }
+        ensures current { OnTrue result (HasLowered metric self.old.current self.new.current) }
+        ensures unchanged { OnFalse result (self.new.current ≡ self.old.current) }
+    {
+        let Some(place) = own_place(
             rt,
             log,
             alloc,
             &mut self.mirror,
             &mut self.chunks,
             &mut self.order,
-            &mut self.recent,
             metric,
         ) else {
             return false;
         };
+        self.recent.note(metric, place);
         let pushed = push_at(
             rt,
             log,
@@ -141,6 +184,34 @@ impl ObimSide {
     /// `ObimPool::pop`.
     #[inline(always)]
     pub(crate) fn pop<R: Wait>(&mut self, rt: &R, log: &BagLog, alloc: Global) -> Option<u32>
+        requires { IsSideOf log.now self.old }
+        ensures keeps { Keeps self.old self.new }
+        ensures popped { IfSome result (λ v. Pops v self.old self.new) }
+        ensures below { IfSome result (λ v. HasLookedBelow self.old self.new) }
+        ensures none { IfNone result (PopsNone self.old self.new) }
+    {
+        if let Some(v) = self.pop_near() {
+            return Some(v);
+        }
+        self.pop_far(rt, log, alloc)
+    }
+
+    /// `pop` where the current bag's draining chunk has a vertex. It doesn't wait, and most pops need no more.
+    #[inline(always)]
+    fn pop_near(&mut self) -> Option<u32>
+        ensures keeps { Keeps self.old self.new }
+        ensures current { self.new.current ≡ self.old.current }
+        ensures popped { IfSome result (λ v. Pops v self.old self.new) }
+        ensures unchanged { IfNone result (self.new ≡ self.old) }
+    {
+        let at = self.current?;
+        let v = self.chunks[at.place].take_last(&mut self.maker)?;
+        Some(v)
+    }
+
+    /// `pop`, whatever it takes.
+    #[inline(never)]
+    fn pop_far<R: Wait>(&mut self, rt: &R, log: &BagLog, alloc: Global) -> Option<u32>
         requires { IsSideOf log.now self.old }
         ensures keeps { Keeps self.old self.new }
         ensures popped { IfSome result (λ v. Pops v self.old self.new) }

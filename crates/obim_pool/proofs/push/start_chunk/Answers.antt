@@ -1,13 +1,11 @@
-use Rattle.std.proofs.Common.{[], ◌∷◌}
-use Rattle.obim_pool.proofs.Putting.{one_adds, one_puts_then}
+use Rattle.std.proofs.Common.{[], refl}
+use Rattle.obim_pool.proofs.Lifting.{one_within}
+use Rattle.obim_pool.proofs.Putting.{one_puts_then, one_stays}
 use Rattle.obim_pool.proofs.push.start_chunk.Goals as goal
 
-pub returns-then-filled-size-clause-pushed : goal.returns-then-filled-size-clause-pushed
-returns-then-filled-size-clause-pushed g c =
-    one_puts_then (c.args.v ∷ []) []
-    (one_adds c.args.v c.open.new.chunks c.add.new.self c.put_filling.ensures c.if-not-open.ensures c.if-not-add.ensures.added)
-    c.put_filling-then-filled-size.ensures
+pub returns-then-has_room : goal.returns-then-has_room
+returns-then-has_room g c = one_stays _ _ _ _ c.requires.place refl
 
-pub returns-else-filled-size-clause-pushed : goal.returns-else-filled-size-clause-pushed
-returns-else-filled-size-clause-pushed g c =
-    one_adds c.args.v c.open.new.chunks c.add.new.self c.put_filling.ensures c.if-not-open.ensures c.if-not-add.ensures.added
+pub returns : goal.returns
+returns g c =
+    one_puts_then [] [] c.put_filling.ensures (one_stays _ _ _ c.open.new.chunks (one_within c.put_filling.ensures) c.open.ensures)

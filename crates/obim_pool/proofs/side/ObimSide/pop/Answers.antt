@@ -1,11 +1,9 @@
-use Rattle.obim_pool.proofs.Drawing.{none_then, some_then}
-use Rattle.obim_pool.proofs.Popping.{tried_below, tried_none}
+use Rattle.std.proofs.Common.{subst}
+use Rattle.std.specs.Prelude.{IfSome}
+use Rattle.obim_pool.specs.Sides.{HasLookedBelow, SideSeen}
 use Rattle.obim_pool.proofs.side.ObimSide.pop.Goals as goal
 
-pub returns-in-None-clause-below : goal.returns-in-None-clause-below
-returns-in-None-clause-below g c =
-    some_then _ _ c.pop_lowest.result (λ v lowest. tried_below c.in-None.ensures.none lowest) c.pop_lowest.ensures.popped
-
-pub returns-in-None-clause-none : goal.returns-in-None-clause-none
-returns-in-None-clause-none g c =
-    none_then _ _ c.pop_lowest.result (λ all. tried_none c.in-None.ensures.none all) c.pop_lowest.ensures.none
+pub returns-clause-below : goal.returns-clause-below
+returns-clause-below g c =
+    subst (λ (side : SideSeen). IfSome c.pop_far.result (λ v. HasLookedBelow side c.pop_far.new.self)) c.in_default.ensures.unchanged
+    c.pop_far.ensures.below

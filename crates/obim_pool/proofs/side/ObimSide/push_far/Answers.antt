@@ -3,7 +3,7 @@ use Rattle.obim_pool.specs.Accounts.{Puts}
 use Rattle.obim_pool.specs.Sides.{Keeps, PushesTo}
 use Rattle.obim_pool.proofs.Lifting.{changed_here}
 use Rattle.obim_pool.proofs.Standing.{at_changes, keeps_changes, of_sides, pushes_none, pushes_to, side_changes, side_grows}
-use Rattle.obim_pool.proofs.side.ObimSide.push.Goals as goal
+use Rattle.obim_pool.proofs.side.ObimSide.push_far.Goals as goal
 
 pub invariant_of-self-then-not-pushed : goal.invariant_of-self-then-not-pushed
 invariant_of-self-then-not-pushed g c =
