@@ -7,3 +7,4 @@ mod Placing
 mod Layouts
 mod Parts
 mod Halves
+mod Rows

@@ -5,6 +5,7 @@ use Rattle.std.specs.Prelude.{map, filter, count_by, slice_get, Some, AllPairs}
 use Rattle.route_walks.specs.declared.graph.ArcRec.{ArcRec}
 use Rattle.route_walks.specs.declared.graph.TheConstants.{MAX_ARCS, MAX_VERTICES}
 use Rattle.route_walks.specs.Walk.{IsGraph}
+use Rattle.csr_graph.specs.declared.csr.Target.{Target}
 
 -- the vertices are the numbers below n
 pub record Graph : Type 0 where
@@ -14,6 +15,14 @@ pub record Graph : Type 0 where
 -- the arcs that leave u, in their order
 abbrev pub row_of : List ArcRec → ℕ → List ArcRec
 row_of arcs u = filter (λ arc. arc.tail == u) arcs
+
+-- what an arc leads to
+abbrev pub target_of : ArcRec → Target
+target_of arc = record { head = arc.head; weight = arc.weight }
+
+-- what the arcs that leave u lead to, in their order
+abbrev pub targets_of : List ArcRec → ℕ → List Target
+targets_of arcs u = map target_of (row_of arcs u)
 
 -- where u's row begins when arcs stand by rising tail: how many arcs leave lower vertices
 abbrev pub first_place : List ArcRec → ℕ → ℕ

@@ -1,10 +1,12 @@
 -- The words that a run begins with keep the rule.
 use Rattle.std.proofs.Common.{◌≡◌, ◌∙◌, sym, ap, refl, ℕ, zero, suc, ◌+◌, ◌<◌, ◌≤◌, List, []}
 use Rattle.std.proofs.Common.{◌∷◌, ◌++◌, Bool, false, true, cond, min, length, set, arith, length-set}
-use Rattle.std.proofs.Common.{get_or-set_same, get_or-set_other}
-use Rattle.std.specs.Prelude.{slice_index}
+use Rattle.std.proofs.Common.{get_or, get_or-set_same, get_or-set_other, below_more, inl, inr, length-append, ◌*◌}
+use Rattle.std.specs.Prelude.{nat_lt, slice_index}
+use Rattle.std.proofs.Math.Seq.{get_or-append_seam}
+use Rattle.std.proofs.lemmas.Bool.{cases_eq, cases_lt}
 use Rattle.std.proofs.Math.ListN.{replicate}
-use Rattle.std.proofs.lemmas.List.{get_or-replicate, length-replicate}
+use Rattle.std.proofs.lemmas.List.{get_or-replicate, get_or_append_left, get_or_past, length-replicate}
 use Rattle.std.proofs.lemmas.List.Elements.{All-nil}
 use mathlib.Core.Option.{some, some-injective, some-ne-none}
 use lib.ListN.{get_elem?}
@@ -57,6 +59,41 @@ pub record AreCleared (words : List ℕ) (n i : ℕ) : Type 0 where
   pub total : total_of words ≡ 0
   pub labels : (v : ℕ) → v < i → label_of words v ≡ INF
   pub marks : (v : ℕ) → mark_of words v ≡ false
+
+-- before the vertices there are eight words of 0
+pub cleared_none : AreCleared (replicate 8 0) 0 0
+cleared_none = record {
+  count = refl;
+  total = refl;
+  labels = λ v lt. absurd (omega arith);
+  marks = λ v. ap (nat_lt 0) (get_or_past (replicate 8 0) (mark_word v) 0 (omega arith));
+}
+
+-- a vertex more has the label INF and no mark
+pub cleared_more : (words : List ℕ) (i : ℕ) → AreCleared words i i → AreCleared ((words ++ INF ∷ []) ++ 0 ∷ []) (i + 1) (i + 1)
+cleared_more words i was =
+    let one = words ++ INF ∷ [] in
+    let long : length one ≡ 2 * i + 9 = omega (arith, was.count, length-append words (INF ∷ [])) in
+    let first = λ (k : ℕ) (lt : k < length words). get_or_append_left one (0 ∷ []) 0 k (omega arith) ∙ get_or_append_left words (INF ∷ []) 0 k lt in
+    record {
+      count = omega (arith, long, length-append one (0 ∷ []));
+      total = first 0 (omega (arith, was.count)) ∙ was.total;
+      labels = below_more (λ v. label_of (one ++ 0 ∷ []) v ≡ INF) i
+          (λ v lt. first (label_word v) (omega (arith, was.count)) ∙ was.labels v lt)
+          (get_or_append_left one (0 ∷ []) 0 (label_word i) (omega arith)
+          ∙ (ap (λ k. get_or one k 0) (sym was.count) ∙ get_or-append_seam words INF [] 0));
+      marks = λ v.
+          elim (cases_lt v i) [
+            | inl less ↦ ap (nat_lt 0) (first (mark_word v) (omega (arith, was.count))) ∙ was.marks v
+            | inr more ↦
+                elim (cases_eq v i) [
+                  | inl same ↦
+                      ap (nat_lt 0) (ap (λ k. get_or (one ++ 0 ∷ []) k 0) (omega (arith, same, long)) ∙ get_or-append_seam one 0 [] 0)
+                  | inr other ↦
+                      ap (nat_lt 0) (get_or_past (one ++ 0 ∷ []) (mark_word v) 0 (omega (arith, long, length-append one (0 ∷ []))))
+                ]
+          ];
+    }
 
 -- they hold the opening without seeds
 pub cleared_sown : (words : List ℕ) (n : ℕ) → n ≤ MAX_VERTICES → AreCleared words n n → IsSown n [] words

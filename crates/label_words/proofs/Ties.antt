@@ -1,5 +1,5 @@
 -- After a call the seat is tied to what it knows; and what an open seat before its row's end faces.
-use Rattle.std.proofs.Common.{◌≡◌, ◌≢◌, ◌∙◌, sym, ap, ℕ, arith}
+use Rattle.std.proofs.Common.{◌≡◌, ◌≢◌, ◌∙◌, ◌<◌, sym, ap, length, ℕ, arith}
 use Rattle.std.specs.Prelude.{IfSome, slice_get}
 use Rattle.atomic_table.specs.Seated.{TableId}
 use Rattle.atomic_table.specs.Table.{Me}
@@ -28,6 +28,14 @@ pub record Faces (graph : Graph) (hand : Hand) (head label : ℕ) : Type 0 where
   pub before : HasNextArc graph hand
   pub heads : (next_arc graph hand).head ≡ head
   pub offers : next_offer graph hand ≡ label
+
+pub faces_within : {csr graph : Graph} {hand : Hand} {u d k end : ℕ}
+    → csr ≡ graph → hand ≡ Open u d k → FitsGraph graph hand → end ≡ end_place csr.arcs u → k ≢ end → k < length csr.arcs
+faces_within {graph = graph} {u = u} {d = d} {k = k} {end = end} same is fits end_is more =
+    let fits' = rw is at fits in
+    let row : end ≡ end_place graph.arcs u = rw (← same) end_is in
+    let before : HasNextArc graph (Open u d k) = omega (arith, fits'.1) in
+    rw same (next_place graph (Open u d k) before)
 
 pub faces : {csr graph : Graph} {hand : Hand} {u d k end head label : ℕ} (weight : ℕ)
     → csr ≡ graph → hand ≡ Open u d k → FitsGraph graph hand → end ≡ end_place csr.arcs u → k ≢ end

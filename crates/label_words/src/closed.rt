@@ -1,6 +1,6 @@
 //! What the words leave when a run ends.
 
-ghost use Rattle.std.specs.Prelude.{◌+◌, ◌*◌, ◌≤◌, length};
+ghost use Rattle.std.specs.Prelude.{◌≡◌, ◌+◌, ◌*◌, ◌≤◌, [], length};
 ghost use Rattle.std.specs.Slots.{slots_items, slots_len, IsFull};
 ghost use Rattle.route_walks.specs.declared.graph.TheConstants.{MAX_VERTICES};
 ghost use Rattle.label_words.specs.Layout.{word_count};
@@ -20,15 +20,18 @@ pub enum Closed {
     Paused(Paused),
 }
 
-/// Reads the labels of the first vertices, as many as there is room for.
-pub(crate) fn read_labels(last: &LastWords<(), Global>, labels: &mut [u64])
+/// Reads the labels of the first `n` vertices into a list that has room for them.
+pub(crate) fn read_labels(last: &LastWords<(), Global>, n: usize, labels: &mut Vec<u64>)
     requires full { IsFull last.now.words }
-    requires vertices { length labels.old ≤ MAX_VERTICES }
-    requires within { word_count (length labels.old) ≤ slots_len last.now.words }
-    ensures { AreLabelsOf (slots_items last.now.words) labels.new }
+    requires vertices { n ≤ MAX_VERTICES }
+    requires within { word_count n ≤ slots_len last.now.words }
+    requires empty { labels.old.items ≡ [] }
+    requires room { n ≤ labels.old.cap }
+    ensures count { length labels.new.items ≡ n }
+    ensures labels { AreLabelsOf (slots_items last.now.words) labels.new.items }
 {
-    for v in 0..labels.len() {
-        labels[v] = last.word(label_word(v as u32));
+    for v in 0..n {
+        labels.push_reserved(last.word(label_word(v as u32)));
     }
 }
 

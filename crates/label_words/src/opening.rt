@@ -1,7 +1,7 @@
 //! The words that a run begins with, laid straight from the seeds, and those that a paused run goes on
 //! with.
 
-ghost use Rattle.std.specs.Prelude.{◌≡◌, ℕ, ◌<◌, ◌≤◌, ◌++◌, ◌∷◌, [], List, length, All, IfOk};
+ghost use Rattle.std.specs.Prelude.{◌≡◌, ℕ, ◌<◌, ◌≤◌, ◌++◌, ◌∷◌, [], List, length, replicate, IfOk};
 ghost use Rattle.route_walks.specs.declared.graph.TheConstants.{MAX_VERTICES};
 ghost use Rattle.route_walks.specs.declared.graph.Seed.{Seed};
 ghost use Rattle.route_walks.specs.Walk.{AreSeeds};
@@ -20,21 +20,23 @@ pub(crate) fn lay(alloc: Global, n: u32, seeds: &[Seed]) -> Result<Vec<u64>, Mem
     requires seeds { AreSeeds n seeds.now }
     ensures { IfOk result (λ words. IsSown n seeds.now words.items) }
 {
-    let mut words = vec![in alloc; 0; word_count(n)]?;
-    clear_labels(&mut words, n);
+    let mut words = Vec::with_capacity(alloc, word_count(n))?;
+    words.extend_from_slice(&[0; 8])?;
+    put_cleared(&mut words, n);
     sow_all(&mut words, n, seeds);
     Ok(words)
 }
 
-/// Gives each of `n` vertices the label `INF`; all other words are 0.
-fn clear_labels(words: &mut [u64], n: u32)
+/// Puts after the first words those of `n` vertices without a seed: the label `INF` and no mark.
+fn put_cleared(words: &mut Vec<u64>, n: u32)
     requires vertices { n ≤ MAX_VERTICES }
-    requires count { length words.old ≡ count n }
-    requires zero { All (λ word. word ≡ 0) words.old }
-    ensures { IsSown n [] words.new }
+    requires first { words.old.items ≡ replicate 8 0 }
+    requires room { count n ≤ words.old.cap }
+    ensures { IsSown n [] words.new.items }
 {
-    for v in 0..n {
-        words[label_word(v)] = INF;
+    for _ in 0..n {
+        words.push_reserved(INF);
+        words.push_reserved(0);
     }
 }
 

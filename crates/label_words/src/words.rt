@@ -4,7 +4,8 @@ ghost use Rattle.std.specs.Prelude.{◌≡◌, ◌⊎◌, ◌<◌, ◌≤◌, tr
 ghost use Rattle.route_walks.specs.Walk.{AreSeeds};
 ghost use Rattle.route_walks.specs.Operators.{seeds_of};
 ghost use Rattle.relax_core.specs.declared.views.TheConstants.{SHARES};
-ghost use Rattle.relax_core.specs.Views.{IsFresh, IsOpen, Owes, IsAtRowEnd};
+ghost use Rattle.relax_core.specs.Views.{IsFresh, IsOpen, Owes, IsAtRowEnd, vertex_of};
+ghost use Rattle.csr_graph.specs.Graph.{end_place};
 ghost use Rattle.label_words.specs.Known.{hand_of, IsIdle, IsFound, GoesAlong, Attains};
 ghost use Rattle.label_words.specs.Known.{first_known, after_take, after_read, after_raise};
 ghost use Rattle.label_words.specs.Known.{after_set_mark, after_finish, after_see};
@@ -163,9 +164,9 @@ impl Words {
         requires graph { csr.now ≡ seat.now.known.graph }
         requires vertex { u < csr.now.n }
     {
-        let first = csr.first(u);
-        for k in first..csr.end(u).min(first + PREFETCHED_HEADS) {
-            self.prefetch_label(seat, csr.target(k).head);
+        let row = csr.row(u);
+        for target in &row[..row.len().min(PREFETCHED_HEADS)] {
+            self.prefetch_label(seat, target.head);
         }
     }
 
@@ -189,10 +190,27 @@ impl Words {
         ensures step { GoesAlong seat.old.known result seat.new.known }
         ensures attained { Attains seat.old.known result }
     {
+        let Hand::Open { u, .. } = seat.view.hand else {
+            unreachable!()
+        };
+        self.relax_before(seat, csr, csr.end(u))
+    }
+
+    /// `relax` where the row's end is known, which spares a look at it for each arc.
+    #[inline(always)]
+    pub fn relax_before(&self, seat: &mut WorkSeat, csr: &Csr, end: usize) -> Step
+        requires words { seat.old.words ≡ self.now }
+        requires graph { csr.now ≡ seat.old.known.graph }
+        requires open { IsOpen (hand_of seat.old) }
+        requires end { end ≡ end_place csr.now.arcs (vertex_of (hand_of seat.old)) }
+        ensures words { seat.new.words ≡ seat.old.words }
+        ensures step { GoesAlong seat.old.known result seat.new.known }
+        ensures attained { Attains seat.old.known result }
+    {
         let Hand::Open { u, d, k } = seat.view.hand else {
             unreachable!()
         };
-        if k == csr.end(u) {
+        if k == end {
             return Step::RowEnd;
         }
         let Target { head, weight } = csr.target(k);
@@ -304,12 +322,12 @@ impl Words {
         ensures known { IfOk result (λ closed. IsBelowKnown seat.known closed) }
     {
         let n = (self.table.word_count() - 8) / 2;
-        let mut labels = vec![in alloc; 0; n]?;
+        let mut labels = Vec::with_capacity(alloc, n)?;
         // Where the seat saw 0 there are no marks to read.
         let mut marks = vec![in alloc; false; if seat.view.saw { 0 } else { n }]?;
         let WorkSeat { table_seat, view } = seat;
         let last = self.table.close_with(table_seat);
-        read_labels(&last, &mut labels);
+        read_labels(&last, n, &mut labels);
         read_marks(&last, &mut marks);
         last.free();
         if view.saw {

@@ -13,10 +13,10 @@ returns-then-view-clause-closed c =
     let n = half_of c.word_count.result me.graph.n (omega (arith, ap (λ t. t.words) same)) in
     let final = c.close_with-last.ensures.values.2 in
     let end = ended _ final.1.0 final.1.1 final.2 tie.ready in
-    let all : length c.read_labels.new.labels ≡ me.graph.n = omega (arith, c.in_ok-labels.ensures.len) in
+    let labels = c.read_labels.new.labels.items in
+    let all : length labels ≡ me.graph.n = omega (arith, c.read_labels.ensures.count) in
     let saw = ap (λ v. v.saw) (sym tie.view_is) ∙ c.if-view.true in
-    rw (← c.seat.view_is, with_items_is c.in_ok-labels.labels c.read_labels.new.labels (omega arith))
-    (saw, all, least_closed _ end all c.read_labels.ensures saw)
+    rw (← c.seat.view_is) (saw, all, least_closed _ end all c.read_labels.ensures.labels saw)
 
 pub returns-else-view-clause-closed : goal.returns-else-view-clause-closed
 returns-else-view-clause-closed c =
@@ -25,9 +25,9 @@ returns-else-view-clause-closed c =
     let same = rw (← c.seat.view_is, ← c.self.view_is) at c.requires.words in
     let n = half_of c.word_count.result me.graph.n (omega (arith, ap (λ t. t.words) same)) in
     let final = c.close_with-last.ensures.values.2 in
-    let labels = c.read_labels.new.labels in
+    let labels = c.read_labels.new.labels.items in
     let end = ended _ final.1.0 final.1.1 final.2 tie.ready in
-    let all : length labels ≡ me.graph.n = omega (arith, c.in_ok-labels.ensures.len) in
+    let all : length labels ≡ me.graph.n = omega (arith, c.read_labels.ensures.count) in
     let room : c.if-seat.vec ≡ (c.word_count.result - 8) / 2 =
     elim c.if-seat.branch [
       | then-seat w ↦ cc
@@ -40,6 +40,5 @@ returns-else-view-clause-closed c =
       | inr share ↦ share
     ] in
     let idle = rw (← c.seat.view_is) at c.requires.idle in
-    rw (← c.seat.view_is, with_items_is c.in_ok-labels.labels c.read_labels.new.labels (omega arith))
-    (rw (with_items_is c.in_ok-marks.marks c.read_marks.new.marks (omega arith))
-    (unseen, pause_closed _ _ end all c.read_labels.ensures all' c.read_marks.ensures idle share))
+    rw (← c.seat.view_is, with_items_is c.in_ok-marks.marks c.read_marks.new.marks (omega arith))
+    (unseen, pause_closed _ _ end all c.read_labels.ensures.labels all' c.read_marks.ensures idle share)
