@@ -2,6 +2,7 @@
 
 ghost use Rattle.std.specs.Prelude.{◌≡◌, ◌≢◌, ◌≤◌, ◌<◌, ◌++◌, ◌∷◌, [], length};
 ghost use Rattle.std.specs.Prelude.{IfNone, IfSome, OnErr, OnOk};
+ghost use Rattle.std.specs.Bool.{OnFalse, OnTrue};
 ghost use Rattle.obim_bags.specs.Chunks.{with_vertices};
 
 use arrayvec::ArrayVec;
@@ -100,6 +101,19 @@ impl Chunk {
         }
         self.vertices.push(v);
         Ok(())
+    }
+
+    /// Puts `v` last, unless the chunk would have as many vertices as its size then. Whether it did.
+    #[inline(always)]
+    pub fn push_unless_last(&mut self, v: u32) -> bool
+        ensures pushed { OnTrue result (self.new ≡ with_vertices (self.old.vertices ++ v ∷ []) self.old) }
+        ensures unchanged { OnFalse result (self.new ≡ self.old) }
+    {
+        let is_last = self.len() + 1 >= self.size;
+        if !is_last {
+            self.vertices.push(v);
+        }
+        !is_last
     }
 
     /// Takes the last vertex, or returns `None` where there is none.

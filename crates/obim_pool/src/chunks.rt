@@ -45,15 +45,15 @@ impl BagChunks {
         }
     }
 
-    /// Puts `v` into the filling chunk, unless that is absent, or would have `size` vertices then.
+    /// Puts `v` into the filling chunk, unless that is absent, or would be full then.
     #[inline(always)]
-    pub(crate) fn add_within(&mut self, v: u32, size: usize) -> bool
+    pub(crate) fn add_unless_last(&mut self, v: u32) -> bool
         ensures added { OnTrue result (AreSame (held_of self.new) (v ∷ held_of self.old)) }
         ensures unchanged { OnFalse result (held_of self.new ≡ held_of self.old) }
     {
         match &mut self.filling {
-            Some(chunk) if chunk.len().wrapping_add(1) < size => chunk.push(v).is_ok(),
-            _ => false,
+            Some(chunk) => chunk.push_unless_last(v),
+            None => false,
         }
     }
 

@@ -120,14 +120,25 @@ impl WorkPool for ObimPool {
 
     ghost is_side = { IsSideOf };
 
-    #[inline(always)]
+    // Out of the way of `push_now` and `pop_now`, which serve most calls.
+    #[inline(never)]
     fn push<R: Wait>(&self, rt: &R, side: &mut ObimSide, v: u32, metric: u64) -> bool {
         ObimPool::push(self, rt, side, v, metric)
     }
 
-    #[inline(always)]
+    #[inline(never)]
     fn pop<R: Wait>(&self, rt: &R, side: &mut ObimSide) -> Option<u32> {
         ObimPool::pop(self, rt, side)
+    }
+
+    #[inline(always)]
+    fn push_now(&self, side: &mut ObimSide, v: u32, metric: u64) -> bool {
+        side.push_near(v, metric)
+    }
+
+    #[inline(always)]
+    fn pop_now(&self, side: &mut ObimSide) -> Option<u32> {
+        side.pop_near()
     }
 
     #[inline(always)]

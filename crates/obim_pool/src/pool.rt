@@ -24,6 +24,22 @@ pub trait WorkPool {
         requires { is_side self.now side.old }
         ensures { is_side self.now side.new };
 
+    /// `push` where that takes no wait. False means that nothing was done, and that `push` is to be called.
+    fn push_now(&self, _side: &mut Self::Side, _v: u32, _metric: u64) -> bool
+        requires { is_side self.now _side.old }
+        ensures { is_side self.now _side.new }
+    {
+        false
+    }
+
+    /// `pop` where that takes no wait. `None` means that nothing was done, and that `pop` is to be called.
+    fn pop_now(&self, _side: &mut Self::Side) -> Option<u32>
+        requires { is_side self.now _side.old }
+        ensures { is_side self.now _side.new }
+    {
+        None
+    }
+
     /// The vertex that the `by`th pop of this side from now on is likely to draw, as far as the pool can
     /// tell at little cost: a hint, for what to ask of memory ahead of time.
     fn ahead(&self, _side: &Self::Side, _by: usize) -> Option<u32> {

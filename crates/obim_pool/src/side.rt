@@ -105,7 +105,7 @@ impl ObimSide {
     /// `push` where the bag is at the place that is remembered and no chunk of it has to be opened or put. It
     /// doesn't wait, and most pushes need no more.
     #[inline(always)]
-    fn push_near(&mut self, v: u32, metric: u64) -> bool
+    pub(crate) fn push_near(&mut self, v: u32, metric: u64) -> bool
         ensures keeps { Keeps self.old self.new }
         ensures pushed { OnTrue result (PushesTo metric v self.old self.new) }
         ensures current { OnTrue result (HasLowered metric self.old.current self.new.current) }
@@ -115,7 +115,7 @@ impl ObimSide {
         if place >= self.chunks.len() || self.mirror.metric_at(place) != metric {
             return false;
         }
-        if !self.chunks[place].add_within(v, self.maker.size()) {
+        if !self.chunks[place].add_unless_last(v) {
             return false;
         }
         self.lower(OwnBag { metric, place });
@@ -198,7 +198,7 @@ impl ObimSide {
 
     /// `pop` where the current bag's draining chunk has a vertex. It doesn't wait, and most pops need no more.
     #[inline(always)]
-    fn pop_near(&mut self) -> Option<u32>
+    pub(crate) fn pop_near(&mut self) -> Option<u32>
         ensures keeps { Keeps self.old self.new }
         ensures current { self.new.current ≡ self.old.current }
         ensures popped { IfSome result (λ v. Pops v self.old self.new) }

@@ -76,14 +76,25 @@ impl WorkPool for WideningPool {
 
     ghost is_side = { IsSideOf };
 
-    #[inline(always)]
+    // Out of the way of `push_now` and `pop_now`, which serve most calls.
+    #[inline(never)]
     fn push<R: Wait>(&self, rt: &R, side: &mut ObimSide, v: u32, metric: u64) -> bool {
         self.pool.push(rt, side, v, self.scale.bucket_of(metric))
     }
 
-    #[inline(always)]
+    #[inline(never)]
     fn pop<R: Wait>(&self, rt: &R, side: &mut ObimSide) -> Option<u32> {
         self.pool.pop(rt, side)
+    }
+
+    #[inline(always)]
+    fn push_now(&self, side: &mut ObimSide, v: u32, metric: u64) -> bool {
+        side.push_near(v, self.scale.bucket_of(metric))
+    }
+
+    #[inline(always)]
+    fn pop_now(&self, side: &mut ObimSide) -> Option<u32> {
+        side.pop_near()
     }
 
     #[inline(always)]
