@@ -17,6 +17,7 @@
 //! threads and waits: a call returns only if its workers do, which no contract promises.
 #![tactic(auto)]
 
+mod budget;
 mod gate;
 mod gates;
 mod group;

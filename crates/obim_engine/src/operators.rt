@@ -10,9 +10,9 @@ ghost use Rattle.label_words.specs.Paused.{CanGoOn, IsPause};
 ghost use Rattle.obim_engine.specs.Workers.{CanLead};
 
 use crate::gate::Gate;
-use crate::runs::{RunFault, solve};
+use crate::runs::{RunFault, only_seeded, solve};
 use crate::settings::{MAX_WORKERS, Settings};
-use crate::widths::scale_of;
+use crate::widths::widths_of;
 use csr_graph::Csr;
 use label_words::laws::resumed_runs_end_alike;
 use label_words::{Paused, Words, WorkSeat};
@@ -39,8 +39,9 @@ pub fn least_labels<H: Threads + Wait + Clock + Sync, G: Gate + Sync>(
         (λ labels. AreLeastLabels csr.now.n csr.now.arcs seeds.items labels.items) }
 {
     let (words, seat) = Words::open(alloc, csr, &seeds)?;
+    let only = only_seeded(&seeds);
     drop(seeds);
-    solve_alone(rt, alloc, csr, words, seat, settings, gate)
+    solve_alone(rt, alloc, csr, words, seat, only, settings, gate)
 }
 
 /// The least label of each vertex of a graph from the seeds of a pause: workers go on from the pause, which
@@ -64,16 +65,17 @@ pub fn least_labels_resumed<H: Threads + Wait + Clock + Sync, G: Gate + Sync>(
     drop(rest);
     // The words have the labels as their seeds, and what is least from these is least from the others.
     resumed_runs_end_alike();
-    solve_alone(rt, alloc, csr, words, seat, settings, gate)
+    solve_alone(rt, alloc, csr, words, seat, None, settings, gate)
 }
 
-/// Settles open words over a pool of its own.
+/// Settles open words over a pool of its own, from the `only` vertex that is marked, where that is known.
 fn solve_alone<H: Threads + Wait + Clock + Sync, G: Gate + Sync>(
     rt: &H,
     alloc: Global,
     csr: &Csr,
     words: Words,
     seat: WorkSeat,
+    only: Option<u32>,
     settings: &Settings,
     gate: &G,
 ) -> Result<Vec<u64>, RunFault>
@@ -84,17 +86,23 @@ fn solve_alone<H: Threads + Wait + Clock + Sync, G: Gate + Sync>(
         (λ labels. AreLeastLabels csr.now.n csr.now.arcs seat.known.seeds labels.items) }
 {
     if settings.widening {
-        let scale = scale_of(csr);
-        let (pool, mut sides) = WideningPool::open(alloc, settings.workers, settings.chunk, scale)?;
+        let widths = widths_of(csr);
+        let settings = settings.with_shift(widths.shift);
+        let (pool, mut sides) = WideningPool::open(
+            alloc,
+            settings.workers,
+            settings.chunk,
+            widths.scale,
+        )?;
         let labels = solve(
-            rt, alloc, csr, words, seat, settings, &pool, &mut sides, gate,
+            rt, alloc, csr, words, seat, only, &settings, &pool, &mut sides, gate,
         )?;
         gate.end(rt, Worklist::of(&sides));
         Ok(labels)
     } else {
         let (pool, mut sides) = ObimPool::open(alloc, settings.workers, settings.chunk)?;
         let labels = solve(
-            rt, alloc, csr, words, seat, settings, &pool, &mut sides, gate,
+            rt, alloc, csr, words, seat, only, settings, &pool, &mut sides, gate,
         )?;
         gate.end(rt, Worklist::of(&sides));
         Ok(labels)

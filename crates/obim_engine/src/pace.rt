@@ -57,10 +57,10 @@ impl Pace {
         self.workers == 1
     }
 
-    /// The worker visits a vertex with this label, or rests where it is `INF`. Most visits have the bucket
+    /// The worker visits a vertex with this metric, or rests where it is `INF`. Most visits have the bucket
     /// of the visit before, and a store is a locked step.
-    pub(crate) fn show(&self, worker: u32, label: u64) {
-        let bucket = bucket_of(label);
+    pub(crate) fn show(&self, worker: u32, metric: u64) {
+        let bucket = bucket_of(metric);
         if let Some(shown) = self.buckets.get(worker as usize) {
             if shown.load(Ordering::Relaxed) != bucket {
                 shown.store(bucket, Ordering::Relaxed);
@@ -124,7 +124,7 @@ impl Watch {
     /// After a visit: every so often a look at the others.
     #[inline(always)]
     pub(crate) fn visited<C: Clock>(&mut self, clock: &C, pace: &Pace) {
-        self.left = self.left.saturating_sub(1);
+        self.left = self.left.wrapping_sub(1);
         if self.left == 0 {
             self.look(clock, pace);
         }

@@ -1,6 +1,6 @@
 //! When does a worker look at every vertex itself?
 
-/// After so many pops in a row that gave nothing a worker looks at every vertex itself: the pool may have
+/// After this many pops in a row that gave nothing a worker looks at every vertex itself: the pool may have
 /// lost some, as where it was refused memory.
 const POPS: u32 = 1024;
 
@@ -13,33 +13,42 @@ pub(crate) struct Patience {
     vertices: u32,
     left: u32,
     left_unmarked: u32,
-    /// Whether a pop was fruitless since there was work: mostly none was, and nothing is to be renewed.
-    is_spent: bool,
+    /// How many visits were left at the last fruitless pop.
+    visits: u64,
 }
 
 impl Patience {
-    pub(crate) fn new(vertices: u32) -> Patience {
+    /// For a graph of this many vertices, of a worker that has this many visits left.
+    pub(crate) fn new(vertices: u32, visits: u64) -> Patience {
         Patience {
             vertices,
             left: POPS,
             left_unmarked: vertices.max(POPS),
-            is_spent: false,
+            visits,
         }
     }
 
-    /// There was work.
-    #[inline(always)]
+    /// As at first.
     pub(crate) fn renew(&mut self) {
-        if self.is_spent {
-            *self = Patience::new(self.vertices);
+        *self = Patience::new(self.vertices, self.visits);
+    }
+
+    /// At a fruitless pop: whether the worker has visited a vertex since the last one, as the visits that
+    /// it has left tell. If so it has all its patience again.
+    #[inline(always)]
+    pub(crate) fn had_work(&mut self, visits: u64) -> bool {
+        let had = visits != self.visits;
+        if had {
+            self.visits = visits;
+            self.renew();
         }
+        had
     }
 
     /// After a fruitless pop, which gave nothing or a vertex that wasn't marked: whether the worker is to look
     /// at every vertex now.
     #[inline(always)]
     pub(crate) fn ends(&mut self, popped: Option<u32>) -> bool {
-        self.is_spent = true;
         let left = match popped {
             Some(_) => &mut self.left_unmarked,
             None => &mut self.left,

@@ -84,7 +84,18 @@ where
     ensures sides { All (P.is_side pool.now) sides.new }
 {
     let (words, seat) = Words::open(alloc, csr, seeds)?;
-    solve(rt, alloc, csr, words, seat, settings, pool, sides, gate)
+    let only = only_seeded(seeds);
+    solve(
+        rt, alloc, csr, words, seat, only, settings, pool, sides, gate,
+    )
+}
+
+/// The one vertex that is seeded, where there are no others.
+pub(crate) fn only_seeded(seeds: &[Seed]) -> Option<u32> {
+    match seeds {
+        [seed] => Some(seed.vertex),
+        _ => None,
+    }
 }
 
 /// The same as `run` until each worker has visited `budget` vertices or all is settled: then labels are
@@ -115,7 +126,17 @@ where
     let (words, seat) = Words::open(alloc, csr, seeds)?;
     let budget = Some(budget);
     run_workers(
-        rt, alloc, csr, words, seat, settings, pool, sides, gate, budget,
+        rt,
+        alloc,
+        csr,
+        words,
+        seat,
+        only_seeded(seeds),
+        settings,
+        pool,
+        sides,
+        gate,
+        budget,
     )
 }
 
@@ -153,17 +174,19 @@ where
     resumed_runs_end_alike();
     let visits = Some(budget);
     run_workers(
-        rt, alloc, csr, words, seat, settings, pool, sides, gate, visits,
+        rt, alloc, csr, words, seat, None, settings, pool, sides, gate, visits,
     )
 }
 
-/// The same as `run` on words that are open, with the seat that they were opened with.
+/// The same as `run` on words that are open, with the seat that they were opened with. `only` is the one
+/// vertex that is marked, where that is known: then the others aren't looked at.
 pub(crate) fn solve<H, P, G>(
     rt: &H,
     alloc: Global,
     csr: &Csr,
     words: Words,
     seat: WorkSeat,
+    only: Option<u32>,
     settings: &Settings,
     pool: &P,
     sides: &mut [P::Side],
@@ -184,7 +207,7 @@ where
     ensures sides { All (P.is_side pool.now) sides.new }
 {
     match run_workers(
-        rt, alloc, csr, words, seat, settings, pool, sides, gate, None,
+        rt, alloc, csr, words, seat, only, settings, pool, sides, gate, None,
     )? {
         Closed::Settled(labels) => Ok(labels),
         // Without a budget the seat saw the total at 0.
@@ -199,6 +222,7 @@ fn run_workers<H, P, G>(
     csr: &Csr,
     words: Words,
     seat: WorkSeat,
+    only: Option<u32>,
     settings: &Settings,
     pool: &P,
     sides: &mut [P::Side],
@@ -229,16 +253,17 @@ where
         pace: &pace,
         budget,
     };
-    push_marked(rt, &shared, &seat, &mut sides[0]);
+    push_marked(rt, &shared, &seat, only, &mut sides[0]);
     let seat = run_group(rt, &shared, 0, seat, sides);
     Ok(words.close(alloc, seat)?)
 }
 
-/// Hands each marked vertex to the pool, in rising order.
+/// Hands each marked vertex to the pool, in rising order, or `only` one where the others aren't marked.
 fn push_marked<H: Wait, P: WorkPool, G>(
     rt: &H,
     shared: &Shared<'_, P, G>,
     seat: &WorkSeat,
+    only: Option<u32>,
     side: &mut P::Side,
 )
     requires words { seat.now.words ≡ shared.now.words.now }
@@ -246,7 +271,12 @@ fn push_marked<H: Wait, P: WorkPool, G>(
     requires side { P.is_side shared.now.pool.now side.old }
     ensures { P.is_side shared.now.pool.now side.new }
 {
-    for v in 0..shared.csr.n() {
+    let n = shared.csr.n();
+    let (first, end) = match only {
+        Some(v) if v < n => (v, v + 1),
+        _ => (0, n),
+    };
+    for v in first..end {
         if let Some(label) = shared.words.marked_label(seat, v) {
             // Where the pool refuses the vertex, it stays marked all the same.
             if !shared

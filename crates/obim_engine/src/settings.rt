@@ -64,4 +64,22 @@ impl Settings {
             widening: true,
         }
     }
+
+    /// The same with this shift, or the greatest one.
+    pub(crate) fn with_shift(&self, shift: u32) -> Settings
+        ensures workers { result.workers ≡ self.now.workers }
+    {
+        let Settings {
+            workers,
+            chunk,
+            widening,
+            ..
+        } = *self;
+        Settings {
+            workers,
+            shift: shift.min(MAX_SHIFT),
+            chunk,
+            widening,
+        }
+    }
 }

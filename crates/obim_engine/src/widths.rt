@@ -3,37 +3,108 @@
 use csr_graph::Csr;
 use obim_pool::Scale;
 
-/// At most so many arcs are looked at, evenly spread.
+/// At most this many arcs are sampled, evenly spread.
 const SAMPLES: usize = 1024;
 
-/// Even buckets of two to four times the weight of a usual arc: inside one, few labels fall again. There
-/// are about as many of them as the root of the number of vertices, so that the looks into empty ones are
-/// no more than twice the vertices. In a graph whose arcs are free labels are near their seeds: there
-/// buckets only widen.
-pub(crate) fn scale_of(csr: &Csr) -> Scale {
-    let mean = mean_weight(csr);
-    if mean == 0 {
-        return Scale::widening();
-    }
-    let bits = 64_u32.saturating_sub(mean.leading_zeros());
-    let half = 33_u32.saturating_sub(csr.n().leading_zeros()) / 2;
-    Scale::new(bits.saturating_add(1), 1 << half.min(63))
+/// One arc in this many counts as light.
+const LIGHT: u64 = 8;
+
+/// A bucket is at least this power of two of light weights wide, divided by the arcs of a vertex.
+const LIGHT_WEIGHTS: u32 = 3;
+
+/// How wide buckets are.
+#[derive(Clone, Copy, Debug, PartialEq, Eq)]
+pub(crate) struct Widths {
+    /// At least 2^`shift` labels.
+    pub shift: u32,
+    /// By how much wider they are then.
+    pub scale: Scale,
 }
 
-/// The mean weight of some of the arcs, rounded down; 0 where there is none.
-fn mean_weight(csr: &Csr) -> u64 {
-    // An odd step meets each arc of rows that are all as long.
-    let step = csr.arc_count() / SAMPLES | 1;
-    let mut place = 0_usize;
-    let mut sum = 0_u64;
-    let mut count = 0_u64;
-    for _ in 0..SAMPLES {
-        if place >= csr.arc_count() {
-            break;
-        }
-        sum = sum.saturating_add(u64::from(csr.target(place).weight));
-        count = count.saturating_add(1);
-        place = place.saturating_add(step);
+/// Where no vertex has a light arc to another one of its bucket, no label falls again. So buckets are as
+/// wide as the light weights of a graph let them be, and narrower where vertices have more arcs.
+///
+/// Larger labels have wider buckets, up to two to four times the weight of a usual arc: inside one, few
+/// labels fall again. There are about as many of these as the root of the number of vertices, so that the
+/// looks into empty ones are no more than twice the vertices. In a graph whose arcs are free labels are near
+/// their seeds: there buckets only widen.
+pub(crate) fn widths_of(csr: &Csr) -> Widths {
+    let sample = Sample::of(csr);
+    let mean = sample.sum.checked_div(sample.count).unwrap_or(0);
+    if mean == 0 {
+        return Widths {
+            shift: 0,
+            scale: Scale::widening(),
+        };
     }
-    sum.checked_div(count).unwrap_or(0)
+    let degree = csr.arc_count() as u64 / u64::from(csr.n().max(1));
+    let shift = match sample.light_bits() {
+        0 => 0,
+        bits => bits
+            .saturating_add(LIGHT_WEIGHTS)
+            .saturating_sub(bit_length(degree.max(1))),
+    };
+    let widest = bit_length(mean).saturating_add(1).saturating_sub(shift);
+    let half = bit_length(u64::from(csr.n())).saturating_add(1) / 2;
+    Widths {
+        shift,
+        scale: Scale::new(widest, 1 << half.min(63)),
+    }
+}
+
+/// By how many bits a number is written; 0 has none.
+fn bit_length(number: u64) -> u32 {
+    64_u32.saturating_sub(number.leading_zeros())
+}
+
+/// The weights of some of the arcs.
+#[derive(Clone, Copy)]
+struct Sample {
+    count: u64,
+    sum: u64,
+    /// How many of them have 0, 1, 2 and so on bits.
+    lengths: [u64; 33],
+}
+
+impl Sample {
+    fn of(csr: &Csr) -> Sample {
+        let mut sample = Sample {
+            count: 0,
+            sum: 0,
+            lengths: [0; 33],
+        };
+        // An odd step meets each arc of rows that are all as long.
+        let step = csr.arc_count() / SAMPLES | 1;
+        let mut place = 0_usize;
+        for _ in 0..SAMPLES {
+            if place >= csr.arc_count() {
+                break;
+            }
+            sample.add(csr.target(place).weight);
+            place = place.saturating_add(step);
+        }
+        sample
+    }
+
+    fn add(&mut self, weight: u32) {
+        self.count = self.count.saturating_add(1);
+        self.sum = self.sum.saturating_add(u64::from(weight));
+        if let Some(seen) = self.lengths.get_mut(bit_length(u64::from(weight)) as usize) {
+            *seen = seen.saturating_add(1);
+        }
+    }
+
+    /// How many bits the heaviest of the light weights has.
+    fn light_bits(&self) -> u32 {
+        let mut bits = 0_u32;
+        let mut seen = 0_u64;
+        for count in self.lengths {
+            seen = seen.saturating_add(count);
+            if seen.saturating_mul(LIGHT) >= self.count {
+                break;
+            }
+            bits = bits.saturating_add(1);
+        }
+        bits
+    }
 }

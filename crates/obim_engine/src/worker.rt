@@ -1,13 +1,14 @@
 //! One worker: draw a vertex, take it, relax its arcs, and again until the pending total is 0 or the
 //! worker's budget is spent.
 
-ghost use Rattle.std.specs.Prelude.{◌≡◌, ◌↔◌, ◌≤◌, ◌<◌, None, IfNone, IfSome};
+ghost use Rattle.std.specs.Prelude.{◌≡◌, ◌≤◌, ◌<◌, IfNone, IfSome};
 ghost use Rattle.relax_core.specs.declared.views.Hand.TheVariants.{Idle, Fresh};
 ghost use Rattle.csr_graph.specs.Graph.{end_place};
 ghost use Rattle.label_words.specs.Callers.{Stays, HasRowOpen};
 ghost use Rattle.relax_core.specs.Views.{place_of};
 ghost use Rattle.obim_engine.specs.Workers.{CanLead, AreDone, OwesMark};
 
+use crate::budget::Budget;
 use crate::gate::Gate;
 use crate::pace::{Pace, Watch};
 use crate::patience::Patience;
@@ -51,26 +52,30 @@ pub(crate) fn work<H: Wait + Clock, P: WorkPool, G: Gate>(
 {
     let mut pauses = Pauses::new();
     let mut watch = Watch::new(worker);
-    let mut patience = Patience::new(shared.csr.n());
-    let mut budget = shared.budget;
+    let mut budget = Budget::new(shared.budget);
+    let mut patience = Patience::new(shared.csr.n(), budget.left());
     for _ in rt.forever() {
-        if budget == Some(0) {
+        if budget.is_spent() {
             shared.pace.leave(worker);
             // The run may be over all the same.
             shared.words.see(&mut seat);
             return seat;
         }
-        let popped = shared.pool.pop(rt, side);
+        let popped = match shared.pool.pop_now(side) {
+            Some(v) => Some(v),
+            None => shared.pool.pop(rt, side),
+        };
         show(shared, worker, &seat, popped);
         match popped {
             Some(u) if u < shared.csr.n() && shared.words.take(&mut seat, u) => {
                 visit(rt, shared, worker, &mut seat, side, u);
-                budget = spent(budget);
-                patience.renew();
-                pauses.reset();
+                budget.spend();
                 watch.visited(rt, shared.pace);
             }
             _ => {
+                if patience.had_work(budget.left()) {
+                    pauses.reset();
+                }
                 let ends = patience.ends(popped);
                 // A pool that gave a vertex isn't empty: the next one may be marked.
                 if popped.is_some() && !ends {
@@ -91,14 +96,7 @@ pub(crate) fn work<H: Wait + Clock, P: WorkPool, G: Gate>(
     unreachable!()
 }
 
-/// What is left of a budget after one visit.
-fn spent(budget: Option<u64>) -> Option<u64>
-    ensures { result ≡ None ↔ budget ≡ None }
-{
-    budget.map(|visits| visits.saturating_sub(1))
-}
-
-/// Shows other workers, if there are any, the label of the vertex that the worker is about to take, if it is
+/// Shows other workers, if there are any, the metric of the vertex that the worker is about to take, if it is
 /// marked, and `INF` where there is no vertex.
 fn show<P, G>(shared: &Shared<'_, P, G>, worker: u32, seat: &WorkSeat, vertex: Option<u32>)
     requires words { seat.now.words ≡ shared.now.words.now }
@@ -113,7 +111,7 @@ fn show<P, G>(shared: &Shared<'_, P, G>, worker: u32, seat: &WorkSeat, vertex: O
     };
     if v < shared.csr.n() {
         if let Some(label) = shared.words.marked_label(seat, v) {
-            shared.pace.show(worker, label);
+            shared.pace.show(worker, label >> shared.settings.shift);
         }
     }
 }
@@ -127,8 +125,8 @@ fn sweep<H: Wait, P: WorkPool, G: Gate>(
     worker: u32,
     mut seat: WorkSeat,
     side: &mut P::Side,
-    mut budget: Option<u64>,
-) -> (WorkSeat, Option<u64>)
+    mut budget: Budget,
+) -> (WorkSeat, Budget)
     requires words { seat.words ≡ shared.now.words.now }
     requires graph { shared.now.csr.now ≡ seat.known.graph }
     requires idle { seat.known.view.hand ≡ Idle }
@@ -136,17 +134,17 @@ fn sweep<H: Wait, P: WorkPool, G: Gate>(
     ensures stays { Stays seat result.0 }
     ensures idle { result.0.known.view.hand ≡ Idle }
     ensures side { P.is_side shared.now.pool.now side.new }
-    ensures budget { budget ≡ None → result.1 ≡ None }
+    ensures limit { result.1.has_limit ≡ budget.has_limit }
 {
     shared.pace.seek();
     for v in 0..shared.csr.n() {
-        if budget == Some(0) {
+        if budget.is_spent() {
             break;
         }
         show(shared, worker, &seat, Some(v));
         if shared.words.take(&mut seat, v) {
             visit(rt, shared, worker, &mut seat, side, v);
-            budget = spent(budget);
+            budget.spend();
         }
     }
     (seat, budget)
@@ -174,36 +172,46 @@ fn visit<H: Wait, P: WorkPool, G: Gate>(
 {
     shared.gate.pass(rt, worker, u);
     prefetch(shared, seat, side);
-    shared.words.prefetch_labels(seat, shared.csr, u);
-    shared.words.read(seat, shared.csr);
-    while let Some((head, label)) = next_lowered(shared, seat, u) {
-        mark(shared, seat, u);
+    let (words, csr) = (shared.words, shared.csr);
+    words.prefetch_labels(seat, csr, u);
+    words.read(seat, csr);
+    let end = csr.end(u);
+    while let Some((head, label)) = next_lowered(words, csr, seat, u, end) {
+        mark(words, seat, u);
         let metric = label >> shared.settings.shift;
+        let pushed = shared.pool.push_now(side, head, metric)
+            || shared.pool.push(rt, side, head, metric);
         // Where the pool refuses the head, it stays marked all the same.
-        if !shared.pool.push(rt, side, head, metric) {
+        if !pushed {
             shared.pace.lose();
         }
     }
-    shared.words.finish(seat, shared.csr);
+    words.finish(seat, csr);
 }
 
 /// Relaxes the arcs of the row of `u` that come next, until the label of a head falls: the head, which is
 /// owed a mark then, and its label. `None` at the row's end. It doesn't wait: a call that may costs more.
 #[inline(always)]
-fn next_lowered<P, G>(shared: &Shared<'_, P, G>, seat: &mut WorkSeat, u: u32) -> Option<(u32, u64)>
-    requires words { seat.old.words ≡ shared.now.words.now }
-    requires graph { shared.now.csr.now ≡ seat.old.known.graph }
+fn next_lowered(
+    words: &Words,
+    csr: &Csr,
+    seat: &mut WorkSeat,
+    u: u32,
+    end: usize,
+) -> Option<(u32, u64)>
+    requires words { seat.old.words ≡ words.now }
+    requires graph { csr.now ≡ seat.old.known.graph }
     requires row { HasRowOpen u seat.old.known.view }
+    requires end { end ≡ end_place csr.now.arcs u }
     ensures stays { Stays seat.old seat.new }
     ensures owes { IfSome result (λ lowered. OwesMark u seat.new.known.view) }
     ensures arc { IfSome result (λ lowered. place_of seat.old.known.view.hand < place_of seat.new.known.view.hand) }
-    ensures within { IfSome result
-        (λ lowered. place_of seat.new.known.view.hand ≤ end_place shared.now.csr.now.arcs u) }
+    ensures within { IfSome result (λ lowered. place_of seat.new.known.view.hand ≤ end) }
     ensures row { IfNone result (HasRowOpen u seat.new.known.view) }
-    ensures end { IfNone result (place_of seat.new.known.view.hand ≡ end_place shared.now.csr.now.arcs u) }
+    ensures end { IfNone result (place_of seat.new.known.view.hand ≡ end) }
 {
     loop {
-        match shared.words.relax(seat, shared.csr) {
+        match words.relax_before(seat, csr, end) {
             Step::RowEnd => return None,
             Step::Kept => {}
             Step::Lowered { head, label } => return Some((head, label)),
@@ -213,15 +221,15 @@ fn next_lowered<P, G>(shared: &Shared<'_, P, G>, seat: &mut WorkSeat, u: u32) ->
 
 /// Sets the mark that is owed, with a credit of its own.
 #[inline(always)]
-fn mark<P, G>(shared: &Shared<'_, P, G>, seat: &mut WorkSeat, u: u32)
-    requires words { seat.old.words ≡ shared.now.words.now }
+fn mark(words: &Words, seat: &mut WorkSeat, u: u32)
+    requires words { seat.old.words ≡ words.now }
     requires owes { OwesMark u seat.old.known.view }
     ensures stays { Stays seat.old seat.new }
     ensures row { HasRowOpen u seat.new.known.view }
     ensures place { place_of seat.new.known.view.hand ≡ place_of seat.old.known.view.hand }
 {
     if seat.credits() == 1 {
-        shared.words.raise(seat);
+        words.raise(seat);
     }
-    shared.words.set_mark(seat);
+    words.set_mark(seat);
 }

@@ -1,8 +1,8 @@
-//! Buckets for a graph: the scale that its arcs ask for.
+//! Buckets for a graph: the widths that its arcs ask for.
 
 use crate::tests::gates::Holding;
 use crate::tests::graphs::{fit_rows, street_arcs};
-use crate::widths::scale_of;
+use crate::widths::{Widths, widths_of};
 use crate::{Settings, distances};
 use csr_graph::Csr;
 use obim_pool::Scale;
@@ -11,7 +11,7 @@ use std::alloc::Global;
 use std::process::Abort;
 use std::test::Fail;
 
-/// So many arcs from vertex 0 of `n` to itself, with the weights in turn.
+/// `count` arcs from vertex 0 of `n` to itself, with the weights in turn.
 fn loops(
     rt: &impl Abort,
     alloc: Global,
@@ -32,29 +32,29 @@ fn loops(
     Ok(Csr::build(alloc, n, &arcs)?)
 }
 
-// Twice the least power of two above the mean weight, and the power of two from the root of the vertices on.
+// From the light weights and the arcs of a vertex on; from the mean weight, and from the root of the vertices.
 #[test]
-fn scales_of_graphs(rt: HostRuntime) -> Result<(), Fail> {
+fn widths_of_graphs(rt: HostRuntime) -> Result<(), Fail> {
     let alloc = rt.alloc();
     let widening = Scale::widening();
-    let table: [(u32, &[u32], usize, Scale); 13] = [
-        (1, &[], 0, widening),
-        (1, &[0], 1, widening),
-        (1, &[1], 1, Scale::new(2, 2)),
-        (1, &[0, 1], 2, widening),
-        (3, &[1, 2], 2, Scale::new(2, 2)),
-        (4, &[2], 2, Scale::new(3, 4)),
-        (15, &[7], 3, Scale::new(4, 4)),
-        (16, &[8], 3, Scale::new(5, 8)),
-        (63, &[1700], 5000, Scale::new(12, 8)),
-        (70_000, &[1023, 1025], 5000, Scale::new(12, 512)),
-        (70_000, &[0], 5000, widening),
-        (2, &[u32::MAX], 5000, Scale::new(33, 2)),
-        (2, &[0, u32::MAX], 1024, Scale::new(32, 2)),
+    let table: [(u32, &[u32], usize, u32, Scale); 13] = [
+        (1, &[], 0, 0, widening),
+        (1, &[0], 1, 0, widening),
+        (1, &[1], 1, 3, Scale::new(0, 2)),
+        (1, &[0, 1], 2, 0, widening),
+        (3, &[1, 2], 2, 3, Scale::new(0, 2)),
+        (4, &[2], 2, 4, Scale::new(0, 4)),
+        (15, &[7], 3, 5, Scale::new(0, 4)),
+        (2, &[8, 900], 16, 3, Scale::new(7, 2)),
+        (63, &[1700], 5000, 7, Scale::new(5, 8)),
+        (70_000, &[1023, 1025], 5000, 12, Scale::new(0, 512)),
+        (70_000, &[0], 5000, 0, widening),
+        (2, &[u32::MAX], 5000, 23, Scale::new(10, 2)),
+        (2, &[0, u32::MAX], 1024, 0, Scale::new(32, 2)),
     ];
-    for (n, weights, count, scale) in table {
+    for (n, weights, count, shift, scale) in table {
         let csr = loops(&rt, alloc, n, weights, count)?;
-        assert_eq!(rt; scale_of(&csr), scale, "{n} {count}");
+        assert_eq!(rt; widths_of(&csr), Widths { shift, scale }, "{n} {count}");
     }
     Ok(())
 }

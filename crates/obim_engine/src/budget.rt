@@ -1,0 +1,57 @@
+//! How many visits has a worker left?
+
+ghost use Rattle.std.specs.Prelude.{◌≡◌, None, true, false};
+
+/// The visits that a worker has left, if there is a limit.
+#[derive(Clone, Copy, Debug, PartialEq, Eq)]
+pub(crate) struct Budget {
+    left: u64,
+    pub has_limit: bool,
+}
+
+impl Budget {
+    /// As many visits as these; without a number there is no limit.
+    pub(crate) fn new(visits: Option<u64>) -> Budget
+        ensures { visits ≡ None → result.has_limit ≡ false }
+    {
+        Budget {
+            left: visits.unwrap_or(u64::MAX),
+            has_limit: visits.is_some(),
+        }
+    }
+
+    /// The visits that are left.
+    pub(crate) fn left(&self) -> u64 {
+        self.left
+    }
+
+    /// Whether no visit is left.
+    #[inline(always)]
+    pub(crate) fn is_spent(&mut self) -> bool
+        ensures limit { self.new.has_limit ≡ self.old.has_limit }
+        ensures spent { result ≡ true → self.old.has_limit ≡ true }
+    {
+        if self.left > 0 {
+            return false;
+        }
+        self.ends()
+    }
+
+    /// Whether there is a limit; otherwise there are as many visits again.
+    #[inline(never)]
+    fn ends(&mut self) -> bool
+        ensures limit { self.new.has_limit ≡ self.old.has_limit }
+        ensures spent { result ≡ self.old.has_limit }
+    {
+        self.left = u64::MAX;
+        self.has_limit
+    }
+
+    /// A visit is made, of those that are left.
+    #[inline(always)]
+    pub(crate) fn spend(&mut self)
+        ensures { self.new.has_limit ≡ self.old.has_limit }
+    {
+        self.left = self.left.wrapping_sub(1);
+    }
+}
