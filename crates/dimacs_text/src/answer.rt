@@ -18,7 +18,7 @@ use std::simd::Simd;
 /// No line has more bytes: a letter, three numbers of at most 20 digits, three spaces and a line feed.
 const ROOM: usize = 65;
 
-/// So many lines make a group: it begins where the number of a vertex is a multiple of this.
+/// Lines of a group, which begins where the number of a vertex is a multiple of this.
 const GROUP: usize = 50;
 
 /// No line of a group has more bytes: the room of a head, two digits, a space, 20 digits and a line feed.

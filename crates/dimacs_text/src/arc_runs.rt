@@ -104,7 +104,7 @@ impl ArcRuns {
         empty_all(&mut self.runs);
     }
 
-    /// Reads the arcs of a piece ahead, where vertices count to this number, by so many threads side by side.
+    /// Reads the arcs of a piece ahead, where vertices count to this number, by `threads` threads side by side.
     /// The piece is cut behind line feeds into as many parts, or fewer where they would be short. What is no
     /// plain line of an arc ends what is read of its part. Where memory is refused nothing is read.
     pub fn read<H: Threads + Sync>(&mut self, rt: &H, bytes: &[u8], vertices: u32, threads: usize)
@@ -133,7 +133,7 @@ impl ArcRuns {
         );
     }
 
-    /// Makes room for the runs of so many parts, if there is less. What was read ahead is no use after it.
+    /// Makes room for the runs of `parts` parts, if there is less. What was read ahead is no use after it.
     fn make_runs(&mut self, parts: usize) -> Result<(), Memory> {
         for _ in self.runs.len()..parts {
             self.runs.push(ArcRun::new(self.alloc))?;
@@ -158,7 +158,7 @@ fn empty_all(runs: &mut [ArcRun])
     }
 }
 
-/// Where a part of a piece begins, of so many parts: the first after the first line feed, since what stands
+/// Where a part of a piece begins: the first after the first line feed, since what stands
 /// before that may be the end of a line. Where the part after the last would begin, the last line ends.
 fn cut_at(bytes: &[u8], part: usize, parts: usize) -> usize
     ensures place { result ≤ length bytes.now }

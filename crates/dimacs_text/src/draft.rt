@@ -19,7 +19,7 @@ use crate::stage::Stage;
 use route_walks::{ArcRec, MAX_VERTICES};
 use std::alloc::{AllocError, Global};
 
-/// Room is made for so many arcs at first, and then for as many again as there are.
+/// Arcs for which room is made at first; then it is made for as many again as there are.
 const FIRST_ARCS: usize = 1024;
 
 /// What the lines so far have said. Vertices count to `vertices`.
@@ -179,7 +179,7 @@ impl Draft {
         }
     }
 
-    /// Makes room for arcs of which so many are missing, and gives how many can be added before there has
+    /// Makes room for arcs of which `missing` are to come, and gives how many can be added before there has
     /// to be more room: none where memory is refused.
     fn room_for_arcs(&mut self, missing: u32) -> u32
         ensures same { progress_of self.new ≡ progress_of self.old }

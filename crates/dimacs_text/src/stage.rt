@@ -10,7 +10,7 @@ use crate::form::{Form, Section};
 pub enum Stage {
     /// Before the problem line.
     Start,
-    /// In a section of which so many items are still to come.
+    /// In a section, with the number of items that are still to come.
     Within { section: Section, missing: u32 },
 }
 

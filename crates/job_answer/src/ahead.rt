@@ -85,7 +85,7 @@ fn make_solves<H: Threads + Wait + Clock + Sync, G: Gate + Sync>(
     }
 }
 
-/// What so many teams make at the same time. Fails where memory is refused.
+/// What the teams make at the same time. Fails where memory is refused.
 fn make_by_teams<H: Threads + Wait + Clock + Sync, G: Gate + Sync>(
     rt: &H,
     alloc: Global,
@@ -251,7 +251,7 @@ impl Ahead {
     }
 }
 
-/// How many solves the teams make before the first of them is used: two each where there are so many, so
+/// How many solves the teams make before the first of them is used: two each where there are enough, so
 /// that a team that is done early takes another.
 fn count_ahead(teams: usize, left: usize) -> usize {
     if left / 2 >= teams {

@@ -22,7 +22,7 @@ pub enum Answer {
 pub enum AtOnce {
     /// As many as there are workers where a vertex has few arcs, and else one.
     Auto,
-    /// At most so many, and never more than there are workers.
+    /// At most this number, and never more than there are workers.
     Most(u32),
 }
 
@@ -73,7 +73,7 @@ impl Asked {
         })
     }
 
-    /// The same with so many sources at the same time.
+    /// The same with this number of sources at the same time.
     pub fn with_at_once(self, at_once: AtOnce) -> Asked
         ensures answer { result.answer ≡ self.answer }
         ensures settings { result.settings ≡ self.settings }

@@ -34,7 +34,7 @@ use std::thread::Threads;
 use std::time::Clock;
 use walk_report::{NONE, hops, parents, walk_to};
 
-/// So many lines are put before it is seen whether a piece is full.
+/// Lines between two looks whether a piece is full.
 const LINES: usize = 512;
 
 /// Writes the block of each source in turn: the least labels from it along the rows, with their walks

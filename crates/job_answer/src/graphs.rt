@@ -32,7 +32,7 @@ pub struct Grown {
     pub rows: Csr,
 }
 
-/// The rows of an answer kind, made by so many threads. The list of arcs is given back once they stand; the
+/// The rows of an answer kind, made by `threads` threads. The list of arcs is given back once they stand; the
 /// added ones are kept.
 pub fn graphs_for<H: Threads + Sync>(
     rt: &H,

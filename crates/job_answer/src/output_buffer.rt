@@ -8,7 +8,7 @@ use crate::fault::Fault;
 use std::alloc::Global;
 use std::io::{self, ErrorKind, Write};
 
-/// So many bytes make a piece.
+/// Bytes of a piece, which are written at once.
 const PIECE: usize = 1 << 16;
 
 /// The bytes of an answer that wait to be written. They go out in pieces of 64 KiB as the answer grows.
@@ -72,7 +72,7 @@ impl OutputBuffer {
     }
 }
 
-/// A writer into memory that takes at most so many bytes, and fails past them.
+/// A writer into memory that takes bytes up to a limit, and fails past it.
 #[derive(Drop)]
 pub struct Held {
     pub bytes: Vec<u8>,

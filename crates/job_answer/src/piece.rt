@@ -34,7 +34,7 @@ impl Model for Piece {
 }
 
 impl Piece {
-    /// No bytes yet, with room for so many.
+    /// No bytes yet, with room for `room`.
     pub fn new(alloc: Global, room: usize) -> Result<Piece, Memory>
         requires { 0 < room }
         ensures { IfOk result (λ piece. piece ≡ []) }
@@ -76,7 +76,7 @@ impl Piece {
         Ok(self.count < room)
     }
 
-    /// Reads its arcs ahead by so many threads, where vertices count to this number.
+    /// Reads its arcs ahead by `threads` threads, where vertices count to this number.
     pub fn read_ahead<H: Threads + Sync>(&mut self, rt: &H, vertices: u32, threads: usize)
         ensures { self.new ≡ self.old }
     {
@@ -92,7 +92,7 @@ impl Piece {
     }
 }
 
-/// Reads so many bytes into a buffer, or fewer where the reader ends: how many came. Each error is `Read`.
+/// Reads `room` bytes into a buffer, or fewer where the reader ends: how many came. Each error is `Read`.
 fn read_block<R: Read>(reader: &mut R, buffer: &mut [u8], room: usize) -> Result<usize, Fault>
     requires { room ≤ length buffer.old }
     ensures count { IfOk result (λ count. count ≤ room) }

@@ -18,7 +18,7 @@ use std::thread::{Threads, join_mut};
 use std::time::{Clock, Duration};
 
 /// Reads the job in all that the reader gives, up to its end, and one byte past the limit at most. After
-/// a fault of the text the rest is read all the same. The lines of arcs are read by at most so many threads,
+/// a fault of the text the rest is read all the same. The lines of arcs are read by at most `threads` threads,
 /// beside which this one takes the arcs and reads on.
 pub fn read_request<H: Threads + Clock + Sync, R: Read>(
     rt: &H,
@@ -87,7 +87,7 @@ fn read_pieces<H: Threads + Clock + Sync, R: Read>(
     Ok(job.finish()?)
 }
 
-/// Has so many threads read ahead in the last piece, if arcs come there.
+/// Has `threads` threads read ahead in the last piece, if arcs come there.
 fn read_ahead<H: Threads + Sync>(rt: &H, job: &JobReader, piece: &mut Piece, threads: usize)
     ensures { piece.new ≡ piece.old }
 {
@@ -99,7 +99,7 @@ fn read_ahead<H: Threads + Sync>(rt: &H, job: &JobReader, piece: &mut Piece, thr
     }
 }
 
-/// Feeds the front piece and takes the next bytes of the reader in its place, at most so many. Meanwhile
+/// Feeds the front piece and takes the next bytes of the reader in its place, up to the limit. Meanwhile
 /// other threads read ahead in the back one, if arcs come there and that is faster. True where the reader
 /// has ended.
 fn step<H: Threads + Clock + Sync, R: Read>(
@@ -132,7 +132,7 @@ fn step<H: Threads + Clock + Sync, R: Read>(
     Ok(ended)
 }
 
-/// `feed_and_fill`, while so many other threads read ahead in the back piece. That takes each of them longer
+/// `feed_and_fill`, while `others` other threads read ahead in the back piece. That takes each of them longer
 /// than this one's work takes, so they may be as many as there are processors.
 fn step_beside<H: Threads + Sync, R: Read>(
     rt: &H,
@@ -165,7 +165,7 @@ fn step_beside<H: Threads + Sync, R: Read>(
     ended
 }
 
-/// Feeds the piece and takes the next bytes of the reader in its place, at most so many. True where the
+/// Feeds the piece and takes the next bytes of the reader in its place, up to the limit. True where the
 /// reader has ended.
 fn feed_and_fill<R: Read>(
     reader: &mut R,

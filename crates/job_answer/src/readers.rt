@@ -74,7 +74,7 @@ impl Readers {
         }
     }
 
-    /// So many threads took that long for a piece of so many bytes.
+    /// `threads` threads took `spent` for a piece of `count` bytes.
     pub fn see(&mut self, threads: usize, count: usize, spent: Duration) {
         // A piece that was taken for another number of threads says nothing.
         if count == 0 || (threads > 1) != (count > BLOCK) {

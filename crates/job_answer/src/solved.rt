@@ -17,7 +17,7 @@ use std::sync::Wait;
 use std::thread::Threads;
 use std::time::Clock;
 
-/// A text that is made before its turn may have so many bytes a vertex. A block without walks has fewer.
+/// The most bytes a vertex of a text that is made before its turn. A block without walks has fewer.
 const MOST_A_VERTEX: usize = 64;
 
 /// The queries of an answer. Each solve is for those from a place on that have one source.
@@ -51,7 +51,7 @@ impl Queries<'_> {
         }
     }
 
-    /// How many solves there are from a place on, counted up to so many.
+    /// How many solves there are from a place on, counted up to `most`.
     pub fn count_from(&self, place: usize, most: usize) -> usize {
         let mut next = place;
         for count in 0..most {

@@ -26,7 +26,7 @@ pub struct Team {
 }
 
 impl Team {
-    /// The team at a place of so many teams that share these workers. Each has a worker at least.
+    /// The team at a place, of the teams that share these workers. Each has a worker at least.
     pub fn at(place: usize, teams: usize, workers: u32) -> Team {
         let (place, teams) = (at_most(place), at_most(teams).max(1));
         let (each, more) = (workers / teams, workers % teams);

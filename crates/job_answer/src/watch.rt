@@ -14,20 +14,20 @@ pub enum Phase {
 
 /// Told by `answer_watched` how far it is, by the caller's own thread. No byte of an answer depends on it.
 pub trait Watch {
-    /// So many bytes more of the text were read. Of the graph's arcs so many are read now, and so many are
-    /// counted, once the problem line is read.
+    /// `count` bytes more of the text were read; of the graph's arcs the first number is read now, and the
+    /// second is counted, once the problem line is read.
     fn see_text(&mut self, _count: usize, _arcs: Option<(usize, usize)>) {}
 
-    /// The rows have so many vertices and arcs. For components each arc is there both ways.
+    /// The rows have this number of vertices and of arcs. For components each arc is there both ways.
     fn see_rows(&mut self, vertices: u32, arcs: usize);
 
-    /// Labels were worked out so many times more.
+    /// Labels were worked out `count` times more.
     fn see_runs(&mut self, count: usize);
 
-    /// So many sources are solved at the same time.
+    /// The number of sources that are solved at the same time.
     fn see_teams(&mut self, teams: usize);
 
-    /// Of the sources or pairs, in the order in which they are solved, so many are answered.
+    /// Of all the sources or pairs, in the order in which they are solved, `done` are answered.
     fn see_answered(&mut self, _done: usize, _all: usize) {}
 
     /// The time since the last phase ended was spent on this one.

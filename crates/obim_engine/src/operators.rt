@@ -177,7 +177,7 @@ fn unit_rows(alloc: Global, csr: &Csr) -> Result<Csr, Memory>
     Csr::build(alloc, csr.n(), &units)
 }
 
-/// The rows of the arcs both ways, free, made by so many threads.
+/// The rows of the arcs both ways, free, made by `threads` threads.
 fn both_rows<H: Threads + Sync>(
     rt: &H,
     alloc: Global,

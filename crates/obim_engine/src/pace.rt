@@ -2,7 +2,7 @@
 //!
 //! Each worker has vertices in chunks of its own. Where the system takes the processor of one that has the
 //! lowest labels, the others go on with what is left, and all that they do falls again once the low labels
-//! come. So each worker shows the bucket of the label that it visits, and one that is far ahead of another
+//! come. So each worker shows the bucket of the metric that it visits, and one that is far ahead of another
 //! sleeps a little now and then. No label depends on it.
 
 use crossbeam_utils::CachePadded;
@@ -17,7 +17,7 @@ use std::time::{Clock, Duration};
 /// the last look, for all together.
 const VISITS: u32 = 64;
 
-/// A worker is far ahead of another if its label is more than this many buckets of `bucket_of` above the
+/// A worker is far ahead of another if its metric is more than this many buckets of `bucket_of` above the
 /// other's.
 const AHEAD: u64 = 8;
 
@@ -32,7 +32,7 @@ const NAPS: u32 = 128;
 #[derive(Drop)]
 pub(crate) struct Pace {
     workers: u32,
-    /// By worker, the bucket of the label of the vertex that it visits; that of `INF` while it has nothing to
+    /// By worker, the bucket of the metric of the vertex that it visits; that of `INF` while it has nothing to
     /// do.
     buckets: Vec<CachePadded<AtomicU64>>,
     /// Whether since the last sweep the pool refused a vertex, or a worker left that had spent its budget.
@@ -89,7 +89,7 @@ impl Pace {
         self.lost.load(Ordering::Relaxed)
     }
 
-    /// Whether the label that the worker shows is far above one that another shows.
+    /// Whether the metric that the worker shows is far above one that another shows.
     fn is_far_ahead(&self, worker: u32) -> bool {
         let mut least = u64::MAX;
         for bucket in self.buckets.iter() {

@@ -92,7 +92,7 @@ impl BagChunks {
         last
     }
 
-    /// The vertex that the `by`th `take_last` from now on takes, if the draining chunk has so many: a hint.
+    /// The vertex that the `by`th `take_last` from now on takes, if the draining chunk has one there: a hint.
     #[inline(always)]
     pub(crate) fn ahead(&self, by: usize) -> Option<u32> {
         match &self.draining {

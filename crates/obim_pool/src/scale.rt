@@ -9,7 +9,7 @@ use crate::widening::bucket_of;
 /// No scale makes more buckets of labels of 64 bits.
 pub const MOST_BUCKETS: u64 = 15_616;
 
-/// Below so many widths of a scale no bucket of `bucket_of` is wider than one width.
+/// Below this number of widths of a scale no bucket of `bucket_of` is wider than one width.
 const NARROW: u64 = 256;
 
 /// The most even buckets: the looks into lower ones that these cost take less than a second.
@@ -55,7 +55,7 @@ impl Scale {
         if widths < NARROW {
             bucket_of(label)
         } else if widths < self.even {
-            // `bucket_of` has so many below 256 widths, and 256 of a width each would be as many.
+            // Below 256 widths `bucket_of` has 128 for each of `shift` doublings, and 256.
             u64::from(self.shift) * 128 + widths
         } else {
             bucket_of(label) + self.even
