@@ -30,6 +30,7 @@ impl Budget {
     pub(crate) fn is_spent(&mut self) -> bool
         ensures limit { self.new.has_limit ≡ self.old.has_limit }
         ensures spent { result ≡ true → self.old.has_limit ≡ true }
+        ensures stays { result ≡ true → self.new ≡ self.old }
     {
         if self.left > 0 {
             return false;
@@ -42,8 +43,11 @@ impl Budget {
     fn ends(&mut self) -> bool
         ensures limit { self.new.has_limit ≡ self.old.has_limit }
         ensures spent { result ≡ self.old.has_limit }
+        ensures stays { result ≡ true → self.new ≡ self.old }
     {
-        self.left = u64::MAX;
+        if !self.has_limit {
+            self.left = u64::MAX;
+        }
         self.has_limit
     }
 

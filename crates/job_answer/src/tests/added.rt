@@ -6,7 +6,7 @@ use crate::fault::Fault;
 use crate::figures::Figures;
 use crate::tests::{SIX, SIX_ANSWER, SIX_GRAPH, SIX_WALKS, fault};
 use dimacs_text::LineKind;
-use obim_engine::{OpenGate, Settings};
+use obim_engine::{OpenGate, Recorder, Settings};
 use std::alloc::Global;
 use std::process::Abort;
 use std::sync::Wait;

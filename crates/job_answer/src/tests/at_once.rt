@@ -7,7 +7,7 @@ use crate::figures::Figures;
 use crate::teams::Team;
 use crate::tests::gates::Meeting;
 use crate::tests::pairs::{SIX_PAIRS, SIX_PAIRS_ANSWER, SIX_PAIRS_WALKS};
-use obim_engine::{OpenGate, Settings};
+use obim_engine::{OpenGate, Settings, Yielding};
 use std::alloc::Global;
 use std::process::Abort;
 use std::test::Fail;
