@@ -54,7 +54,7 @@ fn of_answer(rt: HostRuntime) -> Result<(), Fail> {
 }
 
 #[test]
-fn of_answer_counted(rt: HostRuntime) -> Result<(), Fail> {
+fn of_answer_watched(rt: HostRuntime) -> Result<(), Fail> {
     let alloc = rt.alloc();
     for workers in [1, 2] {
         let asked = asked_for_walks(&rt, workers, 1000);

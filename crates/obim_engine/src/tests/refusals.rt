@@ -10,12 +10,12 @@ use crate::tests::graphs::{SIX_LABELS, six};
 use crate::tests::pauses::{ONE_VISIT, expect_pause, resume_to_end, run_a_little};
 use crate::tests::settings;
 use crate::{
-    Closed, OpenGate, Paused, RunFault, Settings, components, distances, least_labels,
+    Closed, OpenGate, Paused, Recorder, RunFault, Settings, components, distances, least_labels,
     least_labels_resumed, levels, resume, run, run_for,
 };
 use csr_graph::Csr;
 use obim_pool::{LockedPool, ObimPool, WorkPool};
-use route_walks::{EXAMPLE_SEEDS, Seed, tried_again};
+use route_walks::{EXAMPLE_SEEDS, Seed, refusable, tried_again};
 use std::alloc::Global;
 use std::process::Abort;
 use std::sync::Wait;
@@ -297,5 +297,13 @@ fn of_least_labels_resumed(rt: HostRuntime) -> Result<(), Fail> {
         );
         assert_eq!(rt; labels.as_slice(), SIX_LABELS.as_slice());
     }
+    Ok(())
+}
+
+#[test]
+fn of_recorder_new(rt: HostRuntime) -> Result<(), Fail> {
+    let alloc = rt.alloc();
+    let gate = refusable!(alloc, Recorder::new(alloc));
+    assert!(rt; gate.into_passed().is_empty());
     Ok(())
 }
