@@ -134,6 +134,7 @@ impl Words {
     {
         let shared = &self.table.shared;
         let was_marked = shared.swap::<Takes>(&mut seat.table_seat, mark_word(u), 0) > 0;
+        seat.view.rest();
         seat.view.take(was_marked, u);
         was_marked
     }
@@ -170,14 +171,16 @@ impl Words {
         }
     }
 
+    /// Prefetches the label of a vertex, and its mark, which stands beside it. It takes no step and promises
+    /// nothing.
     #[inline(always)]
-    fn prefetch_label(&self, seat: &WorkSeat, head: u32)
+    pub fn prefetch_label(&self, seat: &WorkSeat, v: u32)
         requires words { seat.now.words ≡ self.now }
-        requires vertex { head < seat.now.known.graph.n }
+        requires vertex { v < seat.now.known.graph.n }
     {
         // Only the contract asks for the seat: what is read of it brings in how many vertices it knows.
         let _share = seat.view.share;
-        let _label = self.table.shared.peek(label_word(head));
+        let _label = self.table.shared.peek(label_word(v));
     }
 
     /// Relaxes the next arc of the seat's row by one `fetch_min` of its head's label; at the row's end
@@ -278,6 +281,7 @@ impl Words {
         ensures { seat.new ≡ record seat.old { known = after_see result seat.old.known } }
     {
         let zero = self.table.shared.load::<Sees>(&mut seat.table_seat, TOTAL) == 0;
+        seat.view.rest();
         seat.view.see(zero);
         zero
     }

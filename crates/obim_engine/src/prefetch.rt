@@ -11,45 +11,53 @@ use obim_pool::WorkPool;
 /// what this visit looks at. Plain loads do this, since the language has no other; no label depends on
 /// what they find.
 #[inline(always)]
-pub(crate) fn prefetch<P: WorkPool, G>(shared: &Shared<'_, P, G>, seat: &WorkSeat, side: &P::Side)
+pub(crate) fn prefetch<P: WorkPool, G>(
+    shared: &Shared<'_, P, G>,
+    n: u32,
+    seat: &WorkSeat,
+    side: &P::Side,
+)
+    requires vertices { n ≡ shared.now.csr.now.n }
     requires words { seat.now.words ≡ shared.now.words.now }
     requires graph { shared.now.csr.now ≡ seat.now.known.graph }
 {
     let next = shared.pool.ahead(side, 1);
     let second = shared.pool.ahead(side, 2);
     if let Some(v) = second {
-        prefetch_words(shared, seat, v);
+        prefetch_words(shared, n, seat, v);
     }
     if let Some(v) = next {
-        prefetch_row(shared, seat, v);
+        prefetch_row(shared, n, seat, v);
     }
 }
 
 /// Asks for the words of a vertex, and for the place of its row.
 #[inline(always)]
-fn prefetch_words<P, G>(shared: &Shared<'_, P, G>, seat: &WorkSeat, v: u32)
+fn prefetch_words<P, G>(shared: &Shared<'_, P, G>, n: u32, seat: &WorkSeat, v: u32)
+    requires vertices { n ≡ shared.now.csr.now.n }
     requires words { seat.now.words ≡ shared.now.words.now }
     requires graph { shared.now.csr.now ≡ seat.now.known.graph }
 {
     let csr = shared.csr;
     // A load whose value decides nothing would be left out.
-    if v < csr.n() && csr.first(v) < csr.end(v) {
-        let _label = shared.words.marked_label(seat, v);
+    if v < n && csr.first(v) < csr.end(v) {
+        shared.words.prefetch_label(seat, v);
     }
 }
 
 /// Asks for the first arc of a vertex.
 #[inline(always)]
-fn prefetch_row<P, G>(shared: &Shared<'_, P, G>, seat: &WorkSeat, v: u32)
+fn prefetch_row<P, G>(shared: &Shared<'_, P, G>, n: u32, seat: &WorkSeat, v: u32)
+    requires vertices { n ≡ shared.now.csr.now.n }
     requires words { seat.now.words ≡ shared.now.words.now }
     requires graph { shared.now.csr.now ≡ seat.now.known.graph }
 {
     let csr = shared.csr;
-    if v < csr.n() {
+    if v < n {
         let first = csr.first(v);
         // As above: of an arc back to its tail the words are asked for once more.
         if first < csr.end(v) && csr.target(first).head == v {
-            let _label = shared.words.marked_label(seat, v);
+            shared.words.prefetch_label(seat, v);
         }
     }
 }

@@ -35,6 +35,24 @@ pub(crate) struct Shared<'a, P, G> {
     pub budget: Option<u64>,
 }
 
+impl<'a, P, G> Shared<'a, P, G> {
+    /// The same. A worker has one of its own, whose parts lie in registers.
+    #[inline(always)]
+    fn again(&self) -> Shared<'a, P, G>
+        ensures { result ≡ self.now }
+    {
+        Shared {
+            words: self.words,
+            csr: self.csr,
+            pool: self.pool,
+            gate: self.gate,
+            settings: self.settings,
+            pace: self.pace,
+            budget: self.budget,
+        }
+    }
+}
+
 /// Works until the seat sees the pending total at 0, or the worker has visited as many vertices as its
 /// budget lets it. The seat comes and goes by value, so that it lies in registers meanwhile.
 pub(crate) fn work<H: Wait + Clock, P: WorkPool, G: Gate>(
@@ -50,27 +68,33 @@ pub(crate) fn work<H: Wait + Clock, P: WorkPool, G: Gate>(
     ensures seat { AreDone shared.now.budget seat result }
     ensures side { P.is_side shared.now.pool.now side.new }
 {
+    let near = shared.again();
+    let n = near.csr.n();
+    let is_alone = near.pace.is_alone();
     let mut pauses = Pauses::new();
     let mut watch = Watch::new(worker);
-    let mut budget = Budget::new(shared.budget);
-    let mut patience = Patience::new(shared.csr.n(), budget.left());
+    let mut budget = Budget::new(near.budget);
+    let mut patience = Patience::new(n, budget.left());
     for _ in rt.forever() {
         if budget.is_spent() {
-            shared.pace.leave(worker);
+            near.pace.leave(worker);
             // The run may be over all the same.
-            shared.words.see(&mut seat);
+            near.words.see(&mut seat);
             return seat;
         }
-        let popped = match shared.pool.pop_now(side) {
+        let popped = match near.pool.pop_now(side) {
             Some(v) => Some(v),
-            None => shared.pool.pop(rt, side),
+            None => near.pool.pop(rt, side),
         };
-        show(shared, worker, &seat, popped);
+        if !is_alone {
+            show(&near, worker, &seat, popped);
+        }
         match popped {
-            Some(u) if u < shared.csr.n() && shared.words.take(&mut seat, u) => {
-                visit(rt, shared, worker, &mut seat, side, u);
+            Some(u) if u < n && near.words.take(&mut seat, u) => {
+                prefetch(&near, n, &seat, side);
+                visit(rt, &near, worker, &mut seat, side, u);
                 budget.spend();
-                watch.visited(rt, shared.pace);
+                watch.visited(rt, near.pace);
             }
             _ => {
                 if patience.had_work(budget.left()) {
@@ -82,29 +106,26 @@ pub(crate) fn work<H: Wait + Clock, P: WorkPool, G: Gate>(
                     pauses.reset();
                     continue;
                 }
-                if shared.words.see(&mut seat) {
+                if near.words.see(&mut seat) {
                     return seat;
                 }
                 if ends {
                     (seat, budget) = sweep(rt, shared, worker, seat, side, budget);
                     patience.renew();
                 }
-                pauses.wait(rt, shared.pace.has_lost());
+                pauses.wait(rt, near.pace.has_lost());
             }
         }
     }
     unreachable!()
 }
 
-/// Shows other workers, if there are any, the metric of the vertex that the worker is about to take, if it is
-/// marked, and `INF` where there is no vertex.
+/// Shows other workers the metric of the vertex that the worker is about to take, if it is marked, and `INF`
+/// where there is no vertex.
 fn show<P, G>(shared: &Shared<'_, P, G>, worker: u32, seat: &WorkSeat, vertex: Option<u32>)
     requires words { seat.now.words ≡ shared.now.words.now }
     requires graph { shared.now.csr.now ≡ seat.now.known.graph }
 {
-    if shared.pace.is_alone() {
-        return;
-    }
     let Some(v) = vertex else {
         shared.pace.show(worker, INF);
         return;
@@ -141,7 +162,9 @@ fn sweep<H: Wait, P: WorkPool, G: Gate>(
         if budget.is_spent() {
             break;
         }
-        show(shared, worker, &seat, Some(v));
+        if !shared.pace.is_alone() {
+            show(shared, worker, &seat, Some(v));
+        }
         if shared.words.take(&mut seat, v) {
             visit(rt, shared, worker, &mut seat, side, v);
             budget.spend();
@@ -171,11 +194,10 @@ fn visit<H: Wait, P: WorkPool, G: Gate>(
     ensures side { P.is_side shared.now.pool.now side.new }
 {
     shared.gate.pass(rt, worker, u);
-    prefetch(shared, seat, side);
     let (words, csr) = (shared.words, shared.csr);
-    words.prefetch_labels(seat, csr, u);
     words.read(seat, csr);
     let end = csr.end(u);
+    words.prefetch_labels(seat, csr, u);
     while let Some((head, label)) = next_lowered(words, csr, seat, u, end) {
         mark(words, seat, u);
         let metric = label >> shared.settings.shift;

@@ -228,7 +228,7 @@ impl ObimSide {
     #[inline(always)]
     pub(crate) fn ahead(&self, by: usize) -> Option<u32> {
         let at = self.current?;
-        self.chunks.get(at.place)?.ahead(by)
+        self.chunks[at.place].ahead(by)
     }
 
     /// Takes a vertex out of the current bag.

@@ -1,7 +1,7 @@
 //! What a worker holds, what is known of one seat, and what each event makes of a seat's view.
 
 ghost use Rattle.std.specs.Prelude.{◌≡◌, ◌+◌, ◌-◌, ◌^◌, ◌<◌};
-ghost use Rattle.relax_core.specs.declared.views.Hand.TheVariants.{Open, Owe};
+ghost use Rattle.relax_core.specs.declared.views.Hand.TheVariants.{Idle, Open, Owe};
 ghost use Rattle.relax_core.specs.Views.{IsFresh, owed_of, idle_view, taken, opened, went_along};
 ghost use Rattle.relax_core.specs.Views.{raised, marked, finished, looked, kept_half, new_half, joined};
 
@@ -44,6 +44,15 @@ impl View {
             saw: false,
             share,
         }
+    }
+
+    /// Holds nothing, as before. What an earlier hand left behind is written over, so that a loop over `Take`
+    /// and `Finish` need not carry it along.
+    pub fn rest(&mut self)
+        requires { self.old.hand ≡ Idle }
+        ensures { self.new ≡ self.old }
+    {
+        self.hand = Hand::Idle;
     }
 
     /// `Take`: where the mark of `u` was set, the seat holds `u` with one credit.
