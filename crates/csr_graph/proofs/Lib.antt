@@ -6,5 +6,6 @@ mod Sorting
 mod Placing
 mod Layouts
 mod Parts
+mod Raising
 mod Halves
 mod Rows

@@ -2,8 +2,8 @@
 //!
 //! A `Csr` is a directed graph in compressed sparse rows: its arcs stand by rising tail, in the order
 //! in which they were given within a tail, so the arcs that leave a vertex are one run of places.
-//! `Csr::build` sorts by counting, in two passes over the arcs; `Csr::build_from` first puts arcs that
-//! stand in no order into bins, by several threads if it is given them, and `Csr::build_both_ways` does
+//! `Csr::build` sorts by counting, in two passes over the arcs; `Csr::build_from` does so by several threads
+//! if it is given them, and first puts arcs that stand in no order into bins; `Csr::build_both_ways` does
 //! so with each arc along and against, at no cost.
 //! `first` and `end` bound a vertex's run, `target` and `arc` read a place. The laws say that the runs
 //! are exactly the rows, and that the rows determine the list.
@@ -16,6 +16,7 @@ mod binning;
 mod csr;
 mod free;
 pub mod laws;
+mod part_sort;
 mod sort;
 
 pub use csr::{Csr, Target};

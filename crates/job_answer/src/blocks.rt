@@ -19,7 +19,7 @@ use crate::fault::Fault;
 use crate::graphs::{Graphs, Grown};
 use crate::laws::blocks_are_unique;
 use crate::output_buffer::{Held, OutputBuffer};
-use crate::solved::{Queries, SolvedText, Solves, most_bytes};
+use crate::solved::{Queries, Solved, SolvedText, Solves, most_bytes};
 use crate::solves::{Solve, Start};
 use crate::teams::teams_for;
 use crate::watch::{Phase, Watch};
@@ -71,7 +71,7 @@ pub fn write_sources<H: Threads + Wait + Clock + Sync, W: Write, G: Gate + Sync>
     let mut ahead = Ahead::new(alloc, teams_for(asked, &graphs.rows));
     for place in 0..sources.len() {
         watch.see_answered(place, sources.len());
-        if let Some(text) = ahead.take_text(rt, alloc, &solves, place, watch) {
+        if let Some(Solved::Text(text)) = ahead.take(rt, alloc, &solves, place, watch) {
             waiting.send_with(writer, &text.bytes)?;
             watch.end(rt, Phase::Writing);
             continue;
@@ -252,8 +252,13 @@ fn put_block<W: Write>(
 {
     blocks_are_unique();
     match start {
-        Start::At(source) => put_source_block(alloc, writer, waiting, csr, walks, source, labels),
         Start::Everywhere => put_components(writer, waiting, labels),
+        Start::At(source) if walks => {
+            let hops = hops(alloc, csr, labels, source)?;
+            let parents = parents(alloc, csr, labels, &hops)?;
+            put_walks(alloc, writer, waiting, source, labels, &hops, &parents)
+        }
+        Start::At(source) => put_labels(writer, waiting, source, labels),
     }
 }
 
@@ -278,35 +283,6 @@ fn put_components<W: Write>(
         v += group.len() as u32;
     }
     Ok(())
-}
-
-/// Puts the block of a source after what waits, and writes what is full of it.
-fn put_source_block<W: Write>(
-    alloc: Global,
-    writer: &mut W,
-    waiting: &mut OutputBuffer,
-    csr: &Csr,
-    walks: bool,
-    source: u32,
-    labels: &[u64],
-) -> Result<(), Fault>
-    requires vertices { csr.now.n ≤ MAX_VERTICES }
-    requires source { source < csr.now.n }
-    requires least { AreLeastLabels csr.now.n csr.now.arcs (seeds_from source) labels.now }
-    ensures block { OnOk result (Puts (IsBlock walks csr.now.n csr.now.arcs source)
-        (W.contents writer.old) (W.contents writer.new) waiting.old.bytes.items waiting.new.bytes.items) }
-    ensures prefix { OnErr result (PutsPrefix (IsBlock walks csr.now.n csr.now.arcs source)
-        (W.contents writer.old) (W.contents writer.new) waiting.old.bytes.items) }
-    ensures kinds { IfErr result IsWritingFault }
-{
-    blocks_are_unique();
-    if walks {
-        let hops = hops(alloc, csr, labels, source)?;
-        let parents = parents(alloc, csr, labels, &hops)?;
-        put_walks(alloc, writer, waiting, source, labels, &hops, &parents)
-    } else {
-        put_labels(writer, waiting, source, labels)
-    }
 }
 
 /// Puts the line of a source and those of the labels from it.

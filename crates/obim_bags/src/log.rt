@@ -81,7 +81,6 @@ impl BagLog {
 
     /// The place of the metric's bag. A metric that the mirror has is answered without a wait; otherwise
     /// the mirror catches up with the log and, where no bag has the metric, a new one is appended.
-    #[inline(always)]
     pub fn find_or_append<R: Wait>(
         &self,
         rt: &R,
@@ -94,26 +93,9 @@ impl BagLog {
         ensures place { IfOk result (λ place. slice_get (metrics_in mirror.new.accesses) place ≡ Some metric) }
         ensures refused { OnErr result (mirror.new ≡ mirror.old) }
     {
-        match mirror.place_of(metric) {
-            Some(place) => Ok(place),
-            None => self.find_in_log(rt, alloc, mirror, metric),
+        if let Some(place) = mirror.place_of(metric) {
+            return Ok(place);
         }
-    }
-
-    // The place of the metric's bag, under the slot.
-    #[inline(never)]
-    fn find_in_log<R: Wait>(
-        &self,
-        rt: &R,
-        alloc: Global,
-        mirror: &mut Mirror,
-        metric: u64,
-    ) -> Result<usize, LogFault>
-        requires { mirror.old.log ≡ self.now }
-        ensures gains { OnOk result (Gains mirror.old mirror.new) }
-        ensures place { IfOk result (λ place. slice_get (metrics_in mirror.new.accesses) place ≡ Some metric) }
-        ensures refused { OnErr result (mirror.new ≡ mirror.old) }
-    {
         let mut entries = self.take(rt, &mut mirror.seat);
         let found = mirror
             .accesses

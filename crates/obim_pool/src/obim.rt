@@ -70,7 +70,7 @@ impl ObimPool {
         ensures current { OnTrue result (HasLowered metric side.old.current side.new.current) }
         ensures unchanged { OnFalse result (side.new.current ≡ side.old.current) }
     {
-        side.push(rt, &self.log, self.alloc, v, metric)
+        side.push_near(v, metric) || side.push_far(rt, &self.log, self.alloc, v, metric)
     }
 
     /// Takes a vertex out of the current bag, and where that gives none, out of the lowest bag of this

@@ -79,31 +79,8 @@ impl ObimSide {
         }
     }
 
-    /// `ObimPool::push`.
-    #[inline(always)]
-    pub(crate) fn push<R: Wait>(
-        &mut self,
-        rt: &R,
-        log: &BagLog,
-        alloc: Global,
-        v: u32,
-        metric: u64,
-    ) -> bool
-        requires { IsSideOf log.now self.old }
-        ensures keeps { Keeps self.old self.new }
-        ensures pushed { OnTrue result (PushesTo metric v self.old self.new) }
-        ensures refused { OnFalse result (PushesNone self.old self.new) }
-        ensures current { OnTrue result (HasLowered metric self.old.current self.new.current) }
-        ensures unchanged { OnFalse result (self.new.current ≡ self.old.current) }
-    {
-        if self.push_near(v, metric) {
-            return true;
-        }
-        self.push_far(rt, log, alloc, v, metric)
-    }
-
-    /// `push` where the bag is at the place that is remembered and no chunk of it has to be opened or put. It
-    /// doesn't wait, and most pushes need no more.
+    /// `ObimPool::push` where the bag is at the place that is remembered and no chunk of it has to be opened
+    /// or put. It doesn't wait, and most pushes need no more.
     #[inline(always)]
     pub(crate) fn push_near(&mut self, v: u32, metric: u64) -> bool
         ensures keeps { Keeps self.old self.new }
@@ -122,9 +99,9 @@ impl ObimSide {
         true
     }
 
-    /// `push`, whatever it takes.
+    /// `ObimPool::push`, whatever it takes.
     #[inline(never)]
-    fn push_far<R: Wait>(
+    pub(crate) fn push_far<R: Wait>(
         &mut self,
         rt: &R,
         log: &BagLog,

@@ -1,7 +1,7 @@
-use Rattle.std.proofs.Common.{None, refl, arith}
+use Rattle.std.proofs.Common.{None, refl, arith, slice_index}
 use Rattle.std.proofs.lemmas.Result.{on_err_weaker}
-use Rattle.dimacs_text.specs.AnswerLines.{components_text}
-use Rattle.job_answer.specs.AnswerText.{IsComponentsBlock}
+use Rattle.dimacs_text.specs.AnswerLines.{components_text, distances_text}
+use Rattle.job_answer.specs.AnswerText.{IsBlock, IsComponentsBlock, walks_text}
 use Rattle.job_answer.proofs.Prefixes.{only-text}
 use Rattle.job_answer.proofs.Starts.{labels-finite}
 use Rattle.job_answer.proofs.blocks.put_block.Goals as goal
