@@ -20,6 +20,10 @@ row_of arcs u = filter (λ arc. arc.tail == u) arcs
 abbrev pub target_of : ArcRec → Target
 target_of arc = record { head = arc.head; weight = arc.weight }
 
+-- the arc from a vertex to a target
+abbrev pub arc_to : ℕ → Target → ArcRec
+arc_to tail target = record { tail = tail; head = target.head; weight = target.weight }
+
 -- what the arcs that leave u lead to, in their order
 abbrev pub targets_of : List ArcRec → ℕ → List Target
 targets_of arcs u = map target_of (row_of arcs u)

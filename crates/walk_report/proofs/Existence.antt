@@ -1,6 +1,6 @@
 -- Hops and parents exist. A hop is a least label too: along the tight arcs, each of which counts 1. A parent
--- is found by looking at one arc after another.
-use Rattle.std.proofs.Common.{◌≡◌, ◌∙◌, ℕ, ◌+◌, ◌<◌, ◌≤◌, ◌⊎◌, List, [], ◌∷◌, length, get_or, map, min, slice_index}
+-- is found by asking one vertex after another whether it leads there.
+use Rattle.std.proofs.Common.{◌≡◌, ◌∙◌, ℕ, zero, suc, ◌+◌, ◌<◌, ◌≤◌, ◌⊎◌, List, [], ◌∷◌, length, get_or, map, min, slice_index}
 use Rattle.std.proofs.Common.{refl, sym, subst, ap, arith, inl, inr}
 use Rattle.std.specs.List.{Contains, range_with_len}
 use Rattle.std.proofs.lemmas.Bool.{cases_eq, cases_lt}
@@ -19,7 +19,7 @@ use Rattle.route_walks.proofs.Facts.{attained-by_walk, contains-one, walk-of_att
 use Rattle.csr_graph.proofs.Facts.{no_arc}
 use Rattle.walk_report.specs.declared.hop.TheConstants.{NONE}
 use Rattle.walk_report.specs.Hop.{AreFromOneSource, AreHops}
-use Rattle.walk_report.specs.Parent.{AreFirstTails, IsLeading, IsParent, Leads}
+use Rattle.walk_report.specs.Parent.{AreFirstTails, IsParent, Leads}
 use Rattle.walk_report.specs.Search.{IsTight}
 use Rattle.walk_report.specs.Existence.{HopsAndParentsExist}
 use Rattle.walk_report.proofs.LeastWalks.{first-step, label-le-cost}
@@ -231,126 +231,82 @@ module _ (n : ℕ) (arcs : List ArcRec) (s : ℕ) (labels : List ℕ) (few : n �
                 };
           }
 
--- an arc leads to its head, and that is v
-record LeadsTo (label hop : ℕ → ℕ) (v : ℕ) (arc : ArcRec) : Type 0 where
-  head : arc.head ≡ v
-  leading : IsLeading label hop arc
-
--- the least vertex that leads to v is p, or none does and p is NONE
-abbrev IsFirst : List ArcRec → (ℕ → ℕ) → (ℕ → ℕ) → ℕ → ℕ → Type 0
-IsFirst arcs label hop v p = ((p ≡ NONE) × ((u : ℕ) → Leads arcs label hop u v → ⊥)) ⊎ IsParent arcs label hop v p
+cases_both : {P Q : Type 0} → P ⊎ (P → ⊥) → Q ⊎ (Q → ⊥) → (P × Q) ⊎ (P × Q → ⊥)
+cases_both (inr not) cases = inr (λ both. not both.0)
+cases_both (inl one) (inr not) = inr (λ both. not both.1)
+cases_both (inl one) (inl other) = inl (one, other)
 
 module _ (label hop : ℕ → ℕ) (v : ℕ) where
-  cases_leading : (arc : ArcRec) → LeadsTo label hop v arc ⊎ (LeadsTo label hop v arc → ⊥)
-  cases_leading arc =
-      elim (cases_eq arc.head v) [
-        | inr other ↦ inr (λ leads. other leads.head)
-        | inl head ↦
-            elim (cases_eq (label arc.tail + arc.weight) (label arc.head)) [
-              | inr other ↦ inr (λ leads. other leads.leading.tight)
-              | inl tight ↦
-                  elim (cases_eq (hop arc.tail + 1) (hop arc.head)) [
-                    | inr other ↦ inr (λ leads. other leads.leading.nearer)
-                    | inl nearer ↦ inl (record { head = head; leading = record { tight = tight; nearer = nearer } })
-                  ]
+  -- an arc leads from u to v
+  abbrev LeadsFrom : ℕ → ArcRec → Type 0
+  LeadsFrom u arc =
+      ((arc.tail ≡ u) × (arc.head ≡ v)) × ((label arc.tail + arc.weight ≡ label arc.head) × (hop arc.tail + 1 ≡ hop arc.head))
+
+  cases_leads : (u : ℕ) (arcs : List ArcRec) → Leads arcs label hop u v ⊎ (Leads arcs label hop u v → ⊥)
+  cases_leads u [] = inr (λ leads. absurd (omega (arith, leads.within.1)))
+  cases_leads u (arc ∷ arcs) =
+      let cases : LeadsFrom u arc ⊎ (LeadsFrom u arc → ⊥) =
+      cases_both (cases_both (cases_eq _ _) (cases_eq _ _)) (cases_both (cases_eq _ _) (cases_eq _ _)) in
+      elim cases [
+        | inl here ↦
+            inl (subst (λ x. Leads (arc ∷ arcs) label hop x v) here.0.0
+            (subst (Leads (arc ∷ arcs) label hop arc.tail) here.0.1 (record {
+              weight = arc.weight;
+              within = (0, omega arith, refl);
+              leading = record { tight = here.1.0; nearer = here.1.1 };
+            })))
+        | inr not ↦
+            elim (cases_leads u arcs) [
+              | inl later ↦
+                  inl (record {
+                    weight = later.weight;
+                    within = Contains-append_right (arc ∷ []) arcs _ later.within;
+                    leading = later.leading;
+                  })
+              | inr none ↦
+                  inr (λ leads.
+                  elim (Contains-append_cases (arc ∷ []) arcs _ leads.within) [
+                    | inl here ↦ not (rw (contains-one arc _ here) ((refl, refl), (leads.leading.tight, leads.leading.nearer)))
+                    | inr later ↦ none (record { weight = leads.weight; within = later; leading = leads.leading })
+                  ])
             ]
       ]
 
-  -- a vertex leads to v by the first arc or by one of the others
-  leads-cases : (arc : ArcRec) (arcs : List ArcRec) (u : ℕ) → Leads (arc ∷ arcs) label hop u v
-      → ((arc.tail ≡ u) × LeadsTo label hop v arc) ⊎ Leads arcs label hop u v
-  leads-cases arc arcs u leads =
-      elim (Contains-append_cases (arc ∷ []) arcs _ leads.within) [
-        | inl here ↦
-            let is = contains-one arc _ here in
-            inl (
-              ap (λ (a : ArcRec). a.tail) is,
-              record {
-                head = ap (λ (a : ArcRec). a.head) is;
-                leading = subst (IsLeading label hop) (sym is) leads.leading;
-              },
-            )
-        | inr later ↦ inr (record { weight = leads.weight; within = later; leading = leads.leading })
-      ]
+  -- the least vertex below `tail` that leads to v is p, or none does and p is NONE
+  abbrev IsFirst : List ArcRec → ℕ → ℕ → Type 0
+  IsFirst arcs tail p =
+      ((p ≡ NONE) × ((u : ℕ) → u < tail → Leads arcs label hop u v → ⊥)) ⊎ IsParent arcs label hop v p
 
-  leads-first : (arc : ArcRec) (arcs : List ArcRec) → LeadsTo label hop v arc → Leads (arc ∷ arcs) label hop arc.tail v
-  leads-first arc arcs leads =
-      subst (Leads (arc ∷ arcs) label hop arc.tail) leads.head
-      (record { weight = arc.weight; within = (0, omega arith, refl); leading = leads.leading })
-
-  leads-later : (arc : ArcRec) (arcs : List ArcRec) (u : ℕ) → Leads arcs label hop u v
-      → Leads (arc ∷ arcs) label hop u v
-  leads-later arc arcs u leads = record {
-    weight = leads.weight;
-    within = Contains-append_right (arc ∷ []) arcs _ leads.within;
-    leading = leads.leading;
-  }
-
-  -- an arc that doesn't lead to v changes nothing
-  first-kept : (arc : ArcRec) (arcs : List ArcRec) (p : ℕ) → (LeadsTo label hop v arc → ⊥) → IsFirst arcs label hop v p
-      → IsFirst (arc ∷ arcs) label hop v p
-  first-kept arc arcs p not first =
-      elim first [
+  first-of : (arcs : List ArcRec) (tail : ℕ) → (p : ℕ) × IsFirst arcs tail p
+  first-of arcs zero = (NONE, inl (refl, λ u low. absurd (omega arith)))
+  first-of arcs (suc tail) =
+      let below = first-of arcs tail in
+      elim (below.1) [
+        | inr parent ↦ (below.0, inr parent)
         | inl none ↦
-            inl (
-              none.0,
-              λ u leads.
-                  elim (leads-cases arc arcs u leads) [
-                    | inl here ↦ not here.1
-                    | inr later ↦ none.1 u later
-                  ],
-            )
-        | inr parent ↦
-            inr (record {
-              leads = leads-later arc arcs p parent.leads;
-              least = λ other leads.
-                  elim (leads-cases arc arcs other leads) [
-                    | inl here ↦ absurd (not here.1)
-                    | inr later ↦ parent.least other later
-                  ];
-            })
-      ]
-
-  -- the tail of one that does is a parent, where no lower vertex leads to v
-  first-taken : (arc : ArcRec) (arcs : List ArcRec) → LeadsTo label hop v arc
-      → ((u : ℕ) → Leads arcs label hop u v → arc.tail ≤ u)
-      → IsParent (arc ∷ arcs) label hop v arc.tail
-  first-taken arc arcs leads low = record {
-    leads = leads-first arc arcs leads;
-    least = λ other leads.
-        elim (leads-cases arc arcs other leads) [
-          | inl here ↦ omega (arith, here.0)
-          | inr later ↦ low other later
-        ];
-  }
-
-  first-of : (arcs : List ArcRec) → (p : ℕ) × IsFirst arcs label hop v p
-  first-of [] = (NONE, inl (refl, λ u leads. absurd (omega (arith, leads.within.1))))
-  first-of (arc ∷ arcs) =
-      let rest = first-of arcs in
-      elim (cases_leading arc) [
-        | inr not ↦ (rest.0, first-kept arc arcs rest.0 not rest.1)
-        | inl leads ↦
-            elim (rest.1) [
-              | inl none ↦ (arc.tail, inr (first-taken arc arcs leads (λ u later. absurd (none.1 u later))))
-              | inr parent ↦
-                  elim (cases_lt rest.0 arc.tail) [
-                    | inr low ↦ (
-                      arc.tail,
-                      inr (first-taken arc arcs leads (λ u later. omega (arith, low, parent.least u later))),
-                    )
-                    | inl high ↦ (
-                      rest.0,
-                      inr (record {
-                        leads = leads-later arc arcs rest.0 parent.leads;
-                        least = λ other leads'.
-                            elim (leads-cases arc arcs other leads') [
-                              | inl here ↦ omega (arith, here.0, high)
-                              | inr later ↦ parent.least other later
-                            ];
-                      }),
-                    )
-                  ]
+            elim (cases_leads tail arcs) [
+              | inl leads ↦ (
+                tail,
+                inr (record {
+                  leads = leads;
+                  least = λ other more.
+                      elim (cases_lt other tail) [
+                        | inl low ↦ absurd (none.1 other low more)
+                        | inr high ↦ high
+                      ];
+                }),
+              )
+              | inr not ↦ (
+                below.0,
+                inl (
+                  none.0,
+                  λ u low leads.
+                      elim (cases_lt u tail) [
+                        | inl lower ↦ none.1 u lower leads
+                        | inr same ↦ let is : u ≡ tail = omega arith in not (rw is at leads)
+                      ],
+                ),
+              )
             ]
       ]
 
@@ -363,14 +319,14 @@ hops_and_parents_exist law n arcs s labels few graph inside least =
     let counts = law n steps.0 (seeds_from s) (steps-graph label arcs steps.0 steps.1 n graph) source in
     let exact = hops-from n arcs s labels few graph inside least steps.0 steps.1 counts.0 counts.1 in
     let hops = map (λ count. min count NONE) counts.0 in
-    let first : ℕ → ℕ = λ v. (first-of label (slice_index hops) v arcs).0 in
+    let first : ℕ → ℕ = λ v. (first-of label (slice_index hops) v arcs n).0 in
     let parents = map first (range_with_len 0 n) in
-    let tails : AreFirstTails n arcs label (slice_index hops) parents =
+    let tails : AreFirstTails n arcs label (slice_index hops) n parents =
     record {
       count = length-map-range_with_len first 0 n;
       first = λ v below.
           let is = get_or-map-range_with_len first 0 n v v 0 below (omega arith) in
-          subst (IsFirst arcs label (slice_index hops) v) (sym is) (first-of label (slice_index hops) v arcs).1;
+          subst (IsFirst label (slice_index hops) v arcs n) (sym is) (first-of label (slice_index hops) v arcs n).1;
     } in
     let from : AreFromOneSource n arcs labels hops =
     record { source = s; within = inside; least = least; exact = exact } in

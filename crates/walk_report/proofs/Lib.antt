@@ -1,6 +1,6 @@
 mod LeastWalks
 mod Searching
-mod RowArcs
+mod Filling
 mod Tails
 mod Printing
 mod Determined

@@ -61,6 +61,12 @@ search-start n arcs label s below zero_label =
       visited = λ k lt. absurd (omega arith);
     }
 
+-- one more than the hop of the next vertex is a hop
+pub search-small : {n : ℕ} {arcs : List ArcRec} {label : ℕ → ℕ} {hops queue : List ℕ} {next : ℕ}
+    → IsSearch n arcs label hops queue next → n ≤ MAX_VERTICES → next < length queue
+    → slice_index hops (slice_index queue next) + 1 < NONE
+search-small {next = next} search few place = omega (arith, (search.found next place).early, search.room)
+
 -- a vertex that a walk by the next one reaches gets a hop and is queued
 pub search-push : {n : ℕ} {arcs : List ArcRec} {label : ℕ → ℕ} {hops queue : List ℕ} {next : ℕ}
     → IsSearch n arcs label hops queue next → n ≤ MAX_VERTICES → next < length queue
@@ -71,7 +77,7 @@ search-push {hops = hops} {queue = queue} {next = next} search few place v h is 
     let hops' = set hops v h in
     let queue' = queue ++ v ∷ [] in
     let more : length queue' ≡ length queue + 1 = length_push queue v in
-    let small : h < NONE = omega (arith, (search.found next place).early, search.room) in
+    let small : h < NONE = omega (arith, search-small search few place) in
     let inside : v < length hops = omega (arith, search.vertices) in
     let here : slice_index hops' v ≡ h = get_or-set_same hops v h 0 inside in
     let others : (x : ℕ) → slice_index hops x < NONE → slice_index hops' x ≡ slice_index hops x =

@@ -40,11 +40,11 @@ pub record LeadBack (hops parents : List ℕ) : Type 0 where
   pub nearer : (v : ℕ) → v < length hops → 0 < slice_index hops v → slice_index hops v < NONE
       → slice_index hops (slice_index parents v) + 1 ≡ slice_index hops v
 
--- each of n vertices has its parent by these arcs, or has NONE, and then no vertex leads to it
-pub record AreFirstTails (n : ℕ) (arcs : List ArcRec) (label hop : ℕ → ℕ) (parents : List ℕ) : Type 0 where
+-- each of n vertices has its parent, or has NONE, and then no vertex below `tail` leads to it
+pub record AreFirstTails (n : ℕ) (arcs : List ArcRec) (label hop : ℕ → ℕ) (tail : ℕ) (parents : List ℕ) : Type 0 where
   pub count : length parents ≡ n
   pub first : (v : ℕ) → v < n
-      → ((slice_index parents v ≡ NONE) × ((u : ℕ) → ¬ Leads arcs label hop u v))
+      → ((slice_index parents v ≡ NONE) × ((u : ℕ) → u < tail → ¬ Leads arcs label hop u v))
       ⊎ IsParent arcs label hop v (slice_index parents v)
 
 -- lists with the same arcs have the same hops and the same parents

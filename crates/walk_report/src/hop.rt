@@ -57,10 +57,9 @@ fn visit(
     ensures longer { OnOk result (next < length queue.new.items) }
 {
     let u = queue[next];
-    let (first, end) = (csr.first(u), csr.end(u));
+    let row = csr.row(u);
     let hop = hops[u as usize] + 1;
-    for k in first..end {
-        let Target { head, weight } = csr.target(k);
+    for &Target { head, weight } in row {
         let arc = ArcRec {
             tail: u,
             head,

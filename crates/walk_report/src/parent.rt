@@ -1,8 +1,7 @@
 //! Parents, by one pass over the arcs by rising tail: so the first tail that leads to a vertex is the
 //! least.
 
-ghost use Rattle.std.specs.Prelude.{◌≡◌, ◌+◌, ◌<◌, ◌↔◌, length, slice_index, take, IsTrue, IfOk};
-ghost use Rattle.csr_graph.specs.Graph.{first_place, end_place};
+ghost use Rattle.std.specs.Prelude.{◌≡◌, ◌+◌, ◌<◌, ◌↔◌, length, slice_index, IsTrue, IfOk};
 ghost use Rattle.walk_report.specs.Hop.{AreFromOneSource};
 ghost use Rattle.walk_report.specs.Parent.{AreParents, LeadBack, IsLeading, AreFirstTails};
 
@@ -33,13 +32,12 @@ fn lead_from(csr: &Csr, labels: &[u64], hops: &[u32], tail: u32, parents: &mut [
     requires vertex { tail < csr.now.n }
     requires labels { length labels.now ≡ csr.now.n }
     requires hops { length hops.now ≡ csr.now.n }
-    requires before { AreFirstTails csr.now.n (take (first_place csr.now.arcs tail) csr.now.arcs)
-        (slice_index labels.now) (slice_index hops.now) parents.old }
-    ensures { AreFirstTails csr.now.n (take (end_place csr.now.arcs tail) csr.now.arcs)
-        (slice_index labels.now) (slice_index hops.now) parents.new }
+    requires before { AreFirstTails csr.now.n csr.now.arcs (slice_index labels.now)
+        (slice_index hops.now) tail parents.old }
+    ensures { AreFirstTails csr.now.n csr.now.arcs (slice_index labels.now) (slice_index hops.now)
+        (tail + 1) parents.new }
 {
-    for k in csr.first(tail)..csr.end(tail) {
-        let Target { head, weight } = csr.target(k);
+    for &Target { head, weight } in csr.row(tail) {
         let arc = ArcRec { tail, head, weight };
         if parents[head as usize] == NONE && is_leading(labels, hops, &arc) {
             parents[head as usize] = tail;

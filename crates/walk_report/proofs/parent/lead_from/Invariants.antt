@@ -1,6 +1,11 @@
 use Rattle.std.proofs.Common.{slice_index, take}
-use Rattle.walk_report.specs.Parent.{AreFirstTails}
+use Rattle.walk_report.specs.Parent.{AreFirstTails, IsLeading}
+use Rattle.walk_report.proofs.Filling.{AreFilled}
 use Rattle.walk_report.proofs.parent.lead_from.Given as goal
 
-abbrev pub invariant-loop-k : goal.invariant-loop-k
-invariant-loop-k l = AreFirstTails l.csr.n (take l.k l.csr.arcs) (slice_index l.labels) (slice_index l.hops) l.parents
+abbrev pub invariant-loop-head : goal.invariant-loop-head
+invariant-loop-head l =
+    let label = slice_index l.labels in
+    let hop = slice_index l.hops in
+    AreFirstTails l.csr.n l.csr.arcs label hop l.tail l.parents
+    × AreFilled (IsLeading label hop) l.parents l.tail (take l.head-index l.head-items)
