@@ -114,8 +114,9 @@ fn a_metric_has_one_place(rt: HostRuntime) -> Result<(), Fail> {
     Ok(())
 }
 
-// A chunk is put at a place and one is got there: nothing else of the mirror changes. A chunk that is refused comes
-// back, and the mirror is as it was.
+// A chunk is put at a place and one is got there: nothing else of the mirror changes. Where a bag has one worker, that
+// one finds the chunk that it put, if nothing was put before. A chunk that is refused comes back, and the mirror is as
+// it was.
 fn put_and_get_at<R: Wait>(
     rt: &R,
     log: &BagLog,
@@ -132,27 +133,10 @@ fn put_and_get_at<R: Wait>(
     ensures filled { IfOk result (λ found. IfSome found (λ got. got.vertices ≢ [])) }
     ensures none { IfOk result (λ found. IfNone found
         (ChangesAt place (λ was. access_after_empty_find (access_after_put chunk was)) mirror.old mirror.new)) }
-    ensures returned { IfErr result (λ back. back ≡ chunk) }
-    ensures refused { OnErr result (mirror.new ≡ mirror.old) }
-{
-    log.put_at(rt, mirror, place, chunk)?;
-    Ok(log.get_at(rt, mirror, place))
-}
-
-// Where a bag has one worker, that one finds the chunk that it put, if nothing was put before.
-fn put_and_find_at<R: Wait>(
-    rt: &R,
-    log: &BagLog,
-    mirror: &mut Mirror,
-    place: usize,
-    chunk: Chunk,
-) -> Result<Option<Chunk>, Chunk>
-    requires log { mirror.old.log ≡ log.now }
-    requires place { place < length mirror.old.accesses }
-    requires filled { chunk.vertices ≢ [] }
-    ensures log { mirror.new.log ≡ log.now }
     ensures found { (was : AccessSeen) → slice_get mirror.old.accesses place ≡ Some was → IsNew was
         → was.bag.workers ≡ 1 → IfOk result (λ found. IfNone found ⊥) }
+    ensures returned { IfErr result (λ back. back ≡ chunk) }
+    ensures refused { OnErr result (mirror.new ≡ mirror.old) }
 {
     log.put_at(rt, mirror, place, chunk)?;
     Ok(log.get_at(rt, mirror, place))
@@ -202,7 +186,7 @@ fn what_is_put_at_a_place(rt: HostRuntime) -> Result<(), Fail> {
     let mut mirror = mirrors.pop().expect(&rt, "one mirror");
     let place = log.find_or_append(&rt, alloc, &mut mirror, 9)?;
     let chunk = chunk_of(&rt, 0, 0, &[4, 5]);
-    let found = put_and_find_at(&rt, &log, &mut mirror, place, chunk);
+    let found = put_and_get_at(&rt, &log, &mut mirror, place, chunk);
     assert!(rt; matches!(found, Ok(Some(_))));
     let place = log.find_or_append(&rt, alloc, &mut mirror, 9)?;
     let chunk = chunk_of(&rt, 0, 1, &[6]);

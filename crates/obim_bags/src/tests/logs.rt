@@ -14,38 +14,6 @@ use std::process::Abort;
 use std::sync::Wait;
 use std::test::Fail;
 
-// The mirror doesn't know the metric's bag. It appends it, at this place.
-fn append<R: Wait + Abort>(
-    rt: &R,
-    alloc: Global,
-    log: &BagLog,
-    mirror: &mut Mirror,
-    metric: u64,
-    place: usize,
-)
-    requires { mirror.old.log ≡ log.now }
-    ensures { mirror.new.log ≡ log.now }
-{
-    assert_eq!(rt; mirror.place_of(metric), None);
-    expect_found(rt, alloc, log, mirror, metric, Ok(place));
-}
-
-// The mirror doesn't know the metric's bag, until it catches up to so many.
-fn gain<R: Wait + Abort>(
-    rt: &R,
-    alloc: Global,
-    log: &BagLog,
-    mirror: &mut Mirror,
-    metric: u64,
-    count: usize,
-)
-    requires { mirror.old.log ≡ log.now }
-    ensures { mirror.new.log ≡ log.now }
-{
-    assert_eq!(rt; mirror.place_of(metric), None);
-    expect_caught_up(rt, alloc, log, mirror, Ok(count));
-}
-
 // The mirror has metric 5 at place 0 and 2 at place 1.
 fn expect_five_and_two(rt: &impl Abort, mirror: &Mirror) {
     assert!(rt; mirror.len() == 2);
@@ -54,7 +22,8 @@ fn expect_five_and_two(rt: &impl Abort, mirror: &Mirror) {
     assert_eq!(rt; accesses, [Some(0), Some(1), None]);
 }
 
-// A log of which both mirrors know the metrics 5 and 2.
+// A log of which both mirrors know the metrics 5 and 2. The first appended 5, and the second 2; the other one doesn't
+// know it until it catches up.
 fn open_five_and_two<R: Wait + Abort>(
     rt: &R,
     alloc: Global,
@@ -63,11 +32,15 @@ fn open_five_and_two<R: Wait + Abort>(
     ensures second { IfOk result (λ opened. opened.2.log ≡ opened.0) }
 {
     let (log, mut first, mut second) = open_mirrors(rt, alloc)?;
-    append(rt, alloc, &log, &mut first, 5, 0);
-    gain(rt, alloc, &log, &mut second, 5, 1);
+    assert_eq!(rt; first.place_of(5), None);
+    expect_found(rt, alloc, &log, &mut first, 5, Ok(0));
+    assert_eq!(rt; second.place_of(5), None);
+    expect_caught_up(rt, alloc, &log, &mut second, Ok(1));
     expect_found(rt, alloc, &log, &mut second, 5, Ok(0));
-    append(rt, alloc, &log, &mut second, 2, 1);
-    gain(rt, alloc, &log, &mut first, 2, 2);
+    assert_eq!(rt; second.place_of(2), None);
+    expect_found(rt, alloc, &log, &mut second, 2, Ok(1));
+    assert_eq!(rt; first.place_of(2), None);
+    expect_caught_up(rt, alloc, &log, &mut first, Ok(2));
     Ok((log, first, second))
 }
 
