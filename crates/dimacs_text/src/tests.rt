@@ -64,6 +64,13 @@ fn fails(alloc: Global, front: &str, tail: &[u8], line: u64, kind: LineKind) -> 
     }
 }
 
+/// Asserts that each text, behind that front, has its first fault on that line.
+fn expect_faults(rt: &impl Abort, alloc: Global, front: &str, rows: &[(&str, u64, LineKind)]) {
+    for &(tail, line, kind) in rows {
+        assert!(rt; fails(alloc, front, tail.as_bytes(), line, kind), "{tail}");
+    }
+}
+
 #[test]
 fn faults_of_whole_texts(rt: HostRuntime) {
     let rows = [
@@ -108,12 +115,7 @@ fn faults_of_whole_texts(rt: HostRuntime) {
         ),
         ("p sp 2 2\na 1 2 1\np aux sp add 1\n", 3, LineKind::TooFew),
     ];
-    for (text, line, kind) in rows {
-        assert!(rt;
-            fails(rt.alloc(), "", text.as_bytes(), line, kind),
-            "{text}"
-        );
-    }
+    expect_faults(&rt, rt.alloc(), "", &rows);
 }
 
 #[test]
@@ -153,12 +155,7 @@ fn faults_after_a_graph(rt: HostRuntime) {
         ("p aux sp ss 1\np aux sp p2p 1\n", 11, LineKind::Misplaced),
         ("p aux sp p2p 1\np aux sp p2p 1\n", 11, LineKind::Misplaced),
     ];
-    for (tail, line, kind) in rows {
-        assert!(rt;
-            fails(rt.alloc(), GRAPH, tail.as_bytes(), line, kind),
-            "{tail}"
-        );
-    }
+    expect_faults(&rt, rt.alloc(), GRAPH, &rows);
 }
 
 #[test]
@@ -218,12 +215,7 @@ fn faults_of_added_sections(rt: HostRuntime) {
             LineKind::Misplaced,
         ),
     ];
-    for (tail, line, kind) in rows {
-        assert!(rt;
-            fails(rt.alloc(), GRAPH, tail.as_bytes(), line, kind),
-            "{tail}"
-        );
-    }
+    expect_faults(&rt, rt.alloc(), GRAPH, &rows);
 }
 
 #[test]

@@ -10,6 +10,7 @@ use crate::{
 };
 use route_walks::{ArcRec, INF, Memory, refusable, tried_again};
 use std::alloc::Global;
+use std::process::Abort;
 use std::test::Fail;
 
 // What stands in a vector before a call puts its lines there.
@@ -77,6 +78,13 @@ fn of_job_reader_feed(rt: HostRuntime) -> Result<(), Fail> {
     Ok(())
 }
 
+// Asserts that the reader, which was fed a large text, gives its job.
+fn expect_large(rt: &impl Abort, reader: JobReader) -> Result<(), Fail> {
+    let job = reader.finish()?;
+    assert_job(rt, &job, 5000, ArcRec::new(999, 1993, 5999), &[4999]);
+    Ok(())
+}
+
 // Where reading ahead is refused memory, one thread reads all lines.
 #[test]
 fn of_arc_runs_read(rt: HostRuntime) -> Result<(), Fail> {
@@ -86,14 +94,7 @@ fn of_arc_runs_read(rt: HostRuntime) -> Result<(), Fail> {
     refusable!(alloc, ahead.read(&rt, &text, 5000, 3));
     let mut reader = JobReader::new(alloc);
     reader.feed_with(&text, &ahead)?;
-    assert_job(
-        &rt,
-        &reader.finish()?,
-        5000,
-        ArcRec::new(999, 1993, 5999),
-        &[4999],
-    );
-    Ok(())
+    expect_large(&rt, reader)
 }
 
 // Where a run is refused memory its lines are read one by one; else as above.
@@ -108,14 +109,7 @@ fn of_job_reader_feed_with(rt: HostRuntime) -> Result<(), Fail> {
         reader = JobReader::new(alloc);
         reader.feed(&text)?;
     }
-    assert_job(
-        &rt,
-        &reader.finish()?,
-        5000,
-        ArcRec::new(999, 1993, 5999),
-        &[4999],
-    );
-    Ok(())
+    expect_large(&rt, reader)
 }
 
 #[test]
