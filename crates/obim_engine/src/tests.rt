@@ -14,6 +14,7 @@ mod widths;
 ghost use Rattle.std.specs.Prelude.{◌≡◌, ◌<◌, IfOk};
 ghost use Rattle.route_walks.specs.Label.{AreLeastLabels};
 ghost use Rattle.route_walks.specs.Operators.{seeds_from};
+ghost use Rattle.route_walks.specs.Walk.{AreSeeds};
 
 use crate::{
     MAX_CHUNK, MAX_SHIFT, MAX_WORKERS, OpenGate, Recorder, RunFault, Settings, Yielding,
@@ -22,7 +23,7 @@ use crate::{
 use csr_graph::Csr;
 use draws::Draws;
 use gates::Holding;
-use graphs::{SIX_LABELS, WORKED, fit_rows, grid_arcs, random_arcs, six};
+use graphs::{SIX_LABELS, WORKED, fit_rows, grid_arcs, random_arcs, rows_of, six};
 use hostile::Hostile;
 use obim_pool::{LockedPool, ObimPool};
 use pools::{FirstIn, Misleading, Repeating, Useless};
@@ -65,6 +66,25 @@ fn plainly(
     let sown = are_seeds(n, seeds);
     assert!(rt; graph && sown);
     Ok(plain_labels(alloc, n, arcs, seeds)?)
+}
+
+/// A graph of 3,000 vertices with arcs at random, two seeds, and the least labels by rounds over all arcs.
+#[derive(Drop)]
+struct RandomJob {
+    csr: Csr,
+    seeds: [Seed; 2],
+    plain: Vec<u64>,
+}
+
+fn random_job(rt: &impl Abort, alloc: Global) -> Result<RandomJob, Fail>
+    ensures { IfOk result (λ job. AreSeeds job.csr.n job.seeds) }
+{
+    let n = 3_000;
+    let arcs = random_arcs(alloc, n, 12_000)?;
+    let seeds = [Seed::new(0, 5), Seed::new(7, 0)];
+    let csr = rows_of(rt, alloc, n, &arcs)?;
+    let plain = plainly(rt, alloc, n, &arcs, &seeds)?;
+    Ok(RandomJob { csr, seeds, plain })
 }
 
 // The operators beside the plain way, by one worker, two and more workers than vertices.
@@ -176,13 +196,7 @@ fn pools_that_are_useless(rt: HostRuntime) -> Result<(), Fail> {
 #[test]
 fn a_hostile_pool(rt: HostRuntime) -> Result<(), Fail> {
     let alloc = rt.alloc();
-    let n = 3_000;
-    let arcs = random_arcs(alloc, n, 12_000)?;
-    let seeds = [Seed::new(0, 5), Seed::new(7, 0)];
-    let within = fit_rows(n, &arcs) && are_seeds(n, &seeds);
-    assert!(rt; within);
-    let csr = Csr::build(alloc, n, &arcs)?;
-    let plain = plainly(&rt, alloc, n, &arcs, &seeds)?;
+    let RandomJob { csr, seeds, plain } = random_job(&rt, alloc)?;
     let mut draws = Draws::new();
     for round in 0..200_u32 {
         let settings = settings(&rt, 1 + round % 8, round % 16);
@@ -303,9 +317,7 @@ fn a_sweep_of_a_large_star(rt: HostRuntime) -> Result<(), Fail> {
     for v in 1..n {
         arcs.push(ArcRec::new(0, v, v % 100))?;
     }
-    let within = fit_rows(n, &arcs);
-    assert!(rt; within);
-    let csr = Csr::build(alloc, n, &arcs)?;
+    let csr = rows_of(&rt, alloc, n, &arcs)?;
     let seeds = EXAMPLE_SEEDS;
     let settings = settings(&rt, 2, 4);
     let pool = Useless {
@@ -332,9 +344,7 @@ fn a_pool_that_repeats_is_borne(rt: HostRuntime) -> Result<(), Fail> {
     for v in 1..n {
         falling.push(ArcRec::new(0, n - v, 1))?;
     }
-    let within = fit_rows(n, &falling);
-    assert!(rt; within);
-    let csr = Csr::build(alloc, n, &falling)?;
+    let csr = rows_of(&rt, alloc, n, &falling)?;
     for (times, second) in [(0, n - 1), (n - 1, n - 1), (n, 1)] {
         let gate = Recorder::new(alloc);
         let mut sides = Repeating::sides(alloc)?;
@@ -356,9 +366,7 @@ fn a_pool_that_repeats_is_borne(rt: HostRuntime) -> Result<(), Fail> {
 fn two_workers_beside_one(rt: HostRuntime) -> Result<(), Fail> {
     let alloc = rt.alloc();
     let arcs = random_arcs(alloc, 10_000, 40_000)?;
-    let within = fit_rows(10_000, &arcs);
-    assert!(rt; within);
-    let csr = Csr::build(alloc, 10_000, &arcs)?;
+    let csr = rows_of(&rt, alloc, 10_000, &arcs)?;
     let one = distances(&rt, alloc, &csr, 0, &settings(&rt, 1, 7), &OpenGate)?;
     for round in 0..300_u32 {
         let shift = round % 12;
@@ -393,9 +401,7 @@ fn either_pool_of_four_workers(rt: HostRuntime) -> Result<(), Fail> {
 fn workers_that_yield_at_random(rt: HostRuntime) -> Result<(), Fail> {
     let alloc = rt.alloc();
     let arcs = random_arcs(alloc, 100_000, 400_000)?;
-    let within = fit_rows(100_000, &arcs);
-    assert!(rt; within);
-    let csr = Csr::build(alloc, 100_000, &arcs)?;
+    let csr = rows_of(&rt, alloc, 100_000, &arcs)?;
     let one = distances(&rt, alloc, &csr, 0, &settings(&rt, 1, 7), &OpenGate)?;
     for round in 0..40_u32 {
         for workers in [2, 4, 8] {
@@ -419,9 +425,7 @@ const HELD_AT: [u64; 4] = [1, 20, 200, 5000];
 fn a_worker_that_is_held(rt: HostRuntime) -> Result<(), Fail> {
     let alloc = rt.alloc();
     let arcs = grid_arcs(alloc, 500)?;
-    let within = fit_rows(250_000, &arcs);
-    assert!(rt; within);
-    let csr = Csr::build(alloc, 250_000, &arcs)?;
+    let csr = rows_of(&rt, alloc, 250_000, &arcs)?;
     let alone = Holding::new(&rt, 1, 1);
     let settings_of = |workers| settings(&rt, workers, 0).with_widening_buckets();
     let one = distances(&rt, alloc, &csr, 125_250, &settings_of(1), &alone)?;

@@ -6,6 +6,8 @@ ghost use Rattle.route_walks.specs.Walk.{IsGraph};
 use csr_graph::{Csr, MAX_ARCS, MAX_VERTICES};
 use route_walks::{ArcRec, EXAMPLE_ARCS, Memory, arcs, is_graph};
 use std::alloc::Global;
+use std::process::Abort;
+use std::test::Fail;
 
 /// The distances from vertex 0 in the example.
 pub(crate) const SIX_LABELS: [u64; 6] = [0, 10, 10, 12, 10, 15];
@@ -82,8 +84,18 @@ pub(crate) fn fit_rows(n: u32, arcs: &[ArcRec]) -> bool
     n <= MAX_VERTICES && arcs.len() <= MAX_ARCS && is_graph(n, arcs)
 }
 
+/// The rows of arcs, which fit them.
+pub(crate) fn rows_of(rt: &impl Abort, alloc: Global, n: u32, arcs: &[ArcRec]) -> Result<Csr, Fail>
+    ensures { IfOk result (λ csr. csr.n ≡ n) }
+{
+    let within = fit_rows(n, arcs);
+    assert!(rt; within);
+    Ok(Csr::build(alloc, n, arcs)?)
+}
+
 pub(crate) fn six(alloc: Global) -> Result<Csr, Memory>
-    ensures { IfOk result (λ csr. csr.n ≡ 6) }
+    ensures vertices { IfOk result (λ csr. csr.n ≡ 6) }
+    ensures arcs { IfOk result (λ csr. length csr.arcs ≡ 8) }
 {
     Csr::build(alloc, 6, &EXAMPLE_ARCS)
 }

@@ -6,7 +6,7 @@ ghost use Rattle.route_walks.specs.Walk.{AreSeeds, IsGraph, HaveSameArcs};
 ghost use Rattle.label_words.specs.Paused.{IsPause};
 
 use crate::tests::draws::Draws;
-use crate::tests::graphs::{SIX_LABELS, fit_rows, random_arcs, six};
+use crate::tests::graphs::{SIX_LABELS, fit_rows, random_arcs, rows_of, six};
 use crate::tests::pauses::{
     ONE_VISIT, expect_pause, labels_in_pieces, resume_to_end, run_a_little,
 };
@@ -80,7 +80,6 @@ fn grown_labels<H, P>(
     settings: &Settings,
     pool: &P,
     sides: &mut [P::Side],
-    budget: u64,
 ) -> Result<Option<Vec<u64>>, RunFault>
 where
     H: Threads + Wait + Clock + Sync,
@@ -99,9 +98,7 @@ where
     let (grown, rest) = grown_pause(alloc, csr, seeds, rest, added)?;
     least_labels_follow_the_arcs();
     let closed = Closed::Paused(rest);
-    resume_to_end(
-        rt, alloc, &grown, seeds, closed, settings, pool, sides, budget,
-    )
+    resume_to_end(rt, alloc, &grown, seeds, closed, settings, pool, sides)
 }
 
 // Vertex by vertex to the end, then an arc more, and so to the end again.
@@ -109,36 +106,19 @@ where
 fn six_vertices_get_an_arc(rt: HostRuntime) -> Result<(), Fail> {
     let alloc = rt.alloc();
     let csr = six(alloc)?;
-    assert!(rt; csr.arc_count() == 8);
+    let seeds = EXAMPLE_SEEDS;
     for workers in [1, 2] {
         let settings = settings(&rt, workers, 4);
         let (pool, mut sides) = ObimPool::open(alloc, workers, 16)?;
-        let closed = run_a_little(&rt, alloc, &csr, &EXAMPLE_SEEDS, &settings, 1)?;
+        let closed = run_a_little(&rt, alloc, &csr, &seeds, &settings, 1)?;
         let labels = resume_to_end(
-            &rt,
-            alloc,
-            &csr,
-            &EXAMPLE_SEEDS,
-            closed,
-            &settings,
-            &pool,
-            &mut sides,
-            1,
+            &rt, alloc, &csr, &seeds, closed, &settings, &pool, &mut sides,
         )?;
         let labels = labels.expect(&rt, "settled");
         assert_eq!(rt; labels.as_slice(), SIX_LABELS.as_slice());
         let (pool, mut sides) = ObimPool::open(alloc, workers, 16)?;
         let labels = grown_labels(
-            &rt,
-            alloc,
-            &csr,
-            &EXAMPLE_SEEDS,
-            labels,
-            &SHORTER,
-            &settings,
-            &pool,
-            &mut sides,
-            1,
+            &rt, alloc, &csr, &seeds, labels, &SHORTER, &settings, &pool, &mut sides,
         )?;
         let labels = labels.expect(&rt, "settled");
         assert_eq!(rt; labels.as_slice(), SHORTER_LABELS.as_slice());
@@ -151,35 +131,17 @@ fn six_vertices_get_an_arc(rt: HostRuntime) -> Result<(), Fail> {
 fn a_pause_gets_an_arc(rt: HostRuntime) -> Result<(), Fail> {
     let alloc = rt.alloc();
     let csr = six(alloc)?;
-    assert!(rt; csr.arc_count() == 8);
+    let seeds = EXAMPLE_SEEDS;
     let one = settings(&rt, 1, 4);
-    let Closed::Paused(rest) = run_a_little(&rt, alloc, &csr, &EXAMPLE_SEEDS, &one, 1)? else {
+    let Closed::Paused(rest) = run_a_little(&rt, alloc, &csr, &seeds, &one, 1)? else {
         assert!(rt; false, "settled");
         return Ok(());
     };
-    let (grown, rest) = grown_pause(alloc, &csr, &EXAMPLE_SEEDS, rest, &SHORTER)?;
+    let (grown, rest) = grown_pause(alloc, &csr, &seeds, rest, &SHORTER)?;
     let closed = Closed::Paused(rest);
-    expect_pause(
-        &rt,
-        alloc,
-        &grown,
-        &EXAMPLE_SEEDS,
-        &closed,
-        &ONE_VISIT,
-        &[0, 1, 2],
-    )?;
+    expect_pause(&rt, alloc, &grown, &seeds, &closed, &ONE_VISIT, &[0, 1, 2])?;
     let (pool, mut sides) = ObimPool::open(alloc, 1, 16)?;
-    let labels = resume_to_end(
-        &rt,
-        alloc,
-        &grown,
-        &EXAMPLE_SEEDS,
-        closed,
-        &one,
-        &pool,
-        &mut sides,
-        1,
-    )?;
+    let labels = resume_to_end(&rt, alloc, &grown, &seeds, closed, &one, &pool, &mut sides)?;
     let labels = labels.expect(&rt, "settled");
     assert_eq!(rt; labels.as_slice(), SHORTER_LABELS.as_slice());
     Ok(())
@@ -274,10 +236,8 @@ fn visited_after<H: Threads + Wait + Clock + Abort + Sync>(
 fn only_what_changes_is_visited(rt: HostRuntime) -> Result<(), Fail> {
     let alloc = rt.alloc();
     let n = 20_000;
-    let arcs = random_arcs(alloc, n, 100_000)?;
-    let within = fit_rows(n, &arcs) && are_seeds(n, &EXAMPLE_SEEDS);
-    assert!(rt; within);
-    let csr = Csr::build(alloc, n, &arcs)?;
+    let seeds = EXAMPLE_SEEDS;
+    let csr = rows_of(&rt, alloc, n, &random_arcs(alloc, n, 100_000)?)?;
     assert!(rt; csr.arc_count() == 100_000);
     let none = [
         ArcRec::new(17, 0, 3),
@@ -287,15 +247,14 @@ fn only_what_changes_is_visited(rt: HostRuntime) -> Result<(), Fail> {
     let within = fit_rows(n, &none) && fit_rows(6, &SHORTER);
     assert!(rt; within);
     let six = six(alloc)?;
-    assert!(rt; six.arc_count() == 8);
     for workers in [1, 2] {
         let settings = settings(&rt, workers, 4);
-        let mut visited = visited_after(&rt, alloc, &csr, &EXAMPLE_SEEDS, &none, &settings)?;
+        let mut visited = visited_after(&rt, alloc, &csr, &seeds, &none, &settings)?;
         visited.sort()?;
         assert_eq!(rt; visited.as_slice(), [9, 17].as_slice());
-        let visited = visited_after(&rt, alloc, &csr, &EXAMPLE_SEEDS, &[], &settings)?;
+        let visited = visited_after(&rt, alloc, &csr, &seeds, &[], &settings)?;
         assert_eq!(rt; visited.len(), 0);
-        let visited = visited_after(&rt, alloc, &six, &EXAMPLE_SEEDS, &SHORTER, &settings)?;
+        let visited = visited_after(&rt, alloc, &six, &seeds, &SHORTER, &settings)?;
         assert_eq!(rt; visited.as_slice(), [0, 5].as_slice());
     }
     Ok(())

@@ -6,14 +6,14 @@ ghost use Rattle.route_walks.specs.Walk.{AreSeeds};
 ghost use Rattle.label_words.specs.Closed.{IsEnd};
 
 use crate::tests::draws::{Draws, resume_somehow};
-use crate::tests::graphs::{SIX_LABELS, fit_rows, random_arcs, six};
+use crate::tests::graphs::{SIX_LABELS, six};
 use crate::tests::pools::Useless;
-use crate::tests::{plainly, settings};
+use crate::tests::{RandomJob, random_job, settings};
 use crate::{Closed, OpenGate, Paused, RunFault, Settings, resume, run_for};
 use csr_graph::Csr;
 use label_words::Words;
 use obim_pool::{LockedPool, WorkPool};
-use route_walks::{EXAMPLE_SEEDS, INF, Memory, Seed, are_seeds};
+use route_walks::{EXAMPLE_SEEDS, INF, Memory, Seed};
 use std::alloc::Global;
 use std::process::Abort;
 use std::sync::Wait;
@@ -142,7 +142,7 @@ fn pauses_come_back_as_they_were(rt: HostRuntime) -> Result<(), Fail> {
     expect_pause(&rt, alloc, &csr, &seeds, &closed, &ONE_VISIT, &[1, 2])
 }
 
-/// Goes on with this budget until all is settled, over one pool. `None` where that takes too long.
+/// Goes on with a budget of one visit until all is settled, over one pool. `None` where that takes too long.
 pub(crate) fn resume_to_end<H, P>(
     rt: &H,
     alloc: Global,
@@ -152,7 +152,6 @@ pub(crate) fn resume_to_end<H, P>(
     settings: &Settings,
     pool: &P,
     sides: &mut [P::Side],
-    budget: u64,
 ) -> Result<Option<Vec<u64>>, RunFault>
 where
     H: Threads + Wait + Clock + Sync,
@@ -170,7 +169,7 @@ where
             Closed::Settled(labels) => return Ok(Some(labels)),
             Closed::Paused(rest) => {
                 closed = resume(
-                    rt, alloc, csr, seeds, rest, settings, pool, sides, &OpenGate, budget,
+                    rt, alloc, csr, seeds, rest, settings, pool, sides, &OpenGate, 1,
                 )?;
             }
         }
@@ -191,7 +190,7 @@ fn visit_by_visit_to_the_end(rt: HostRuntime) -> Result<(), Fail> {
         )?;
         assert!(rt; matches!(closed, Closed::Paused(_)));
         let labels = resume_to_end(
-            &rt, alloc, &csr, &seeds, closed, &settings, &pool, &mut sides, 1,
+            &rt, alloc, &csr, &seeds, closed, &settings, &pool, &mut sides,
         )?;
         assert_eq!(rt;
             labels.expect(&rt, "settled").as_slice(),
@@ -242,13 +241,7 @@ pub(crate) fn labels_in_pieces<H: Threads + Wait + Clock + Abort + Sync>(
 #[test]
 fn budgets_at_random(rt: HostRuntime) -> Result<(), Fail> {
     let alloc = rt.alloc();
-    let n = 3_000;
-    let arcs = random_arcs(alloc, n, 12_000)?;
-    let seeds = [Seed::new(0, 5), Seed::new(7, 0)];
-    let within = fit_rows(n, &arcs) && are_seeds(n, &seeds);
-    assert!(rt; within);
-    let csr = Csr::build(alloc, n, &arcs)?;
-    let plain = plainly(&rt, alloc, n, &arcs, &seeds)?;
+    let RandomJob { csr, seeds, plain } = random_job(&rt, alloc)?;
     let mut draws = Draws::new();
     for round in 0..200_u32 {
         let settings = draws.settings(&rt);

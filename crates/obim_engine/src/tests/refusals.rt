@@ -28,6 +28,35 @@ const FEWEST_ARCS: [u64; 6] = [0, 1, 1, 2, 2, 3];
 // More than any worker visits here.
 const ENOUGH: u64 = 1000;
 
+// The labels that a call gives for the six vertices, by one worker and by two.
+macro_rules! expect_labels {
+    ($rt:expr, $want:expr, |$csr:ident, $settings:ident| $call:expr) => {{
+        let alloc = $rt.alloc();
+        let $csr = six(alloc)?;
+        for workers in [1, 2] {
+            let $settings = settings(&$rt, workers, 4);
+            let labels = tried_again!($rt, alloc, RunFault::Memory, $call);
+            assert_eq!($rt; labels.as_slice(), $want.as_slice());
+        }
+    }};
+}
+
+// The same call by one worker and by two, over either pool that comes with the engine.
+macro_rules! over_either_pool {
+    ($rt:expr, $call:ident) => {{
+        let alloc = $rt.alloc();
+        let csr = six(alloc)?;
+        let seeds = EXAMPLE_SEEDS;
+        for workers in [1, 2] {
+            let settings = settings(&$rt, workers, 4);
+            let (pool, mut sides) = LockedPool::open(alloc, workers)?;
+            $call(&$rt, alloc, &csr, &seeds, &settings, &pool, &mut sides)?;
+            let (pool, mut sides) = ObimPool::open(alloc, workers, 1)?;
+            $call(&$rt, alloc, &csr, &seeds, &settings, &pool, &mut sides)?;
+        }
+    }};
+}
+
 #[test]
 fn of_run(rt: HostRuntime) -> Result<(), Fail> {
     let alloc = rt.alloc();
@@ -83,7 +112,7 @@ where
     if settings.workers == 1 {
         expect_pause(rt, alloc, csr, seeds, &closed, &ONE_VISIT, &[1, 2])?;
     }
-    let labels = resume_to_end(rt, alloc, csr, seeds, closed, settings, pool, sides, 1)?;
+    let labels = resume_to_end(rt, alloc, csr, seeds, closed, settings, pool, sides)?;
     assert_eq!(rt;
         labels.expect(rt, "settled").as_slice(),
         SIX_LABELS.as_slice()
@@ -93,31 +122,7 @@ where
 
 #[test]
 fn of_run_for(rt: HostRuntime) -> Result<(), Fail> {
-    let alloc = rt.alloc();
-    let csr = six(alloc)?;
-    for workers in [1, 2] {
-        let settings = settings(&rt, workers, 4);
-        let (pool, mut sides) = LockedPool::open(alloc, workers)?;
-        run_for_again(
-            &rt,
-            alloc,
-            &csr,
-            &EXAMPLE_SEEDS,
-            &settings,
-            &pool,
-            &mut sides,
-        )?;
-        let (pool, mut sides) = ObimPool::open(alloc, workers, 1)?;
-        run_for_again(
-            &rt,
-            alloc,
-            &csr,
-            &EXAMPLE_SEEDS,
-            &settings,
-            &pool,
-            &mut sides,
-        )?;
-    }
+    over_either_pool!(rt, run_for_again);
     Ok(())
 }
 
@@ -178,84 +183,31 @@ where
 
 #[test]
 fn of_resume(rt: HostRuntime) -> Result<(), Fail> {
-    let alloc = rt.alloc();
-    let csr = six(alloc)?;
-    for workers in [1, 2] {
-        let settings = settings(&rt, workers, 4);
-        let (pool, mut sides) = LockedPool::open(alloc, workers)?;
-        resume_again(
-            &rt,
-            alloc,
-            &csr,
-            &EXAMPLE_SEEDS,
-            &settings,
-            &pool,
-            &mut sides,
-        )?;
-        let (pool, mut sides) = ObimPool::open(alloc, workers, 1)?;
-        resume_again(
-            &rt,
-            alloc,
-            &csr,
-            &EXAMPLE_SEEDS,
-            &settings,
-            &pool,
-            &mut sides,
-        )?;
-    }
+    over_either_pool!(rt, resume_again);
     Ok(())
 }
 
 #[test]
 fn of_distances(rt: HostRuntime) -> Result<(), Fail> {
-    let alloc = rt.alloc();
-    let csr = six(alloc)?;
-    for workers in [1, 2] {
-        let settings = settings(&rt, workers, 4);
-        let labels = tried_again!(
-            rt,
-            alloc,
-            RunFault::Memory,
-            distances(&rt, alloc, &csr, 0, &settings, &OpenGate)
-        );
-        assert_eq!(rt; labels.as_slice(), SIX_LABELS.as_slice());
-    }
+    expect_labels!(rt, SIX_LABELS, |csr, settings| {
+        distances(&rt, rt.alloc(), &csr, 0, &settings, &OpenGate)
+    });
     Ok(())
 }
 
 #[test]
 fn of_levels(rt: HostRuntime) -> Result<(), Fail> {
-    let alloc = rt.alloc();
-    let csr = six(alloc)?;
-    for workers in [1, 2] {
-        let settings = settings(&rt, workers, 4);
-        let labels = tried_again!(
-            rt,
-            alloc,
-            RunFault::Memory,
-            levels(&rt, alloc, &csr, 0, &settings, &OpenGate)
-        );
-        assert_eq!(rt; labels.as_slice(), FEWEST_ARCS.as_slice());
-    }
+    expect_labels!(rt, FEWEST_ARCS, |csr, settings| {
+        levels(&rt, rt.alloc(), &csr, 0, &settings, &OpenGate)
+    });
     Ok(())
 }
 
 #[test]
 fn of_components(rt: HostRuntime) -> Result<(), Fail> {
-    let alloc = rt.alloc();
-    let csr = six(alloc)?;
-    let few = csr.arc_count() <= 1 << 31;
-    assert!(rt; few);
-    for workers in [1, 2] {
-        let settings = settings(&rt, workers, 4);
-        let labels = tried_again!(
-            rt,
-            alloc,
-            RunFault::Memory,
-            components(&rt, alloc, &csr, &settings, &OpenGate)
-        );
-        assert_eq!(rt; labels.as_slice(), [0; 6].as_slice());
-    }
+    expect_labels!(rt, [0; 6], |csr, settings| {
+        components(&rt, rt.alloc(), &csr, &settings, &OpenGate)
+    });
     Ok(())
 }
 

@@ -3,7 +3,7 @@
 ghost use Rattle.std.specs.Prelude.{◌≡◌, IfOk, ⊤};
 
 use crate::tests::gates::Holding;
-use crate::tests::graphs::fit_rows;
+use crate::tests::graphs::rows_of;
 use crate::tests::pools::{Unused, Useless};
 use crate::{Gate, Settings, distances, run};
 use csr_graph::Csr;
@@ -24,9 +24,7 @@ fn star(rt: &impl Abort, alloc: Global, n: u32) -> Result<Csr, Fail>
     for v in 1..n {
         arcs.push(ArcRec::new(0, v, 1))?;
     }
-    let within = fit_rows(n, &arcs);
-    assert!(rt; within);
-    Ok(Csr::build(alloc, n, &arcs)?)
+    rows_of(rt, alloc, n, &arcs)
 }
 
 fn settings(rt: &impl Abort, workers: u32, chunk: usize) -> Settings

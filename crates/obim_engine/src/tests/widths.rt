@@ -1,7 +1,7 @@
 //! Buckets for a graph: the widths that its arcs ask for.
 
 use crate::tests::gates::Holding;
-use crate::tests::graphs::{fit_rows, street_arcs};
+use crate::tests::graphs::{rows_of, street_arcs};
 use crate::widths::{Widths, widths_of};
 use crate::{Settings, distances};
 use csr_graph::Csr;
@@ -27,9 +27,7 @@ fn loops(
             .unwrap_or(0);
         arcs.push(ArcRec::new(0, 0, weight))?;
     }
-    let within = fit_rows(n, &arcs);
-    assert!(rt; within);
-    Ok(Csr::build(alloc, n, &arcs)?)
+    rows_of(rt, alloc, n, &arcs)
 }
 
 // From the light weights and the arcs of a vertex on; from the mean weight, and from the root of the vertices.
@@ -64,9 +62,7 @@ fn widths_of_graphs(rt: HostRuntime) -> Result<(), Fail> {
 fn few_visits_of_a_long_strip(rt: HostRuntime) -> Result<(), Fail> {
     let alloc = rt.alloc();
     let arcs = street_arcs(alloc, 2100, 128, 24, 1877)?;
-    let within = fit_rows(268_800, &arcs);
-    assert!(rt; within);
-    let csr = Csr::build(alloc, 268_800, &arcs)?;
+    let csr = rows_of(&rt, alloc, 268_800, &arcs)?;
     let settings = Settings::new(1, 0, 256).expect(&rt, "settings within their limits");
     let gate = Holding::new(&rt, 1, 1);
     distances(
