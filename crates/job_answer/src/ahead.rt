@@ -2,10 +2,11 @@
 
 ghost use Rattle.std.specs.Prelude.{◌≡◌, [], All, IfOk, IfSome};
 ghost use Rattle.std.specs.Thread.{IsSync};
+ghost use Rattle.job_answer.specs.declared.solved.Solved.TheVariants.{Labels, Text};
 ghost use Rattle.job_answer.specs.Solved.{AreMade, AreSolves, IsSolved};
 
 use crate::figures::Figures;
-use crate::solved::{Queries, Solved, Solves};
+use crate::solved::{PairLabels, Queries, Solved, SolvedText, Solves};
 use crate::teams::Team;
 use crate::watch::{Phase, Watch};
 use obim_engine::Gate;
@@ -132,9 +133,55 @@ impl Ahead {
         }
     }
 
-    /// What the solve at a place gives, if it was made. Makes what it and some after it give, where the place
-    /// was not tried yet. The places are asked for in rising order.
-    pub fn take<H: Threads + Wait + Clock + Sync, G: Gate + Sync>(
+    /// The text that the solve at a place gives, if it was made. Makes what it and some after it give, where
+    /// the place was not tried yet. The places are asked for in rising order.
+    pub fn take_text<H: Threads + Wait + Clock + Sync, G: Gate + Sync>(
+        &mut self,
+        rt: &H,
+        alloc: Global,
+        solves: &Solves<'_, G>,
+        place: usize,
+        watch: &mut impl Watch,
+    ) -> Option<SolvedText>
+        requires ready { AreSolves solves.now.graphs.now solves.now.queries }
+        requires made { AreMade solves.now.asked.now.walks solves.now.graphs.now solves.now.queries
+            self.old.made.items }
+        ensures left { AreMade solves.now.asked.now.walks solves.now.graphs.now solves.now.queries
+            self.new.made.items }
+        ensures solved { IfSome result (λ text. IsSolved solves.now.asked.now.walks solves.now.graphs.now
+            solves.now.queries place (Text text)) }
+    {
+        match self.take(rt, alloc, solves, place, watch)? {
+            Solved::Text(text) => Some(text),
+            Solved::Labels(_labels) => None,
+        }
+    }
+
+    /// The labels that the solve at a place gives, if they were made. Makes what it and some after it give,
+    /// where the place was not tried yet. The places are asked for in rising order.
+    pub fn take_labels<H: Threads + Wait + Clock + Sync, G: Gate + Sync>(
+        &mut self,
+        rt: &H,
+        alloc: Global,
+        solves: &Solves<'_, G>,
+        place: usize,
+        watch: &mut impl Watch,
+    ) -> Option<PairLabels>
+        requires ready { AreSolves solves.now.graphs.now solves.now.queries }
+        requires made { AreMade solves.now.asked.now.walks solves.now.graphs.now solves.now.queries
+            self.old.made.items }
+        ensures left { AreMade solves.now.asked.now.walks solves.now.graphs.now solves.now.queries
+            self.new.made.items }
+        ensures solved { IfSome result (λ labels. IsSolved solves.now.asked.now.walks solves.now.graphs.now
+            solves.now.queries place (Labels labels)) }
+    {
+        match self.take(rt, alloc, solves, place, watch)? {
+            Solved::Labels(labels) => Some(labels),
+            Solved::Text(_text) => None,
+        }
+    }
+
+    fn take<H: Threads + Wait + Clock + Sync, G: Gate + Sync>(
         &mut self,
         rt: &H,
         alloc: Global,

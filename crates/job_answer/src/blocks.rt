@@ -19,7 +19,7 @@ use crate::fault::Fault;
 use crate::graphs::{Graphs, Grown};
 use crate::laws::blocks_are_unique;
 use crate::output_buffer::{Held, OutputBuffer};
-use crate::solved::{Queries, Solved, SolvedText, Solves, most_bytes};
+use crate::solved::{Queries, SolvedText, Solves, most_bytes};
 use crate::solves::{Solve, Start};
 use crate::teams::teams_for;
 use crate::watch::{Phase, Watch};
@@ -71,7 +71,7 @@ pub fn write_sources<H: Threads + Wait + Clock + Sync, W: Write, G: Gate + Sync>
     let mut ahead = Ahead::new(alloc, teams_for(asked, &graphs.rows));
     for place in 0..sources.len() {
         watch.see_answered(place, sources.len());
-        if let Some(Solved::Text(text)) = ahead.take(rt, alloc, &solves, place, watch) {
+        if let Some(text) = ahead.take_text(rt, alloc, &solves, place, watch) {
             waiting.send_with(writer, &text.bytes)?;
             watch.end(rt, Phase::Writing);
             continue;
@@ -335,30 +335,11 @@ fn put_walks<W: Write>(
 {
     put_source(&mut waiting.bytes, source)?;
     for (v, label) in labels.iter().enumerate() {
-        put_vertex(alloc, &mut waiting.bytes, v as u32, *label, hops, parents)?;
+        put_label(&mut waiting.bytes, v as u32, *label)?;
+        put_walk_line(alloc, &mut waiting.bytes, v as u32, *label, hops, parents)?;
         waiting.send_if_full(writer)?;
     }
     Ok(())
-}
-
-/// Puts the line of a vertex and, where a walk leads to it, the line of the walk.
-fn put_vertex(
-    alloc: Global,
-    out: &mut Vec<u8>,
-    v: u32,
-    label: u64,
-    hops: &[u32],
-    parents: &[u32],
-) -> Result<(), Memory>
-    requires vertex { v < length hops.now }
-    requires vertices { length hops.now ≤ MAX_VERTICES }
-    requires back { LeadBack hops.now parents.now }
-    requires reached { (label ≡ INF) ↔ (slice_index hops.now v ≡ NONE) }
-    ensures put { OnOk result (out.new.items ≡ out.old.items
-        ++ vertex_text (slice_index hops.now) (slice_index parents.now) v label) }
-{
-    put_label(out, v, label)?;
-    put_walk_line(alloc, out, v, label, hops, parents)
 }
 
 /// Puts the line of the walk to a vertex, where one leads to it.

@@ -20,7 +20,7 @@ use crate::fault::Fault;
 use crate::graphs::Graphs;
 use crate::laws::blocks_are_unique;
 use crate::output_buffer::OutputBuffer;
-use crate::solved::{PairLabels, Queries, Solved, Solves};
+use crate::solved::{PairLabels, Queries, Solves};
 use crate::solves::{Solve, by_source};
 use crate::teams::teams_for;
 use crate::walked_pairs::write_walked;
@@ -126,9 +126,9 @@ fn label_pairs<'a, H: Threads + Wait + Clock + Sync, G: Gate + Sync>(
     let mut first = 0;
     while first < order.len() {
         watch.see_answered(first, order.len());
-        let found = match ahead.take(rt, alloc, &solves, first, watch) {
-            Some(Solved::Labels(found)) => found,
-            _ => pair_labels(
+        let found = match ahead.take_labels(rt, alloc, &solves, first, watch) {
+            Some(found) => found,
+            None => pair_labels(
                 rt,
                 alloc,
                 graphs,

@@ -8,7 +8,7 @@ use std::time::Duration;
 pub const BLOCK: usize = 1 << 16;
 
 /// Bytes of a piece for each of several threads, so that starting them costs little beside it.
-const PART: usize = 1 << 19;
+const PART: usize = 1 << 20;
 
 /// More threads than this read no faster.
 const MOST_THREADS: usize = 16;

@@ -22,7 +22,7 @@ use crate::fault::Fault;
 use crate::graphs::Graphs;
 use crate::laws::blocks_are_unique;
 use crate::output_buffer::{Held, OutputBuffer};
-use crate::solved::{Queries, Solved, SolvedText, Solves, most_bytes};
+use crate::solved::{Queries, SolvedText, Solves, most_bytes};
 use crate::solves::{Solve, Start};
 use crate::teams::teams_for;
 use crate::watch::{Phase, Watch};
@@ -69,7 +69,7 @@ pub fn write_walked<H: Threads + Wait + Clock + Sync, W: Write, G: Gate + Sync>(
     let mut first = 0;
     while first < pairs.len() {
         watch.see_answered(first, pairs.len());
-        if let Some(Solved::Text(text)) = ahead.take(rt, alloc, &solves, first, watch) {
+        if let Some(text) = ahead.take_text(rt, alloc, &solves, first, watch) {
             waiting.send_with(writer, &text.bytes)?;
             watch.end(rt, Phase::Writing);
             first += text.count;

@@ -1,9 +1,13 @@
-use Rattle.std.proofs.Common.{◌+◌, ◌++◌, drop, get_or, slice_index, subst}
+use Rattle.std.proofs.Common.{◌≡◌, ◌∙◌, ℕ, ◌+◌, ◌++◌, List, ap, append_assoc, drop, get_or, slice_index, subst}
 use Rattle.job_answer.specs.AnswerText.{vertex_text, vertex_lines, walks_text}
 use Rattle.job_answer.specs.Bytes.{GivesPrefix, Waits}
 use Rattle.job_answer.proofs.Sending.{put-more, vertex_lines-next}
 use Rattle.job_answer.proofs.Prefixes.{at-err, put-cut, put-left}
 use Rattle.job_answer.proofs.blocks.put_walks.Goals as goal
+
+-- two lines that are put one after the other
+both_lines : (waiting out more label walk : List ℕ) → out ≡ waiting ++ label → more ≡ out ++ walk → more ≡ waiting ++ (label ++ walk)
+both_lines waiting out more label walk one two = two ∙ ap (λ xs. xs ++ walk) one ∙ append_assoc waiting label walk
 
 pub loop-v-preserved : goal.loop-v-preserved
 loop-v-preserved g c =
@@ -17,10 +21,14 @@ loop-v-preserved g c =
     (c.args.waiting.now.bytes.items ++ walks_text c.args.source hop parent labels)
     (rw (vertex_lines-next hop parent v labels c.loop-v-test.true) at c.loop-v.invariant)
     (subst (Waits (g.W.Write.contents c.loop-v.writer) (g.W.Write.contents c.send_if_full.new.writer)
-    c.send_if_full.new.self.bytes.items) c.in_ok-put_vertex.ensures.put c.in_ok-send_if_full.ensures.sent)
+    c.send_if_full.new.self.bytes.items)
+    (both_lines _ _ _ _ _ c.in_ok-put_label.ensures.ok c.in_ok-put_walk_line.ensures.put) c.in_ok-send_if_full.ensures.sent)
 
-pub returns-in_err-put_vertex-clause-prefix : goal.returns-in_err-put_vertex-clause-prefix
-returns-in_err-put_vertex-clause-prefix g c = at-err _ (put-left _ _ _ _ _ c.loop-v.invariant)
+pub returns-in_err-put_label-clause-prefix : goal.returns-in_err-put_label-clause-prefix
+returns-in_err-put_label-clause-prefix g c = at-err _ (put-left _ _ _ _ _ c.loop-v.invariant)
+
+pub returns-in_err-put_walk_line-clause-prefix : goal.returns-in_err-put_walk_line-clause-prefix
+returns-in_err-put_walk_line-clause-prefix g c = at-err _ (put-left _ _ _ _ _ c.loop-v.invariant)
 
 pub returns-in_err-send_if_full-clause-prefix : goal.returns-in_err-send_if_full-clause-prefix
 returns-in_err-send_if_full-clause-prefix g c =
@@ -33,4 +41,4 @@ returns-in_err-send_if_full-clause-prefix g c =
     (vertex_lines hop parent (v + 1) (drop (v + 1) labels)) _
     (rw (vertex_lines-next hop parent v labels c.loop-v-test.true) at c.loop-v.invariant)
     (subst (GivesPrefix (g.W.Write.contents c.loop-v.writer) (g.W.Write.contents c.send_if_full.new.writer))
-    c.in_ok-put_vertex.ensures.put c.in_err-send_if_full.ensures.prefix))
+    (both_lines _ _ _ _ _ c.in_ok-put_label.ensures.ok c.in_ok-put_walk_line.ensures.put) c.in_err-send_if_full.ensures.prefix))

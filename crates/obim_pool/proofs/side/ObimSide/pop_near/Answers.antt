@@ -1,4 +1,4 @@
-use Rattle.std.proofs.Common.{◌≡◌, ◌∙◌, ◌<◌, List, ℕ, Some, ap, length, refl, arith}
+use Rattle.std.proofs.Common.{◌∙◌, ◌<◌, List, ℕ, ap, length, refl, arith}
 use Rattle.obim_pool.specs.Accounts.{Gets}
 use Rattle.obim_pool.specs.Sides.{Pops, current_of}
 use Rattle.obim_pool.proofs.Drawing.{at_none, takes_held}

@@ -2,7 +2,7 @@ use Rattle.std.proofs.Common.{◌≡◌, ◌∙◌, ◌<◌, [], ◌∷◌, List
 use Rattle.std.specs.Prelude.{slice_get}
 use Rattle.obim_bags.specs.Logs.{metrics_in}
 use Rattle.obim_pool.specs.Accounts.{Puts}
-use Rattle.obim_pool.specs.Sides.{PushesTo, SideSeen, current_of}
+use Rattle.obim_pool.specs.Sides.{PushesTo, current_of}
 use Rattle.obim_pool.proofs.Growing.{grows_longer, longer_same}
 use Rattle.obim_pool.proofs.Lifting.{changed_here, held_same}
 use Rattle.obim_pool.proofs.Putting.{one_keeps}
