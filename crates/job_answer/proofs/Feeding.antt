@@ -18,7 +18,7 @@ use Rattle.job_answer.specs.Choices.{fault_of}
 use Rattle.job_answer.specs.Outcome.{HasTaken, IsRequestFault}
 use Rattle.job_answer.proofs.Known.{consumes-then}
 
--- the reader of the job has read all that was taken but the pieces at hand, and so many bytes may still come
+-- the reader of the job has read all that was taken but the pieces at hand; `left` bytes may still come
 pub record IsFed (reader : JobReader) (at_hand : List ℕ) (limit left : ℕ) (before after : Option (List ℕ))
     : Type 0 where
   pub text : List ℕ

@@ -37,7 +37,7 @@ pub data IsWalkLine (walks : Bool) (arcs : List ArcRec) (source v : ℕ) (text :
       → text ≡ walk_text (cost walk) (source ∷ map (λ arc. arc.head) walk)
       → IsWalkLine walks arcs source v text
 
--- the lines of so many vertices from v on: 'd V COST' for each, and after it perhaps that of a walk
+-- the lines of `count` vertices from v on: 'd V COST' for each, and after it perhaps that of a walk
 abbrev pub AreCostLines : Bool → List ArcRec → ℕ → ℕ → ℕ → List ℕ → Type 0
 AreCostLines walks arcs source v zero text = text ≡ []
 AreCostLines walks arcs source v (suc count) text =
@@ -90,7 +90,7 @@ AnswersSayPairCosts =
     (λ pair. IsGrownText (λ arcs. SaysPairCost walks arcs pair) (arcs_for kind job.arcs) (growth_for kind job))
     pairs text
 
--- the lines of so many vertices from v on: 'k V LABEL' for each, of the least vertex connected with it
+-- the lines of `count` vertices from v on: 'k V LABEL' for each, of the least vertex connected with it
 abbrev pub AreComponentLines : List ArcRec → ℕ → ℕ → List ℕ → Type 0
 AreComponentLines arcs v zero text = text ≡ []
 AreComponentLines arcs v (suc count) text =

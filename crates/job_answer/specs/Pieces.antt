@@ -7,7 +7,7 @@ use Rattle.job_answer.specs.declared.fault.Fault.{Fault}
 use Rattle.job_answer.specs.declared.fault.Fault.TheVariants as fault
 use Rattle.job_answer.specs.Bytes.{TakesAtMost}
 
--- a piece was fed, and the next was taken, of at most so many bytes; there are some, if not ended
+-- a piece was fed, and the next was taken, of at most `limit` bytes; there are some, if not ended
 pub record StepsOn (limit : ℕ) (old new : JobReader) (fed next : List ℕ) (before after : Option (List ℕ))
     (ended : Bool) : Type 0 where
   pub reads : Reads old new fed

@@ -65,7 +65,7 @@ pub record IsPairLabel (n : ℕ) (arcs : List ArcRec) (pair : ℕ × ℕ) (label
   pub least : AreLeastLabels n arcs (seeds_from pair.0) labels
   pub is : label ≡ slice_index labels pair.1
 
--- of so many entries the pairs have their labels
+-- the pairs of the first `count` entries have their labels
 pub record AreFilled (n : ℕ) (arcs : List ArcRec) (pairs order : List (ℕ × ℕ)) (count : ℕ) (labels : List ℕ)
     : Type 0 where
   pub places : length labels ≡ length pairs

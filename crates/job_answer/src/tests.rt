@@ -26,7 +26,7 @@ const SIX: &[u8] =
     b"p sp 6 8\na 1 2 17\na 1 3 10\na 2 4 2\na 3 5 0\na 4 3 0\na 4 6 3\na 5 2 0\na 5 6 20\n\
       p aux sp ss 1\ns 1\n";
 
-/// So many bytes of it are the graph.
+/// The number of its bytes that are the graph.
 const SIX_GRAPH: usize = 76;
 
 const SIX_ANSWER: &[u8] = b"s 1\nd 1 0\nd 2 10\nd 3 10\nd 4 12\nd 5 10\nd 6 15\n";
@@ -40,7 +40,7 @@ fn asked(rt: &impl Abort, answer: Answer, limit: u64) -> Asked {
     asked_with(rt, answer, limit, (2, 4, 16))
 }
 
-/// What is asked with so many workers, this shift and chunks of this size.
+/// What is asked with this number of workers, this shift and chunks of this size.
 fn asked_with(
     rt: &impl Abort,
     answer: Answer,
@@ -51,7 +51,7 @@ fn asked_with(
     Asked::new(answer, settings, false, limit).expect(rt, "a limit of at most 2^36")
 }
 
-/// Distances with walks, by so many workers.
+/// Distances with walks, by this number of workers.
 fn asked_for_walks(rt: &impl Abort, workers: u32, limit: u64) -> Asked {
     let settings = Settings::new(workers, 4, 16).expect(rt, "settings within their limits");
     Asked::new(Answer::Distances, settings, true, limit).expect(rt, "walks of distances")

@@ -49,8 +49,8 @@ pub fn write_walked<H: Threads + Wait + Clock + Sync, W: Write, G: Gate + Sync>(
     gate: &G,
     watch: &mut impl Watch,
 ) -> Result<(), Fault>
-    requires graphs { AreGraphs graphs.now }
     requires pairs { All (IsPairWithin graphs.now.rows.n) pairs.now }
+    requires graphs { AreGraphs graphs.now }
     ensures blocks { OnOk result (Writes (ArePairBlocks true graphs.now.rows.n graphs.now.rows.arcs
         (growth_of graphs.now.grown) pairs.now) (W.contents writer.old) (W.contents writer.new)) }
     ensures prefix { OnErr result (WritesPrefix (ArePairBlocks true graphs.now.rows.n graphs.now.rows.arcs

@@ -2,7 +2,7 @@
 use Rattle.std.specs.Prelude.{ℕ, ◌≤◌}
 use Rattle.obim_engine.specs.declared.settings.TheConstants.{MAX_WORKERS, MAX_SHIFT, MAX_CHUNK}
 
--- some workers, a shift of so many bits and chunks of some vertices, all within their limits
+-- some workers, a shift and chunks of some vertices, all within their limits
 pub record AreSettings (workers shift chunk : ℕ) : Type 0 where
   pub some_worker : 1 ≤ workers
   pub few_workers : workers ≤ MAX_WORKERS

@@ -8,7 +8,7 @@ use Rattle.relax_core.specs.Views.{Owes, vertex_of}
 use Rattle.label_words.specs.Callers.{Stays}
 use Rattle.label_words.specs.Known.{Held}
 
--- a seat can lead so many workers on a graph: it holds nothing, and has a share for each of them
+-- a seat can lead this number of workers on a graph: it holds nothing, and has a share for each of them
 pub record CanLead (graph : Graph) (workers : ℕ) (seat : Held) : Type 0 where
   pub graph_is : graph ≡ seat.known.graph
   pub idle : seat.known.view.hand ≡ Idle

@@ -61,7 +61,7 @@ impl From<route_walks::Memory> for RunFault {
 ///
 /// The call returns when its workers do. A worker that draws nothing for long looks at every vertex
 /// itself, so that a pool which loses vertices does not keep a run from its end.
-pub fn run<H, P, G>(
+pub fn run<H: Threads + Wait + Clock + Sync, P: WorkPool + Sync, G: Gate + Sync>(
     rt: &H,
     alloc: Global,
     csr: &Csr,
@@ -72,10 +72,7 @@ pub fn run<H, P, G>(
     gate: &G,
 ) -> Result<Vec<u64>, RunFault>
 where
-    H: Threads + Wait + Clock + Sync,
-    P: WorkPool + Sync,
     P::Side: Send,
-    G: Gate + Sync,
     requires seeds { AreSeeds csr.now.n seeds.now }
     requires workers { length sides.old ≡ settings.now.workers }
     requires sides { All (P.is_side pool.now) sides.old }
@@ -101,7 +98,7 @@ pub(crate) fn only_seeded(seeds: &[Seed]) -> Option<u32> {
 /// The same as `run` until each worker has visited `budget` vertices or all is settled: then labels are
 /// least, or what is left is a pause, from which `resume` goes on. Which vertices are visited depends on
 /// the pool and on the order in which workers step. Visits of a sweep count.
-pub fn run_for<H, P, G>(
+pub fn run_for<H: Threads + Wait + Clock + Sync, P: WorkPool + Sync, G: Gate + Sync>(
     rt: &H,
     alloc: Global,
     csr: &Csr,
@@ -113,10 +110,7 @@ pub fn run_for<H, P, G>(
     budget: u64,
 ) -> Result<Closed, RunFault>
 where
-    H: Threads + Wait + Clock + Sync,
-    P: WorkPool + Sync,
     P::Side: Send,
-    G: Gate + Sync,
     requires seeds { AreSeeds csr.now.n seeds.now }
     requires workers { length sides.old ≡ settings.now.workers }
     requires sides { All (P.is_side pool.now) sides.old }
@@ -132,17 +126,17 @@ where
         words,
         seat,
         only_seeded(seeds),
+        budget,
         settings,
         pool,
         sides,
         gate,
-        budget,
     )
 }
 
 /// Goes on from a pause of this graph and these seeds, with a budget as `run_for` has it. No label rises.
 /// The pool, the sides and the settings may be others than before. After a fault the pause is gone.
-pub fn resume<H, P, G>(
+pub fn resume<H: Threads + Wait + Clock + Sync, P: WorkPool + Sync, G: Gate + Sync>(
     rt: &H,
     alloc: Global,
     csr: &Csr,
@@ -155,10 +149,7 @@ pub fn resume<H, P, G>(
     budget: u64,
 ) -> Result<Closed, RunFault>
 where
-    H: Threads + Wait + Clock + Sync,
-    P: WorkPool + Sync,
     P::Side: Send,
-    G: Gate + Sync,
     requires seeds { AreSeeds csr.now.n seeds.now }
     requires pause { IsPause csr.now seeds.now rest }
     requires workers { length sides.old ≡ settings.now.workers }
@@ -174,13 +165,13 @@ where
     resumed_runs_end_alike();
     let visits = Some(budget);
     run_workers(
-        rt, alloc, csr, words, seat, None, settings, pool, sides, gate, visits,
+        rt, alloc, csr, words, seat, None, visits, settings, pool, sides, gate,
     )
 }
 
 /// The same as `run` on words that are open, with the seat that they were opened with. `only` is the one
 /// vertex that is marked, where that is known: then the others aren't looked at.
-pub(crate) fn solve<H, P, G>(
+pub(crate) fn solve<H: Threads + Wait + Clock + Sync, P: WorkPool + Sync, G: Gate + Sync>(
     rt: &H,
     alloc: Global,
     csr: &Csr,
@@ -193,10 +184,7 @@ pub(crate) fn solve<H, P, G>(
     gate: &G,
 ) -> Result<Vec<u64>, RunFault>
 where
-    H: Threads + Wait + Clock + Sync,
-    P: WorkPool + Sync,
     P::Side: Send,
-    G: Gate + Sync,
     requires words { seat.words ≡ words }
     requires seat { CanLead csr.now MAX_WORKERS seat }
     requires shares { seat.known.view.share ≡ SHARES }
@@ -207,7 +195,7 @@ where
     ensures sides { All (P.is_side pool.now) sides.new }
 {
     match run_workers(
-        rt, alloc, csr, words, seat, only, settings, pool, sides, gate, None,
+        rt, alloc, csr, words, seat, only, None, settings, pool, sides, gate,
     )? {
         Closed::Settled(labels) => Ok(labels),
         // Without a budget the seat saw the total at 0.
@@ -216,24 +204,21 @@ where
 }
 
 /// Lets the workers go, each with this budget, and closes the words.
-fn run_workers<H, P, G>(
+fn run_workers<H: Threads + Wait + Clock + Sync, P: WorkPool + Sync, G: Gate + Sync>(
     rt: &H,
     alloc: Global,
     csr: &Csr,
     words: Words,
     seat: WorkSeat,
     only: Option<u32>,
+    budget: Option<u64>,
     settings: &Settings,
     pool: &P,
     sides: &mut [P::Side],
     gate: &G,
-    budget: Option<u64>,
 ) -> Result<Closed, RunFault>
 where
-    H: Threads + Wait + Clock + Sync,
-    P: WorkPool + Sync,
     P::Side: Send,
-    G: Gate + Sync,
     requires words { seat.words ≡ words }
     requires seat { CanLead csr.now MAX_WORKERS seat }
     requires shares { seat.known.view.share ≡ SHARES }

@@ -23,7 +23,7 @@ pub const SIX_SOURCES_ANSWER: &[u8] = b"s 1\nd 1 0\nd 2 10\nd 3 10\nd 4 12\nd 5 
       s 2\nd 1 inf\nd 2 0\nd 3 2\nd 4 2\nd 5 2\nd 6 5\n\
       s 1\nd 1 0\nd 2 10\nd 3 10\nd 4 12\nd 5 10\nd 6 15\n";
 
-/// Distances by so many workers and sources at once.
+/// Distances by this number of workers, and of sources at once.
 pub fn asked_at_once(rt: &impl Abort, workers: u32, at_once: AtOnce) -> Asked {
     asked_for(rt, false, workers, at_once)
 }

@@ -132,7 +132,7 @@ fn is_of_text(outcome: Result<(), Fault>) -> bool {
     matches!(outcome, Err(Fault::Text { .. } | Fault::NoAsk))
 }
 
-/// The job of six vertices behind a comment, after which so many of its bytes lie in the first piece.
+/// The job of six vertices behind a comment that leaves this number of its bytes to the first piece.
 fn behind_a_comment(alloc: Global, inside: usize) -> Result<Vec<u8>, AllocError> {
     let mut text = Vec::new(alloc);
     text.push(b'c')?;

@@ -77,7 +77,7 @@ impl Sink {
         }
     }
 
-    /// The same with room for so many bytes, after which it fails or takes none.
+    /// The same with room for this number of bytes, after which it fails or takes none.
     pub fn with_room(alloc: Global, step: usize, room: usize, fails: bool) -> Sink {
         let mut sink = Sink::new(alloc, step);
         sink.room = room;

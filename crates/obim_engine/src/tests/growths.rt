@@ -68,7 +68,7 @@ fn grown_pause(
     Ok((grown, grow(rest, added)))
 }
 
-/// The least labels of a graph with these arcs added, from its own least labels; nothing if so many
+/// The least labels of a graph with these arcs added, from its own least labels; nothing if the
 /// resumes weren't enough. That it gives them is proved from the contracts of the calls.
 fn grown_labels<H, P>(
     rt: &H,

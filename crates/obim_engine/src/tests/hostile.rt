@@ -44,7 +44,7 @@ impl Hostile {
         Ok((Hostile { lists }, sides))
     }
 
-    /// Keeps a vertex so many times in a side's list. Whether there was memory for it.
+    /// Keeps a vertex `times` times in a side's list. Whether there was memory for it.
     fn keep<H: Wait>(&self, rt: &H, number: u32, v: u32, times: u32) -> bool {
         let Some(list) = self.lists.get(number as usize) else {
             return false;

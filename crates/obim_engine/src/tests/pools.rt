@@ -44,7 +44,7 @@ impl WorkPool for FirstIn {
     }
 }
 
-/// Gives the first pushed first, but the very first so many times, to one worker.
+/// Gives the first pushed first, but the very first `times` times, to one worker.
 #[derive(Drop)]
 pub(crate) struct Repeating {
     pub times: u32,

@@ -41,18 +41,22 @@ macro_rules! expect_labels {
     }};
 }
 
-// The same call by one worker and by two, over either pool that comes with the engine.
+// `run_again` by one worker and by two, over either pool that comes with the engine.
 macro_rules! over_either_pool {
-    ($rt:expr, $call:ident) => {{
+    ($rt:expr, $from_pause:expr) => {{
         let alloc = $rt.alloc();
         let csr = six(alloc)?;
         let seeds = EXAMPLE_SEEDS;
         for workers in [1, 2] {
             let settings = settings(&$rt, workers, 4);
             let (pool, mut sides) = LockedPool::open(alloc, workers)?;
-            $call(&$rt, alloc, &csr, &seeds, &settings, &pool, &mut sides)?;
+            run_again(
+                &$rt, alloc, &csr, &seeds, &settings, &pool, &mut sides, $from_pause,
+            )?;
             let (pool, mut sides) = ObimPool::open(alloc, workers, 1)?;
-            $call(&$rt, alloc, &csr, &seeds, &settings, &pool, &mut sides)?;
+            run_again(
+                &$rt, alloc, &csr, &seeds, &settings, &pool, &mut sides, $from_pause,
+            )?;
         }
     }};
 }
@@ -84,48 +88,6 @@ fn of_run(rt: HostRuntime) -> Result<(), Fail> {
     Ok(())
 }
 
-// Runs with a budget of one visit and goes on to the end, over one pool. Made once more after a refusal the run leaves
-// what one worker's first visit leaves.
-fn run_for_again<H, P>(
-    rt: &H,
-    alloc: Global,
-    csr: &Csr,
-    seeds: &[Seed],
-    settings: &Settings,
-    pool: &P,
-    sides: &mut [P::Side],
-) -> Result<(), Fail>
-where
-    H: Threads + Wait + Clock + Abort + Sync,
-    P: WorkPool + Sync,
-    P::Side: Send,
-    requires seeds { AreSeeds csr.now.n seeds.now }
-    requires workers { length sides.old ≡ settings.now.workers }
-    requires sides { All (P.is_side pool.now) sides.old }
-{
-    let closed = tried_again!(
-        rt,
-        alloc,
-        RunFault::Memory,
-        run_for(rt, alloc, csr, seeds, settings, pool, sides, &OpenGate, 1)
-    );
-    if settings.workers == 1 {
-        expect_pause(rt, alloc, csr, seeds, &closed, &ONE_VISIT, &[1, 2])?;
-    }
-    let labels = resume_to_end(rt, alloc, csr, seeds, closed, settings, pool, sides)?;
-    assert_eq!(rt;
-        labels.expect(rt, "settled").as_slice(),
-        SIX_LABELS.as_slice()
-    );
-    Ok(())
-}
-
-#[test]
-fn of_run_for(rt: HostRuntime) -> Result<(), Fail> {
-    over_either_pool!(rt, run_for_again);
-    Ok(())
-}
-
 // What a run leaves of which each worker visited one vertex at most.
 fn paused<H: Threads + Wait + Clock + Abort + Sync>(
     rt: &H,
@@ -143,8 +105,9 @@ fn paused<H: Threads + Wait + Clock + Abort + Sync>(
     }
 }
 
-// Goes on to the end from a pause. After a refusal the pause is gone: the run goes on from another one.
-fn resume_again<H, P>(
+// Runs to the end over one pool: with a budget of one visit at first, or else from a pause. Made once more after a
+// refusal the run leaves what one worker's first visit leaves; a pause is gone then, and the run goes on from another.
+fn run_again<H, P>(
     rt: &H,
     alloc: Global,
     csr: &Csr,
@@ -152,6 +115,7 @@ fn resume_again<H, P>(
     settings: &Settings,
     pool: &P,
     sides: &mut [P::Side],
+    from_pause: bool,
 ) -> Result<(), Fail>
 where
     H: Threads + Wait + Clock + Abort + Sync,
@@ -161,29 +125,57 @@ where
     requires workers { length sides.old ≡ settings.now.workers }
     requires sides { All (P.is_side pool.now) sides.old }
 {
-    let rest = paused(rt, alloc, csr, seeds, settings)?;
-    let same = paused(rt, alloc, csr, seeds, settings)?;
-    let closed = tried_again!(
-        rt,
-        alloc,
-        RunFault::Memory,
-        resume(
-            rt, alloc, csr, seeds, rest, settings, pool, sides, &OpenGate, ENOUGH
-        ),
-        resume(
-            rt, alloc, csr, seeds, same, settings, pool, sides, &OpenGate, ENOUGH
-        )
+    let labels = if from_pause {
+        let rest = paused(rt, alloc, csr, seeds, settings)?;
+        let same = paused(rt, alloc, csr, seeds, settings)?;
+        let closed = tried_again!(
+            rt,
+            alloc,
+            RunFault::Memory,
+            resume(
+                rt, alloc, csr, seeds, rest, settings, pool, sides, &OpenGate, ENOUGH
+            ),
+            resume(
+                rt, alloc, csr, seeds, same, settings, pool, sides, &OpenGate, ENOUGH
+            )
+        );
+        settled(closed)
+    } else {
+        let closed = tried_again!(
+            rt,
+            alloc,
+            RunFault::Memory,
+            run_for(rt, alloc, csr, seeds, settings, pool, sides, &OpenGate, 1)
+        );
+        if settings.workers == 1 {
+            expect_pause(rt, alloc, csr, seeds, &closed, &ONE_VISIT, &[1, 2])?;
+        }
+        resume_to_end(rt, alloc, csr, seeds, closed, settings, pool, sides)?
+    };
+    assert_eq!(rt;
+        labels.expect(rt, "settled").as_slice(),
+        SIX_LABELS.as_slice()
     );
+    Ok(())
+}
+
+// The labels of a run that is over.
+fn settled(closed: Closed) -> Option<Vec<u64>> {
     match closed {
-        Closed::Settled(labels) => assert_eq!(rt; labels.as_slice(), SIX_LABELS.as_slice()),
-        Closed::Paused(_rest) => assert!(rt; false, "paused"),
+        Closed::Settled(labels) => Some(labels),
+        Closed::Paused(_rest) => None,
     }
+}
+
+#[test]
+fn of_run_for(rt: HostRuntime) -> Result<(), Fail> {
+    over_either_pool!(rt, false);
     Ok(())
 }
 
 #[test]
 fn of_resume(rt: HostRuntime) -> Result<(), Fail> {
-    over_either_pool!(rt, resume_again);
+    over_either_pool!(rt, true);
     Ok(())
 }
 
