@@ -1,6 +1,7 @@
 //! The job as far as it is read.
 
-ghost use Rattle.std.specs.Prelude.{◌≡◌, ◌+◌, ◌≤◌, ◌<◌, ◌^◌, [], length, drop, vec_len, vec_capacity, ℕ, IfErr, IfOk, OnOk};
+ghost use Rattle.std.specs.Prelude.{◌≡◌, ◌+◌, ◌≤◌, ◌<◌, ◌^◌, [], length, drop, vec_len, vec_capacity, ℕ, IfErr, IfOk};
+ghost use Rattle.std.specs.Prelude.{OnOk};
 ghost use Rattle.std.specs.Prelude.{None, List, All, true, false};
 ghost use Rattle.dimacs_text.specs.reader.Machine.{misfit_at};
 ghost use Rattle.dimacs_text.specs.reader.Entries.{record_of};
@@ -19,11 +20,15 @@ use crate::stage::Stage;
 use route_walks::{ArcRec, MAX_VERTICES};
 use std::alloc::{AllocError, Global};
 
-/// Arcs for which room is made at first; then it is made for as many again as there are.
-const FIRST_ARCS: usize = 1024;
+/// Arcs for which room is made at first.
+const FIRST_ARCS: usize = 1 << 15;
+
+/// Then room is made for this many times as many as there are: what is not written takes no memory, and moving
+/// a long list is slow.
+const GROWTH: usize = 1 << 10;
 
 /// What the lines so far have said. Vertices count to `vertices`.
-#[derive(Drop)]
+#[derive(Debug, Drop)]
 pub struct Draft {
     pub stage: Stage,
     pub vertices: u32,
@@ -50,6 +55,19 @@ fn ask_at(stage: Stage, sources: Vec<u32>, pairs: Vec<(u32, u32)>) -> Ask
             ..
         } => Ask::Pairs(pairs),
         _ => Ask::Absent,
+    }
+}
+
+/// Makes room for `count` arcs, and where there wasn't, for more of those that are to come, of which there are
+/// `missing`. Where memory is refused there is as much room as before.
+fn make_room(arcs: &mut Vec<ArcRec>, count: usize, missing: u32)
+    ensures { arcs.new.items ≡ arcs.old.items }
+{
+    let length = arcs.len();
+    if arcs.capacity() - length < count {
+        let all = length.saturating_mul(GROWTH).max(FIRST_ARCS);
+        let more = (all - length).max(count).min(missing as usize);
+        let _ = arcs.reserve_exact(more);
     }
 }
 
@@ -105,7 +123,11 @@ impl Draft {
                 section: Section::Added,
                 ..
             } => self.added.push(arc)?,
-            _ => self.arcs.push(arc)?,
+            Stage::Within { missing, .. } => {
+                make_room(&mut self.arcs, 1, missing);
+                self.arcs.push(arc)?
+            }
+            Stage::Start => self.arcs.push(arc)?,
         }
         self.stage = self.stage.one_less();
         Ok(())
@@ -186,13 +208,8 @@ impl Draft {
         ensures room { vec_len self.new.arcs + result ≤ vec_capacity self.new.arcs }
         ensures missing { result ≤ missing }
     {
-        let length = self.arcs.len();
-        if length == self.arcs.capacity() {
-            let more = length.max(FIRST_ARCS).min(missing as usize);
-            // Where this is refused there is room for none.
-            let _ = self.arcs.reserve_exact(more);
-        }
-        (missing as usize).min(self.arcs.capacity() - length) as u32
+        make_room(&mut self.arcs, 1, missing);
+        (missing as usize).min(self.arcs.capacity() - self.arcs.len()) as u32
     }
 
     /// Reads the arcs that come from a place on, as far as they are plain and fit: how many they are, and
@@ -231,6 +248,7 @@ impl Draft {
         if run.vertices != self.vertices || count > missing as usize {
             return false;
         }
+        make_room(&mut self.arcs, count, missing);
         if self.arcs.extend_from_slice(&run.arcs).is_err() {
             return false;
         }

@@ -1,5 +1,6 @@
 -- A text that is read in pieces, and how much of its limit is left.
-use Rattle.std.proofs.Common.{◌≡◌, ℕ, ◌+◌, ◌-◌, ◌≤◌, ◌^◌, List, [], ◌++◌, length, take, Option, Bool, subst, sym, ap, ◌∙◌, arith}
+use Rattle.std.proofs.Common.{◌≡◌, ℕ, ◌+◌, ◌-◌, ◌≤◌, ◌^◌, List, [], ◌++◌, length, take, Option, Bool, subst, sym, ap}
+use Rattle.std.proofs.Common.{◌∙◌, arith}
 use Rattle.std.proofs.Common.{◌⊎◌, inl, inr, append_assoc, append-nil, refl}
 use Rattle.std.specs.Io.KnownBytes.{Consumes}
 use Rattle.std.proofs.lemmas.List.{length-append, length-take-le, take-append-le}
@@ -33,7 +34,8 @@ pub fed-on : (old new : JobReader) (limit left most : ℕ) (before between after
     → StepsOn most old new front next between after ended → length next ≤ left
     → IsFed new (back ++ next) limit (left - length next) before after
 fed-on old new limit left most before between after front back next ended low fed on few =
-    let order : (fed.text ++ (front ++ back)) ++ next ≡ (fed.text ++ front) ++ (back ++ next) = simp append_assoc refl in
+    let order : (fed.text ++ (front ++ back)) ++ next ≡ (fed.text ++ front) ++ (back ++ next) =
+    simp append_assoc refl in
     record {
       text = fed.text ++ front;
       read =
@@ -89,7 +91,7 @@ fed-full reader at_hand limit left before between after next fed more long = rec
 -- or it stopped short of what is left
 pub fed-short : (reader : JobReader) (at_hand : List ℕ) (limit left most : ℕ)
     (before between after : Option (List ℕ)) (kind : Fault)
-    → IsFed reader at_hand limit left before between → StopsShort most between after kind → most ≤ left + 1
+    → IsFed reader at_hand limit left before between → StopsShort most between after kind → most ≤ left
     → HasTaken limit before after kind × IsRequestFault before after kind
 fed-short reader at_hand limit left most before between after kind fed short low =
     let taken : TakesAtMost limit before after =

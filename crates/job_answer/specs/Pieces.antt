@@ -1,5 +1,5 @@
 -- How a text is read piece by piece: one is fed to the reader of the job while the next is taken.
-use Rattle.std.specs.Prelude.{◌≡◌, ◌≤◌, ◌<◌, ◌-◌, ◌⊎◌, ℕ, Bool, true, false, List, length, Option}
+use Rattle.std.specs.Prelude.{◌≡◌, ◌≤◌, ◌<◌, ◌⊎◌, ℕ, Bool, true, false, List, length, Option}
 use Rattle.std.specs.Io.KnownBytes.{Consumes, IsAtEnd}
 use Rattle.dimacs_text.specs.declared.reader.JobReader.{JobReader}
 use Rattle.dimacs_text.specs.Reading.{Reads}
@@ -16,7 +16,7 @@ pub record StepsOn (limit : ℕ) (old new : JobReader) (fed next : List ℕ) (be
   pub end : ended ≡ true → IsAtEnd after
   pub more : ended ≡ false → 0 < limit → 0 < length next
 
--- memory was refused or the reader failed, when fewer bytes were taken
-pub record StopsShort (limit : ℕ) (before after : Option (List ℕ)) (kind : Fault) : Type 0 where
-  pub taken : TakesAtMost (limit - 1) before after
+-- memory was refused or the reader failed, when at most `most` bytes were taken
+pub record StopsShort (most : ℕ) (before after : Option (List ℕ)) (kind : Fault) : Type 0 where
+  pub taken : TakesAtMost most before after
   pub only : (kind ≡ fault.Read) ⊎ (kind ≡ fault.Memory)

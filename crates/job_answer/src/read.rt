@@ -1,8 +1,10 @@
 //! From what a reader gives to the job in it: what is read, and up to where?
 
-ghost use Rattle.std.specs.Prelude.{◌≡◌, ◌^◌, ◌≤◌, ◌<◌, [], length, IfOk, IfErr};
+ghost use Rattle.std.specs.Prelude.{◌≡◌, ◌^◌, ◌≤◌, ◌<◌, ◌+◌, ◌-◌, [], length, true, false, IfOk, IfErr, OnOk};
 ghost use Rattle.std.specs.Thread.{IsSync};
 ghost use Rattle.dimacs_text.specs.Jobs.{content_of};
+ghost use Rattle.std.specs.Io.KnownBytes.{Consumes, IsAtEnd};
+ghost use Rattle.dimacs_text.specs.Reading.{Reads};
 ghost use Rattle.job_answer.specs.Pieces.{StepsOn, StopsShort};
 ghost use Rattle.job_answer.specs.Outcome.{HasTaken, IsRequest, IsRequestFault};
 
@@ -11,6 +13,7 @@ use crate::piece::Piece;
 use crate::readers::{BLOCK, Readers};
 use crate::watch::Watch;
 use dimacs_text::{Job, JobReader};
+use route_walks::Memory;
 use std::alloc::Global;
 use std::io::Read;
 use std::mem::swap;
@@ -19,7 +22,7 @@ use std::time::{Clock, Duration};
 
 /// Reads the job in all that the reader gives, up to its end, and one byte past the limit at most. After
 /// a fault of the text the rest is read all the same. The lines of arcs are read by at most `threads` threads,
-/// beside which this one takes the arcs and reads on.
+/// beside which one more takes the arcs, and this one reads on.
 pub fn read_request<H: Threads + Clock + Sync, R: Read>(
     rt: &H,
     alloc: Global,
@@ -35,29 +38,57 @@ pub fn read_request<H: Threads + Clock + Sync, R: Read>(
         (R.remaining reader.old) (R.remaining reader.new)) }
     ensures says { IfErr result (IsRequestFault (R.remaining reader.old) (R.remaining reader.new)) }
 {
-    let mut front = Piece::new(alloc, BLOCK)?;
-    let mut back = Piece::new(alloc, BLOCK)?;
-    let readers = Readers::new(threads);
+    let pieces = Pieces {
+        front: Piece::new(alloc, BLOCK)?,
+        back: Piece::new(alloc, BLOCK)?,
+        spare: Piece::new(alloc, BLOCK)?,
+    };
     read_pieces(
-        rt, alloc, reader, limit, readers, &mut front, &mut back, watch,
+        rt,
+        alloc,
+        reader,
+        limit,
+        Readers::new(threads),
+        pieces,
+        watch,
     )
 }
 
-/// The same as `read_request`, through two pieces, of which neither has a byte yet. The front one is always
-/// the one that comes first in the text.
+/// The pieces of a text that are at work at the same time.
+#[derive(Drop)]
+struct Pieces {
+    /// The one that is fed next.
+    front: Piece,
+    /// The one after it, in which threads read ahead.
+    back: Piece,
+    /// The one that the next bytes are read into. What is in it was fed before.
+    spare: Piece,
+}
+
+impl Pieces {
+    /// The front one was fed, and the spare one comes after the back one.
+    fn turn(&mut self)
+        ensures front { self.new.front ≡ self.old.back }
+        ensures back { self.new.back ≡ self.old.spare }
+    {
+        swap(&mut self.front, &mut self.back);
+        swap(&mut self.back, &mut self.spare);
+    }
+}
+
+/// The same as `read_request`, through pieces that have no byte yet.
 fn read_pieces<H: Threads + Clock + Sync, R: Read>(
     rt: &H,
     alloc: Global,
     reader: &mut R,
     limit: u64,
     mut readers: Readers,
-    front: &mut Piece,
-    back: &mut Piece,
+    mut pieces: Pieces,
     watch: &mut impl Watch,
 ) -> Result<Job, Fault>
     requires limit { limit ≤ 2 ^ 36 }
-    requires front { front.old ≡ [] }
-    requires back { back.old ≡ [] }
+    requires front { pieces.front ≡ [] }
+    requires back { pieces.back ≡ [] }
     ensures job { IfOk result (λ job. IsRequest limit
         (R.remaining reader.old) (R.remaining reader.new) (content_of job)) }
     ensures taken { IfErr result (HasTaken limit
@@ -69,19 +100,24 @@ fn read_pieces<H: Threads + Clock + Sync, R: Read>(
     let mut ended = false;
     while !ended {
         let limit = readers.piece().min(left + 1);
-        let fed = front.len();
-        ended = step(rt, reader, &mut job, &mut readers, front, back, limit)?;
-        if front.len() > left {
+        let fed = pieces.front.len();
+        ended = step(rt, reader, &mut job, &mut readers, &mut pieces, left, limit)?;
+        if pieces.spare.len() > left {
             return Err(Fault::TooLong);
         }
-        left -= front.len();
+        left -= pieces.spare.len();
         if fed > 0 {
             watch.see_text(fed, job.arcs_so_far());
         }
-        swap(front, back);
+        pieces.turn();
     }
+    let Pieces {
+        front,
+        mut back,
+        ..
+    } = pieces;
     front.feed_to(&mut job)?;
-    read_ahead(rt, &job, back, readers.threads());
+    read_ahead(rt, &job, &mut back, readers.threads());
     back.feed_to(&mut job)?;
     watch.see_text(front.len().saturating_add(back.len()), job.arcs_so_far());
     Ok(job.finish()?)
@@ -99,56 +135,60 @@ fn read_ahead<H: Threads + Sync>(rt: &H, job: &JobReader, piece: &mut Piece, thr
     }
 }
 
-/// Feeds the front piece and takes the next bytes of the reader in its place, up to the limit. Meanwhile
-/// other threads read ahead in the back one, if arcs come there and that is faster. True where the reader
-/// has ended.
+/// Feeds the front piece and takes the next bytes of the reader into the spare one, up to the limit. Meanwhile
+/// other threads read ahead in the back one, if arcs come there and that is faster. True where the reader has
+/// ended. Where memory is refused or the reader fails, at most `left` bytes were taken.
 fn step<H: Threads + Clock + Sync, R: Read>(
     rt: &H,
     reader: &mut R,
     job: &mut JobReader,
     readers: &mut Readers,
-    front: &mut Piece,
-    back: &mut Piece,
+    pieces: &mut Pieces,
+    left: usize,
     limit: usize,
 ) -> Result<bool, Fault>
-    ensures on { IfOk result (StepsOn limit job.old job.new front.old front.new
+    requires limit { limit ≤ left + 1 }
+    ensures on { IfOk result (StepsOn limit job.old job.new pieces.old.front pieces.new.spare
         (R.remaining reader.old) (R.remaining reader.new)) }
-    ensures short { IfErr result (StopsShort limit (R.remaining reader.old) (R.remaining reader.new)) }
-    ensures back { back.new ≡ back.old }
+    ensures short { IfErr result (StopsShort left (R.remaining reader.old) (R.remaining reader.new)) }
+    ensures back { pieces.new.back ≡ pieces.old.back }
 {
     let Some(vertices) = job.arcs_ahead() else {
-        return feed_and_fill(reader, job, front, limit);
+        return feed_and_fill(reader, job, &pieces.front, &mut pieces.spare, limit);
     };
-    let threads = readers.threads();
-    let count = front.len();
+    // The byte past the limit is taken only after the front piece was fed: where memory for that is refused,
+    // no more than the limit may have been read.
+    let threads = if limit > left { 1 } else { readers.threads() };
+    let count = pieces.front.len();
     let begun = rt.monotonic().unwrap_or(Duration::ZERO);
     let ended = if threads < 2 {
-        feed_and_fill(reader, job, front, limit)?
+        feed_and_fill(reader, job, &pieces.front, &mut pieces.spare, limit)?
     } else {
-        step_beside(rt, reader, job, front, back, vertices, threads, limit)?
+        step_beside(rt, reader, job, pieces, vertices, threads, limit)?
     };
     let spent = rt.monotonic().unwrap_or(begun).saturating_sub(begun);
     readers.see(threads, count, spent);
     Ok(ended)
 }
 
-/// `feed_and_fill`, while `others` other threads read ahead in the back piece. That takes each of them longer
-/// than this one's work takes, so they may be as many as there are processors.
+/// The same side by side: a thread feeds the front piece, this one takes the next bytes, and `others` other
+/// threads read ahead in the back piece. That takes each of them longer than feeding or a read takes, so they
+/// may be as many as there are processors.
 fn step_beside<H: Threads + Sync, R: Read>(
     rt: &H,
     reader: &mut R,
     job: &mut JobReader,
-    front: &mut Piece,
-    back: &mut Piece,
+    pieces: &mut Pieces,
     vertices: u32,
     others: usize,
     limit: usize,
 ) -> Result<bool, Fault>
-    ensures on { IfOk result (StepsOn limit job.old job.new front.old front.new
+    ensures on { IfOk result (StepsOn limit job.old job.new pieces.old.front pieces.new.spare
         (R.remaining reader.old) (R.remaining reader.new)) }
     ensures short { IfErr result (StopsShort limit (R.remaining reader.old) (R.remaining reader.new)) }
-    ensures back { back.new ≡ back.old }
+    ensures back { pieces.new.back ≡ pieces.old.back }
 {
+    let Pieces { front, back, spare } = pieces;
     let ((), ended) = join_mut(
         rt,
         &mut ||
@@ -157,26 +197,61 @@ fn step_beside<H: Threads + Sync, R: Read>(
         { back.read_ahead(rt, vertices, others) },
         &mut || -> Result<bool, Fault>
             ensures on { IfOk result (StepsOn limit job.entry.now job.exit.now front.entry.now
-                front.exit.now (R.remaining reader.entry.now) (R.remaining reader.exit.now)) }
+                spare.exit.now (R.remaining reader.entry.now) (R.remaining reader.exit.now)) }
             ensures short { IfErr result (StopsShort limit
                 (R.remaining reader.entry.now) (R.remaining reader.exit.now)) }
-        { feed_and_fill(reader, job, front, limit) },
+        { feed_beside_fill(rt, reader, job, front, spare, limit) },
     );
     ended
 }
 
-/// Feeds the piece and takes the next bytes of the reader in its place, up to the limit. True where the
-/// reader has ended.
-fn feed_and_fill<R: Read>(
+/// Has another thread feed the front piece, and meanwhile takes the next bytes of the reader into the spare
+/// one, up to the limit. True where the reader has ended.
+fn feed_beside_fill<H: Threads + Sync, R: Read>(
+    rt: &H,
     reader: &mut R,
     job: &mut JobReader,
-    piece: &mut Piece,
+    front: &Piece,
+    spare: &mut Piece,
     limit: usize,
 ) -> Result<bool, Fault>
-    ensures on { IfOk result (StepsOn limit job.old job.new piece.old piece.new
+    ensures on { IfOk result (StepsOn limit job.old job.new front.now spare.new
         (R.remaining reader.old) (R.remaining reader.new)) }
     ensures short { IfErr result (StopsShort limit (R.remaining reader.old) (R.remaining reader.new)) }
 {
-    piece.feed_to(job)?;
-    piece.fill(reader, limit)
+    let (fed, filled) = join_mut(
+        rt,
+        &mut || -> Result<(), Memory>
+            ensures { OnOk result (Reads job.entry.now job.exit.now front.entry.now) }
+        { front.feed_to(job) },
+        &mut || -> Result<bool, Fault>
+            ensures bytes { OnOk result (Consumes
+                (R.remaining reader.entry.now) (R.remaining reader.exit.now) spare.exit.now) }
+            ensures few { length spare.exit.now ≤ limit }
+            ensures end { IfOk result (λ ended. ended ≡ true → IsAtEnd (R.remaining reader.exit.now)) }
+            ensures more { IfOk result (λ ended. ended ≡ false → 0 < limit → 0 < length spare.exit.now) }
+            ensures short { IfErr result (StopsShort limit
+                (R.remaining reader.entry.now) (R.remaining reader.exit.now)) }
+        { spare.fill(reader, limit) },
+    );
+    fed?;
+    let ended = filled?;
+    Ok(ended)
+}
+
+/// Feeds the front piece and takes the next bytes of the reader into the spare one, up to the limit. True
+/// where the reader has ended.
+fn feed_and_fill<R: Read>(
+    reader: &mut R,
+    job: &mut JobReader,
+    front: &Piece,
+    spare: &mut Piece,
+    limit: usize,
+) -> Result<bool, Fault>
+    ensures on { IfOk result (StepsOn limit job.old job.new front.now spare.new
+        (R.remaining reader.old) (R.remaining reader.new)) }
+    ensures short { IfErr result (StopsShort (limit - 1) (R.remaining reader.old) (R.remaining reader.new)) }
+{
+    front.feed_to(job)?;
+    spare.fill(reader, limit)
 }

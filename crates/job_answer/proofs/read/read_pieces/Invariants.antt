@@ -5,7 +5,8 @@ use Rattle.job_answer.proofs.read.read_pieces.Given as goal
 
 abbrev pub invariant-loop-ended : goal.invariant-loop-ended
 invariant-loop-ended g l = record {
-  fed : IsFed l.job (l.front ++ l.back) l.limit l.left (g.R.Read.remaining l.initial.reader) (g.R.Read.remaining l.reader);
+  fed : IsFed l.job (l.pieces.front ++ l.pieces.back) l.limit l.left (g.R.Read.remaining l.initial.reader)
+      (g.R.Read.remaining l.reader);
   end : l.ended ≡ true → IsAtEnd (g.R.Read.remaining l.reader);
 }
 

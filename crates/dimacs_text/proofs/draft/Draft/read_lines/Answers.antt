@@ -37,12 +37,14 @@ loop-at-preserved-then-at-bytes c =
           omega (arith, room, so_far.0, place.0, after.0, after.1, first, c.saturating_add-line-in-Ok.ensures) in (
             omega (arith, so_far.0, place.0, after.0, first, next),
             λ text more p.
-                subst (λ n. IsReadTo text (drop (end.result + 1) bytes ++ more) n (progress_of c.read.new.self)) (sym next)
+                subst (λ n. IsReadTo text (drop (end.result + 1) bytes ++ more) n (progress_of c.read.new.self))
+                (sym next)
                 (line_reads (progress_of c.read_arcs-count.new.self) (progress_of c.read.new.self) text
                 (drop start bytes ++ more) _ (drop (end.result + 1) bytes ++ more) c.saturating_add-line.result
                 (line_split bytes start end.result after.0 after.1 end.ensures.feed end.ensures.first more)
                 c.in-Ok.ensures.reads
-                (subst (λ n. IsReadTo text (drop start bytes ++ more) n (progress_of c.read_arcs-count.new.self)) (sym first)
+                (subst (λ n. IsReadTo text (drop start bytes ++ more) n (progress_of c.read_arcs-count.new.self))
+                (sym first)
                 (c.read_arcs-count.ensures.reads c.loop-at.line text more (so_far.1 text more p)))),
           );
     }
