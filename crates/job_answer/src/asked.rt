@@ -96,6 +96,7 @@ impl Asked {
         ensures settings { result.settings ≡ settings }
         ensures walks { result.walks ≡ self.walks }
         ensures limit { result.limit ≡ self.limit }
+        ensures at_once { result.at_once ≡ self.at_once }
     {
         Asked {
             answer: self.answer,
