@@ -1,6 +1,8 @@
 //! A graph of six vertices, whose places were worked out by hand.
 
-ghost use Rattle.std.specs.Prelude.{◌<◌};
+ghost use Rattle.std.specs.Prelude.{◌<◌, ◌≤◌, ◌≡◌, ◌^◌, length, IfOk};
+ghost use Rattle.route_walks.specs.Walk.{IsGraph};
+ghost use Rattle.route_walks.specs.declared.graph.TheConstants.{MAX_VERTICES};
 
 mod refusals;
 mod threads;
@@ -8,6 +10,7 @@ mod threads;
 use crate::{Csr, MAX_ARCS, Target};
 use route_walks::{ArcRec, EXAMPLE_ARCS, Memory, arcs, both_ways, is_graph};
 use std::alloc::Global;
+use std::process::Abort;
 use std::test::Fail;
 
 // The arcs of the example, not by tail: two leave 3 and come last here.
@@ -22,12 +25,74 @@ const GIVEN: [ArcRec; 8] = arcs![
     (3, 5, 3),
 ];
 
+/// The same turned round, by tail.
+const ENTERING: [ArcRec; 8] = arcs![
+    (1, 0, 17),
+    (1, 4, 0),
+    (2, 0, 10),
+    (2, 3, 0),
+    (3, 1, 2),
+    (4, 2, 0),
+    (5, 3, 3),
+    (5, 4, 20),
+];
+
+const ADDED: [ArcRec; 1] = arcs![(0, 5, 4)];
+
+/// The example with the added arc, which comes after the arcs that leave 0.
+const GROWN: [ArcRec; 9] = arcs![
+    (0, 1, 17),
+    (0, 2, 10),
+    (0, 5, 4),
+    (1, 3, 2),
+    (2, 4, 0),
+    (3, 2, 0),
+    (3, 5, 3),
+    (4, 1, 0),
+    (4, 5, 20),
+];
+
+/// The rows of `GIVEN`.
+fn six(rt: &impl Abort, alloc: Global) -> Result<Csr, Fail>
+    ensures { IfOk result (λ csr. csr.n ≡ 6 × length csr.arcs ≡ 8) }
+{
+    assert!(rt; is_graph(6, &GIVEN));
+    Ok(Csr::build(alloc, 6, &GIVEN)?)
+}
+
+/// Looks whether a graph has this number of vertices and these arcs, by tail.
+fn expect_rows(
+    rt: &impl Abort,
+    alloc: Global,
+    csr: &Csr,
+    n: u32,
+    arcs: &[ArcRec],
+) -> Result<(), Fail> {
+    assert_eq!(rt; (csr.n(), csr.arc_count()), (n, arcs.len()));
+    assert!(rt; csr.arcs(alloc)?.as_slice() == arcs);
+    Ok(())
+}
+
+/// Looks where the row of a vertex begins and ends.
+fn expect_row(rt: &impl Abort, csr: &Csr, u: u32, first: usize, end: usize)
+    requires { u < csr.now.n }
+{
+    assert_eq!(rt; csr.first(u), first, "first of {u}");
+    assert_eq!(rt; csr.end(u), end, "end of {u}");
+}
+
+/// Looks whether an arc is at a place.
+fn expect_arc(rt: &impl Abort, csr: &Csr, k: usize, arc: ArcRec)
+    requires { k < length csr.now.arcs }
+{
+    assert_eq!(rt; csr.arc(k), arc, "at {k}");
+    let Target { head, weight } = csr.target(k);
+    assert_eq!(rt; (head, weight), (arc.head, arc.weight), "at {k}");
+}
+
 #[test]
 fn rows_of_six_vertices(rt: HostRuntime) -> Result<(), Fail> {
-    assert!(rt; is_graph(6, &GIVEN));
-    let csr = Csr::build(rt.alloc(), 6, &GIVEN)?;
-    assert_eq!(rt; csr.n(), 6);
-    assert_eq!(rt; csr.arc_count(), 8);
+    let csr = six(&rt, rt.alloc())?;
     for (u, first, end) in [
         (0, 0, 2),
         (1, 2, 3),
@@ -36,60 +101,42 @@ fn rows_of_six_vertices(rt: HostRuntime) -> Result<(), Fail> {
         (4, 6, 8),
         (5, 8, 8),
     ] {
-        assert_eq!(rt; csr.first(u), first, "first of {u}");
-        assert_eq!(rt; csr.end(u), end, "end of {u}");
+        expect_row(&rt, &csr, u, first, end);
     }
+    expect_rows(&rt, rt.alloc(), &csr, 6, &EXAMPLE_ARCS)
+}
+
+#[test]
+fn arcs_of_six_vertices(rt: HostRuntime) -> Result<(), Fail> {
+    let csr = six(&rt, rt.alloc())?;
     for (k, arc) in EXAMPLE_ARCS.iter().enumerate() {
-        assert_eq!(rt; csr.arc(k), *arc, "at {k}");
-        let Target { head, weight } = csr.target(k);
-        assert_eq!(rt; (head, weight), (arc.head, arc.weight), "at {k}");
+        expect_arc(&rt, &csr, k, *arc);
     }
-    let arcs = csr.arcs(rt.alloc())?;
-    assert!(rt; arcs.as_slice() == EXAMPLE_ARCS.as_slice());
     Ok(())
 }
 
 #[test]
 fn arcs_that_enter(rt: HostRuntime) -> Result<(), Fail> {
-    assert!(rt; is_graph(6, &GIVEN));
-    let reversed = Csr::build(rt.alloc(), 6, &GIVEN)?.reversed(rt.alloc())?;
-    assert_eq!(rt; reversed.n(), 6);
-    assert_eq!(rt; reversed.arc_count(), 8);
-    let arcs = reversed.arcs(rt.alloc())?;
-    let want = [(1, 0, 17), (1, 4, 0), (2, 0, 10), (2, 3, 0)];
-    for (arc, want) in arcs.iter().zip(&want) {
-        assert_eq!(rt; (arc.tail, arc.head, arc.weight), *want);
-    }
-    Ok(())
+    let alloc = rt.alloc();
+    let reversed = six(&rt, alloc)?.reversed(alloc)?;
+    expect_rows(&rt, alloc, &reversed, 6, &ENTERING)
 }
 
-// The arc 0 → 5 comes after the arcs that leave 0, and the other rows stay.
+// The graph itself stays as it is.
 #[test]
 fn an_arc_is_added(rt: HostRuntime) -> Result<(), Fail> {
-    let added = [ArcRec::new(0, 5, 4)];
-    assert!(rt; is_graph(6, &GIVEN) && is_graph(6, &added));
-    let csr = Csr::build(rt.alloc(), 6, &GIVEN)?;
-    let grown = csr.with_arcs(rt.alloc(), &added)?;
-    assert_eq!(rt; (grown.n(), grown.arc_count()), (6, 9));
-    for (u, first) in [(0, 0), (1, 3), (2, 4), (3, 5), (4, 7), (5, 9)] {
-        assert_eq!(rt; grown.first(u), first, "first of {u}");
-    }
-    let want = [(0, 1, 17), (0, 2, 10), (0, 5, 4), (1, 3, 2)];
-    for (k, want) in want.iter().enumerate() {
-        let arc = grown.arc(k);
-        assert_eq!(rt; (arc.tail, arc.head, arc.weight), *want, "at {k}");
-    }
-    assert!(rt; csr.arcs(rt.alloc())?.as_slice() == EXAMPLE_ARCS.as_slice());
-    Ok(())
+    let alloc = rt.alloc();
+    assert!(rt; is_graph(6, &ADDED));
+    let csr = six(&rt, alloc)?;
+    let grown = csr.with_arcs(alloc, &ADDED)?;
+    expect_rows(&rt, alloc, &grown, 6, &GROWN)?;
+    expect_rows(&rt, alloc, &csr, 6, &EXAMPLE_ARCS)
 }
 
 #[test]
 fn a_graph_without_vertices(rt: HostRuntime) -> Result<(), Fail> {
     let csr = Csr::build(rt.alloc(), 0, &[])?;
-    assert_eq!(rt; csr.n(), 0);
-    assert_eq!(rt; csr.arc_count(), 0);
-    assert_eq!(rt; csr.arcs(rt.alloc())?.len(), 0);
-    Ok(())
+    expect_rows(&rt, rt.alloc(), &csr, 0, &[])
 }
 
 /// A number below `bound`, drawn by Knuth's multiplier and increment for numbers of 64 bits.
@@ -115,24 +162,53 @@ fn drawn(alloc: Global, n: u32, count: usize) -> Result<Vec<ArcRec>, Memory>
     Ok(arcs)
 }
 
+/// The arcs that `drawn` gives, of which rows can be made, also both ways.
+fn graph_of(rt: &impl Abort, alloc: Global, n: u32, count: usize) -> Result<Vec<ArcRec>, Fail>
+    requires { 0 < n }
+    ensures few { IfOk result (λ arcs. length arcs.items ≤ 2 ^ 30) }
+    ensures ends { IfOk result (λ arcs. IsGraph n arcs.items) }
+{
+    let arcs = drawn(alloc, n, count)?;
+    assert!(rt; is_graph(n, &arcs) && arcs.len() <= 1 << 30);
+    Ok(arcs)
+}
+
 // 64 arcs are few, and sorted as they stand; 300000 among 50000 vertices are put into bins first.
 #[test]
 fn built_from_a_list_that_is_given_up(rt: HostRuntime) -> Result<(), Fail> {
     let alloc = rt.alloc();
     for (n, count) in [(10, 64), (50_000, 300_000)] {
-        let arcs = drawn(alloc, n, count)?;
-        assert!(rt; is_graph(n, &arcs) && arcs.len() <= MAX_ARCS);
+        let arcs = graph_of(&rt, alloc, n, count)?;
         let kept = Csr::build(alloc, n, &arcs)?;
         let given_up = Csr::build_from(&rt, alloc, n, arcs, 2)?;
-        assert_eq!(rt; given_up.n(), n);
-        assert_eq!(rt; given_up.arc_count(), count);
-        assert!(rt; given_up.arcs(alloc)?.as_slice() == kept.arcs(alloc)?.as_slice());
+        expect_rows(&rt, alloc, &given_up, n, &kept.arcs(alloc)?)?;
+        assert_eq!(rt; kept.arc_count(), count);
     }
     Ok(())
 }
 
-// The rows are those of the arcs and then the added ones: of none and one, of none added, of arcs that stand
-// twice, and of many.
+/// Looks whether the rows are those of the arcs and then the added ones, where a graph of `n` vertices has the first
+/// `count` of these arcs, and the others are added.
+fn expect_grown(
+    rt: &impl Abort,
+    alloc: Global,
+    n: u32,
+    whole: &[ArcRec],
+    count: usize,
+) -> Result<(), Fail>
+    requires vertices { n ≤ MAX_VERTICES }
+    requires few { length whole.now ≤ 2 ^ 30 }
+    requires ends { IsGraph n whole.now }
+{
+    assert!(rt; count <= whole.len());
+    let (arcs, added) = whole.split_at(count);
+    assert!(rt; is_graph(n, arcs) && is_graph(n, added));
+    let grown = Csr::build(alloc, n, arcs)?.with_arcs(alloc, added)?;
+    let built = Csr::build(alloc, n, whole)?;
+    expect_rows(rt, alloc, &grown, n, &built.arcs(alloc)?)
+}
+
+// Of none and one, of none added, of arcs that stand twice, and of many.
 #[test]
 fn with_arcs_beside_the_whole_list(rt: HostRuntime) -> Result<(), Fail> {
     let alloc = rt.alloc();
@@ -143,36 +219,33 @@ fn with_arcs_beside_the_whole_list(rt: HostRuntime) -> Result<(), Fail> {
         (10, 64, 20),
         (500, 9_000, 3_000),
     ] {
-        let whole = drawn(alloc, n, count + more)?;
-        assert!(rt; count <= whole.len());
-        let (arcs, added) = whole.split_at(count);
-        assert!(rt; is_graph(n, arcs) && is_graph(n, added) && is_graph(n, &whole));
-        let csr = Csr::build(alloc, n, arcs)?;
-        assert!(rt; csr.arc_count() + added.len() <= MAX_ARCS);
-        let grown = csr.with_arcs(alloc, added)?;
-        let built = Csr::build(alloc, n, &whole)?;
-        assert_eq!(rt; grown.n(), n);
-        assert_eq!(rt; grown.arc_count(), count + more);
-        assert!(rt; grown.arcs(alloc)?.as_slice() == built.arcs(alloc)?.as_slice());
+        let whole = graph_of(&rt, alloc, n, count + more)?;
+        assert_eq!(rt; whole.len(), count + more);
+        expect_grown(&rt, alloc, n, &whole, count)?;
     }
     Ok(())
 }
 
-// The rows are those of the list of arcs both ways: of no arc, of a loop, of arcs that stand twice, of few
-// arcs, and of arcs that are put into bins first.
+/// The rows of the list of arcs both ways.
+fn both_rows(rt: &impl Abort, alloc: Global, n: u32, arcs: &[ArcRec]) -> Result<Vec<ArcRec>, Fail>
+    requires vertices { n ≤ MAX_VERTICES }
+    requires few { length arcs.now ≤ 2 ^ 30 }
+{
+    let both = both_ways(alloc, arcs)?;
+    assert!(rt; is_graph(n, &both));
+    Ok(Csr::build(alloc, n, &both)?.arcs(alloc)?)
+}
+
+// Of no arc, of a loop, of arcs that stand twice, of few arcs, and of arcs that are put into bins first.
 #[test]
 fn both_ways_in_rows(rt: HostRuntime) -> Result<(), Fail> {
     let alloc = rt.alloc();
     for (n, count) in [(1, 0), (1, 1), (2, 9), (10, 64), (50_000, 150_000)] {
-        let arcs = drawn(alloc, n, count)?;
-        assert!(rt; is_graph(n, &arcs) && arcs.len() <= 1 << 30);
-        let both = both_ways(alloc, &arcs)?;
-        assert!(rt; is_graph(n, &both) && both.len() <= MAX_ARCS);
-        let listed = Csr::build(alloc, n, &both)?;
+        let arcs = graph_of(&rt, alloc, n, count)?;
+        let rows = both_rows(&rt, alloc, n, &arcs)?;
+        assert_eq!(rt; rows.len(), 2 * count);
         let csr = Csr::build_both_ways(&rt, alloc, n, arcs, 2)?;
-        assert_eq!(rt; csr.n(), n);
-        assert_eq!(rt; csr.arc_count(), both.len());
-        assert!(rt; csr.arcs(alloc)?.as_slice() == listed.arcs(alloc)?.as_slice());
+        expect_rows(&rt, alloc, &csr, n, &rows)?;
     }
     Ok(())
 }

@@ -34,7 +34,7 @@ fn read(alloc: Global, front: &str, tail: &[u8]) -> Result<Job, TextFault> {
     read_job(alloc, &text)
 }
 
-/// What a text gives that comes in pieces of so many bytes.
+/// What a text gives that comes in pieces of `size` bytes.
 fn read_pieces(alloc: Global, text: &[u8], size: usize) -> Result<Job, TextFault> {
     let mut reader = JobReader::new(alloc);
     for piece in text.chunks(size.max(1)) {
@@ -71,151 +71,154 @@ fn expect_faults(rt: &impl Abort, alloc: Global, front: &str, rows: &[(&str, u64
     }
 }
 
+const WHOLE_TEXTS: [(&str, u64, LineKind); 32] = [
+    ("", 1, LineKind::NoProblem),
+    ("  \n\t", 3, LineKind::NoProblem),
+    ("c p sp 1 0", 2, LineKind::NoProblem),
+    ("x\n", 1, LineKind::Unknown),
+    ("\u{b}\n", 1, LineKind::Unknown),
+    ("pp sp 1 0\n", 1, LineKind::Unknown),
+    ("p sp 2\n", 1, LineKind::Fields),
+    ("p sp x\n", 1, LineKind::Fields),
+    ("a 1 1 0 0\n", 1, LineKind::Fields),
+    ("p sp -1 268435457\n", 1, LineKind::Number),
+    ("p sp 268435457 -1\n", 1, LineKind::Number),
+    ("p sp +0 0\n", 1, LineKind::Number),
+    ("p sp 1 0\r\r\n", 1, LineKind::Number),
+    ("p sp 268435457 0\n", 1, LineKind::Range),
+    ("p sp 1 1073741825\n", 1, LineKind::Range),
+    ("p sp 1 18446744073709551616\n", 1, LineKind::Range),
+    ("p aux sp ss 1048577\n", 1, LineKind::Range),
+    ("a 268435457 1 0\n", 1, LineKind::Range),
+    ("a 0 1 0\n", 1, LineKind::Range),
+    ("p sp 0 1\na 1 1 0\n", 2, LineKind::Range),
+    ("p sp 3 2\na 1 2 4294967296\n", 2, LineKind::Range),
+    ("p sp 3 2\na 1 2 -1\n", 2, LineKind::Number),
+    ("a 268435456 1 0\n", 1, LineKind::Misplaced),
+    ("p aux sp ss 1048576\n", 1, LineKind::Misplaced),
+    ("p aux sp add 1048577\n", 1, LineKind::Range),
+    ("p aux sp add 1048576\n", 1, LineKind::Misplaced),
+    ("p sp 2 1\np sp 2 1\n", 2, LineKind::Misplaced),
+    ("p sp 0 1\n", 2, LineKind::TooFew),
+    ("p sp 1 1073741824", 2, LineKind::TooFew),
+    (
+        "p sp 2 3\na 1 2 1\na 2 1 1\np aux sp ss 1\ns 1\n",
+        4,
+        LineKind::TooFew,
+    ),
+    (
+        "p sp 2 3\na 1 2 1\na 2 1 1\na 1 1 1\na 1 1 1\n",
+        5,
+        LineKind::TooMany,
+    ),
+    ("p sp 2 2\na 1 2 1\np aux sp add 1\n", 3, LineKind::TooFew),
+];
+
 #[test]
 fn faults_of_whole_texts(rt: HostRuntime) {
-    let rows = [
-        ("", 1, LineKind::NoProblem),
-        ("  \n\t", 3, LineKind::NoProblem),
-        ("c p sp 1 0", 2, LineKind::NoProblem),
-        ("x\n", 1, LineKind::Unknown),
-        ("\u{b}\n", 1, LineKind::Unknown),
-        ("pp sp 1 0\n", 1, LineKind::Unknown),
-        ("p sp 2\n", 1, LineKind::Fields),
-        ("p sp x\n", 1, LineKind::Fields),
-        ("a 1 1 0 0\n", 1, LineKind::Fields),
-        ("p sp -1 268435457\n", 1, LineKind::Number),
-        ("p sp 268435457 -1\n", 1, LineKind::Number),
-        ("p sp +0 0\n", 1, LineKind::Number),
-        ("p sp 1 0\r\r\n", 1, LineKind::Number),
-        ("p sp 268435457 0\n", 1, LineKind::Range),
-        ("p sp 1 1073741825\n", 1, LineKind::Range),
-        ("p sp 1 18446744073709551616\n", 1, LineKind::Range),
-        ("p aux sp ss 1048577\n", 1, LineKind::Range),
-        ("a 268435457 1 0\n", 1, LineKind::Range),
-        ("a 0 1 0\n", 1, LineKind::Range),
-        ("p sp 0 1\na 1 1 0\n", 2, LineKind::Range),
-        ("p sp 3 2\na 1 2 4294967296\n", 2, LineKind::Range),
-        ("p sp 3 2\na 1 2 -1\n", 2, LineKind::Number),
-        ("a 268435456 1 0\n", 1, LineKind::Misplaced),
-        ("p aux sp ss 1048576\n", 1, LineKind::Misplaced),
-        ("p aux sp add 1048577\n", 1, LineKind::Range),
-        ("p aux sp add 1048576\n", 1, LineKind::Misplaced),
-        ("p sp 2 1\np sp 2 1\n", 2, LineKind::Misplaced),
-        ("p sp 0 1\n", 2, LineKind::TooFew),
-        ("p sp 1 1073741824", 2, LineKind::TooFew),
-        (
-            "p sp 2 3\na 1 2 1\na 2 1 1\np aux sp ss 1\ns 1\n",
-            4,
-            LineKind::TooFew,
-        ),
-        (
-            "p sp 2 3\na 1 2 1\na 2 1 1\na 1 1 1\na 1 1 1\n",
-            5,
-            LineKind::TooMany,
-        ),
-        ("p sp 2 2\na 1 2 1\np aux sp add 1\n", 3, LineKind::TooFew),
-    ];
-    expect_faults(&rt, rt.alloc(), "", &rows);
+    expect_faults(&rt, rt.alloc(), "", &WHOLE_TEXTS);
 }
+
+const AFTER_A_GRAPH: [(&str, u64, LineKind); 32] = [
+    ("p", 10, LineKind::Unknown),
+    ("p aux sp", 10, LineKind::Unknown),
+    ("p aux sp add1\n", 10, LineKind::Unknown),
+    ("s 1\n", 10, LineKind::Misplaced),
+    ("a 1 1 1\n", 10, LineKind::TooMany),
+    ("p aux sp ss", 10, LineKind::Fields),
+    ("p aux sp ss 1", 11, LineKind::TooFew),
+    ("p aux sp ss 1\ns", 11, LineKind::Fields),
+    ("p aux sp ss 1\ns 7\n", 11, LineKind::Range),
+    ("p aux sp ss 1\na 1 2 1\n", 11, LineKind::Misplaced),
+    ("p aux sp ss 1\np aux sp ss 1\n", 11, LineKind::Misplaced),
+    ("p aux sp ss 0\ns 1\n", 11, LineKind::TooMany),
+    ("p aux sp ss 2\ns 1\n", 12, LineKind::TooFew),
+    ("p aux sp ss 2\ns 1\n \n", 13, LineKind::TooFew),
+    ("p aux sp p2p\n", 10, LineKind::Fields),
+    ("p aux sp p2p 1048577\n", 10, LineKind::Range),
+    ("p aux sp p2p 1\n", 11, LineKind::TooFew),
+    ("p aux sp p2p 1048576\nq 1 6\n", 12, LineKind::TooFew),
+    ("p aux sp p2p 1\nq 1 7\n", 11, LineKind::Range),
+    ("p aux sp p2p 1\nq 0 1\n", 11, LineKind::Range),
+    ("p aux sp p2p 1\nq 1\n", 11, LineKind::Fields),
+    ("p aux sp p2p 1\nq 1 6 1\n", 11, LineKind::Fields),
+    ("p aux sp p2p 1\nq 1 -6\n", 11, LineKind::Number),
+    ("p aux sp p2p 1\ns 1\n", 11, LineKind::Misplaced),
+    ("p aux sp ss 1\nq 1 6\n", 11, LineKind::Misplaced),
+    ("q 1 6\n", 10, LineKind::Misplaced),
+    ("p aux sp p2p 1\nq 1 6\nq 1 6\n", 12, LineKind::TooMany),
+    ("p aux sp p2p 0\nq 1 6\n", 11, LineKind::TooMany),
+    ("p aux sp p2p 1\nq 1 6\na 1 2 1\n", 12, LineKind::Misplaced),
+    // A second section of queries is misplaced, of whichever form and also where the first lacks some.
+    ("p aux sp p2p 0\np aux sp ss 0\n", 11, LineKind::Misplaced),
+    ("p aux sp ss 1\np aux sp p2p 1\n", 11, LineKind::Misplaced),
+    ("p aux sp p2p 1\np aux sp p2p 1\n", 11, LineKind::Misplaced),
+];
 
 #[test]
 fn faults_after_a_graph(rt: HostRuntime) {
-    let rows = [
-        ("p", 10, LineKind::Unknown),
-        ("p aux sp", 10, LineKind::Unknown),
-        ("p aux sp add1\n", 10, LineKind::Unknown),
-        ("s 1\n", 10, LineKind::Misplaced),
-        ("a 1 1 1\n", 10, LineKind::TooMany),
-        ("p aux sp ss", 10, LineKind::Fields),
-        ("p aux sp ss 1", 11, LineKind::TooFew),
-        ("p aux sp ss 1\ns", 11, LineKind::Fields),
-        ("p aux sp ss 1\ns 7\n", 11, LineKind::Range),
-        ("p aux sp ss 1\na 1 2 1\n", 11, LineKind::Misplaced),
-        ("p aux sp ss 1\np aux sp ss 1\n", 11, LineKind::Misplaced),
-        ("p aux sp ss 0\ns 1\n", 11, LineKind::TooMany),
-        ("p aux sp ss 2\ns 1\n", 12, LineKind::TooFew),
-        ("p aux sp ss 2\ns 1\n \n", 13, LineKind::TooFew),
-        ("p aux sp p2p\n", 10, LineKind::Fields),
-        ("p aux sp p2p 1048577\n", 10, LineKind::Range),
-        ("p aux sp p2p 1\n", 11, LineKind::TooFew),
-        ("p aux sp p2p 1048576\nq 1 6\n", 12, LineKind::TooFew),
-        ("p aux sp p2p 1\nq 1 7\n", 11, LineKind::Range),
-        ("p aux sp p2p 1\nq 0 1\n", 11, LineKind::Range),
-        ("p aux sp p2p 1\nq 1\n", 11, LineKind::Fields),
-        ("p aux sp p2p 1\nq 1 6 1\n", 11, LineKind::Fields),
-        ("p aux sp p2p 1\nq 1 -6\n", 11, LineKind::Number),
-        ("p aux sp p2p 1\ns 1\n", 11, LineKind::Misplaced),
-        ("p aux sp ss 1\nq 1 6\n", 11, LineKind::Misplaced),
-        ("q 1 6\n", 10, LineKind::Misplaced),
-        ("p aux sp p2p 1\nq 1 6\nq 1 6\n", 12, LineKind::TooMany),
-        ("p aux sp p2p 0\nq 1 6\n", 11, LineKind::TooMany),
-        ("p aux sp p2p 1\nq 1 6\na 1 2 1\n", 12, LineKind::Misplaced),
-        // A second section of queries is misplaced, of whichever form and also where the first lacks some.
-        ("p aux sp p2p 0\np aux sp ss 0\n", 11, LineKind::Misplaced),
-        ("p aux sp ss 1\np aux sp p2p 1\n", 11, LineKind::Misplaced),
-        ("p aux sp p2p 1\np aux sp p2p 1\n", 11, LineKind::Misplaced),
-    ];
-    expect_faults(&rt, rt.alloc(), GRAPH, &rows);
+    expect_faults(&rt, rt.alloc(), GRAPH, &AFTER_A_GRAPH);
 }
+
+const ADDED_SECTIONS: [(&str, u64, LineKind); 31] = [
+    ("p aux sp add\n", 10, LineKind::Fields),
+    ("p aux sp add 1 1\n", 10, LineKind::Fields),
+    ("p aux sp add -1\n", 10, LineKind::Number),
+    ("p aux sp add 1048577\n", 10, LineKind::Range),
+    ("p aux sp add 1048576\n", 11, LineKind::TooFew),
+    ("p aux sp add 1\n", 11, LineKind::TooFew),
+    ("p aux sp add 2\na 1 6 1", 12, LineKind::TooFew),
+    ("p aux sp add 0\na 1 6 1\n", 11, LineKind::TooMany),
+    ("p aux sp add 1\na 1 6\n", 11, LineKind::Fields),
+    ("p aux sp add 1\na 1 6 -1\n", 11, LineKind::Number),
+    ("p aux sp add 1\na 1 6 4294967296\n", 11, LineKind::Range),
+    ("p aux sp add 1\na 7 1 1\n", 11, LineKind::Range),
+    ("p aux sp add 1\na 1 0 1\n", 11, LineKind::Range),
+    ("p aux sp ss 1\ns 1\np aux sp add 1\n", 13, LineKind::TooFew),
+    (
+        "p aux sp ss 1\ns 1\np aux sp add 1\na 1 6 1\na 1 6 1\n",
+        14,
+        LineKind::TooMany,
+    ),
+    // It comes after all queries, and queries never come after it, also where it lacks arcs.
+    ("p aux sp ss 1\np aux sp add 1\n", 11, LineKind::TooFew),
+    (
+        "p aux sp p2p 2\nq 1 6\np aux sp add 1\n",
+        12,
+        LineKind::TooFew,
+    ),
+    ("p aux sp add 0\np aux sp ss 1\n", 11, LineKind::Misplaced),
+    ("p aux sp add 1\np aux sp ss 1\n", 11, LineKind::Misplaced),
+    ("p aux sp add 0\np aux sp p2p 1\n", 11, LineKind::Misplaced),
+    ("p aux sp add 1\np aux sp p2p 1\n", 11, LineKind::Misplaced),
+    ("p aux sp add 0\ns 1\n", 11, LineKind::Misplaced),
+    ("p aux sp add 0\nq 1 6\n", 11, LineKind::Misplaced),
+    (
+        "p aux sp ss 1\ns 1\np aux sp add 0\ns 1\n",
+        13,
+        LineKind::Misplaced,
+    ),
+    (
+        "p aux sp p2p 1\nq 1 6\np aux sp add 1\nq 1 6\n",
+        13,
+        LineKind::Misplaced,
+    ),
+    ("p aux sp add 0\np aux sp add 0\n", 11, LineKind::Misplaced),
+    ("p aux sp add 1\np aux sp add 1\n", 11, LineKind::Misplaced),
+    ("p aux sp add 0\np sp 1 0\n", 11, LineKind::Misplaced),
+    // After the line of a query section no arc comes before that of the added section.
+    ("p aux sp ss 0\na 1 6 1\n", 11, LineKind::Misplaced),
+    ("p aux sp ss 1\ns 1\na 1 6 1\n", 12, LineKind::Misplaced),
+    (
+        "p aux sp p2p 1\nq 1 6\na 1 6 1\np aux sp add 1\n",
+        12,
+        LineKind::Misplaced,
+    ),
+];
 
 #[test]
 fn faults_of_added_sections(rt: HostRuntime) {
-    let rows = [
-        ("p aux sp add\n", 10, LineKind::Fields),
-        ("p aux sp add 1 1\n", 10, LineKind::Fields),
-        ("p aux sp add -1\n", 10, LineKind::Number),
-        ("p aux sp add 1048577\n", 10, LineKind::Range),
-        ("p aux sp add 1048576\n", 11, LineKind::TooFew),
-        ("p aux sp add 1\n", 11, LineKind::TooFew),
-        ("p aux sp add 2\na 1 6 1", 12, LineKind::TooFew),
-        ("p aux sp add 0\na 1 6 1\n", 11, LineKind::TooMany),
-        ("p aux sp add 1\na 1 6\n", 11, LineKind::Fields),
-        ("p aux sp add 1\na 1 6 -1\n", 11, LineKind::Number),
-        ("p aux sp add 1\na 1 6 4294967296\n", 11, LineKind::Range),
-        ("p aux sp add 1\na 7 1 1\n", 11, LineKind::Range),
-        ("p aux sp add 1\na 1 0 1\n", 11, LineKind::Range),
-        ("p aux sp ss 1\ns 1\np aux sp add 1\n", 13, LineKind::TooFew),
-        (
-            "p aux sp ss 1\ns 1\np aux sp add 1\na 1 6 1\na 1 6 1\n",
-            14,
-            LineKind::TooMany,
-        ),
-        // It comes after all queries, and queries never come after it, also where it lacks arcs.
-        ("p aux sp ss 1\np aux sp add 1\n", 11, LineKind::TooFew),
-        (
-            "p aux sp p2p 2\nq 1 6\np aux sp add 1\n",
-            12,
-            LineKind::TooFew,
-        ),
-        ("p aux sp add 0\np aux sp ss 1\n", 11, LineKind::Misplaced),
-        ("p aux sp add 1\np aux sp ss 1\n", 11, LineKind::Misplaced),
-        ("p aux sp add 0\np aux sp p2p 1\n", 11, LineKind::Misplaced),
-        ("p aux sp add 1\np aux sp p2p 1\n", 11, LineKind::Misplaced),
-        ("p aux sp add 0\ns 1\n", 11, LineKind::Misplaced),
-        ("p aux sp add 0\nq 1 6\n", 11, LineKind::Misplaced),
-        (
-            "p aux sp ss 1\ns 1\np aux sp add 0\ns 1\n",
-            13,
-            LineKind::Misplaced,
-        ),
-        (
-            "p aux sp p2p 1\nq 1 6\np aux sp add 1\nq 1 6\n",
-            13,
-            LineKind::Misplaced,
-        ),
-        ("p aux sp add 0\np aux sp add 0\n", 11, LineKind::Misplaced),
-        ("p aux sp add 1\np aux sp add 1\n", 11, LineKind::Misplaced),
-        ("p aux sp add 0\np sp 1 0\n", 11, LineKind::Misplaced),
-        // After the line of a query section no arc comes before that of the added section.
-        ("p aux sp ss 0\na 1 6 1\n", 11, LineKind::Misplaced),
-        ("p aux sp ss 1\ns 1\na 1 6 1\n", 12, LineKind::Misplaced),
-        (
-            "p aux sp p2p 1\nq 1 6\na 1 6 1\np aux sp add 1\n",
-            12,
-            LineKind::Misplaced,
-        ),
-    ];
-    expect_faults(&rt, rt.alloc(), GRAPH, &rows);
+    expect_faults(&rt, rt.alloc(), GRAPH, &ADDED_SECTIONS);
 }
 
 #[test]
@@ -272,61 +275,95 @@ fn jobs_of_pairs(rt: HostRuntime) -> Result<(), Fail> {
     Ok(())
 }
 
+/// Asserts what a job of `GRAPH` asks for, as `Debug` has it, and which arcs it adds.
+fn assert_added(
+    rt: &impl Abort,
+    alloc: Global,
+    job: &Job,
+    ask: &str,
+    added: &[ArcRec],
+) -> Result<(), Fail> {
+    assert_eq!(rt; format!(in alloc; "{:?}", job.ask)?.as_str(), ask);
+    assert_eq!(rt; (job.n, job.arcs.len()), (6, 8));
+    assert_eq!(rt; job.arcs.last().copied(), Some(LAST));
+    assert_eq!(rt; job.added.as_deref(), Some(added));
+    Ok(())
+}
+
+/// The last arc of `GRAPH`.
+const LAST: ArcRec = ArcRec {
+    tail: 4,
+    head: 5,
+    weight: 20,
+};
+
+const SHORT: ArcRec = ArcRec {
+    tail: 0,
+    head: 5,
+    weight: 4,
+};
+
+const BACK: ArcRec = ArcRec {
+    tail: 5,
+    head: 0,
+    weight: 0,
+};
+
+/// What comes after `GRAPH`, what it asks for, and the arcs that it adds. No sources and no pairs are asked for all
+/// the same.
+const ADDING: [(&[u8], &str, &[ArcRec]); 8] = [
+    (b"p aux sp add 0", "Absent", &[]),
+    (b"p aux sp add 1\na 1 6 4", "Absent", &[SHORT]),
+    (
+        b"p aux sp ss 2\ns 3\ns 1\np aux sp add 1\na 1 6 4\n",
+        "Sources([2, 0])",
+        &[SHORT],
+    ),
+    (b"p aux sp ss 1\ns 3\np aux sp add 0\n", "Sources([2])", &[]),
+    (
+        b"p aux sp ss 0\np aux sp add 1\na 1 6 4\n",
+        "Sources([])",
+        &[SHORT],
+    ),
+    (b"p aux sp p2p 0\np aux sp add 0\n", "Pairs([])", &[]),
+    (
+        b"p aux sp p2p 1\nq 1 6\np aux sp add 2\na 1 6 4\n\ta  06 1 0\r\n",
+        "Pairs([(0, 5)])",
+        &[SHORT, BACK],
+    ),
+    (
+        b"\np aux sp p2p 2\nq 6 6\nq 1 6\nc\np\taux sp add 3\na 6 1 0\nc\na 1 6 4\na 6 1 0",
+        "Pairs([(5, 5), (0, 5)])",
+        &[BACK, SHORT, BACK],
+    ),
+];
+
 #[test]
 fn jobs_with_added_arcs(rt: HostRuntime) -> Result<(), Fail> {
     let alloc = rt.alloc();
-    let (short, back) = (ArcRec::new(0, 5, 4), ArcRec::new(5, 0, 0));
-    let rows: [(&[u8], &str, &[ArcRec]); 8] = [
-        (b"p aux sp add 0", "Absent", &[]),
-        (b"p aux sp add 1\na 1 6 4", "Absent", &[short]),
-        (
-            b"p aux sp ss 2\ns 3\ns 1\np aux sp add 1\na 1 6 4\n",
-            "Sources([2, 0])",
-            &[short],
-        ),
-        (b"p aux sp ss 1\ns 3\np aux sp add 0\n", "Sources([2])", &[]),
-        // No sources and no pairs are asked for all the same.
-        (
-            b"p aux sp ss 0\np aux sp add 1\na 1 6 4\n",
-            "Sources([])",
-            &[short],
-        ),
-        (b"p aux sp p2p 0\np aux sp add 0\n", "Pairs([])", &[]),
-        (
-            b"p aux sp p2p 1\nq 1 6\np aux sp add 2\na 1 6 4\n\ta  06 1 0\r\n",
-            "Pairs([(0, 5)])",
-            &[short, back],
-        ),
-        (
-            b"\np aux sp p2p 2\nq 6 6\nq 1 6\nc\np\taux sp add 3\na 6 1 0\nc\na 1 6 4\na 6 1 0",
-            "Pairs([(5, 5), (0, 5)])",
-            &[back, short, back],
-        ),
-    ];
-    for (tail, ask, added) in rows {
+    for (tail, ask, added) in ADDING {
+        assert_added(&rt, alloc, &read(alloc, GRAPH, tail)?, ask, added)?;
         let text = joined(alloc, GRAPH, tail)?;
-        for job in [
-            read(alloc, GRAPH, tail)?,
-            read_pieces(alloc, &text, 1)?,
-            read_pieces(alloc, &text, 7)?,
-        ] {
-            assert_eq!(rt; format!(in alloc; "{:?}", job.ask)?.as_str(), ask);
-            assert_eq!(rt; job.arcs.len(), 8);
-            assert_eq!(rt; job.arcs.last().copied(), Some(ArcRec::new(4, 5, 20)));
-            assert_eq!(rt; job.added.as_deref(), Some(added));
+        for size in [1, 7] {
+            assert_added(&rt, alloc, &read_pieces(alloc, &text, size)?, ask, added)?;
         }
     }
-    assert!(rt; read(alloc, GRAPH, b"p aux sp ss 1\ns 1\n")?.added.is_none());
     Ok(())
 }
 
 #[test]
 fn jobs(rt: HostRuntime) -> Result<(), Fail> {
-    let last = ArcRec::new(4, 5, 20);
-    assert_job(&rt, &read(rt.alloc(), GRAPH, b"")?, 6, last, &[]);
-    let asked = read(rt.alloc(), GRAPH, b"p aux sp ss 3\ns 3\ns 5\ns 3")?;
-    assert_eq!(rt; asked.arcs.len(), 8);
-    assert_job(&rt, &asked, 6, last, &[2, 4, 2]);
+    let alloc = rt.alloc();
+    assert_job(&rt, &read(alloc, GRAPH, b"")?, 6, LAST, &[]);
+    let asked = read(alloc, GRAPH, b"p aux sp ss 3\ns 3\ns 5\ns 3")?;
+    assert_job(&rt, &asked, 6, LAST, &[2, 4, 2]);
+    assert!(rt; asked.arcs.len() == 8 && asked.added.is_none());
+    assert_eq!(rt; read(alloc, "", b"p sp 268435456 0\n\n")?.n, 268435456);
+    Ok(())
+}
+
+#[test]
+fn a_job_with_all_kinds_of_blanks(rt: HostRuntime) -> Result<(), Fail> {
     let spaced = b"c \xff\xfe\r\n\tp  sp 2 1 \r\n\r\na\t1 2 007\r\np aux sp ss 1\r\ns 1";
     let arc = ArcRec::new(0, 1, 7);
     assert_job(&rt, &read(rt.alloc(), "", spaced.as_slice())?, 2, arc, &[0]);
@@ -334,8 +371,6 @@ fn jobs(rt: HostRuntime) -> Result<(), Fail> {
         let pieces = read_pieces(rt.alloc(), spaced.as_slice(), size)?;
         assert_job(&rt, &pieces, 2, arc, &[0]);
     }
-    let most = read(rt.alloc(), "", b"p sp 268435456 0\n\n")?;
-    assert_eq!(rt; most.n, 268435456);
     Ok(())
 }
 
@@ -413,24 +448,28 @@ fn lines_of_many_labels(rt: HostRuntime) -> Result<(), Fail> {
     Ok(())
 }
 
+const KINDS: [(LineKind, &str); 8] = [
+    (LineKind::Unknown, "line 1: unknown line"),
+    (LineKind::Fields, "line 1: wrong number of fields"),
+    (LineKind::Number, "line 1: not a number"),
+    (LineKind::Range, "line 1: out of range"),
+    (LineKind::Misplaced, "line 1: misplaced line"),
+    (LineKind::TooMany, "line 1: too many lines"),
+    (LineKind::TooFew, "line 1: too few lines"),
+    (LineKind::NoProblem, "line 1: no problem line"),
+];
+
+/// Asserts what a fault prints.
+fn expect_text(rt: &impl Abort, alloc: Global, fault: &TextFault, want: &str) -> Result<(), Fail> {
+    assert_eq!(rt; format!(in alloc; "{fault}")?.as_str(), want);
+    Ok(())
+}
+
 #[test]
 fn faults_print_themselves(rt: HostRuntime) -> Result<(), Fail> {
     let alloc = rt.alloc();
-    let table = [
-        (LineKind::Unknown, "line 1: unknown line"),
-        (LineKind::Fields, "line 1: wrong number of fields"),
-        (LineKind::Number, "line 1: not a number"),
-        (LineKind::Range, "line 1: out of range"),
-        (LineKind::Misplaced, "line 1: misplaced line"),
-        (LineKind::TooMany, "line 1: too many lines"),
-        (LineKind::TooFew, "line 1: too few lines"),
-        (LineKind::NoProblem, "line 1: no problem line"),
-    ];
-    for (kind, want) in table {
-        let fault = TextFault::Line { line: 1, kind };
-        assert_eq!(rt; format!(in alloc; "{fault}")?.as_str(), want);
+    for (kind, want) in KINDS {
+        expect_text(&rt, alloc, &TextFault::Line { line: 1, kind }, want)?;
     }
-    let refused = TextFault::Memory;
-    assert_eq!(rt; format!(in alloc; "{refused}")?.as_str(), "out of memory");
-    Ok(())
+    expect_text(&rt, alloc, &TextFault::Memory, "out of memory")
 }

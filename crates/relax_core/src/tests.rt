@@ -9,7 +9,7 @@ use crate::Event::{Finish, Join, Raise, Read, Relax, See, SetMark, Split, Take};
 use crate::Hand::{Fresh, Idle, Open, Owe};
 use crate::{Core, Event, Hand, ReplayFault, SHARES, View, apply, open_core, replay};
 use csr_graph::Csr;
-use route_walks::{ArcRec, EXAMPLE_SEEDS, INF, arcs, are_seeds};
+use route_walks::{ArcRec, EXAMPLE_SEEDS, INF, Seed, arcs, are_seeds};
 use std::alloc::Global;
 use std::process::Abort;
 use std::test::Fail;
@@ -63,6 +63,14 @@ const SCHEDULE: [Row; 33] = rows![
     Join(0, 1) => Idle, 0, 0, [0, 2, 1, 3], [0, 0, 0, 0];
 ];
 
+fn row(i: usize) -> Row
+    requires { i < 33 }
+{
+    // By a reference, since the table is long to copy.
+    let rows = &SCHEDULE;
+    rows[i]
+}
+
 fn graph(alloc: Global) -> Result<Csr, Fail>
     ensures { IfOk result (λ csr. csr.n ≡ 4) }
 {
@@ -81,33 +89,32 @@ fn seat_of(event: Event) -> usize {
     }
 }
 
+fn expect_vertex(rt: &impl Abort, v: u32, said: (u64, u8), want: (u64, u8), i: usize) {
+    assert_eq!(rt; said, want, "label and mark of {v} after event {i}");
+}
+
+fn expect_seat(rt: &impl Abort, view: Option<&View>, (hand, credits): (Hand, u8), i: usize) {
+    let said = view.map(|view| (view.hand, view.credits));
+    assert_eq!(rt; said, Some((hand, credits)), "after event {i}");
+}
+
+fn expect_pending(rt: &impl Abort, core: &Core, total: u64, i: usize) {
+    assert_eq!(rt; core.pending(), total, "after event {i}");
+}
+
 // What a core says is what stands after event i.
 fn stands(rt: &impl Abort, core: &Core, csr: &Csr, i: usize)
     requires vertices { csr.now.n ≡ 4 }
     requires belongs { IsOf csr.now core.now }
     requires place { i < 33 }
 {
-    let (event, hand, credits, total, labels, marks) = SCHEDULE[i];
+    let (event, hand, credits, total, labels, marks) = row(i);
     for v in 0..4_u32 {
-        assert_eq!(rt;
-            core.label(v),
-            labels[v as usize],
-            "label of {v} after event {i}"
-        );
-        assert_eq!(rt;
-            u8::from(core.mark(v)),
-            marks[v as usize],
-            "mark of {v} after event {i}"
-        );
+        let said = (core.label(v), u8::from(core.mark(v)));
+        expect_vertex(rt, v, said, (labels[v as usize], marks[v as usize]), i);
     }
-    assert_eq!(rt; core.pending(), total, "after event {i}");
-    let view = core.views().get(seat_of(event)).copied();
-    assert_eq!(rt; view.map(|view| view.hand), Some(hand), "after event {i}");
-    assert_eq!(rt;
-        view.map(|view| view.credits),
-        Some(credits),
-        "after event {i}"
-    );
+    expect_pending(rt, core, total, i);
+    expect_seat(rt, core.views().get(seat_of(event)), (hand, credits), i);
 }
 
 // Does the schedule to a core that is just open, and looks at it after each event.
@@ -116,17 +123,21 @@ fn play(rt: &impl Abort, alloc: Global, core: &mut Core, csr: &Csr) -> Result<()
     requires belongs { IsOf csr.now core.old }
 {
     for i in 0..33_usize {
-        apply(alloc, core, csr, SCHEDULE[i].0)?;
+        apply(alloc, core, csr, row(i).0)?;
         stands(rt, core, csr, i);
     }
     Ok(())
+}
+
+fn expect_views(rt: &impl Abort, core: &Core, want: &[View]) {
+    assert!(rt; core.views() == want);
 }
 
 #[test]
 fn the_schedule_event_by_event(rt: HostRuntime) -> Result<(), Fail> {
     let csr = graph(rt.alloc())?;
     let mut core = open_core(rt.alloc(), &csr, &EXAMPLE_SEEDS)?;
-    assert_eq!(rt; core.pending(), 1);
+    expect_pending(&rt, &core, 1, 0);
     play(&rt, rt.alloc(), &mut core, &csr)?;
     let all = View {
         hand: Idle,
@@ -140,7 +151,7 @@ fn the_schedule_event_by_event(rt: HostRuntime) -> Result<(), Fail> {
         saw: false,
         share: 0,
     };
-    assert!(rt; core.views() == [all, spent].as_slice());
+    expect_views(&rt, &core, &[all, spent]);
     Ok(())
 }
 
@@ -157,56 +168,78 @@ fn the_schedule_by_replay(rt: HostRuntime) -> Result<(), Fail> {
 }
 
 // Where a list of events stops, or nothing where it is a run.
-fn stop(alloc: Global, csr: &Csr, events: &[Event]) -> Result<Option<usize>, Fail>
+fn expect_stop(
+    rt: &impl Abort,
+    alloc: Global,
+    csr: &Csr,
+    events: &[Event],
+    want: Option<usize>,
+) -> Result<(), Fail>
     requires { csr.now.n ≡ 4 }
 {
-    match replay(alloc, csr, &EXAMPLE_SEEDS, events) {
-        Ok(_core) => Ok(None),
-        Err(ReplayFault::At(i)) => Ok(Some(i)),
-        Err(ReplayFault::Memory) => Err(ReplayFault::Memory.into()),
-    }
+    let stop = match replay(alloc, csr, &EXAMPLE_SEEDS, events) {
+        Ok(_core) => None,
+        Err(ReplayFault::At(i)) => Some(i),
+        Err(ReplayFault::Memory) => return Err(ReplayFault::Memory.into()),
+    };
+    assert_eq!(rt; stop, want);
+    Ok(())
+}
+
+const STOPS: [(&[Event], Option<usize>); 5] = [
+    (&[], None),
+    (&[See(0)], None),
+    (&[Join(0, 0)], Some(0)),
+    (&[Split(0); 17], Some(16)),
+    (&[Split(0), Take(0, 0), Relax(0)], Some(2)),
+];
+
+// The events of the schedule but those that raise credits and look at the total.
+fn events_without_credits(alloc: Global) -> Result<Vec<Event>, Fail> {
+    let mut events = events(alloc)?;
+    events.retain(|event| !matches!(event, Raise(_) | See(_)));
+    Ok(events)
 }
 
 #[test]
 fn where_lists_stop(rt: HostRuntime) -> Result<(), Fail> {
-    let csr = graph(rt.alloc())?;
-    assert_eq!(rt; stop(rt.alloc(), &csr, &[])?, None);
-    assert_eq!(rt; stop(rt.alloc(), &csr, &[See(0)])?, None);
-    assert_eq!(rt; stop(rt.alloc(), &csr, &[Join(0, 0)])?, Some(0));
-    assert_eq!(rt; stop(rt.alloc(), &csr, &[Split(0); 17])?, Some(16));
-    assert_eq!(rt;
-        stop(rt.alloc(), &csr, &[Split(0), Take(0, 0), Relax(0)])?,
-        Some(2)
-    );
-    let mut longer = events(rt.alloc())?;
-    longer.push(See(1))?;
-    assert_eq!(rt; stop(rt.alloc(), &csr, &longer)?, Some(33));
-    let mut without_credits = Vec::new(rt.alloc());
-    for event in &events(rt.alloc())? {
-        if !matches!(event, Raise(_) | See(_)) {
-            without_credits.push(*event)?;
-        }
+    let alloc = rt.alloc();
+    let csr = graph(alloc)?;
+    for (events, want) in STOPS {
+        expect_stop(&rt, alloc, &csr, events, want)?;
     }
-    assert_eq!(rt; without_credits.len(), 27);
-    assert_eq!(rt; stop(rt.alloc(), &csr, &without_credits)?, Some(4));
+    let mut longer = events(alloc)?;
+    longer.push(See(1))?;
+    expect_stop(&rt, alloc, &csr, &longer, Some(33))?;
+    let without_credits = events_without_credits(alloc)?;
+    assert!(rt; without_credits.len() == 27);
+    expect_stop(&rt, alloc, &csr, &without_credits, Some(4))
+}
+
+fn expect_first_look(
+    rt: &impl Abort,
+    alloc: Global,
+    seeds: &[Seed],
+    saw: bool,
+    pending: u64,
+) -> Result<(), Fail> {
+    let csr = graph(alloc)?;
+    let sown = are_seeds(csr.n(), seeds);
+    assert!(rt; sown);
+    let core = replay(alloc, &csr, seeds, &[See(0)])?;
+    let view = View {
+        hand: Idle,
+        credits: 0,
+        saw,
+        share: SHARES,
+    };
+    expect_views(rt, &core, &[view]);
+    expect_pending(rt, &core, pending, 0);
     Ok(())
 }
 
 #[test]
 fn what_a_first_look_sees(rt: HostRuntime) -> Result<(), Fail> {
-    let csr = graph(rt.alloc())?;
-    for (seeds, saw) in [(EXAMPLE_SEEDS.as_slice(), false), ([].as_slice(), true)] {
-        let sown = are_seeds(csr.n(), seeds);
-        assert!(rt; sown);
-        let core = replay(rt.alloc(), &csr, seeds, &[See(0)])?;
-        let view = View {
-            hand: Idle,
-            credits: 0,
-            saw,
-            share: SHARES,
-        };
-        assert!(rt; core.views() == [view].as_slice());
-        assert_eq!(rt; core.pending(), if saw { 0 } else { 1 });
-    }
-    Ok(())
+    expect_first_look(&rt, rt.alloc(), &EXAMPLE_SEEDS, false, 1)?;
+    expect_first_look(&rt, rt.alloc(), &[], true, 0)
 }

@@ -9,7 +9,7 @@ mod refusals;
 use crate::{NONE, hops, parents, walk_to};
 use csr_graph::{Csr, MAX_ARCS, MAX_VERTICES};
 use route_walks::{
-    ArcRec, EXAMPLE_ARCS, INF, Memory, is_graph, plain_labels, seeds_from, unit_weights,
+    ArcRec, EXAMPLE_ARCS, INF, Memory, arcs, is_graph, plain_labels, seeds_from, unit_weights,
 };
 use std::alloc::Global;
 use std::process::Abort;
@@ -42,6 +42,7 @@ fn build(rt: &impl Abort, alloc: Global, n: u32, arcs: &[ArcRec]) -> Result<Csr,
     Ok(Csr::build(alloc, n, arcs)?)
 }
 
+/// Asserts what hops, parents and walks a graph has.
 fn expect_walks(
     rt: &impl Abort,
     alloc: Global,
@@ -54,91 +55,96 @@ fn expect_walks(
     let csr = build(rt, alloc, n as u32, arcs)?;
     let labels = distances(alloc, &csr, s)?;
     let hops = hops(alloc, &csr, &labels, s)?;
+    expect_numbers(rt, &hops, want.hops);
     let parents = parents(alloc, &csr, &labels, &hops)?;
-    assert_eq!(rt; hops.as_slice(), want.hops);
-    assert_eq!(rt; parents.as_slice(), want.parents);
+    expect_numbers(rt, &parents, want.parents);
     assert_eq!(rt; want.walks.len(), hops.len());
     for (v, walk) in want.walks.iter().enumerate() {
         assert!(rt; v < hops.len());
-        match walk_to(alloc, &hops, &parents, v as u32)? {
-            Some(found) => assert_eq!(rt; found.as_slice(), *walk, "to {v}"),
-            None => assert!(rt; walk.is_empty(), "to {v}"),
-        }
+        let found = walk_to(alloc, &hops, &parents, v as u32)?;
+        assert_eq!(rt; found.is_none(), walk.is_empty(), "to {v}");
+        expect_numbers(rt, found.as_deref().unwrap_or(&[]), walk);
     }
     Ok(())
 }
 
+fn expect_numbers(rt: &impl Abort, found: &[u32], want: &[u32]) {
+    assert_eq!(rt; found, want);
+}
+
+const FROM_0: Want<'static> = Want {
+    hops: &[0, 3, 1, 4, 2, 5],
+    parents: &[NONE, 4, 0, 1, 2, 3],
+    walks: &[
+        &[0],
+        &[0, 2, 4, 1],
+        &[0, 2],
+        &[0, 2, 4, 1, 3],
+        &[0, 2, 4],
+        &[0, 2, 4, 1, 3, 5],
+    ],
+};
+
+const FROM_2: Want<'static> = Want {
+    hops: &[NONE, 2, 0, 3, 1, 4],
+    parents: &[NONE, 4, NONE, 1, 2, 3],
+    walks: &[
+        &[],
+        &[2, 4, 1],
+        &[2],
+        &[2, 4, 1, 3],
+        &[2, 4],
+        &[2, 4, 1, 3, 5],
+    ],
+};
+
+const BY_UNITS: Want<'static> = Want {
+    hops: &[0, 1, 1, 2, 2, 3],
+    parents: &[NONE, 0, 0, 1, 2, 3],
+    walks: &[
+        &[0],
+        &[0, 1],
+        &[0, 2],
+        &[0, 1, 3],
+        &[0, 2, 4],
+        &[0, 1, 3, 5],
+    ],
+};
+
 #[test]
 fn walks_of_six_vertices(rt: HostRuntime) -> Result<(), Fail> {
     let alloc = rt.alloc();
-    let six = EXAMPLE_ARCS;
-    let from_0 = Want {
-        hops: &[0, 3, 1, 4, 2, 5],
-        parents: &[NONE, 4, 0, 1, 2, 3],
-        walks: &[
-            &[0],
-            &[0, 2, 4, 1],
-            &[0, 2],
-            &[0, 2, 4, 1, 3],
-            &[0, 2, 4],
-            &[0, 2, 4, 1, 3, 5],
-        ],
-    };
-    expect_walks(&rt, alloc, &six, 0, &from_0)?;
-    let from_2 = Want {
-        hops: &[NONE, 2, 0, 3, 1, 4],
-        parents: &[NONE, 4, NONE, 1, 2, 3],
-        walks: &[
-            &[],
-            &[2, 4, 1],
-            &[2],
-            &[2, 4, 1, 3],
-            &[2, 4],
-            &[2, 4, 1, 3, 5],
-        ],
-    };
-    expect_walks(&rt, alloc, &six, 2, &from_2)?;
-    let units = Want {
-        hops: &[0, 1, 1, 2, 2, 3],
-        parents: &[NONE, 0, 0, 1, 2, 3],
-        walks: &[
-            &[0],
-            &[0, 1],
-            &[0, 2],
-            &[0, 1, 3],
-            &[0, 2, 4],
-            &[0, 1, 3, 5],
-        ],
-    };
-    expect_walks(&rt, alloc, &unit_weights(alloc, &six)?, 0, &units)
+    expect_walks(&rt, alloc, &EXAMPLE_ARCS, 0, &FROM_0)?;
+    expect_walks(&rt, alloc, &EXAMPLE_ARCS, 2, &FROM_2)?;
+    expect_walks(
+        &rt,
+        alloc,
+        &unit_weights(alloc, &EXAMPLE_ARCS)?,
+        0,
+        &BY_UNITS,
+    )
 }
+
+const FREE_CIRCLE: [ArcRec; 3] = arcs![(2, 1, 5), (0, 1, 0), (1, 0, 0)];
+
+const BACK: Want<'static> = Want {
+    hops: &[2, 1, 0],
+    parents: &[1, 2, NONE],
+    walks: &[&[2, 1, 0], &[2, 1], &[2]],
+};
+
+const FAR_TAIL: [ArcRec; 4] = arcs![(3, 1, 1), (1, 0, 0), (0, 2, 0), (1, 2, 0)];
+
+const PAST: Want<'static> = Want {
+    hops: &[2, 1, 2, 0],
+    parents: &[1, 3, 1, NONE],
+    walks: &[&[3, 1, 0], &[3, 1], &[3, 1, 2], &[3]],
+};
 
 #[test]
 fn walks_past_the_least_tight_tail(rt: HostRuntime) -> Result<(), Fail> {
-    let alloc = rt.alloc();
-    let free_circle = [
-        ArcRec::new(2, 1, 5),
-        ArcRec::new(0, 1, 0),
-        ArcRec::new(1, 0, 0),
-    ];
-    let back = Want {
-        hops: &[2, 1, 0],
-        parents: &[1, 2, NONE],
-        walks: &[&[2, 1, 0], &[2, 1], &[2]],
-    };
-    expect_walks(&rt, alloc, &free_circle, 2, &back)?;
-    let far_tail = [
-        ArcRec::new(3, 1, 1),
-        ArcRec::new(1, 0, 0),
-        ArcRec::new(0, 2, 0),
-        ArcRec::new(1, 2, 0),
-    ];
-    let past = Want {
-        hops: &[2, 1, 2, 0],
-        parents: &[1, 3, 1, NONE],
-        walks: &[&[3, 1, 0], &[3, 1], &[3, 1, 2], &[3]],
-    };
-    expect_walks(&rt, alloc, &far_tail, 3, &past)
+    expect_walks(&rt, rt.alloc(), &FREE_CIRCLE, 2, &BACK)?;
+    expect_walks(&rt, rt.alloc(), &FAR_TAIL, 3, &PAST)
 }
 
 /// The least cost and the fewest arcs of such a walk for each vertex, by rounds over all arcs.
@@ -208,12 +214,12 @@ fn a_random_graph(rt: HostRuntime) -> Result<(), Fail> {
     let best = slow_hops(alloc, n, &arcs, 0)?;
     let mut reached = 0;
     for (v, (cost, hop)) in best.iter().enumerate() {
-        assert!(rt; v < hops.len());
-        assert_eq!(rt; hops.get(v), Some(hop), "hop of {v}");
+        assert!(rt; v < hops.len() && v < parents.len());
+        let parent = slow_parent(&arcs, &best, v as u32);
         assert_eq!(rt;
-            parents.get(v).copied(),
-            Some(slow_parent(&arcs, &best, v as u32)),
-            "parent of {v}"
+            (hops[v], parents[v]),
+            (*hop, parent),
+            "hop and parent of {v}"
         );
         let walk = walk_to(alloc, &hops, &parents, v as u32)?;
         assert_eq!(rt; walk.is_none(), *cost == INF, "to {v}");

@@ -1,9 +1,9 @@
 //! Each call that takes memory, with one allocation of it refused: `Memory` then, and made once more it gives the
 //! rows that were worked by hand. `tests/refusals` refuses each in turn; `tests/refusals.tsv` has the calls.
 
-use crate::tests::{GIVEN, drawn};
-use crate::{Csr, MAX_ARCS};
-use route_walks::{ArcRec, EXAMPLE_ARCS, Memory, both_ways, is_graph, tried_again};
+use crate::Csr;
+use crate::tests::{ADDED, ENTERING, GIVEN, GROWN, both_rows, expect_rows, graph_of, six};
+use route_walks::{EXAMPLE_ARCS, Memory, is_graph, tried_again};
 use std::test::Fail;
 
 // Few arcs, which are sorted as they stand, and as many as are put into bins by two threads.
@@ -14,19 +14,16 @@ fn of_csr_build(rt: HostRuntime) -> Result<(), Fail> {
     let alloc = rt.alloc();
     assert!(rt; is_graph(6, &GIVEN));
     let csr = tried_again!(rt, alloc, Memory, Csr::build(alloc, 6, &GIVEN));
-    assert_eq!(rt; csr.n(), 6);
-    assert!(rt; csr.arcs(alloc)?.as_slice() == EXAMPLE_ARCS.as_slice());
-    Ok(())
+    expect_rows(&rt, alloc, &csr, 6, &EXAMPLE_ARCS)
 }
 
 #[test]
 fn of_csr_build_from(rt: HostRuntime) -> Result<(), Fail> {
     let alloc = rt.alloc();
     for (n, count) in SIZES {
-        let (arcs, same) = (drawn(alloc, n, count)?, drawn(alloc, n, count)?);
-        assert!(rt; is_graph(n, &arcs) && arcs.len() <= MAX_ARCS);
-        assert!(rt; is_graph(n, &same) && same.len() <= MAX_ARCS);
-        let kept = Csr::build(alloc, n, &arcs)?;
+        let arcs = graph_of(&rt, alloc, n, count)?;
+        let same = graph_of(&rt, alloc, n, count)?;
+        let rows = Csr::build(alloc, n, &arcs)?.arcs(alloc)?;
         let csr = tried_again!(
             rt,
             alloc,
@@ -34,7 +31,7 @@ fn of_csr_build_from(rt: HostRuntime) -> Result<(), Fail> {
             Csr::build_from(&rt, alloc, n, arcs, 2),
             Csr::build_from(&rt, alloc, n, same, 2)
         );
-        assert!(rt; csr.arcs(alloc)?.as_slice() == kept.arcs(alloc)?.as_slice());
+        expect_rows(&rt, alloc, &csr, n, &rows)?;
     }
     Ok(())
 }
@@ -43,12 +40,9 @@ fn of_csr_build_from(rt: HostRuntime) -> Result<(), Fail> {
 fn of_csr_build_both_ways(rt: HostRuntime) -> Result<(), Fail> {
     let alloc = rt.alloc();
     for (n, count) in SIZES {
-        let (arcs, same) = (drawn(alloc, n, count)?, drawn(alloc, n, count)?);
-        assert!(rt; is_graph(n, &arcs) && arcs.len() <= 1 << 30);
-        assert!(rt; is_graph(n, &same) && same.len() <= 1 << 30);
-        let both = both_ways(alloc, &arcs)?;
-        assert!(rt; is_graph(n, &both) && both.len() <= MAX_ARCS);
-        let listed = Csr::build(alloc, n, &both)?;
+        let arcs = graph_of(&rt, alloc, n, count)?;
+        let same = graph_of(&rt, alloc, n, count)?;
+        let rows = both_rows(&rt, alloc, n, &arcs)?;
         let csr = tried_again!(
             rt,
             alloc,
@@ -56,7 +50,7 @@ fn of_csr_build_both_ways(rt: HostRuntime) -> Result<(), Fail> {
             Csr::build_both_ways(&rt, alloc, n, arcs, 2),
             Csr::build_both_ways(&rt, alloc, n, same, 2)
         );
-        assert!(rt; csr.arcs(alloc)?.as_slice() == listed.arcs(alloc)?.as_slice());
+        expect_rows(&rt, alloc, &csr, n, &rows)?;
     }
     Ok(())
 }
@@ -64,8 +58,7 @@ fn of_csr_build_both_ways(rt: HostRuntime) -> Result<(), Fail> {
 #[test]
 fn of_csr_arcs(rt: HostRuntime) -> Result<(), Fail> {
     let alloc = rt.alloc();
-    assert!(rt; is_graph(6, &GIVEN));
-    let csr = Csr::build(alloc, 6, &GIVEN)?;
+    let csr = six(&rt, alloc)?;
     let arcs = tried_again!(rt, alloc, Memory, csr.arcs(alloc));
     assert!(rt; arcs.as_slice() == EXAMPLE_ARCS.as_slice());
     Ok(())
@@ -74,30 +67,18 @@ fn of_csr_arcs(rt: HostRuntime) -> Result<(), Fail> {
 #[test]
 fn of_csr_reversed(rt: HostRuntime) -> Result<(), Fail> {
     let alloc = rt.alloc();
-    assert!(rt; is_graph(6, &GIVEN));
-    let csr = Csr::build(alloc, 6, &GIVEN)?;
+    let csr = six(&rt, alloc)?;
     let reversed = tried_again!(rt, alloc, Memory, csr.reversed(alloc));
-    let want = [(1, 0, 17), (1, 4, 0), (2, 0, 10), (2, 3, 0)];
-    for (arc, want) in reversed.arcs(alloc)?.iter().zip(&want) {
-        assert_eq!(rt; (arc.tail, arc.head, arc.weight), *want);
-    }
-    assert_eq!(rt; (reversed.n(), reversed.arc_count()), (6, 8));
-    Ok(())
+    expect_rows(&rt, alloc, &reversed, 6, &ENTERING)
 }
 
 // After a refusal the graph is as it was.
 #[test]
 fn of_csr_with_arcs(rt: HostRuntime) -> Result<(), Fail> {
     let alloc = rt.alloc();
-    let added = [ArcRec::new(0, 5, 4)];
-    assert!(rt; is_graph(6, &GIVEN) && is_graph(6, &added));
-    let csr = Csr::build(alloc, 6, &GIVEN)?;
-    let grown = tried_again!(rt, alloc, Memory, csr.with_arcs(alloc, &added));
-    let want = [(0, 1, 17), (0, 2, 10), (0, 5, 4)];
-    for (arc, want) in grown.arcs(alloc)?.iter().zip(&want) {
-        assert_eq!(rt; (arc.tail, arc.head, arc.weight), *want);
-    }
-    assert_eq!(rt; (grown.n(), grown.arc_count()), (6, 9));
-    assert!(rt; csr.arcs(alloc)?.as_slice() == EXAMPLE_ARCS.as_slice());
-    Ok(())
+    assert!(rt; is_graph(6, &ADDED));
+    let csr = six(&rt, alloc)?;
+    let grown = tried_again!(rt, alloc, Memory, csr.with_arcs(alloc, &ADDED));
+    expect_rows(&rt, alloc, &grown, 6, &GROWN)?;
+    expect_rows(&rt, alloc, &csr, 6, &EXAMPLE_ARCS)
 }

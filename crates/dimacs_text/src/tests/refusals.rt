@@ -3,7 +3,7 @@
 //! turn; `tests/refusals.tsv` has the calls.
 
 use crate::tests::several::large;
-use crate::tests::{GRAPH, assert_job, joined};
+use crate::tests::{GRAPH, SHORT, assert_added, assert_job, joined};
 use crate::{
     ArcRuns, JobReader, LineKind, TextFault, put_components, put_distances, put_grown, put_label,
     put_labels, put_pair, put_source, put_walk, read_job,
@@ -47,13 +47,7 @@ fn of_read_job(rt: HostRuntime) -> Result<(), Fail> {
     let text = joined(alloc, GRAPH, QUERIES)?;
     assert!(rt; text.len() < 1000);
     let job = tried_again!(rt, alloc, TextFault::Memory, read_job(alloc, &text));
-    assert_eq!(rt; job.arcs.len(), 8);
-    assert_job(&rt, &job, 6, ArcRec::new(4, 5, 20), &[2, 4, 2]);
-    assert_eq!(rt;
-        job.added.as_deref(),
-        Some([ArcRec::new(0, 5, 4)].as_slice())
-    );
-    Ok(())
+    assert_added(&rt, alloc, &job, "Sources([2, 4, 2])", &[SHORT])
 }
 
 // After a refusal nothing is known of the reader: the text goes to another one.
@@ -69,11 +63,7 @@ fn of_job_reader_feed(rt: HostRuntime) -> Result<(), Fail> {
             feed_both(&mut reader, front, back)?;
         }
         let job = reader.finish()?;
-        assert_job(&rt, &job, 6, ArcRec::new(4, 5, 20), &[2, 4, 2]);
-        assert_eq!(rt;
-            job.added.as_deref(),
-            Some([ArcRec::new(0, 5, 4)].as_slice())
-        );
+        assert_added(&rt, alloc, &job, "Sources([2, 4, 2])", &[SHORT])?;
     }
     Ok(())
 }

@@ -24,7 +24,7 @@ pub fn large(alloc: Global, place: u32, odd: &[u8]) -> Result<Vec<u8>, AllocErro
     Ok(text)
 }
 
-/// What the text gives that comes in pieces, each of which so many threads read.
+/// What the text gives that comes in pieces, each read by `threads` threads.
 fn read_by(
     rt: &(impl Threads + Sync),
     alloc: Global,
@@ -123,16 +123,24 @@ fn the_first_fault_of_several_is_told(rt: HostRuntime) -> Result<(), Fail> {
     Ok(())
 }
 
+/// Asserts how many arcs came, of how many, and what vertices of arcs to come count to.
+fn expect_count(
+    rt: &impl Abort,
+    reader: &JobReader,
+    so_far: Option<(usize, usize)>,
+    ahead: Option<u32>,
+) {
+    assert_eq!(rt; reader.arcs_so_far(), so_far);
+    assert_eq!(rt; reader.arcs_ahead(), ahead);
+}
+
 #[test]
 fn arcs_are_counted_as_they_come(rt: HostRuntime) -> Result<(), Fail> {
-    let alloc = rt.alloc();
-    let mut reader = JobReader::new(alloc);
-    assert_eq!(rt; reader.arcs_so_far(), None);
+    let mut reader = JobReader::new(rt.alloc());
+    expect_count(&rt, &reader, None, None);
     reader.feed(b"p sp 3 2\na 1 2 1\na 2 3")?;
-    assert_eq!(rt; reader.arcs_so_far(), Some((1, 2)));
-    assert_eq!(rt; reader.arcs_ahead(), Some(3));
+    expect_count(&rt, &reader, Some((1, 2)), Some(3));
     reader.feed(b" 1\np aux sp ss 1\n")?;
-    assert_eq!(rt; reader.arcs_so_far(), Some((2, 2)));
-    assert_eq!(rt; reader.arcs_ahead(), None);
+    expect_count(&rt, &reader, Some((2, 2)), None);
     Ok(())
 }

@@ -1,69 +1,62 @@
 //! What does a caller learn of what it put? Each clause is proved from the contracts of bags and logs alone.
 
-ghost use Rattle.std.specs.Prelude.{◌≡◌, ◌≢◌, ◌+◌, ◌<◌, ◌≤◌, ℕ, [], Some, length, slice_get};
+ghost use Rattle.std.specs.Prelude.{◌≡◌, ◌≢◌, ◌+◌, ◌<◌, ◌≤◌, ℕ, [], ◌∷◌, Some, length, slice_get};
 ghost use Rattle.std.specs.Prelude.{All, IfErr, IfNone, IfOk, IfSome, OnErr, OnOk};
 ghost use Rattle.obim_bags.specs.declared.fault.SettleFault.TheVariants.{Memory};
 ghost use Rattle.obim_bags.specs.Chunks.{ChunkSeen};
 ghost use Rattle.obim_bags.specs.BagRule.{weight_of};
 ghost use Rattle.obim_bags.specs.Bags.{new_pass};
-ghost use Rattle.obim_bags.specs.Logs.{ChangesAt, IsNew, AccessSeen, new_mirror};
+ghost use Rattle.obim_bags.specs.Logs.{AccessSeen, ChangesAt, Gains, IsLogSettled, IsNew, metrics_in, new_mirror};
 ghost use Rattle.obim_bags.specs.Logs.{access_after_put, access_after_get, access_after_empty_find};
 
-use crate::tests::helpers::chunk_of;
+use crate::tests::helpers::{chunk_of, list_of, open_log, open_mirrors, put, take_mirror};
 use crate::{Bag, BagLog, BagPass, Chunk, LogFault, Mirror, SettleFault};
 use std::alloc::Global;
+use std::process::Abort;
 use std::sync::Wait;
-use std::test::Fail;
 
 // One of the passes of a new bag.
-fn take_new(bag: &Bag, passes: &mut Vec<BagPass>) -> Option<BagPass>
+fn take_new(rt: &impl Abort, bag: &Bag, passes: &mut Vec<BagPass>) -> BagPass
     requires { All (λ pass. pass ≡ new_pass bag.now) passes.old.items }
-    ensures pass { IfSome result (λ pass. pass ≡ new_pass bag.now) }
+    ensures pass { result ≡ new_pass bag.now }
     ensures rest { All (λ pass. pass ≡ new_pass bag.now) passes.new.items }
 {
     let _bag = bag;
-    passes.pop()
+    passes.pop().expect(rt, "a pass for each worker")
 }
 
 // Two chunks are put by one pass of a bag of two, and the other gets: what it got and what is left are the
 // two chunks, each once. Both passes are handed in, so none is missing.
-fn hand_over<R: Wait>(
+fn hand_over<R: Wait + Abort>(
     rt: &R,
     alloc: Global,
     first: Chunk,
     second: Chunk,
-) -> Result<(Vec<Chunk>, Vec<Chunk>), SettleFault>
+) -> Result<(Option<Chunk>, Vec<Chunk>), SettleFault>
     requires first { first.vertices ≢ [] }
     requires second { second.vertices ≢ [] }
-    ensures all { IfOk result (λ done. (weight : ChunkSeen → ℕ)
-        → weight first + weight second ≡ weight_of weight done.0.items + weight_of weight done.1.items) }
+    ensures some { IfOk result (λ done. IfSome done.0 (λ got. (weight : ChunkSeen → ℕ)
+        → weight first + weight second ≡ weight got + weight_of weight done.1.items)) }
+    ensures none { IfOk result (λ done. IfNone done.0 ((weight : ChunkSeen → ℕ)
+        → weight first + weight second ≡ weight_of weight done.1.items)) }
     ensures none_missing { IfErr result (λ fault. fault ≡ Memory) }
 {
     let (bag, mut passes) = Bag::open(rt, alloc, 3, 2)?;
-    let Some(mut puts) = take_new(&bag, &mut passes) else {
-        return Err(SettleFault::Memory);
-    };
-    let Some(mut gets) = take_new(&bag, &mut passes) else {
-        return Err(SettleFault::Memory);
-    };
-    if bag.put(rt, &mut puts, first).is_err() || bag.put(rt, &mut puts, second).is_err() {
-        return Err(SettleFault::Memory);
-    }
-    let mut got = Vec::with_capacity(alloc, 1)?;
-    if let Some(chunk) = bag.get(rt, &mut gets) {
-        got.push(chunk)?;
-    }
-    let left = bag.drain(rt, alloc, vec![in alloc; puts, gets]?)?;
+    let mut puts = take_new(rt, &bag, &mut passes);
+    let mut gets = take_new(rt, &bag, &mut passes);
+    put(rt, &bag, &mut puts, first);
+    put(rt, &bag, &mut puts, second);
+    let got = bag.get(rt, &mut gets);
+    let left = bag.drain(rt, alloc, list_of(rt, alloc, [puts, gets]))?;
     Ok((got, left))
 }
 
 #[test]
-fn two_chunks_come_once_each(rt: HostRuntime) -> Result<(), Fail> {
-    let alloc = rt.alloc();
+fn two_chunks_come_once_each(rt: HostRuntime) {
     let (first, second) = (chunk_of(&rt, 0, 0, &[4, 5]), chunk_of(&rt, 0, 1, &[6]));
-    let (got, left) = hand_over(&rt, alloc, first, second)?;
-    assert_eq!(rt; (got.len(), left.len()), (1, 1));
-    Ok(())
+    let done = hand_over(&rt, rt.alloc(), first, second);
+    let (got, left) = done.expect(&rt, "both passes");
+    assert!(rt; got.is_some() && left.len() == 1);
 }
 
 // A metric that a mirror asks for twice has one place.
@@ -83,35 +76,80 @@ fn ask_twice<R: Wait>(
     Ok((first, second))
 }
 
+// The place where the mirror finds a metric.
+fn place_in<R: Wait + Abort>(
+    rt: &R,
+    alloc: Global,
+    log: &BagLog,
+    mirror: &mut Mirror,
+    metric: u64,
+) -> usize
+    requires { mirror.old.log ≡ log.now }
+    ensures gains { Gains mirror.old mirror.new }
+    ensures place { slice_get (metrics_in mirror.new.accesses) result ≡ Some metric }
+{
+    let found = log.find_or_append(rt, alloc, mirror, metric);
+    found.expect(rt, "the place of a bag")
+}
+
+// Drains a log by two mirrors.
+fn drain_by<R: Wait + Abort>(
+    rt: &R,
+    alloc: Global,
+    log: &BagLog,
+    first: Mirror,
+    second: Mirror,
+) -> Result<Vec<Chunk>, SettleFault>
+    requires first { first.log ≡ log.now }
+    requires second { second.log ≡ log.now }
+    ensures settled { IfOk result (λ left. IsLogSettled (first ∷ second ∷ []) left.items) }
+{
+    log.drain(rt, alloc, list_of(rt, alloc, [first, second]))
+}
+
 // A metric for which two mirrors ask has one place, if their log can be drained.
-fn ask_by_two<R: Wait>(
+fn ask_by_two<R: Wait + Abort>(
     rt: &R,
     alloc: Global,
     log: &BagLog,
     mut first: Mirror,
     mut second: Mirror,
     metric: u64,
-) -> Result<(usize, usize), Fail>
+) -> Result<(usize, usize), SettleFault>
     requires first { first.log ≡ log.now }
     requires second { second.log ≡ log.now }
     ensures { IfOk result (λ accesses. accesses.0 ≡ accesses.1) }
 {
-    let place = log.find_or_append(rt, alloc, &mut first, metric)?;
-    let other = log.find_or_append(rt, alloc, &mut second, metric)?;
-    log.drain(rt, alloc, vec![in alloc; first, second]?)?;
+    let place = place_in(rt, alloc, log, &mut first, metric);
+    let other = place_in(rt, alloc, log, &mut second, metric);
+    drain_by(rt, alloc, log, first, second)?;
     Ok((place, other))
 }
 
+// Asked for twice, the metric is at this place.
+fn expect_place<R: Wait + Abort>(
+    rt: &R,
+    alloc: Global,
+    log: &BagLog,
+    mirror: &mut Mirror,
+    metric: u64,
+    place: usize,
+)
+    requires { mirror.old.log ≡ log.now }
+    ensures { mirror.new.log ≡ log.now }
+{
+    let both = ask_twice(rt, alloc, log, mirror, metric);
+    assert_eq!(rt; both, Ok((place, place)));
+}
+
 #[test]
-fn a_metric_has_one_place(rt: HostRuntime) -> Result<(), Fail> {
+fn a_metric_has_one_place(rt: HostRuntime) {
     let alloc = rt.alloc();
-    let (log, mut mirrors) = BagLog::open(alloc, 2)?;
-    let mut first = mirrors.pop().expect(&rt, "two mirrors");
-    let second = mirrors.pop().expect(&rt, "two mirrors");
-    assert_eq!(rt; ask_twice(&rt, alloc, &log, &mut first, 9)?, (0, 0));
-    assert_eq!(rt; ask_twice(&rt, alloc, &log, &mut first, 5)?, (1, 1));
-    assert_eq!(rt; ask_by_two(&rt, alloc, &log, first, second, 5)?, (1, 1));
-    Ok(())
+    let (log, mut first, second) = open_mirrors(&rt, alloc);
+    expect_place(&rt, alloc, &log, &mut first, 9, 0);
+    expect_place(&rt, alloc, &log, &mut first, 5, 1);
+    let both = ask_by_two(&rt, alloc, &log, first, second, 5);
+    assert_eq!(rt; both, Ok((1, 1)));
 }
 
 // A chunk is put at a place and one is got there: nothing else of the mirror changes. Where a bag has one worker, that
@@ -143,25 +181,25 @@ fn put_and_get_at<R: Wait>(
 }
 
 // In a log into which nothing was put nothing is left.
-fn drain_unused<R: Wait>(
+fn drain_unused<R: Wait + Abort>(
     rt: &R,
     alloc: Global,
     log: &BagLog,
     mut first: Mirror,
     second: Mirror,
     metric: u64,
-) -> Result<Vec<Chunk>, Fail>
+) -> Result<Vec<Chunk>, SettleFault>
     requires first { first ≡ new_mirror log.now }
     requires second { second ≡ new_mirror log.now }
     ensures { IfOk result (λ left. left.items ≡ []) }
 {
-    let _place = log.find_or_append(rt, alloc, &mut first, metric)?;
-    let left = log.drain(rt, alloc, vec![in alloc; first, second]?)?;
+    place_in(rt, alloc, log, &mut first, metric);
+    let left = drain_by(rt, alloc, log, first, second)?;
     Ok(left)
 }
 
 // Two mirrors that each have a pass of a bag can be drained only if its workers are two at least.
-fn drain_two<R: Wait>(
+fn drain_two<R: Wait + Abort>(
     rt: &R,
     alloc: Global,
     log: &BagLog,
@@ -171,40 +209,61 @@ fn drain_two<R: Wait>(
 ) -> Result<Vec<Chunk>, SettleFault>
     requires first { first.log ≡ log.now }
     requires second { second.log ≡ log.now }
-    ensures { OnOk result ((one two : AccessSeen) → slice_get first.accesses place ≡ Some one → slice_get second.accesses place ≡ Some two
+    ensures { OnOk result ((one two : AccessSeen) → slice_get first.accesses place ≡ Some one
+        → slice_get second.accesses place ≡ Some two
         → IsNew one → IsNew two → 2 ≤ one.bag.workers) }
 {
     let _place = place;
-    let left = log.drain(rt, alloc, vec![in alloc; first, second]?)?;
+    let left = drain_by(rt, alloc, log, first, second)?;
     Ok(left)
 }
 
-#[test]
-fn what_is_put_at_a_place(rt: HostRuntime) -> Result<(), Fail> {
-    let alloc = rt.alloc();
-    let (log, mut mirrors) = BagLog::open(alloc, 1)?;
-    let mut mirror = mirrors.pop().expect(&rt, "one mirror");
-    let place = log.find_or_append(&rt, alloc, &mut mirror, 9)?;
-    let chunk = chunk_of(&rt, 0, 0, &[4, 5]);
-    let found = put_and_get_at(&rt, &log, &mut mirror, place, chunk);
+// The chunk that is put at the place of metric 9 is got there.
+fn expect_back<R: Wait + Abort>(
+    rt: &R,
+    alloc: Global,
+    log: &BagLog,
+    mirror: &mut Mirror,
+    chunk: Chunk,
+)
+    requires log { mirror.old.log ≡ log.now }
+    requires filled { chunk.vertices ≢ [] }
+    ensures { mirror.new.log ≡ log.now }
+{
+    let place = place_in(rt, alloc, log, mirror, 9);
+    let found = put_and_get_at(rt, log, mirror, place, chunk);
     assert!(rt; matches!(found, Ok(Some(_))));
-    let place = log.find_or_append(&rt, alloc, &mut mirror, 9)?;
-    let chunk = chunk_of(&rt, 0, 1, &[6]);
-    let found = put_and_get_at(&rt, &log, &mut mirror, place, chunk);
-    assert!(rt; matches!(found, Ok(Some(_))));
-    Ok(())
 }
 
 #[test]
-fn what_is_left_of_nothing(rt: HostRuntime) -> Result<(), Fail> {
+fn what_is_put_at_a_place(rt: HostRuntime) {
     let alloc = rt.alloc();
-    let (log, mut mirrors) = BagLog::open(alloc, 2)?;
-    let second = mirrors.pop().expect(&rt, "two mirrors");
-    let first = mirrors.pop().expect(&rt, "two mirrors");
-    assert!(rt; drain_unused(&rt, alloc, &log, first, second, 9)?.is_empty());
-    let (log, mut mirrors) = BagLog::open(alloc, 2)?;
-    let second = mirrors.pop().expect(&rt, "two mirrors");
-    let first = mirrors.pop().expect(&rt, "two mirrors");
-    assert!(rt; drain_two(&rt, alloc, &log, first, second, 0)?.is_empty());
-    Ok(())
+    let (log, mut mirrors) = open_log(&rt, alloc, 1);
+    let mut mirror = take_mirror(&rt, &log, &mut mirrors);
+    expect_back(&rt, alloc, &log, &mut mirror, chunk_of(&rt, 0, 0, &[4, 5]));
+    expect_back(&rt, alloc, &log, &mut mirror, chunk_of(&rt, 0, 1, &[6]));
+}
+
+// A log without bags, and both its mirrors.
+fn open_new(rt: &impl Abort, alloc: Global) -> (BagLog, Mirror, Mirror)
+    ensures first { result.1 ≡ new_mirror result.0 }
+    ensures second { result.2 ≡ new_mirror result.0 }
+{
+    let (log, mut mirrors) = BagLog::open(alloc, 2).expect(rt, "memory for a log");
+    let second = mirrors.pop().expect(rt, "two mirrors");
+    let first = mirrors.pop().expect(rt, "two mirrors");
+    (log, first, second)
+}
+
+fn expect_none(rt: &impl Abort, left: Result<Vec<Chunk>, SettleFault>) {
+    assert!(rt; left.expect(rt, "both mirrors").is_empty());
+}
+
+#[test]
+fn what_is_left_of_nothing(rt: HostRuntime) {
+    let alloc = rt.alloc();
+    let (log, first, second) = open_new(&rt, alloc);
+    expect_none(&rt, drain_unused(&rt, alloc, &log, first, second, 9));
+    let (log, first, second) = open_new(&rt, alloc);
+    expect_none(&rt, drain_two(&rt, alloc, &log, first, second, 0));
 }

@@ -1,26 +1,21 @@
 //! What the tests share: a bag with passes of their own, chunks of size 2, and a log with mirrors of their own.
 
-ghost use Rattle.std.specs.Prelude.{◌≡◌, ◌≢◌, ◌≤◌, [], All, IfOk, IfSome};
-ghost use Rattle.obim_bags.specs.Bags.{IsPassOf};
+ghost use Rattle.std.specs.Prelude.{◌≡◌, ◌≢◌, ◌≤◌, [], All, IfSome};
+ghost use Rattle.obim_bags.specs.Bags.{IsPassOf, after_put};
 ghost use Rattle.obim_bags.specs.Logs.{IsMirrorOf};
 
-use crate::{Bag, BagLog, BagPass, Chunk, ChunkId, LogFault, Mirror};
-use route_walks::Memory;
+use crate::{Bag, BagLog, BagPass, Chunk, ChunkId, LogFault, Mirror, SettleFault};
 use std::alloc::Global;
 use std::process::Abort;
 use std::sync::Wait;
 
 pub(crate) const METRIC: u64 = 3;
 
-pub(crate) fn open_bag<R: Wait>(
-    rt: &R,
-    alloc: Global,
-    workers: u32,
-) -> Result<(Bag, Vec<BagPass>), Memory>
+pub(crate) fn open_bag<R: Wait + Abort>(rt: &R, alloc: Global, workers: u32) -> (Bag, Vec<BagPass>)
     requires { 1 ≤ workers }
-    ensures { IfOk result (λ opened. All (IsPassOf opened.0) opened.1.items) }
+    ensures { All (IsPassOf result.0) result.1.items }
 {
-    Bag::open(rt, alloc, METRIC, workers)
+    Bag::open(rt, alloc, METRIC, workers).expect(rt, "memory for a bag")
 }
 
 pub(crate) fn take_pass<R: Abort>(rt: &R, bag: &Bag, passes: &mut Vec<BagPass>) -> BagPass
@@ -33,17 +28,25 @@ pub(crate) fn take_pass<R: Abort>(rt: &R, bag: &Bag, passes: &mut Vec<BagPass>) 
 }
 
 // A bag of two workers, and the pass of each.
-pub(crate) fn open_two<R: Wait + Abort>(
-    rt: &R,
-    alloc: Global,
-) -> Result<(Bag, BagPass, BagPass), Memory>
-    ensures first { IfOk result (λ opened. IsPassOf opened.0 opened.1) }
-    ensures second { IfOk result (λ opened. IsPassOf opened.0 opened.2) }
+pub(crate) fn open_two<R: Wait + Abort>(rt: &R, alloc: Global) -> (Bag, BagPass, BagPass)
+    ensures first { IsPassOf result.0 result.1 }
+    ensures second { IsPassOf result.0 result.2 }
 {
-    let (bag, mut passes) = open_bag(rt, alloc, 2)?;
+    let (bag, mut passes) = open_bag(rt, alloc, 2);
     let second = take_pass(rt, &bag, &mut passes);
     let first = take_pass(rt, &bag, &mut passes);
-    Ok((bag, first, second))
+    (bag, first, second)
+}
+
+// These passes or mirrors as a list.
+pub(crate) fn list_of<T: Drop, const N: usize>(
+    rt: &impl Abort,
+    alloc: Global,
+    items: [T; N],
+) -> Vec<T>
+    ensures { result.items ≡ items }
+{
+    Vec::from_array(alloc, items).expect(rt, "memory for a list")
 }
 
 pub(crate) fn chunk_of<R: Abort>(rt: &R, worker: u32, serial: u64, vertices: &[u32]) -> Chunk
@@ -60,7 +63,8 @@ pub(crate) fn chunk_of<R: Abort>(rt: &R, worker: u32, serial: u64, vertices: &[u
 pub(crate) fn put<R: Wait + Abort>(rt: &R, bag: &Bag, pass: &mut BagPass, chunk: Chunk)
     requires pass { IsPassOf bag.now pass.old }
     requires filled { chunk.vertices ≢ [] }
-    ensures { IsPassOf bag.now pass.new }
+    ensures pass { IsPassOf bag.now pass.new }
+    ensures put { pass.new ≡ after_put chunk pass.old }
 {
     assert!(rt; bag.put(rt, pass, chunk).is_ok());
 }
@@ -73,20 +77,65 @@ pub(crate) fn get<R: Wait + Abort>(rt: &R, bag: &Bag, pass: &mut BagPass) -> Chu
     bag.get(rt, pass).expect(rt, "a chunk that was put")
 }
 
+// Asserts that the chunk is of worker 0 with this serial, and gives these vertices.
+pub(crate) fn expect_chunk(rt: &impl Abort, mut chunk: Chunk, serial: u64, vertices: &[u32]) {
+    assert_eq!(rt; chunk.id(), ChunkId { worker: 0, serial });
+    for &v in vertices {
+        assert_eq!(rt; chunk.pop(), Some(v));
+    }
+    assert_eq!(rt; chunk.pop(), None);
+}
+
 // Asserts that these are the chunks of worker 0 with these serials, in order.
 pub(crate) fn expect_serials(rt: &impl Abort, left: &[Chunk], serials: &[u64]) {
     assert_eq!(rt; left.len(), serials.len());
     for (chunk, &serial) in left.iter().zip(serials) {
-        let id = chunk.id();
-        assert!(rt; id.worker == 0 && id.serial == serial, "chunk {id:?}");
+        assert_eq!(rt; chunk.id(), ChunkId { worker: 0, serial });
     }
 }
 
-pub(crate) fn open_log(alloc: Global, workers: u32) -> Result<(BagLog, Vec<Mirror>), Memory>
-    requires { 1 ≤ workers }
-    ensures { IfOk result (λ opened. All (IsMirrorOf opened.0) opened.1.items) }
+// Asserts that a bag drained by these passes gives the chunks of these serials, or else this fault.
+pub(crate) fn expect_drained<R: Wait + Abort>(
+    rt: &R,
+    alloc: Global,
+    bag: &Bag,
+    passes: Vec<BagPass>,
+    want: Result<&[u64], SettleFault>,
+)
+    requires { All (IsPassOf bag.now) passes.items }
 {
-    BagLog::open(alloc, workers)
+    expect_left(rt, bag.drain(rt, alloc, passes), want);
+}
+
+// The same of a log and its mirrors.
+pub(crate) fn expect_log_drained<R: Wait + Abort>(
+    rt: &R,
+    alloc: Global,
+    log: &BagLog,
+    mirrors: Vec<Mirror>,
+    want: Result<&[u64], SettleFault>,
+)
+    requires { All (IsMirrorOf log.now) mirrors.items }
+{
+    expect_left(rt, log.drain(rt, alloc, mirrors), want);
+}
+
+pub(crate) fn expect_left(
+    rt: &impl Abort,
+    drained: Result<Vec<Chunk>, SettleFault>,
+    want: Result<&[u64], SettleFault>,
+) {
+    match want {
+        Ok(serials) => expect_serials(rt, &drained.expect(rt, "chunks that are left"), serials),
+        Err(fault) => assert_eq!(rt; drained.err(), Some(fault)),
+    }
+}
+
+pub(crate) fn open_log(rt: &impl Abort, alloc: Global, workers: u32) -> (BagLog, Vec<Mirror>)
+    requires { 1 ≤ workers }
+    ensures { All (IsMirrorOf result.0) result.1.items }
+{
+    BagLog::open(alloc, workers).expect(rt, "memory for a log")
 }
 
 pub(crate) fn take_mirror<R: Abort>(rt: &R, log: &BagLog, mirrors: &mut Vec<Mirror>) -> Mirror
@@ -99,17 +148,14 @@ pub(crate) fn take_mirror<R: Abort>(rt: &R, log: &BagLog, mirrors: &mut Vec<Mirr
 }
 
 // A log of two workers, and the mirror of each.
-pub(crate) fn open_mirrors(
-    rt: &impl Abort,
-    alloc: Global,
-) -> Result<(BagLog, Mirror, Mirror), Memory>
-    ensures first { IfOk result (λ opened. opened.1.log ≡ opened.0) }
-    ensures second { IfOk result (λ opened. opened.2.log ≡ opened.0) }
+pub(crate) fn open_mirrors(rt: &impl Abort, alloc: Global) -> (BagLog, Mirror, Mirror)
+    ensures first { result.1.log ≡ result.0 }
+    ensures second { result.2.log ≡ result.0 }
 {
-    let (log, mut mirrors) = open_log(alloc, 2)?;
+    let (log, mut mirrors) = open_log(rt, alloc, 2);
     let second = take_mirror(rt, &log, &mut mirrors);
     let first = take_mirror(rt, &log, &mut mirrors);
-    Ok((log, first, second))
+    (log, first, second)
 }
 
 // Asserts what comes where the mirror asks for a metric.
@@ -139,6 +185,21 @@ pub(crate) fn expect_caught_up<R: Wait + Abort>(
     ensures { mirror.new.log ≡ log.now }
 {
     assert_eq!(rt; log.catch_up(rt, alloc, mirror), want);
+}
+
+// Asserts that the log has no pass of its bags for the mirror any more.
+pub(crate) fn expect_taken<R: Wait + Abort>(
+    rt: &R,
+    alloc: Global,
+    log: &BagLog,
+    mirror: &mut Mirror,
+    metric: u64,
+)
+    requires { mirror.old.log ≡ log.now }
+    ensures { mirror.new.log ≡ log.now }
+{
+    expect_caught_up(rt, alloc, log, mirror, Err(LogFault::Taken));
+    expect_found(rt, alloc, log, mirror, metric, Err(LogFault::Taken));
 }
 
 pub(crate) fn get_at<R: Wait + Abort>(

@@ -1,18 +1,15 @@
 //! Logs of two workers, with what each mirror then has and what is left.
 
-ghost use Rattle.std.specs.Prelude.{◌≡◌, All, IfOk};
-ghost use Rattle.obim_bags.specs.Logs.{IsMirrorOf};
+ghost use Rattle.std.specs.Prelude.{◌≡◌};
 
 use crate::tests::helpers::{
-    chunk_of, expect_caught_up, expect_found, expect_serials, finds_empty_at, get_at, open_log,
-    open_mirrors, put_each, take_mirror,
+    chunk_of, expect_caught_up, expect_found, expect_log_drained, expect_taken, finds_empty_at,
+    get_at, list_of, open_log, open_mirrors, put_each, take_mirror,
 };
-use crate::{BagLog, LogFault, Mirror, SettleFault};
-use route_walks::Memory;
+use crate::{BagLog, Mirror, SettleFault};
 use std::alloc::Global;
 use std::process::Abort;
 use std::sync::Wait;
-use std::test::Fail;
 
 // The mirror has metric 5 at place 0 and 2 at place 1.
 fn expect_five_and_two(rt: &impl Abort, mirror: &Mirror) {
@@ -22,34 +19,34 @@ fn expect_five_and_two(rt: &impl Abort, mirror: &Mirror) {
     assert_eq!(rt; accesses, [Some(0), Some(1), None]);
 }
 
+fn expect_unknown(rt: &impl Abort, mirror: &Mirror, metric: u64) {
+    assert_eq!(rt; mirror.place_of(metric), None);
+}
+
 // A log of which both mirrors know the metrics 5 and 2. The first appended 5, and the second 2; the other one doesn't
 // know it until it catches up.
-fn open_five_and_two<R: Wait + Abort>(
-    rt: &R,
-    alloc: Global,
-) -> Result<(BagLog, Mirror, Mirror), Memory>
-    ensures first { IfOk result (λ opened. opened.1.log ≡ opened.0) }
-    ensures second { IfOk result (λ opened. opened.2.log ≡ opened.0) }
+fn open_five_and_two<R: Wait + Abort>(rt: &R, alloc: Global) -> (BagLog, Mirror, Mirror)
+    ensures first { result.1.log ≡ result.0 }
+    ensures second { result.2.log ≡ result.0 }
 {
-    let (log, mut first, mut second) = open_mirrors(rt, alloc)?;
-    assert_eq!(rt; first.place_of(5), None);
+    let (log, mut first, mut second) = open_mirrors(rt, alloc);
+    expect_unknown(rt, &first, 5);
     expect_found(rt, alloc, &log, &mut first, 5, Ok(0));
-    assert_eq!(rt; second.place_of(5), None);
+    expect_unknown(rt, &second, 5);
     expect_caught_up(rt, alloc, &log, &mut second, Ok(1));
     expect_found(rt, alloc, &log, &mut second, 5, Ok(0));
-    assert_eq!(rt; second.place_of(2), None);
+    expect_unknown(rt, &second, 2);
     expect_found(rt, alloc, &log, &mut second, 2, Ok(1));
-    assert_eq!(rt; first.place_of(2), None);
+    expect_unknown(rt, &first, 2);
     expect_caught_up(rt, alloc, &log, &mut first, Ok(2));
-    Ok((log, first, second))
+    (log, first, second)
 }
 
 #[test]
-fn a_metric_has_one_place(rt: HostRuntime) -> Result<(), Fail> {
-    let (_, first, second) = open_five_and_two(&rt, rt.alloc())?;
+fn a_metric_has_one_place(rt: HostRuntime) {
+    let (_, first, second) = open_five_and_two(&rt, rt.alloc());
     expect_five_and_two(&rt, &first);
     expect_five_and_two(&rt, &second);
-    Ok(())
 }
 
 // Access 1 has the chunk of this serial, and place 0 has none.
@@ -93,76 +90,61 @@ fn put_boxed_at_1<R: Wait + Abort>(
 }
 
 // A log of which one mirror put two chunks at place 1, and the other got each from there.
-fn pass_chunks_on<R: Wait + Abort>(
-    rt: &R,
-    alloc: Global,
-) -> Result<(BagLog, Mirror, Mirror), Memory>
-    ensures first { IfOk result (λ opened. opened.1.log ≡ opened.0) }
-    ensures second { IfOk result (λ opened. opened.2.log ≡ opened.0) }
+fn pass_chunks_on<R: Wait + Abort>(rt: &R, alloc: Global) -> (BagLog, Mirror, Mirror)
+    ensures first { result.1.log ≡ result.0 }
+    ensures second { result.2.log ≡ result.0 }
 {
-    let (log, mut first, mut second) = open_five_and_two(rt, alloc)?;
+    let (log, mut first, mut second) = open_five_and_two(rt, alloc);
     put_each(rt, alloc, &log, &mut first, &[(0, 2)]);
     expect_at_1(rt, &log, &mut second, 0);
     put_boxed_at_1(rt, alloc, &log, &mut first, 1);
     expect_boxed_at_1(rt, &log, &mut second, 1);
-    Ok((log, first, second))
+    (log, first, second)
 }
 
 #[test]
-fn nothing_is_left_of_what_was_got(rt: HostRuntime) -> Result<(), Fail> {
+fn nothing_is_left_of_what_was_got(rt: HostRuntime) {
     let alloc = rt.alloc();
-    let (log, first, second) = pass_chunks_on(&rt, alloc)?;
-    let left = log.drain(&rt, alloc, vec![in alloc; first, second]?)?;
-    assert!(rt; left.is_empty());
-    Ok(())
-}
-
-// A drain by these mirrors says that passes are missing.
-fn expect_missing<R: Wait + Abort>(rt: &R, alloc: Global, log: &BagLog, mirrors: Vec<Mirror>)
-    requires { All (IsMirrorOf log.now) mirrors.items }
-{
-    let left = log.drain(rt, alloc, mirrors);
-    assert_eq!(rt; left.err(), Some(SettleFault::Missing));
+    let (log, first, second) = pass_chunks_on(&rt, alloc);
+    let mirrors = list_of(&rt, alloc, [first, second]);
+    expect_log_drained(&rt, alloc, &log, mirrors, Ok(&[]));
 }
 
 #[test]
-fn passes_withheld_are_missing(rt: HostRuntime) -> Result<(), Fail> {
+fn passes_withheld_are_missing(rt: HostRuntime) {
     let alloc = rt.alloc();
-    let (log, first, _) = pass_chunks_on(&rt, alloc)?;
-    expect_missing(&rt, alloc, &log, vec![in alloc; first]?);
-    expect_missing(&rt, alloc, &log, Vec::new(alloc));
-    Ok(())
+    let (log, first, _) = pass_chunks_on(&rt, alloc);
+    let mirrors = list_of(&rt, alloc, [first]);
+    expect_log_drained(&rt, alloc, &log, mirrors, Err(SettleFault::Missing));
+    expect_log_drained(&rt, alloc, &log, Vec::new(alloc), Err(SettleFault::Missing));
 }
 
 #[test]
-fn a_log_without_bags_wants_a_mirror(rt: HostRuntime) -> Result<(), Fail> {
+fn a_log_without_bags_wants_a_mirror(rt: HostRuntime) {
     let alloc = rt.alloc();
-    let (log, mirrors) = open_log(alloc, 2)?;
-    expect_missing(&rt, alloc, &log, Vec::new(alloc));
-    assert!(rt; log.drain(&rt, alloc, mirrors)?.is_empty());
-    Ok(())
+    let (log, mirrors) = open_log(&rt, alloc, 2);
+    expect_log_drained(&rt, alloc, &log, Vec::new(alloc), Err(SettleFault::Missing));
+    expect_log_drained(&rt, alloc, &log, mirrors, Ok(&[]));
 }
 
 #[test]
-fn unclaimed_passes_are_joined_in(rt: HostRuntime) -> Result<(), Fail> {
+fn unclaimed_passes_are_joined_in(rt: HostRuntime) {
     let alloc = rt.alloc();
-    let (log, mut first, mut second) = open_mirrors(&rt, alloc)?;
+    let (log, mut first, mut second) = open_mirrors(&rt, alloc);
     expect_found(&rt, alloc, &log, &mut first, 5, Ok(0));
-    assert!(rt; log.drain(&rt, alloc, vec![in alloc; first]?)?.is_empty());
-    expect_caught_up(&rt, alloc, &log, &mut second, Err(LogFault::Taken));
-    expect_found(&rt, alloc, &log, &mut second, 5, Err(LogFault::Taken));
-    assert_eq!(rt; second.len(), 0);
-    Ok(())
+    let mirrors = list_of(&rt, alloc, [first]);
+    expect_log_drained(&rt, alloc, &log, mirrors, Ok(&[]));
+    expect_taken(&rt, alloc, &log, &mut second, 5);
+    assert!(rt; second.len() == 0);
 }
 
 #[test]
-fn chunks_left_stand_by_place_and_then_in_order(rt: HostRuntime) -> Result<(), Fail> {
+fn chunks_left_stand_by_place_and_then_in_order(rt: HostRuntime) {
     let alloc = rt.alloc();
-    let (log, mut mirrors) = open_log(alloc, 1)?;
+    let (log, mut mirrors) = open_log(&rt, alloc, 1);
     let mut mirror = take_mirror(&rt, &log, &mut mirrors);
     let chunks = [(0, 9), (1, 4), (2, 9), (3, 6), (4, 4)];
     put_each(&rt, alloc, &log, &mut mirror, &chunks);
-    let left = log.drain(&rt, alloc, vec![in alloc; mirror]?)?;
-    expect_serials(&rt, &left, &[0, 2, 1, 4, 3]);
-    Ok(())
+    let mirrors = list_of(&rt, alloc, [mirror]);
+    expect_log_drained(&rt, alloc, &log, mirrors, Ok(&[0, 2, 1, 4, 3]));
 }

@@ -7,15 +7,15 @@ ghost use Rattle.obim_bags.specs.Bags.{IsPassOf};
 ghost use Rattle.obim_bags.specs.Logs.{IsMirrorOf};
 
 use crate::tests::helpers::{
-    METRIC, chunk_of, expect_caught_up, expect_found, expect_serials, finds_empty_at, get, get_at,
-    open_mirrors, open_two, put, put_each,
+    chunk_of, expect_caught_up, expect_chunk, expect_drained, expect_found, expect_left,
+    expect_log_drained, finds_empty_at, get, get_at, list_of, open_log, open_mirrors, open_two,
+    put, put_each, take_mirror,
 };
-use crate::{Bag, BagLog, BagPass, Chunk, ChunkId, LogFault, Mirror, SettleFault};
+use crate::{Bag, BagLog, BagPass, Chunk, LogFault, Mirror, SettleFault};
 use route_walks::{Memory, refusable, tried_again};
 use std::alloc::Global;
 use std::process::Abort;
 use std::sync::Wait;
-use std::test::Fail;
 
 // More chunks than a block of a bag's queue has, so that one put takes memory for the next block.
 const CHUNKS: u64 = 40;
@@ -25,12 +25,6 @@ const METRICS: u64 = 12;
 
 // What is left where chunks 1 to 8 were put.
 const REST: [u64; 8] = [1, 2, 3, 4, 5, 6, 7, 8];
-
-// The chunk is of worker 0 with this serial, and its one vertex is 5.
-fn expect_chunk(rt: &impl Abort, mut chunk: Chunk, serial: u64) {
-    assert_eq!(rt; chunk.id(), ChunkId { worker: 0, serial });
-    assert_eq!(rt; (chunk.pop(), chunk.pop()), (Some(5), None));
-}
 
 // The chunk that came back, out of its box.
 fn unboxed(put: Result<(), Box<Chunk>>) -> Result<(), Chunk>
@@ -44,10 +38,10 @@ fn unboxed(put: Result<(), Box<Chunk>>) -> Result<(), Chunk>
 }
 
 #[test]
-fn of_bag_open(rt: HostRuntime) -> Result<(), Fail> {
+fn of_bag_open(rt: HostRuntime) -> Result<(), Memory> {
     let alloc = rt.alloc();
     let (bag, passes) = tried_again!(rt, alloc, Memory, Bag::open(&rt, alloc, 3, 2));
-    assert_eq!(rt; (bag.metric(), passes.len()), (3, 2));
+    assert!(rt; bag.metric() == 3 && passes.len() == 2);
     Ok(())
 }
 
@@ -95,13 +89,13 @@ fn put_again<R: Wait + Abort>(
         assert!(rt; bag.finds_empty(second));
         assert!(rt; put_refusably(rt, alloc, bag, first, is_boxed, back)?.is_ok());
     }
-    expect_chunk(rt, get(rt, bag, second), serial);
+    expect_chunk(rt, get(rt, bag, second), serial, &[5]);
     assert!(rt; bag.finds_empty(second));
     Ok(())
 }
 
 fn put_each_again<R: Wait + Abort>(rt: &R, alloc: Global, is_boxed: bool) -> Result<(), Memory> {
-    let (bag, mut first, mut second) = open_two(rt, alloc)?;
+    let (bag, mut first, mut second) = open_two(rt, alloc);
     for serial in 0..CHUNKS {
         put_again(rt, alloc, &bag, &mut first, &mut second, is_boxed, serial)?;
     }
@@ -109,24 +103,22 @@ fn put_each_again<R: Wait + Abort>(rt: &R, alloc: Global, is_boxed: bool) -> Res
 }
 
 #[test]
-fn of_bag_put(rt: HostRuntime) -> Result<(), Fail> {
-    put_each_again(&rt, rt.alloc(), false)?;
-    Ok(())
+fn of_bag_put(rt: HostRuntime) -> Result<(), Memory> {
+    put_each_again(&rt, rt.alloc(), false)
 }
 
 #[test]
-fn of_bag_put_boxed(rt: HostRuntime) -> Result<(), Fail> {
-    put_each_again(&rt, rt.alloc(), true)?;
-    Ok(())
+fn of_bag_put_boxed(rt: HostRuntime) -> Result<(), Memory> {
+    put_each_again(&rt, rt.alloc(), true)
 }
 
 // A bag of which a few chunks are left, and all of its passes.
-fn left_over<R: Wait + Abort>(rt: &R, alloc: Global) -> Result<(Bag, Vec<BagPass>), Memory>
-    ensures { IfOk result (λ opened. All (IsPassOf opened.0) opened.1.items) }
+fn left_over<R: Wait + Abort>(rt: &R, alloc: Global) -> (Bag, Vec<BagPass>)
+    ensures { All (IsPassOf result.0) result.1.items }
 {
-    let (bag, mut passes) = Bag::open(rt, alloc, METRIC, 2)?;
-    put_nine(rt, &bag, &mut passes[0]);
-    Ok((bag, passes))
+    let (bag, mut first, second) = open_two(rt, alloc);
+    put_nine(rt, &bag, &mut first);
+    (bag, list_of(rt, alloc, [first, second]))
 }
 
 // Puts nine chunks and gets the first.
@@ -137,34 +129,54 @@ fn put_nine<R: Wait + Abort>(rt: &R, bag: &Bag, pass: &mut BagPass)
     for serial in 0..9 {
         put(rt, bag, pass, chunk_of(rt, 0, serial, &[5]));
     }
-    expect_chunk(rt, get(rt, bag, pass), 0);
+    expect_chunk(rt, get(rt, bag, pass), 0, &[5]);
+}
+
+// Whether memory was refused, and nothing is given. Else all that is left is.
+fn is_refused(rt: &impl Abort, drained: Result<Vec<Chunk>, SettleFault>) -> bool {
+    if let Err(SettleFault::Memory) = drained {
+        return true;
+    }
+    expect_left(rt, drained, Ok(&REST));
+    false
+}
+
+// Drains a bag by these passes, where memory may be refused: whether it was.
+fn drain_refusably<R: Wait + Abort>(
+    rt: &R,
+    alloc: Global,
+    bag: &Bag,
+    passes: Vec<BagPass>,
+) -> Result<bool, Memory>
+    requires { All (IsPassOf bag.now) passes.items }
+{
+    let drained = refusable!(alloc, bag.drain(rt, alloc, passes));
+    Ok(is_refused(rt, drained))
 }
 
 #[test]
-fn of_bag_drain(rt: HostRuntime) -> Result<(), Fail> {
+fn of_bag_drain(rt: HostRuntime) {
     let alloc = rt.alloc();
-    let (bag, passes) = left_over(&rt, alloc)?;
-    let (same, others) = left_over(&rt, alloc)?;
-    let left = tried_again!(
-        rt,
-        alloc,
-        SettleFault::Memory,
-        bag.drain(&rt, alloc, passes),
-        same.drain(&rt, alloc, others)
-    );
-    expect_serials(&rt, &left, &REST);
-    Ok(())
+    let (bag, passes) = left_over(&rt, alloc);
+    let refused = drain_refusably(&rt, alloc, &bag, passes);
+    if refused.expect(&rt, "memory for the signals") {
+        let (same, others) = left_over(&rt, alloc);
+        expect_drained(&rt, alloc, &same, others, Ok(&REST));
+    }
 }
 
 #[test]
-fn of_bag_log_open(rt: HostRuntime) -> Result<(), Fail> {
+fn of_bag_log_open(rt: HostRuntime) -> Result<(), Memory> {
     let alloc = rt.alloc();
     let (_, mirrors) = tried_again!(rt, alloc, Memory, BagLog::open(alloc, 2));
-    assert_eq!(rt; mirrors.len(), 2);
-    for mirror in &mirrors {
-        assert_eq!(rt; mirror.len(), 0);
-    }
+    expect_two_empty(&rt, &mirrors);
     Ok(())
+}
+
+// These are two mirrors, without a bag.
+fn expect_two_empty(rt: &impl Abort, mirrors: &[Mirror]) {
+    assert!(rt; mirrors.len() == 2);
+    assert!(rt; mirrors[0].len() == 0 && mirrors[1].len() == 0);
 }
 
 // Finds a metric's bag, at this place. A refusal leaves the mirror without it.
@@ -190,7 +202,7 @@ fn find_again<R: Wait + Abort>(
     Ok(())
 }
 
-// Catches up, to so many bags. A refusal leaves the mirror as it was.
+// Catches up, to `count` bags. A refusal leaves the mirror as it was.
 fn catch_up_again<R: Wait + Abort>(
     rt: &R,
     alloc: Global,
@@ -221,22 +233,20 @@ fn find_each_again<R: Wait + Abort>(
     second: &mut Mirror,
 ) -> Result<(), Memory>
     requires { (first.old.log ≡ log.now) × (second.old.log ≡ log.now) }
-    ensures { second.new.log ≡ log.now }
 {
     for metric in 0..METRICS {
         find_again(rt, alloc, log, first, metric, metric as usize)?;
         find_again(rt, alloc, log, second, metric, metric as usize)?;
     }
+    expect_caught_up(rt, alloc, log, second, Ok(METRICS as usize));
     Ok(())
 }
 
 #[test]
-fn of_bag_log_find_or_append(rt: HostRuntime) -> Result<(), Fail> {
+fn of_bag_log_find_or_append(rt: HostRuntime) -> Result<(), Memory> {
     let alloc = rt.alloc();
-    let (log, mut first, mut second) = open_mirrors(&rt, alloc)?;
-    find_each_again(&rt, alloc, &log, &mut first, &mut second)?;
-    expect_caught_up(&rt, alloc, &log, &mut second, Ok(METRICS as usize));
-    Ok(())
+    let (log, mut first, mut second) = open_mirrors(&rt, alloc);
+    find_each_again(&rt, alloc, &log, &mut first, &mut second)
 }
 
 // One mirror appends four bags from this metric on, and then the other catches up.
@@ -261,14 +271,25 @@ fn append_four<R: Wait + Abort>(
     Ok(())
 }
 
+fn append_thrice<R: Wait + Abort>(
+    rt: &R,
+    alloc: Global,
+    log: &BagLog,
+    first: &mut Mirror,
+    second: &mut Mirror,
+) -> Result<(), Memory>
+    requires { (first.old.log ≡ log.now) × (second.old.log ≡ log.now) }
+{
+    append_four(rt, alloc, log, first, second, 0)?;
+    append_four(rt, alloc, log, first, second, 4)?;
+    append_four(rt, alloc, log, first, second, 8)
+}
+
 #[test]
-fn of_bag_log_catch_up(rt: HostRuntime) -> Result<(), Fail> {
+fn of_bag_log_catch_up(rt: HostRuntime) -> Result<(), Memory> {
     let alloc = rt.alloc();
-    let (log, mut first, mut second) = open_mirrors(&rt, alloc)?;
-    append_four(&rt, alloc, &log, &mut first, &mut second, 0)?;
-    append_four(&rt, alloc, &log, &mut first, &mut second, 4)?;
-    append_four(&rt, alloc, &log, &mut first, &mut second, 8)?;
-    Ok(())
+    let (log, mut first, mut second) = open_mirrors(&rt, alloc);
+    append_thrice(&rt, alloc, &log, &mut first, &mut second)
 }
 
 // Puts a chunk at place 1, in a box or without one. Only the put may be refused memory.
@@ -285,7 +306,7 @@ fn put_at_refusably<R: Wait + Abort>(
     ensures log { mirror.new.log ≡ log.now }
     ensures filled { IfOk result (λ given. IfErr given (λ back. back.vertices ≢ [])) }
 {
-    assert_eq!(rt; mirror.len(), 2);
+    assert!(rt; mirror.len() == 2);
     if !is_boxed {
         return Ok(refusable!(alloc, log.put_at(rt, mirror, 1, chunk)));
     }
@@ -313,7 +334,7 @@ fn put_at_again<R: Wait + Abort>(
         assert!(rt; put_at_refusably(rt, alloc, log, mirror, is_boxed, back)?.is_ok());
     }
     let got = get_at(rt, log, mirror, 1);
-    expect_chunk(rt, got.expect(rt, "the chunk that was put"), serial);
+    expect_chunk(rt, got.expect(rt, "the chunk that was put"), serial, &[5]);
     Ok(())
 }
 
@@ -335,60 +356,72 @@ fn put_each_at_again<R: Wait + Abort>(
 }
 
 #[test]
-fn of_bag_log_put_at(rt: HostRuntime) -> Result<(), Fail> {
-    let (log, mut mirror, _) = open_mirrors(&rt, rt.alloc())?;
-    put_each_at_again(&rt, rt.alloc(), &log, &mut mirror, false)?;
-    Ok(())
+fn of_bag_log_put_at(rt: HostRuntime) -> Result<(), Memory> {
+    let (log, mut mirror, _) = open_mirrors(&rt, rt.alloc());
+    put_each_at_again(&rt, rt.alloc(), &log, &mut mirror, false)
 }
 
 #[test]
-fn of_bag_log_put_boxed_at(rt: HostRuntime) -> Result<(), Fail> {
-    let (log, mut mirror, _) = open_mirrors(&rt, rt.alloc())?;
-    put_each_at_again(&rt, rt.alloc(), &log, &mut mirror, true)?;
-    Ok(())
+fn of_bag_log_put_boxed_at(rt: HostRuntime) -> Result<(), Memory> {
+    let (log, mut mirror, _) = open_mirrors(&rt, rt.alloc());
+    put_each_at_again(&rt, rt.alloc(), &log, &mut mirror, true)
 }
 
-// A log of three workers, of which one put eight chunks into two bags by turns, so that the serials rise by bag, and
-// another's mirror is apart.
-fn filled_log<R: Wait + Abort>(
+// Eight serials and metrics by turns, so that the serials rise by bag.
+const EIGHT: [(u64, u64); 8] = [
+    (1, 5),
+    (2, 5),
+    (5, 2),
+    (3, 5),
+    (6, 2),
+    (7, 2),
+    (4, 5),
+    (8, 2),
+];
+
+// A log of three workers, of which one put eight chunks into two bags, and another's mirror is apart.
+fn filled_log<R: Wait + Abort>(rt: &R, alloc: Global) -> (BagLog, Vec<Mirror>, Mirror)
+    ensures rest { All (IsMirrorOf result.0) result.1.items }
+    ensures apart { result.2.log ≡ result.0 }
+{
+    let (log, mut mirrors) = open_log(rt, alloc, 3);
+    let third = take_mirror(rt, &log, &mut mirrors);
+    assert!(rt; mirrors.len() > 0);
+    put_each(rt, alloc, &log, &mut mirrors[0], &EIGHT);
+    (log, mirrors, third)
+}
+
+// Drains a log by these mirrors, where memory may be refused: whether it was.
+fn drain_log_refusably<R: Wait + Abort>(
     rt: &R,
     alloc: Global,
-) -> Result<(BagLog, Vec<Mirror>, Mirror), Memory>
-    ensures rest { IfOk result (λ opened. All (IsMirrorOf opened.0) opened.1.items) }
-    ensures apart { IfOk result (λ opened. opened.2.log ≡ opened.0) }
+    log: &BagLog,
+    mirrors: Vec<Mirror>,
+) -> Result<bool, Memory>
+    requires { All (IsMirrorOf log.now) mirrors.items }
 {
-    let chunks = [
-        (1, 5),
-        (2, 5),
-        (5, 2),
-        (3, 5),
-        (6, 2),
-        (7, 2),
-        (4, 5),
-        (8, 2),
-    ];
-    let (log, mut mirrors) = BagLog::open(alloc, 3)?;
-    let third = mirrors.pop().expect(rt, "three mirrors");
-    put_each(rt, alloc, &log, &mut mirrors[0], &chunks);
-    Ok((log, mirrors, third))
+    let drained = refusable!(alloc, log.drain(rt, alloc, mirrors));
+    Ok(is_refused(rt, drained))
 }
 
-// After a refusal the slot is free: a call of the third worker returns, though it may find its passes taken.
-#[test]
-fn of_bag_log_drain(rt: HostRuntime) -> Result<(), Fail> {
-    let alloc = rt.alloc();
-    let (log, mirrors, mut third) = filled_log(&rt, alloc)?;
-    let (same, others, _third) = filled_log(&rt, alloc)?;
-    let left = tried_again!(
-        rt,
-        alloc,
-        SettleFault::Memory,
-        log.drain(&rt, alloc, mirrors),
-        same.drain(&rt, alloc, others)
-    );
-    expect_serials(&rt, &left, &REST);
-    if let Err(fault) = log.catch_up(&rt, alloc, &mut third) {
+// A call returns, though it may find its passes taken.
+fn expect_free<R: Wait + Abort>(rt: &R, alloc: Global, log: &BagLog, mirror: &mut Mirror)
+    requires { mirror.old.log ≡ log.now }
+{
+    if let Err(fault) = log.catch_up(rt, alloc, mirror) {
         assert_eq!(rt; fault, LogFault::Taken);
     }
-    Ok(())
+}
+
+// After a refusal the slot is free for the third worker.
+#[test]
+fn of_bag_log_drain(rt: HostRuntime) {
+    let alloc = rt.alloc();
+    let (log, mirrors, mut third) = filled_log(&rt, alloc);
+    let refused = drain_log_refusably(&rt, alloc, &log, mirrors);
+    expect_free(&rt, alloc, &log, &mut third);
+    if refused.expect(&rt, "memory for the signals") {
+        let (same, others, _) = filled_log(&rt, alloc);
+        expect_log_drained(&rt, alloc, &same, others, Ok(&REST));
+    }
 }

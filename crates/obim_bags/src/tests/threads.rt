@@ -5,13 +5,12 @@ ghost use Rattle.obim_bags.specs.Bags.{IsPassOf};
 ghost use Rattle.obim_bags.specs.Logs.{IsMirrorOf};
 
 use crate::tests::helpers::{chunk_of, open_bag, open_log, put, put_by_metric};
-use crate::{Bag, BagLog, BagPass, Chunk, ChunkId, Mirror, SettleFault};
+use crate::{Bag, BagLog, BagPass, Chunk, ChunkId, Mirror};
 use route_walks::Memory;
 use std::alloc::Global;
 use std::process::Abort;
 use std::sync::Wait;
 use std::sync::atomic::{AtomicU64, Ordering};
-use std::test::Fail;
 use std::thread::{Threads, for_each_mut};
 
 // How many chunks each thread puts.
@@ -89,25 +88,20 @@ fn work_by_threads<R: Threads + Wait + Abort + Sync>(
     );
 }
 
-fn share_bag<R: Threads + Wait + Abort + Sync>(
-    rt: &R,
-    alloc: Global,
-    workers: u32,
-) -> Result<(), SettleFault>
+fn share_bag<R: Threads + Wait + Abort + Sync>(rt: &R, alloc: Global, workers: u32)
     requires { 1 ≤ workers }
 {
-    let counts = open_counts(alloc, workers)?;
-    let (bag, mut passes) = open_bag(rt, alloc, workers)?;
+    let counts = open_counts(alloc, workers).expect(rt, "memory for counts");
+    let (bag, mut passes) = open_bag(rt, alloc, workers);
     work_by_threads(rt, &bag, &mut passes, &counts);
-    expect_each_once(rt, &counts, &bag.drain(rt, alloc, passes)?);
-    Ok(())
+    let left = bag.drain(rt, alloc, passes);
+    expect_each_once(rt, &counts, &left.expect(rt, "all passes"));
 }
 
 #[test]
-fn a_bag_of_two_and_of_four_threads(rt: HostRuntime) -> Result<(), Fail> {
-    share_bag(&rt, rt.alloc(), 2)?;
-    share_bag(&rt, rt.alloc(), 4)?;
-    Ok(())
+fn a_bag_of_two_and_of_four_threads(rt: HostRuntime) {
+    share_bag(&rt, rt.alloc(), 2);
+    share_bag(&rt, rt.alloc(), 4);
 }
 
 // Puts chunks of the worker of this number at metrics in turn, and after every second one gets what is there.
@@ -165,23 +159,18 @@ fn work_in_log_by_threads<R: Threads + Wait + Abort + Sync>(
     );
 }
 
-fn share_log<R: Threads + Wait + Abort + Sync>(
-    rt: &R,
-    alloc: Global,
-    workers: u32,
-) -> Result<(), SettleFault>
+fn share_log<R: Threads + Wait + Abort + Sync>(rt: &R, alloc: Global, workers: u32)
     requires { 1 ≤ workers }
 {
-    let counts = open_counts(alloc, workers)?;
-    let (log, mut mirrors) = open_log(alloc, workers)?;
+    let counts = open_counts(alloc, workers).expect(rt, "memory for counts");
+    let (log, mut mirrors) = open_log(rt, alloc, workers);
     work_in_log_by_threads(rt, alloc, &log, &mut mirrors, &counts);
-    expect_each_once(rt, &counts, &log.drain(rt, alloc, mirrors)?);
-    Ok(())
+    let left = log.drain(rt, alloc, mirrors);
+    expect_each_once(rt, &counts, &left.expect(rt, "all mirrors"));
 }
 
 #[test]
-fn a_log_of_two_and_of_four_threads(rt: HostRuntime) -> Result<(), Fail> {
-    share_log(&rt, rt.alloc(), 2)?;
-    share_log(&rt, rt.alloc(), 4)?;
-    Ok(())
+fn a_log_of_two_and_of_four_threads(rt: HostRuntime) {
+    share_log(&rt, rt.alloc(), 2);
+    share_log(&rt, rt.alloc(), 4);
 }

@@ -5,7 +5,7 @@
 ghost use Rattle.std.specs.Prelude.{◌≡◌};
 ghost use Rattle.relax_core.specs.State.{IsOf};
 
-use crate::tests::{SCHEDULE, events, graph, stands};
+use crate::tests::{events, expect_pending, expect_vertex, expect_views, graph, row, stands};
 use crate::{Core, CoreFault, Event, Hand, ReplayFault, SHARES, View, apply, open_core, replay};
 use csr_graph::Csr;
 use route_walks::{EXAMPLE_SEEDS, INF, Memory, refusable, tried_again};
@@ -13,7 +13,7 @@ use std::alloc::Global;
 use std::process::Abort;
 use std::test::Fail;
 
-// So many splits of one seat are enabled: its share is halved by each.
+// This number of splits of one seat is enabled: its share is halved by each.
 const SPLITS: usize = 16;
 
 #[test]
@@ -26,8 +26,8 @@ fn of_open_core(rt: HostRuntime) -> Result<(), Fail> {
         open_core(rt.alloc(), &csr, &EXAMPLE_SEEDS)
     );
     for v in 0..4_u32 {
-        assert_eq!(rt; core.label(v), if v == 0 { 0 } else { INF });
-        assert_eq!(rt; core.mark(v), v == 0);
+        let want = if v == 0 { (0, 1) } else { (INF, 0) };
+        expect_vertex(&rt, v, (core.label(v), u8::from(core.mark(v))), want, 0);
     }
     let idle = View {
         hand: Hand::Idle,
@@ -35,7 +35,13 @@ fn of_open_core(rt: HostRuntime) -> Result<(), Fail> {
         saw: false,
         share: SHARES,
     };
-    assert!(rt; core.pending() == 1 && core.views() == [idle].as_slice());
+    expect_pending(&rt, &core, 1, 0);
+    expect_views(&rt, &core, &[idle]);
+    Ok(())
+}
+
+fn expect_unchanged(rt: &impl Abort, alloc: Global, core: &Core, before: &str) -> Result<(), Fail> {
+    assert_eq!(rt; format!(in alloc; "{core:?}")?.as_str(), before);
     Ok(())
 }
 
@@ -52,8 +58,8 @@ fn apply_again(
 {
     let before = format!(in alloc; "{core:?}")?;
     if let Err(fault) = refusable!(alloc, apply(alloc, core, csr, event)) {
-        assert_eq!(rt; fault, CoreFault::Memory);
-        assert_eq!(rt; format!(in alloc; "{core:?}")?.as_str(), before.as_str());
+        assert!(rt; fault == CoreFault::Memory);
+        expect_unchanged(rt, alloc, core, &before)?;
         apply(alloc, core, csr, event)?;
     }
     Ok(())
@@ -66,7 +72,7 @@ fn play_again(rt: &impl Abort, alloc: Global, core: &mut Core, csr: &Csr) -> Res
     ensures { IsOf csr.now core.new }
 {
     for i in 0..33_usize {
-        apply_again(rt, alloc, core, csr, SCHEDULE[i].0)?;
+        apply_again(rt, alloc, core, csr, row(i).0)?;
         stands(rt, core, csr, i);
     }
     Ok(())
@@ -90,9 +96,22 @@ fn of_apply(rt: HostRuntime) -> Result<(), Fail> {
     let mut core = open_core(alloc, &csr, &EXAMPLE_SEEDS)?;
     play_again(&rt, alloc, &mut core, &csr)?;
     split_again(&rt, alloc, &mut core, &csr)?;
-    assert_eq!(rt; core.views().len(), SPLITS + 2);
+    assert!(rt; core.views().len() == SPLITS + 2);
     let refused = apply(alloc, &mut core, &csr, Event::Split(0));
-    assert_eq!(rt; refused, Err(CoreFault::NotEnabled));
+    assert!(rt; refused == Err(CoreFault::NotEnabled));
+    Ok(())
+}
+
+// A list of events that stops at the third one, whether memory is refused or not.
+fn expect_stop_again(rt: &impl Abort, alloc: Global, csr: &Csr) -> Result<(), Fail>
+    requires { csr.now.n ≡ 4 }
+{
+    let stop = [Event::Split(0), Event::Take(0, 0), Event::Relax(0)];
+    let fault = refusable!(alloc, replay(alloc, csr, &EXAMPLE_SEEDS, &stop)).err();
+    assert!(rt;
+        matches!(fault, Some(ReplayFault::Memory | ReplayFault::At(2))),
+        "{fault:?}"
+    );
     Ok(())
 }
 
@@ -108,11 +127,5 @@ fn of_replay(rt: HostRuntime) -> Result<(), Fail> {
         replay(alloc, &csr, &EXAMPLE_SEEDS, &events)
     );
     stands(&rt, &core, &csr, 32);
-    let stop = [Event::Split(0), Event::Take(0, 0), Event::Relax(0)];
-    match refusable!(alloc, replay(alloc, &csr, &EXAMPLE_SEEDS, &stop)) {
-        Ok(_) => assert!(rt; false, "an event that is not enabled"),
-        Err(ReplayFault::Memory) => {}
-        Err(fault) => assert_eq!(rt; fault, ReplayFault::At(2)),
-    }
-    Ok(())
+    expect_stop_again(&rt, alloc, &csr)
 }

@@ -9,12 +9,15 @@ use Rattle.obim_bags.specs.Logs.{IsLogSettled, MirrorSeen, bags_in, metrics_in, 
 use Rattle.obim_bags.proofs.Prefixes.{prefix_get, prefix_map}
 use Rattle.obim_bags.proofs.tests.callers.ask_by_two.Goals as goal
 
-one_place : (first second : MirrorSeen) (left : List ChunkSeen) (metric place other : ℕ) → IsLogSettled (first ∷ second ∷ []) left
-    → slice_get (metrics_in first.accesses) place ≡ Some metric → slice_get (metrics_in second.accesses) other ≡ Some metric → place ≡ other
+one_place : (first second : MirrorSeen) (left : List ChunkSeen) (metric place other : ℕ)
+    → IsLogSettled (first ∷ second ∷ []) left
+    → slice_get (metrics_in first.accesses) place ≡ Some metric
+    → slice_get (metrics_in second.accesses) other ≡ Some metric → place ≡ other
 one_place first second left metric place other settled was is =
     let P = λ (mirror : MirrorSeen). IsPrefix (bags_in mirror.accesses) settled.bags in
     let metric_of = λ (bag : BagSeen). bag.metric in
-    let one = prefix_map metric_of (bags_in first.accesses) settled.bags (All-head P first (second ∷ []) settled.prefixes) in
+    let one = prefix_map metric_of (bags_in first.accesses) settled.bags
+    (All-head P first (second ∷ []) settled.prefixes) in
     let two = prefix_map metric_of (bags_in second.accesses) settled.bags
     (All-head P second [] (All-tail P first (second ∷ []) settled.prefixes)) in
     settled.distinct other place metric
@@ -23,4 +26,5 @@ one_place first second left metric place other settled was is =
 
 pub returns : goal.returns
 returns g c =
-    one_place _ _ _ c.args.metric c.in_ok-place.place c.in_ok-other.other (rw c.in_ok-vec.ensures.items at c.in_ok-drain.ensures.settled) c.in_ok-place.ensures.place c.in_ok-other.ensures.place
+    one_place _ _ _ c.args.metric c.place_in-place.result c.place_in-other.result c.in_ok-drain_by.ensures.settled
+    c.place_in-place.ensures.place c.place_in-other.ensures.place

@@ -20,11 +20,13 @@ both_passes found other one two is also =
     ∙ ap (λ (f : Option AccessSeen). one.pass ∷ (pass_in f ++ [])) also
 
 two_shares : (first second : MirrorSeen) (left : List ChunkSeen) → IsLogSettled (first ∷ second ∷ []) left
-    → (place : ℕ) (one two : AccessSeen) → slice_get first.accesses place ≡ Some one → slice_get second.accesses place ≡ Some two
+    → (place : ℕ) (one two : AccessSeen) → slice_get first.accesses place ≡ Some one
+    → slice_get second.accesses place ≡ Some two
     → IsNew one → IsNew two → 2 ≤ one.bag.workers
 two_shares first second left settled place one two is also new newer =
     let P = λ (mirror : MirrorSeen). IsPrefix (bags_in mirror.accesses) settled.bags in
-    let there = prefix_get (bags_in first.accesses) settled.bags place one.bag (All-head P first (second ∷ []) settled.prefixes)
+    let there = prefix_get (bags_in first.accesses) settled.bags place one.bag
+    (All-head P first (second ∷ []) settled.prefixes)
     (at_map (λ (p : AccessSeen). p.bag) first.accesses place one is) in
     let passes = settled.all place one.bag there in
     let whole : passes.whole ≡ one.pass ∷ (two.pass ∷ passes.added.added) =
@@ -45,4 +47,4 @@ two_shares first second left settled place one two is also new newer =
     )
 
 pub returns : goal.returns
-returns g c = two_shares _ _ _ (rw c.in_ok-vec.ensures.items at c.in_ok-left.ensures.settled) c.args.place
+returns g c = two_shares _ _ _ c.in_ok-left.ensures.settled c.args.place

@@ -42,11 +42,12 @@ unused log first left gains settled =
     ∙ none_left settled.parts (λ place part at.
     let found = slice_get first.accesses place in
     let new = λ (here : AccessSeen) (is : found ≡ Some here). all_at IsNew first.accesses place here gains.gained is in
-    let balance : put_by one (tallies_of (pass_in found ++ [])) ≡ got_by one (tallies_of (pass_in found ++ [])) + weight_of one part
+    let balance : put_by one (tallies_of (pass_in found ++ []))
+    ≡ got_by one (tallies_of (pass_in found ++ [])) + weight_of one part
     = settled.settled place part at one in
     no_chunk part (omega (arith, balance, put_nothing found new, got_nothing found new)))
 
 pub returns : goal.returns
 returns g c =
-    unused c.args.log.now _ _ (rw c.requires.first at c.in_ok-_place.ensures.gains)
-    (rw c.requires.second at (rw c.in_ok-vec.ensures.items at c.in_ok-left.ensures.settled))
+    unused c.args.log.now _ _ (rw c.requires.first at c.place_in.ensures.gains)
+    (rw c.requires.second at c.in_ok-left.ensures.settled)
