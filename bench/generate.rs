@@ -19,7 +19,7 @@
 //! - `path LENGTH`: LENGTH arcs one after another;
 //! - `mixed LENGTH`: the same path, with the vertices numbered in no order;
 //! - `star VERTICES`: arcs from the first vertex to all others;
-//! - `cliques COUNT`: so many times ten vertices with arcs from each to each other;
+//! - `cliques COUNT`: COUNT groups of ten vertices, with arcs from each to each other of its group;
 //! - `lonely VERTICES`: vertices and no arc.
 //!
 //! Sources are drawn from all vertices; for `power` from those that arcs leave, as GAP draws them, and for

@@ -14,7 +14,7 @@
 /^s / { source[++queries] = $2 }
 /^q / { source[++queries] = $2; target[queries] = $3 }
 
-# The least labels from a source along the first arcs, so many of them.
+# The least labels from a source along the first arcs.
 function solve(from, count,    i, falls) {
     split("", label)
     label[from] = 0

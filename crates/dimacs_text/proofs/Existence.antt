@@ -169,7 +169,7 @@ added_by r c shaped m =
     let last : opens Added (get_or r.numbers 0 0) ≡ opens Added c = ap token_in (sym same) ∙ m in
     let count : get_or r.numbers 0 0 ≡ c = cc in same ∙ ap (λ x. added_record x) count
 
--- the records of so many items, and those after them
+-- the records of the k items of a section, and those after them
 items_in : {X : Type 0} (rec : X → Record) (i : Item) (k : ℕ) (rs : List Record) (rest : List Token)
     → ((r : Record) → IsShaped r → token_in r ≡ adds i → (x : X) × (r ≡ rec x))
     → map token_in rs ≡ replicate k (adds i) ++ rest → AreShaped rs
@@ -214,7 +214,8 @@ added_of_part Problem k ps r rs late turn m e top shaped = absurd (omega arith)
 added_of_part Sources k ps r rs late turn m e top shaped = absurd (omega arith)
 added_of_part Pairs k ps r rs late turn m e top shaped = absurd (omega arith)
 added_of_part Added k ps r rs late turn m e top shaped =
-    let (arcs, others, count, same, tokens, more) = items_in arc_record Arc k rs (flat_map tokens_of ps) arc_by e shaped in
+    let (arcs, others, count, same, tokens, more) =
+    items_in arc_record Arc k rs (flat_map tokens_of ps) arc_by e shaped in
     let none = no_records others (tokens ∙ ap (λ l. flat_map tokens_of l) (none_follows Added ps late turn)) in (
       arcs,
       ap₂ (λ x xs. x ∷ xs) (added_by r k top m ∙ ap (λ n. added_record n) (sym count))
@@ -293,7 +294,8 @@ job_of_parts Sources k ps r rs first turn m e top shaped = absurd (cc)
 job_of_parts Pairs k ps r rs first turn m e top shaped = absurd (cc)
 job_of_parts Added k ps r rs first turn m e top shaped = absurd (cc)
 job_of_parts Problem k ps r rs first turn m e top shaped =
-    let (arcs, others, count, same, tokens, more) = items_in arc_record Arc k rs (flat_map tokens_of ps) arc_by e shaped in
+    let (arcs, others, count, same, tokens, more) =
+    items_in arc_record Arc k rs (flat_map tokens_of ps) arc_by e shaped in
     let problem = problem_by r k top m in
     let (asked, added, after) = question_in ps others turn tokens more in (
       record { n = problem.0; arcs = arcs; question = asked; added = added },

@@ -1,5 +1,6 @@
 -- The lemmas that crates above may cite: the lines of vertices, and those of the vertices after them.
-use Rattle.std.proofs.Common.{◌≡◌, ℕ, suc, ◌+◌, List, [], ◌∷◌, ◌++◌, length, refl, sym, ap, subst, ◌∙◌, append_assoc, drop_at, arith}
+use Rattle.std.proofs.Common.{◌≡◌, ℕ, suc, ◌+◌, List, [], ◌∷◌, ◌++◌, length, refl, sym, ap, subst, ◌∙◌, append_assoc}
+use Rattle.std.proofs.Common.{drop_at, arith}
 use Rattle.std.specs.Prelude.{All}
 use Rattle.std.proofs.lemmas.List.Elements.{All-drop}
 use Rattle.dimacs_text.specs.AnswerLines.{label_text, label_lines, component_text, component_lines}
@@ -25,4 +26,5 @@ component_lines-append v (label ∷ xs) ys =
 -- what holds of each element holds of each of the rest
 pub All-rest : (P : ℕ → Type 0) {all : List ℕ} (group rest : List ℕ) → all ≡ group ++ rest → All P all → All P rest
 All-rest P {all} group rest parts each =
-    subst (All P) (drop_at group rest (length group) refl) (All-drop P (length group) (group ++ rest) (subst (All P) parts each))
+    subst (All P) (drop_at group rest (length group) refl)
+    (All-drop P (length group) (group ++ rest) (subst (All P) parts each))

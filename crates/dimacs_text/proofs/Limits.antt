@@ -1,6 +1,7 @@
 -- The records of a text are within their limits, and so is its job.
 use Rattle.std.proofs.Common.{◌≡◌, ℕ, ◌<◌, Bool, true, false, eqb, cond, List, [], ◌∷◌, ◌++◌, length, map, drop}
-use Rattle.std.proofs.Common.{get_or, Option, Some, None, Result, Ok, Err, All, refl, sym, subst, append-nil, ◌∙◌, arith}
+use Rattle.std.proofs.Common.{get_or, Option, Some, None, Result, Ok, Err, All, refl, sym, subst, append-nil, ◌∙◌}
+use Rattle.std.proofs.Common.{arith}
 use Rattle.std.proofs.lemmas.Bool.Decides.{nat_tests}
 use Rattle.std.proofs.lemmas.List.Elements.{All-nil, All-cons}
 use Rattle.route_walks.specs.declared.graph.ArcRec.{ArcRec}
@@ -58,7 +59,8 @@ all_within n (l ∷ ls) (x ∷ s) e =
     let first : fields_reading n (fields (without_cr l)) ≡ Ok x = cc in
     let rest : readings (vertices_after n (fields_reading n (fields (without_cr l)))) ls ≡ map (λ x. Ok x) s = cc in
     by_line x first
-    (all_within (vertices_after n (Ok x)) ls s (subst (λ r. readings (vertices_after n r) ls ≡ map (λ x. Ok x) s) first rest))
+    (all_within (vertices_after n (Ok x)) ls s
+    (subst (λ r. readings (vertices_after n r) ls ≡ map (λ x. Ok x) s) first rest))
   where
     by_line : (o : Option Record)
         → fields_reading n (fields (without_cr l)) ≡ Ok o → AreWithin (vertices_after n (Ok o)) (records_among s)

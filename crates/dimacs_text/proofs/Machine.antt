@@ -110,7 +110,8 @@ legal_runs ms (p ∷ ps, order, e) =
     )
 
 -- what was read before counts by where it led to
-pub run-append : (ms : List Token) (a b : Stage) (rest : List Token) → run a ms ≡ Some b → run a (ms ++ rest) ≡ run b rest
+pub run-append : (ms : List Token) (a b : Stage) (rest : List Token) → run a ms ≡ Some b
+    → run a (ms ++ rest) ≡ run b rest
 run-append [] a b rest e = let same : a ≡ b = cc in ap (λ x. run x rest) same
 run-append (m ∷ ms) a b rest e =
     let on = goes (misfit_at a (form_of_token m)) (run (next_at a m) ms) b e in

@@ -143,7 +143,8 @@ one_arc_more n rest old new count between after arc reads is =
           let left : missing - length arcs ≡ suc (missing - length (arcs ++ arc ∷ [])) = omega (arith, few, len) in
           let here =
           reads.lines before missing line (omega (arith, few, len)) text (is.whole ++ more)
-          (subst (λ l. IsReadTo text l line (arcs_progress n missing before)) (append_assoc reads.text is.whole more) p) in
+          (subst (λ l. IsReadTo text l line (arcs_progress n missing before))
+          (append_assoc reads.text is.whole more) p) in
           let next =
           one_arc n (missing - length (arcs ++ arc ∷ [])) (before ++ arcs) arc between after (line + length arcs) is
           text more
@@ -199,7 +200,8 @@ pub finished : (text : List ℕ) (line : ℕ) (progress : Progress) (job : Conte
 unfolding IsJobText
 finished text line progress job p same = (p.said, all_said (lines text) line progress p, p.records ∙ same)
 
-pub incomplete : (ms : List Token) (a : Stage) (kind : LineKind) → run Start ms ≡ Some a → IsLackAt a kind → IsLegal ms → ⊥
+pub incomplete : (ms : List Token) (a : Stage) (kind : LineKind) → run Start ms ≡ Some a → IsLackAt a kind → IsLegal ms
+    → ⊥
 incomplete ms a kind e lack legal =
     let runs = legal_runs ms legal in
     let same : a ≡ Within runs.0 0 = let r = runs.1 in cc in
@@ -261,7 +263,8 @@ pub regrouped : (whole kept end rest : List ℕ)
     → (whole ++ kept) ++ (end ++ rest) ≡ (whole ++ (kept ++ end)) ++ rest
 regrouped whole kept end rest = simp append_assoc refl
 
-pub kept_whole : (o : Option LineKind) (whole kept text : List ℕ) → o ≡ None → Keeps o whole kept text → text ≡ whole ++ kept
+pub kept_whole : (o : Option LineKind) (whole kept text : List ℕ) → o ≡ None → Keeps o whole kept text
+    → text ≡ whole ++ kept
 kept_whole o whole kept text e k = (subst (λ x. Keeps x whole kept text) e k).0
 
 -- the job and the fault at the end of the text
@@ -320,7 +323,7 @@ reads_to old between new bytes at next order first second =
     (sym (take-add at (next - at) bytes) ∙ ap (λ n. take n bytes) (omega arith))
     (reads_both old between new (take at bytes) (take (next - at) (drop at bytes)) first second)
 
--- what is read after the lines of a text, where it is so many lines
+-- what is read after the lines of a text, if count lines more are read
 pub lines_read : (fault : Option LineKind) (old new : Draft) (line next count : ℕ) (text part : List ℕ)
     → fault ≡ None → HasReadBy fault old line text
     → ReadsTo (progress_of old) line part (progress_of new) (line + count) []

@@ -1,6 +1,7 @@
 -- Why a text has one job or one first fault, and not both.
 use Rattle.std.proofs.Common.{take, drop, get_or, ◌-◌, ◌≡◌, ℕ, zero, suc, ◌+◌, List, [], ◌∷◌, ◌++◌, length}
-use Rattle.std.proofs.Common.{map, replicate, IsTrue, append_assoc, inl, inr, Option, Some, None, Ok, Err, refl, sym, ap, ap₂}
+use Rattle.std.proofs.Common.{map, replicate, IsTrue, append_assoc, inl, inr, Option, Some, None, Ok, Err, refl, sym}
+use Rattle.std.proofs.Common.{ap, ap₂}
 use Rattle.std.proofs.Common.{subst, ◌∙◌, append-nil, arith, flat_map}
 use Rattle.std.proofs.lemmas.List.{take_at, drop_at, length-map, map-append}
 use Rattle.route_walks.specs.declared.graph.ArcRec.{ArcRec}
@@ -22,7 +23,8 @@ use Rattle.dimacs_text.specs.declared.stage.Stage.{Stage}
 use Rattle.dimacs_text.specs.declared.stage.Stage.TheVariants.{Start, Within}
 use Rattle.dimacs_text.specs.reader.Machine.{run, unless_wrong, misfit_at, next_at}
 use Rattle.dimacs_text.specs.Jobs.{Content, Question, absent, from_sources, of_pairs}
-use Rattle.dimacs_text.specs.Jobs.{arc_record, source_record, pair_record, problem_record, sources_record, pairs_record, added_record}
+use Rattle.dimacs_text.specs.Jobs.{arc_record, source_record, pair_record, problem_record, sources_record}
+use Rattle.dimacs_text.specs.Jobs.{pairs_record, added_record}
 use Rattle.dimacs_text.specs.Jobs.{records_of, records_of_question, records_of_added, records_among, IsJobText}
 use Rattle.dimacs_text.specs.Faults.{tokens_among, IsFirstAmong, unread, misfit, unfinished, IsFirstFault}
 use Rattle.dimacs_text.specs.reader.Drafts.{token_in}
@@ -154,7 +156,8 @@ content_after n arcs rs =
 abbrev content_by : List Record → Content
 content_by [] = content_after 0 [] []
 content_by (r ∷ rs) =
-    content_after (get_or r.numbers 0 0) (map arc_back (take (get_or r.numbers 1 0) rs)) (drop (get_or r.numbers 1 0) rs)
+    content_after (get_or r.numbers 0 0) (map arc_back (take (get_or r.numbers 1 0) rs))
+    (drop (get_or r.numbers 1 0) rs)
 
 content_back : (job : Content) → content_by (records_of job) ≡ job
 content_back job =
@@ -245,7 +248,8 @@ fault_by : Stage → ℕ → List Reading → Option (ℕ × LineKind)
 fault_by a line [] = lack_at a line
 fault_by a line (Err kind ∷ rs) = Some (line, kind)
 fault_by a line (Ok None ∷ rs) = fault_by a (line + 1) rs
-fault_by a line (Ok (Some r) ∷ rs) = fault_or (misfit_at a r.form) line (fault_by (next_at a (token_in r)) (line + 1) rs)
+fault_by a line (Ok (Some r) ∷ rs) =
+    fault_or (misfit_at a r.form) line (fault_by (next_at a (token_in r)) (line + 1) rs)
 
 passes : (s : List (Option Record)) (rest : List Reading) (a b : Stage) (line : ℕ)
     → run a (tokens_among s) ≡ Some b

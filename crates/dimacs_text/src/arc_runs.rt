@@ -23,7 +23,7 @@ const SHORTEST_ARC: usize = 8;
 const LEAST_PART: usize = 1 << 14;
 
 /// Arcs whose lines come one after the other in a piece of a text, from one place to another.
-#[derive(Drop)]
+#[derive(Debug, Drop)]
 pub struct ArcRun {
     pub start: usize,
     pub after: usize,
@@ -71,7 +71,7 @@ impl ArcRun {
 
 /// What threads have read ahead in a piece of a text: a hint for `JobReader::feed_with`. The memory that it
 /// takes is kept from piece to piece.
-#[derive(Drop)]
+#[derive(Debug, Drop)]
 pub struct ArcRuns {
     alloc: Global,
     runs: Vec<ArcRun>,

@@ -3,7 +3,8 @@
 //! A text comes whole, or in pieces of any size. Each whole line is read at once, and its bytes are let go:
 //! only those of the last line are kept until the rest of it comes.
 
-ghost use Rattle.std.specs.Prelude.{◌≡◌, ◌^◌, ◌≤◌, ◌+◌, ◌++◌, ℕ, All, List, [], length, take, ◌<◌, None, IfOk, IfErr, OnOk};
+ghost use Rattle.std.specs.Prelude.{◌≡◌, ◌^◌, ◌≤◌, ◌+◌, ◌++◌, ℕ, All, List, [], length, take, ◌<◌, None, IfOk, IfErr};
+ghost use Rattle.std.specs.Prelude.{OnOk};
 ghost use Rattle.dimacs_text.specs.Jobs.{content_of, IsJobText, IsWithinLimits};
 ghost use Rattle.dimacs_text.specs.Faults.{IsFaultOf};
 ghost use Rattle.std.specs.Bool.{OnFalse, OnTrue};
@@ -21,7 +22,7 @@ use route_walks::Memory;
 use std::alloc::Global;
 
 /// The lines that were read, all of them whole.
-#[derive(Drop)]
+#[derive(Debug, Drop)]
 struct LineReader {
     draft: Draft,
     /// The number of the next line, or of the first that is wrong.
@@ -94,7 +95,7 @@ impl LineReader {
 }
 
 /// A reader of a job's text that comes in pieces.
-#[derive(Drop)]
+#[derive(Debug, Drop)]
 pub struct JobReader {
     lines: LineReader,
     /// The bytes of the last line, whose line feed hasn't come.

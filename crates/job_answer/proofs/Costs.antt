@@ -26,7 +26,8 @@ use Rattle.walk_report.specs.Parent.{AreParents}
 use Rattle.walk_report.specs.Printed.{printed_walk, PrintedWalksAreWalks}
 use Rattle.job_answer.specs.declared.asked.Answer.TheVariants.{Distances, Levels, Components}
 use Rattle.job_answer.specs.AnswerText.{AreAskedBlocks, AreBlocks, IsBlock, IsPairBlock, vertex_lines, walk_line}
-use Rattle.job_answer.specs.AnswerText.{IsComponentsBlock, IsGrownBlock, IsGrownPair, IsGrownText, arcs_for, growth_for, growth_from}
+use Rattle.job_answer.specs.AnswerText.{IsComponentsBlock, IsGrownBlock, IsGrownPair, IsGrownText, arcs_for}
+use Rattle.job_answer.specs.AnswerText.{growth_for, growth_from}
 use Rattle.job_answer.specs.Costs.{AnswersSayCosts, AnswersSayPairCosts, AreCostLines, IsCostText, SaysCosts}
 use Rattle.job_answer.specs.Costs.{SaysPairCost, unreached, reached}
 use Rattle.job_answer.specs.Costs.{IsWalkLine, unasked, no_walk, shortest, AnswersSayComponents, AreComponentLines}
@@ -82,7 +83,8 @@ line_is_walk law printed n arcs source labels hops parents light within least fe
           let shown : walk_line (slice_index hops) (slice_index parents) v (get_or labels v 0)
           ≡ walk_text (get_or labels v 0) (printed_walk (slice_index parents) (slice_index hops v) v) = rw test refl in
           shortest goes.walk goes.walks
-          (λ other walks. omega (arith, here.least (cost other) (attained-by_walk arcs source v other walks), goes.costs))
+          (λ other walks. omega
+          (arith, here.least (cost other) (attained-by_walk arcs source v other walks), goes.costs))
           (λ other walks same.
           omega (arith, (fewest.hop v below reached).fewest other walks (same ∙ goes.costs), goes.count))
           (shown ∙ sym (ap₂ walk_text goes.costs goes.through))
@@ -109,9 +111,11 @@ lines_say_costs arcs source v (label ∷ labels) each = (
 -- and what is written for their walks is walks
 abbrev SayWalks : List ArcRec → ℕ → (ℕ → ℕ) → (ℕ → ℕ) → ℕ → List ℕ → Type 0
 SayWalks arcs source hop parent v labels =
-    (k w : ℕ) → k < length labels → w ≡ v + k → IsWalkLine true arcs source w (walk_line hop parent w (get_or labels k 0))
+    (k w : ℕ) → k < length labels → w ≡ v + k
+    → IsWalkLine true arcs source w (walk_line hop parent w (get_or labels k 0))
 
-walks_say_costs : (arcs : List ArcRec) (source v : ℕ) (hop parent : ℕ → ℕ) (labels : List ℕ) → SayCosts arcs source v labels
+walks_say_costs : (arcs : List ArcRec) (source v : ℕ) (hop parent : ℕ → ℕ) (labels : List ℕ)
+    → SayCosts arcs source v labels
     → SayWalks arcs source hop parent v labels
     → AreCostLines true arcs source v (length labels) (vertex_lines hop parent v labels)
 walks_say_costs arcs source v hop parent [] each lines = refl

@@ -41,7 +41,8 @@ blocks-exist IsWithin IsBlockOf each (query ∷ queries) within =
     let rest = blocks-exist IsWithin IsBlockOf each queries (All-tail IsWithin query queries within) in
     (block.0 ++ rest.0, (block.0, rest.0, block.1, rest.1, refl))
 
-module _ (labelled : LeastLabelsExist) (walked : HopsAndParentsExist) (n : ℕ) (arcs : List ArcRec) (few : n ≤ MAX_VERTICES)
+module _ (labelled : LeastLabelsExist) (walked : HopsAndParentsExist) (n : ℕ) (arcs : List ArcRec)
+    (few : n ≤ MAX_VERTICES)
     (graph : IsGraph n arcs) where
   labels-exist : (source : ℕ) → source < n → (labels : List ℕ) × AreLeastLabels n arcs (seeds_from source) labels
   labels-exist source within = labelled n arcs (seeds_from source) graph (source-seeds n source within)
@@ -63,7 +64,8 @@ module _ (labelled : LeastLabelsExist) (walked : HopsAndParentsExist) (n : ℕ) 
         record { labels = labels; hops = hops; parents = parents; walked = are; written = refl },
       )
 
-  pair-exists : (walks : Bool) (pair : ℕ × ℕ) → IsPairWithin n pair → (text : List ℕ) × IsPairBlock walks n arcs pair text
+  pair-exists : (walks : Bool) (pair : ℕ × ℕ) → IsPairWithin n pair
+      → (text : List ℕ) × IsPairBlock walks n arcs pair text
   pair-exists false pair within =
       let found = labels-exist pair.0 within.0 in (
         pair_text pair.0 pair.1 (slice_index found.0 pair.1),
@@ -144,7 +146,8 @@ module _ (labelled : LeastLabelsExist) (walked : HopsAndParentsExist) (kind : An
   blocks-asked : (walks : Bool) → job.question ≢ absent
       → (text : List ℕ) × AreAskedBlocks walks job.n (arcs_for kind job.arcs) (growth_for kind job) job.question text
   blocks-asked walks asked =
-      asked-exist labelled walked job.n limits.vertices (arcs_for kind job.arcs) (growth_for kind job) job-graph job-grows
+      asked-exist labelled walked job.n limits.vertices (arcs_for kind job.arcs)
+      (growth_for kind job) job-graph job-grows
       walks job.question limits.question asked
 
 pub asked_jobs_have_answers : LeastLabelsExist → HopsAndParentsExist → AskedJobsHaveAnswers

@@ -9,7 +9,8 @@ use Rattle.job_answer.specs.declared.graphs.Grown.{Grown}
 use Rattle.job_answer.specs.declared.walked_pairs.Walked.{Walked}
 use Rattle.job_answer.specs.declared.solves.Start.{Start}
 use Rattle.job_answer.specs.declared.solves.Start.TheVariants.{At, Everywhere}
-use Rattle.job_answer.specs.AnswerText.{AreBothTexts, BlocksAreUnique, Growth, IsGrownPair, IsGrownText, IsOneText, IsPairBlock}
+use Rattle.job_answer.specs.AnswerText.{AreBothTexts, BlocksAreUnique, Growth, IsGrownPair, IsGrownText, IsOneText}
+use Rattle.job_answer.specs.AnswerText.{IsPairBlock}
 use Rattle.job_answer.specs.Bytes.{GivesPrefix, IsPrefix, Puts, PutsPrefix, Waits}
 use Rattle.route_walks.specs.Walk.{HaveSameArcs}
 use Rattle.route_walks.proofs.Facts.{both_ways-append, same_arcs-grown, unit_weights-append}
@@ -18,7 +19,8 @@ use Rattle.job_answer.specs.declared.asked.Answer.{Answer}
 use Rattle.job_answer.specs.declared.asked.Answer.TheVariants.{Distances, Levels, Components}
 use Rattle.job_answer.specs.AnswerText.{arcs_for, growth_from}
 use Rattle.job_answer.specs.Graphs.{GrowAlike, GrowsTo, growth_of}
-use Rattle.job_answer.specs.Solves.{AreLabelsAfter, ArePairLabels, IsGrownStart, IsRest, IsStartBlock, IsWalked, IsWalkedAfter}
+use Rattle.job_answer.specs.Solves.{AreLabelsAfter, ArePairLabels, IsGrownStart, IsRest, IsStartBlock, IsWalked}
+use Rattle.job_answer.specs.Solves.{IsWalkedAfter}
 use Rattle.job_answer.specs.Solves.{pair_at, walked_text, walked_after_text, with_growth}
 use Rattle.job_answer.proofs.Known.{appends-then, waits-put, waits-sent}
 use Rattle.job_answer.proofs.Prefixes.{prefix-after, prefix-longer}
@@ -120,7 +122,8 @@ module _ (IsTextOf : List ArcRec → List ℕ → Type 0) (arcs : List ArcRec) (
   )
 
 -- a text of a graph and of what it grows to begins with that of the graph
-pub grown-begins : (IsTextOf : List ArcRec → List ℕ → Type 0) (arcs : List ArcRec) (growth : Option Growth) (text : List ℕ)
+pub grown-begins : (IsTextOf : List ArcRec → List ℕ → Type 0) (arcs : List ArcRec) (growth : Option Growth)
+    (text : List ℕ)
     → IsGrownText IsTextOf arcs growth text
     → (a : List ℕ) × (b : List ℕ) × IsTextOf arcs a × (text ≡ a ++ b)
 grown-begins IsTextOf arcs None text is = (text, [], is, sym (append-nil text))
@@ -138,7 +141,8 @@ start-one law walks n arcs (At source) = (law walks n arcs None).0 source
 start-one law walks n arcs Everywhere = (law walks n arcs None).2
 
 -- and where the graph grows only one text
-pub grown-start-one : BlocksAreUnique → (walks : Bool) (n : ℕ) (arcs : List ArcRec) (growth : Option Growth) (start : Start)
+pub grown-start-one : BlocksAreUnique
+    → (walks : Bool) (n : ℕ) (arcs : List ArcRec) (growth : Option Growth) (start : Start)
     → IsOneText (IsGrownStart walks n arcs growth start)
 grown-start-one law walks n arcs growth (At source) = (law walks n arcs growth).0 source
 grown-start-one law walks n arcs growth Everywhere = (law walks n arcs growth).2

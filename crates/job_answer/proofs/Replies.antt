@@ -1,6 +1,7 @@
 -- Labels and blocks that are right along the rows are right along the job's arcs, of which the rows were
 -- built.
-use Rattle.std.proofs.Common.{◌≡◌, ◌↔◌, Bool, true, false, ℕ, List, [], ◌∷◌, ◌++◌, Option, Some, None, refl, sym, ap, ◌∙◌}
+use Rattle.std.proofs.Common.{◌≡◌, ◌↔◌, Bool, true, false, ℕ, List, [], ◌∷◌, ◌++◌, Option, Some, None, refl, sym, ap}
+use Rattle.std.proofs.Common.{◌∙◌}
 use Rattle.route_walks.specs.declared.graph.ArcRec.{ArcRec}
 use Rattle.route_walks.specs.Walk.{HaveSameArcs}
 use Rattle.route_walks.specs.Label.{LeastLabelsFollowTheArcs}
@@ -30,7 +31,8 @@ module _ (law : LeastLabelsFollowTheArcs) (walked : HopsAndParentsFollowTheArcs)
       record { least = law n one other (seeds_from source) labels same are.least; fewest = over.0; before = over.1 }
 
   -- a block along the same arcs is the same
-  block-over : (walks : Bool) (source : ℕ) (text : List ℕ) → IsBlock walks n one source text → IsBlock walks n other source text
+  block-over : (walks : Bool) (source : ℕ) (text : List ℕ) → IsBlock walks n one source text
+      → IsBlock walks n other source text
   block-over false source text block = record {
     labels = block.labels;
     least = law n one other (seeds_from source) block.labels same block.least;
@@ -150,7 +152,8 @@ module _ (law : LeastLabelsFollowTheArcs) (walked : HopsAndParentsFollowTheArcs)
       )
 
   pub text_begun : (before after : Option (List ℕ))
-      → WritesPrefix (IsTextFor kind walks graphs.rows.n graphs.rows.arcs (growth_of graphs.grown) question) before after
+      → WritesPrefix (IsTextFor kind walks graphs.rows.n graphs.rows.arcs (growth_of graphs.grown) question) before
+      after
       → WritesPrefix (IsAnswerText kind walks job) before after
   text_begun before after cut = record {
     given = cut.given;
@@ -180,7 +183,8 @@ reply-fault kind walks job before after Write asked writing cut = record { asked
 
 pub reply-says : {T : Type 0} (kind : Answer) (walks : Bool) (job : Content) (before after : Option (List ℕ))
     (r : Result T Fault)
-    → ¬ (IsUnasked kind job) → IfErr r IsWritingFault → OnErr r (WritesPrefix (IsAnswerText kind walks job) before after)
+    → ¬ (IsUnasked kind job) → IfErr r IsWritingFault
+    → OnErr r (WritesPrefix (IsAnswerText kind walks job) before after)
     → IfErr r (IsReplyFault kind walks job before after)
 reply-says kind walks job before after (Ok x) asked kinds cut = tt
 reply-says kind walks job before after (Err fault) asked kinds cut =

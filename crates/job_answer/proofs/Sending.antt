@@ -24,7 +24,8 @@ blocks-push IsBlockOf (first ∷ queries) query text block blocks is_block = (
 )
 
 -- the blocks of some queries and those of others, one after the other
-pub blocks-append : {Query : Type 0} (IsBlockOf : Query → List ℕ → Type 0) (first second : List Query) (text more : List ℕ)
+pub blocks-append : {Query : Type 0} (IsBlockOf : Query → List ℕ → Type 0) (first second : List Query)
+    (text more : List ℕ)
     → AreBlocks IsBlockOf first text → AreBlocks IsBlockOf second more
     → AreBlocks IsBlockOf (first ++ second) (text ++ more)
 blocks-append IsBlockOf [] second text more one two =
@@ -72,7 +73,8 @@ module _ {Query : Type 0} (IsBlockOf : Query → List ℕ → Type 0) (queries :
       → Puts (IsBlockOf (get_or queries i d)) between after waiting left
       → AreSent IsBlockOf queries (i + 1) before after left
   sent-more i d before between after waiting left here sent put =
-      let blocks = blocks-push IsBlockOf (take i queries) (get_or queries i d) sent.text put.text sent.blocks put.is_text in
+      let blocks = blocks-push IsBlockOf (take i queries)
+      (get_or queries i d) sent.text put.text sent.blocks put.is_text in
       record {
         text = sent.text ++ put.text;
         waits =

@@ -1,5 +1,6 @@
 -- Least labels are unique, so a job has only one answer text of a kind.
-use Rattle.std.proofs.Common.{◌≡◌, Bool, true, false, ℕ, ◌<◌, List, [], ◌∷◌, ◌++◌, Option, Some, None, get_or, slice_index, subst, sym, ap, ap₂, ◌∙◌, arith}
+use Rattle.std.proofs.Common.{◌≡◌, Bool, true, false, ℕ, ◌<◌, List, [], ◌∷◌, ◌++◌, Option, Some, None, get_or}
+use Rattle.std.proofs.Common.{slice_index, subst, sym, ap, ap₂, ◌∙◌, arith}
 use Rattle.std.proofs.lemmas.Grind.{same_number_lists}
 use Rattle.route_walks.specs.declared.graph.ArcRec.{ArcRec}
 use Rattle.route_walks.specs.declared.graph.Seed.{Seed}
@@ -10,9 +11,11 @@ use Rattle.walk_report.specs.Parent.{AreParents, HopsAndParentsAreUnique}
 use Rattle.dimacs_text.specs.AnswerLines.{distances_text, components_text, grown_text, pair_text}
 use Rattle.dimacs_text.specs.Jobs.{Question, absent, from_sources, of_pairs}
 use Rattle.job_answer.specs.declared.asked.Answer.TheVariants.{Distances, Levels, Components}
-use Rattle.job_answer.specs.AnswerText.{AnswerTextsAreUnique, BlocksAreUnique, IsOneBlock, IsOneText, IsBlock, IsPairBlock}
+use Rattle.job_answer.specs.AnswerText.{AnswerTextsAreUnique, BlocksAreUnique, IsOneBlock, IsOneText, IsBlock}
+use Rattle.job_answer.specs.AnswerText.{IsPairBlock}
 use Rattle.job_answer.specs.AnswerText.{AreWalksFrom, AreBlocks, AreAskedBlocks, walks_text, pair_walk_text}
-use Rattle.job_answer.specs.AnswerText.{Growth, IsComponentsBlock, IsGrownBlock, IsGrownPair, IsGrownText, growth_for, arcs_for}
+use Rattle.job_answer.specs.AnswerText.{Growth, IsComponentsBlock, IsGrownBlock, IsGrownPair, IsGrownText, growth_for}
+use Rattle.job_answer.specs.AnswerText.{arcs_for}
 
 labels-same : LeastLabelsAreUnique
     → (n : ℕ) (arcs : List ArcRec) (seeds : List Seed) (xs ys : List ℕ) → AreLeastLabels n arcs seeds xs
@@ -87,9 +90,11 @@ grown-same IsTextOf only arcs (Some growth) first second one two =
 pub blocks_are_unique : LeastLabelsAreUnique → HopsAndParentsAreUnique → BlocksAreUnique
 blocks_are_unique law walked walks n arcs growth = (
   λ source.
-      grown-same (λ along. IsBlock walks n along source) (λ along. block-same law walked n along walks source) arcs growth,
+      grown-same (λ along. IsBlock walks n along source)
+      (λ along. block-same law walked n along walks source) arcs growth,
   λ pair.
-      grown-same (λ along. IsPairBlock walks n along pair) (λ along. pair-same law walked n along walks pair) arcs growth,
+      grown-same (λ along. IsPairBlock walks n along pair)
+      (λ along. pair-same law walked n along walks pair) arcs growth,
   grown-same (IsComponentsBlock n) (components-same law n) arcs growth,
 )
 

@@ -110,7 +110,8 @@ module _ (limit : ℕ) (kind : Answer) (walks : Bool) (taken_from taken_to given
   row_of fault.NoAsk = refused_row fault.NoAsk (IsRequestUnasked limit kind taken_from taken_to)
   row_of fault.Read = system_row fault.Read (Keeps given_from given_to)
   row_of fault.Memory =
-      system_row fault.Memory (Keeps given_from given_to ⊎ IsBegun limit kind walks taken_from taken_to given_from given_to)
+      system_row fault.Memory
+      (Keeps given_from given_to ⊎ IsBegun limit kind walks taken_from taken_to given_from given_to)
   row_of fault.Spawn = system_row fault.Spawn (IsBegun limit kind walks taken_from taken_to given_from given_to)
   row_of fault.Write = system_row fault.Write (IsBegun limit kind walks taken_from taken_to given_from given_to)
 

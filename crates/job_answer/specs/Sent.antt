@@ -16,9 +16,11 @@ pub record AreSent {Query : Type 0} (IsBlockOf : Query → List ℕ → Type 0) 
 abbrev pub SendsOn : {Query : Type 0} → (Query → List ℕ → Type 0) → List Query → ℕ → ℕ
     → Option (List ℕ) → Option (List ℕ) → List ℕ → List ℕ → Type 0
 SendsOn IsBlockOf queries first end between after old new =
-    (before : Option (List ℕ)) → AreSent IsBlockOf queries first before between old → AreSent IsBlockOf queries end before after new
+    (before : Option (List ℕ)) → AreSent IsBlockOf queries first before between old
+    → AreSent IsBlockOf queries end before after new
 
--- whatever was given before: where the blocks of the queries before `first` were given, it is a prefix of all blocks now
+-- whatever was given before: where the blocks of the queries before `first` were given, what is given now is a
+-- prefix of all blocks
 abbrev pub SendsPrefix : {Query : Type 0} → (Query → List ℕ → Type 0) → List Query → ℕ
     → Option (List ℕ) → Option (List ℕ) → List ℕ → Type 0
 SendsPrefix IsBlockOf queries first between after waiting =

@@ -38,7 +38,8 @@ pub record IsLinesText (graphs : Graphs) (pairs : List (ℕ × ℕ)) (place : �
 -- the entries of the order from a place on are of pairs that have these labels
 abbrev pub AreLabelsAt : ℕ → List ArcRec → List (ℕ × ℕ) → List (ℕ × ℕ) → ℕ → List ℕ → Type 0
 AreLabelsAt n arcs pairs order place labels =
-    (k : ℕ) → k < length labels → IsPairLabel n arcs (pair_at pairs (pair_at order (place + k)).1) (slice_index labels k)
+    (k : ℕ) → k < length labels
+    → IsPairLabel n arcs (pair_at pairs (pair_at order (place + k)).1) (slice_index labels k)
 
 -- the same in the grown graph, if there is one
 abbrev pub AreGrownLabelsAt : Option Grown → List (ℕ × ℕ) → List (ℕ × ℕ) → ℕ → PairLabels → Type 0

@@ -10,7 +10,7 @@ use std::sync::atomic::{AtomicU64, Ordering};
 const SPREAD: usize = 16;
 
 /// A gate that counts the visits of each worker, and what the worklist held.
-#[derive(Drop)]
+#[derive(Debug, Drop)]
 pub struct Counter {
     visits: Vec<AtomicU64>,
     most_buckets: AtomicU64,

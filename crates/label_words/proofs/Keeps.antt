@@ -36,7 +36,8 @@ view_at (x ∷ xs) (suc s) seat e = view_at xs s seat e
 -- a seat's new view is the one that was put there
 pub new_view : (views : List View) (s : ℕ) (w : View) → s < length views → slice_get (set views s w) s ≡ Some w
 new_view views s w lt =
-    slice_get-get_or (set views s w) s w (omega (arith, length-set views s w)) ∙ ap Some (get_or-set_same views s w w lt)
+    slice_get-get_or (set views s w) s w (omega (arith, length-set views s w))
+    ∙ ap Some (get_or-set_same views s w w lt)
 
 -- no label rises where a word of a label is written with no more than it was
 pub no_label_rises : (words : List ℕ) (i x : ℕ) → i < length words
@@ -86,7 +87,11 @@ words_hold {seats} {seat} s was ready at =
       labels = rw same was.lawful.labels;
       marks = rw same was.lawful.marks;
       laid = rw same was.laid;
-      has = record { here = rw was.views_are (view_at seats s seat at); live = λ none. absurd (omega (arith, ready.share)) };
+      has = record {
+        here = rw was.views_are (view_at seats s seat at);
+        live =
+            λ none. absurd (omega (arith, ready.share));
+      };
       ready = ready;
     }
 
@@ -119,7 +124,8 @@ all_know_still {graph} {seeds} {label} {label'} seats s w falls was own t seat a
 -- the rule over other names of the same graph and seeds
 pub renamed : {graph graph' : Graph} {seeds seeds' : List Seed} {words : List ℕ} {seats : List Known}
     → graph ≡ graph' → seeds ≡ seeds' → AreLawful graph seeds words seats → AreLawful graph' seeds' words seats
-renamed {words} {seats} g sd was = subst (λ (p : Graph × List Seed). AreLawful p.0 p.1 words seats) (λ i. (g i, sd i)) was
+renamed {words} {seats} g sd was =
+    subst (λ (p : Graph × List Seed). AreLawful p.0 p.1 words seats) (λ i. (g i, sd i)) was
 
 -- a seat with its slots, of which it has none
 abbrev pub Mine : Type 0
@@ -146,7 +152,8 @@ pub allows : {me : Mine} {word : ℕ} {f : ℕ → ℕ} (P : ℕ → Type 0) (ev
     × P x)
     → Allowed me word f
     (λ x new. (new ≡ (record me.0 { view = view x; labels = labels x }, me.1)) × IsReady new.0 × P x)
-allows {me} {word} {f} P event view labels ready within falls same step graph seeds slots id state holds count at below =
+allows {me} {word} {f} P event view labels ready within falls same step graph seeds slots id state holds count at
+    below =
     let mine = knows_at id holds ready at in
     let was : AreLawful me.0.graph me.0.seeds state.words state.views =
     renamed (sym mine.graph_is) (sym mine.seeds_are) holds in

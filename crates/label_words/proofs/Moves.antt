@@ -53,7 +53,8 @@ read_allowed u me ready fresh vertex =
     (λ words seats s d was holds mine is below. (
       rw (← is) (reading was.state words s u me.0 holds fresh vertex),
       All-cons (λ (entry : ℕ × ℕ). label_of (set words (label_word u) d) entry.0 ≤ entry.1)
-          (vertex_of me.0.view.hand, d) me.0.labels (rw (← is, set-get_or words (label_word u) 0, vertex) (omega arith)),
+          (vertex_of me.0.view.hand, d) me.0.labels
+          (rw (← is, set-get_or words (label_word u) 0, vertex) (omega arith)),
       record {
         attained = λ less.
             rw (← is, vertex, was.laid.labels u within)
@@ -84,12 +85,14 @@ relax_allowed head x me ready held before heads offers =
     let within : head < me.0.graph.n = rw heads at (head_in me.0.graph me.0.view.hand ready.rows before) in
     let fell = λ (found : ℕ). nat_lt (next_offer me.0.graph me.0.view.hand) found in
     allows (λ found. next_offer me.0.graph me.0.view.hand < found → OfferAttains me.0) Relax
-    (λ found. (after_relax (fell found) me.0).view) (λ found. (after_relax (fell found) me.0).labels) ready (omega arith) (λ y v e. omega arith) (λ y. refl)
+    (λ found. (after_relax (fell found) me.0).view) (λ found. (after_relax (fell found) me.0).labels) ready
+    (omega arith) (λ y v e. omega arith) (λ y. refl)
     (λ words seats s found was holds mine is below. (
       rw (← is, ← offers) (relaxing was.state words s head me.0 holds held before heads),
       above_if (fell found) (label_of (set words (label_word head) (min found x)))
           (next_arc me.0.graph me.0.view.hand).head (next_offer me.0.graph me.0.view.hand) me.0.labels
-          (rw heads (omega (arith, get_or-set_same words (label_word head) (min found x) 0 (omega (arith, was.laid.count))))),
+          (rw heads
+          (omega (arith, get_or-set_same words (label_word head) (min found x) 0 (omega (arith, was.laid.count))))),
       λ less. lowering_attains _ _ _ _ _ _ _ was.lawful.rows was.lawful.covers holds.has held before (omega arith),
     ))
 

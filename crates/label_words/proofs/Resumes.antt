@@ -86,7 +86,8 @@ pub resumed_runs_end_alike : ResumedRunsEndAlike
 resumed_runs_end_alike graph seeds rest (Settled labels) within pause end =
     let old = rest.labels in
     let going = pause.going in
-    let serve = labels_serve_as_seeds graph.n graph.arcs seeds old labels.items within going.labels pause.sound pause.met in
+    let serve = labels_serve_as_seeds graph.n graph.arcs seeds old labels.items within going.labels pause.sound
+    pause.met in
     let lower = no_higher labels.items old
     (λ v lt. (end.least v (omega (arith, going.labels))).capped)
     (λ v lt finite.
@@ -104,7 +105,8 @@ resumed_runs_end_alike graph seeds rest (Paused last) within pause end =
         going = end.going;
         capped = end.capped;
         sound = λ v lt finite.
-            attained-from_labels graph.n graph.arcs seeds rest.labels within pause.going.labels pause.sound pause.met v _
+            attained-from_labels graph.n graph.arcs seeds rest.labels within pause.going.labels pause.sound pause.met v
+            _
             (end.sound v lt finite);
         met = λ k d lt.
             let seed = get_or seeds k d in

@@ -40,7 +40,14 @@ sown_lawful graph seeds words rows sown = record {
   state = sown.state;
   lawful =
       opening_lawful graph seeds sown.state rows
-      record { labels = sown.labels; marks = sown.marks; started = sown.started; total = sown.total; views = sown.views };
+      record {
+        labels = sown.labels;
+        marks = sown.marks;
+        started = sown.started;
+        total = sown.total;
+        views =
+            sown.views;
+      };
   laid = sown.laid;
   views_are = sown.views;
   knows = λ s seat at live. first_knows graph seeds (label_of words) s seat at;
@@ -70,11 +77,13 @@ cleared_none = record {
 }
 
 -- a vertex more has the label INF and no mark
-pub cleared_more : (words : List ℕ) (i : ℕ) → AreCleared words i i → AreCleared ((words ++ INF ∷ []) ++ 0 ∷ []) (i + 1) (i + 1)
+pub cleared_more : (words : List ℕ) (i : ℕ) → AreCleared words i i
+    → AreCleared ((words ++ INF ∷ []) ++ 0 ∷ []) (i + 1) (i + 1)
 cleared_more words i was =
     let one = words ++ INF ∷ [] in
     let long : length one ≡ 2 * i + 9 = omega (arith, was.count, length-append words (INF ∷ [])) in
-    let first = λ (k : ℕ) (lt : k < length words). get_or_append_left one (0 ∷ []) 0 k (omega arith) ∙ get_or_append_left words (INF ∷ []) 0 k lt in
+    let first = λ (k : ℕ) (lt : k < length words). get_or_append_left one (0 ∷ []) 0 k (omega arith)
+    ∙ get_or_append_left words (INF ∷ []) 0 k lt in
     record {
       count = omega (arith, long, length-append one (0 ∷ []));
       total = first 0 (omega (arith, was.count)) ∙ was.total;
@@ -88,9 +97,13 @@ cleared_more words i was =
             | inr more ↦
                 elim (cases_eq v i) [
                   | inl same ↦
-                      ap (nat_lt 0) (ap (λ k. get_or (one ++ 0 ∷ []) k 0) (omega (arith, same, long)) ∙ get_or-append_seam one 0 [] 0)
+                      ap (nat_lt 0)
+                      (ap (λ k. get_or (one ++ 0 ∷ []) k 0) (omega (arith, same, long))
+                      ∙ get_or-append_seam one 0 [] 0)
                   | inr other ↦
-                      ap (nat_lt 0) (get_or_past (one ++ 0 ∷ []) (mark_word v) 0 (omega (arith, long, length-append one (0 ∷ []))))
+                      ap (nat_lt 0)
+                      (get_or_past (one ++ 0 ∷ []) (mark_word v) 0
+                      (omega (arith, long, length-append one (0 ∷ []))))
                 ]
           ];
     }

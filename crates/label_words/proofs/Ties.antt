@@ -30,7 +30,8 @@ pub record Faces (graph : Graph) (hand : Hand) (head label : ℕ) : Type 0 where
   pub offers : next_offer graph hand ≡ label
 
 pub faces_within : {csr graph : Graph} {hand : Hand} {u d k end : ℕ}
-    → csr ≡ graph → hand ≡ Open u d k → FitsGraph graph hand → end ≡ end_place csr.arcs u → k ≢ end → k < length csr.arcs
+    → csr ≡ graph → hand ≡ Open u d k → FitsGraph graph hand → end ≡ end_place csr.arcs u → k ≢ end
+    → k < length csr.arcs
 faces_within {graph = graph} {u = u} {d = d} {k = k} {end = end} same is fits end_is more =
     let fits' = rw is at fits in
     let row : end ≡ end_place graph.arcs u = rw (← same) end_is in

@@ -12,7 +12,7 @@ use atomic_table::Closed as LastWords;
 use std::alloc::Global;
 
 /// What the words leave.
-#[derive(Drop)]
+#[derive(Debug, Drop)]
 pub enum Closed {
     /// The seat saw the total at 0: the least label of each vertex.
     Settled(Vec<u64>),

@@ -28,7 +28,8 @@ impl TableRule<(), Known, Key> for WordsRule {
     ghost use Rattle.label_words.specs.Known.{first_known};
     ghost use Rattle.label_words.specs.Rule.{seeds_told};
 
-    ghost holds = { λ key state. AreLawful key.0.value (seeds_told key.1.value.items key.2.value.items) state.words state.views };
+    ghost holds = { λ key state.
+        AreLawful key.0.value (seeds_told key.1.value.items key.2.value.items) state.words state.views };
 
     ghost first = { λ key. first_known key.0.value (seeds_told key.1.value.items key.2.value.items) };
 }

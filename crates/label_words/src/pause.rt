@@ -14,7 +14,7 @@ use std::marker::Model;
 
 /// Labels and marks as a run left them, before it was done; or labels that are settled, where a graph is to
 /// get more arcs and the run is to go on.
-#[derive(Drop)]
+#[derive(Debug, Drop)]
 pub struct Paused {
     pub(crate) labels: Vec<u64>,
     pub(crate) marks: Vec<bool>,

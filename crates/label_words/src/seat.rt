@@ -6,6 +6,7 @@ ghost use Rattle.label_words.specs.Known.{hand_of};
 
 use crate::known::TableSeat;
 use relax_core::{Hand, View};
+use std::fmt;
 use std::marker::Model;
 
 /// A worker's place at the words: what it holds, its credits, whether it saw the total at 0, and its
@@ -28,6 +29,12 @@ impl Model for WorkSeat {
     ghost view = { λ s. record { words = s.table_seat.table_id; known = s.table_seat.me.0 } };
 
     ghost invariant = { λ s. IsTied s.table_seat.table_id s.table_seat.me.0 s.view × (s.table_seat.me.1 ≡ []) };
+}
+
+impl fmt::Debug for WorkSeat {
+    fn fmt<W: fmt::Write>(&self, f: &mut fmt::Formatter<W>) -> fmt::Result {
+        f.debug_struct("WorkSeat").finish_non_exhaustive()
+    }
 }
 
 impl WorkSeat {

@@ -26,6 +26,7 @@ use csr_graph::{Csr, Target};
 use relax_core::{Hand, SHARES, View};
 use route_walks::{Memory, Seed, offer};
 use std::alloc::Global;
+use std::fmt;
 use std::marker::Model;
 use std::snapshot::Snapshot;
 
@@ -56,6 +57,12 @@ impl Model for Words {
     ghost Value = { TableId };
 
     ghost view = { λ w. w.table.shared.table_id };
+}
+
+impl fmt::Debug for Words {
+    fn fmt<W: fmt::Write>(&self, f: &mut fmt::Formatter<W>) -> fmt::Result {
+        f.debug_struct("Words").finish_non_exhaustive()
+    }
 }
 
 impl Words {
@@ -102,7 +109,10 @@ impl Words {
         requires { AreLawful key.0.value (seeds_told key.1.value.items key.2.value.items) words.items
             (first_known key.0.value (seeds_told key.1.value.items key.2.value.items) ∷ []) }
         ensures seat { IfOk result (λ opened. opened.1
-            ≡ record { words = opened.0; known = first_known key.0.value (seeds_told key.1.value.items key.2.value.items) }) }
+            ≡ record {
+              words = opened.0;
+              known = first_known key.0.value (seeds_told key.1.value.items key.2.value.items);
+            }) }
     {
         let (table, table_seat) = Table::of_words(alloc, &words, &key)?;
         let view = View::idle(SHARES);

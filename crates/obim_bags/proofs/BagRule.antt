@@ -4,7 +4,8 @@ use Rattle.std.proofs.Common.{List, [], ◌∷◌, ◌++◌, map, length, get_or
 use Rattle.std.specs.Prelude.{All, sum_by}
 use Rattle.std.proofs.lemmas.List.{map-append}
 use Rattle.std.proofs.lemmas.List.Elements.{All-set, All-push, All-weaker}
-use Rattle.std.proofs.lemmas.List.Sums.{sum_by-append, sum_by_push, sum_by-cons, sum_by-set, sum_by-le, get_or-le-sum_by}
+use Rattle.std.proofs.lemmas.List.Sums.{sum_by-append, sum_by_push, sum_by-cons, sum_by-set, sum_by-le}
+use Rattle.std.proofs.lemmas.List.Sums.{get_or-le-sum_by}
 use mathlib.Core.Option.{some, some-injective, some-ne-none}
 use lib.ListN.{get_elem?}
 use Rattle.crossbeam_queue.specs.Fifo.{Pushes, Pops, Forks, Merges, Learns}
@@ -66,7 +67,8 @@ module _ (tallies : List Tally) (place : ℕ) (tally : Tally) (at : get_elem? ta
 
   -- one that keeps its share and its workers stays fair
   stays_fair : (new : Tally) → 1 ≤ tally.share → new.share ≡ tally.share → new.workers ≡ tally.workers
-      → All (IsFair (shares_of tallies)) tallies → All (IsFair (shares_of (set tallies place new))) (set tallies place new)
+      → All (IsFair (shares_of tallies)) tallies
+      → All (IsFair (shares_of (set tallies place new))) (set tallies place new)
   stays_fair new live share workers fair =
       let n = shares_of tallies in
       let same : shares_of (set tallies place new) ≡ n = omega (arith, sum_set share_of new) in
@@ -105,7 +107,15 @@ puts n place tally box live filled boxes tallies _ was at =
         account = λ weight.
             let put = sum_set tallies place tally at (put_of weight) new in
             let got = sum_set tallies place tally at (got_of weight) new in
-            omega (arith, put, got, was.account weight, sum_by_push weight tally.put chunk, sum_by_push weight chunks chunk);
+            omega (
+              arith,
+              put,
+              got,
+              was.account weight,
+              sum_by_push weight tally.put chunk,
+              sum_by_push weight chunks
+                  chunk,
+            );
         filled = All-push (λ (c : ChunkSeen). c.vertices ≢ []) chunks chunk was.filled filled;
         fair = stays_fair tallies place tally at new live refl refl was.fair;
       },
@@ -124,7 +134,15 @@ gets place tally live box boxes tallies was at =
         account = λ weight.
             let put = sum_set tallies place tally at (put_of weight) new in
             let got = sum_set tallies place tally at (got_of weight) new in
-            omega (arith, put, got, was.account weight, sum_by_push weight tally.got chunk, sum_by-cons weight chunk chunks);
+            omega (
+              arith,
+              put,
+              got,
+              was.account weight,
+              sum_by_push weight tally.got chunk,
+              sum_by-cons weight chunk
+                  chunks,
+            );
         filled = λ i d lt. was.filled (suc i) d (omega arith);
         fair = stays_fair tallies place tally at new live refl refl was.fair;
       },
@@ -144,7 +162,8 @@ set_set (z ∷ zs) (suc place) x y = ap (λ rest. z ∷ rest) (set_set zs place 
 
 -- a sum after one tally was cut in two
 sum_cut : (tallies : List Tally) (place : ℕ) (tally : Tally) → get_elem? tallies place ≡ some tally → (f : Tally → ℕ)
-    → (left right : Tally) → sum_by f (set tallies place left ++ right ∷ []) + f tally ≡ sum_by f tallies + f left + f right
+    → (left right : Tally)
+    → sum_by f (set tallies place left ++ right ∷ []) + f tally ≡ sum_by f tallies + f left + f right
 sum_cut tallies place tally at f left right =
     omega (arith, sum_by_push f (set tallies place left) right, sum_set tallies place tally at f left)
 
@@ -169,7 +188,8 @@ adds_worker place tally all live boxes tallies was at =
     }
 
 -- a share is cut off
-pub cuts_share : (place : ℕ) (tally : Tally) → 2 ≤ tally.share → Forks Holds place tally (rest_of_shares tally) (cut_share tally)
+pub cuts_share : (place : ℕ) (tally : Tally) → 2 ≤ tally.share
+    → Forks Holds place tally (rest_of_shares tally) (cut_share tally)
 cuts_share place tally two boxes tallies was at =
     let left = rest_of_shares tally in
     let right = cut_share tally in
@@ -181,7 +201,8 @@ cuts_share place tally two boxes tallies was at =
     record {
       account = λ weight. omega (arith, cut (put_of weight), cut (got_of weight), was.account weight);
       filled = was.filled;
-      fair = rw same (All-push (IsFair n) (set tallies place left) right after ((λ _. workers), λ none. absurd (omega arith)));
+      fair = rw same
+          (All-push (IsFair n) (set tallies place left) right after ((λ _. workers), λ none. absurd (omega arith)));
     }
 
 -- another pass is joined in

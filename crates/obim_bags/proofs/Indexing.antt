@@ -16,7 +16,8 @@ pub at_place : (metrics : List ℕ) (metric : ℕ) (found : Option ℕ) → Give
 at_place metrics metric None gives = tt
 at_place metrics metric (Some place) gives = gives
 
-pub at_none : (metrics : List ℕ) (metric : ℕ) (found : Option ℕ) → Gives metrics metric found → IfNone found (Lacks metric metrics)
+pub at_none : (metrics : List ℕ) (metric : ℕ) (found : Option ℕ) → Gives metrics metric found
+    → IfNone found (Lacks metric metrics)
 at_none metrics metric None gives = gives
 at_none metrics metric (Some place) gives = tt
 
@@ -54,9 +55,11 @@ pub gives_next : (metrics : List ℕ) (new metric : ℕ) (before after : Option 
 gives_next metrics new metric before after lacks is gives =
     elim (eqb_tells new metric) [
       | inl same ↦
-          subst (Gives (metrics ++ new ∷ []) metric) (sym (subst (λ b. after ≡ cond b (Some (length metrics)) before) same.0 is))
+          subst (Gives (metrics ++ new ∷ []) metric)
+          (sym (subst (λ b. after ≡ cond b (Some (length metrics)) before) same.0 is))
           (subst (λ m. IsAlone m (length metrics) (metrics ++ new ∷ [])) same.1 (gives_last metrics new lacks))
       | inr other ↦
-          subst (Gives (metrics ++ new ∷ []) metric) (sym (subst (λ b. after ≡ cond b (Some (length metrics)) before) other.0 is))
+          subst (Gives (metrics ++ new ∷ []) metric)
+          (sym (subst (λ b. after ≡ cond b (Some (length metrics)) before) other.0 is))
           (gives_other metrics new metric (λ e. other.1 (sym e)) before gives)
     ]

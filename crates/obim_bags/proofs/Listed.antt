@@ -1,5 +1,6 @@
 -- What stands at a place of a list.
-use Rattle.std.proofs.Common.{Result, Ok, Err, ◌≡◌, ◌≢◌, ◌∙◌, ap, refl, subst, sym, ℕ, zero, suc, ◌<◌, List, [], ◌∷◌, ◌++◌, map, reverse, set, length, get_or, Some, None, inl, inr, ⊎_elim, ◌⊎◌}
+use Rattle.std.proofs.Common.{Result, Ok, Err, ◌≡◌, ◌≢◌, ◌∙◌, ap, refl, subst, sym, ℕ, zero, suc, ◌<◌, List, [], ◌∷◌}
+use Rattle.std.proofs.Common.{◌++◌, map, reverse, set, length, get_or, Some, None, inl, inr, ⊎_elim, ◌⊎◌}
 use Rattle.std.specs.Prelude.{slice_get, option_map, Option, IfNone, MatchOption, All, Bool, true, false}
 use Rattle.std.specs.Bool.{OnTrue}
 use Rattle.std.specs.Result.{IfErr, IsErrAnd}
@@ -12,7 +13,8 @@ use Rattle.std.proofs.Math.Seq.{map-set_same}
 pub found_at : {A : Type 0} (xs : List A) (i : ℕ) (x : A) → i < length xs → x ≡ get_or xs i x → slice_get xs i ≡ Some x
 found_at xs i x within is = slice_get-get_or xs i x within ∙ ap Some (sym is)
 
-pub at_map : {A B : Type 0} (f : A → B) (xs : List A) (i : ℕ) (x : A) → slice_get xs i ≡ Some x → slice_get (map f xs) i ≡ Some (f x)
+pub at_map : {A B : Type 0} (f : A → B) (xs : List A) (i : ℕ) (x : A) → slice_get xs i ≡ Some x
+    → slice_get (map f xs) i ≡ Some (f x)
 at_map f xs i x at = slice_get-map f xs i ∙ ap (option_map f) at
 
 -- what stands at a place of the mapped list comes of what stands there
@@ -23,7 +25,8 @@ mapped_at f (x ∷ xs) zero y at = (x, refl, cc at)
 mapped_at f (x ∷ xs) (suc i) y at = mapped_at f xs i y at
 
 -- an element is replaced by one that f can't tell from it
-pub map_kept : {A B : Type 0} (f : A → B) (xs : List A) (i : ℕ) (x y : A) → slice_get xs i ≡ Some x → f y ≡ f x → map f (set xs i y) ≡ map f xs
+pub map_kept : {A B : Type 0} (f : A → B) (xs : List A) (i : ℕ) (x y : A) → slice_get xs i ≡ Some x → f y ≡ f x
+    → map f (set xs i y) ≡ map f xs
 map_kept f xs i x y at same = map-set_same f xs i y x (same ∙ ap f (sym (get_or_from_slice_get xs i x x at)))
 
 pub at_set_else : {A : Type 0} (xs : List A) (i j : ℕ) (y : A) → j ≢ i → slice_get (set xs i y) j ≡ slice_get xs j
@@ -43,7 +46,8 @@ none_then P Q None then' was = then' was
 none_then P Q (Some x) then' was = tt
 
 -- what follows where nothing is found
-pub none_gives : {A : Type 0} (P Q : Type 0) (R : A → Type 0) (found : Option A) → (P → Q) → MatchOption found P R → IfNone found Q
+pub none_gives : {A : Type 0} (P Q : Type 0) (R : A → Type 0) (found : Option A) → (P → Q) → MatchOption found P R
+    → IfNone found Q
 none_gives P Q R None gives was = gives was
 none_gives P Q R (Some x) gives was = tt
 
@@ -53,7 +57,8 @@ true_then P Q true then' was = then' was
 true_then P Q false then' was = tt
 
 -- what follows from what is so of the fault that there is
-pub err_and : {T E : Type 0} (result : Result T E) (P Q : E → Type 0) → IsErrAnd result P → ((fault : E) → P fault → Q fault) → IfErr result Q
+pub err_and : {T E : Type 0} (result : Result T E) (P Q : E → Type 0) → IsErrAnd result P
+    → ((fault : E) → P fault → Q fault) → IfErr result Q
 err_and (Ok value) P Q is then' = tt
 err_and (Err fault) P Q is then' = then' fault is
 
@@ -68,16 +73,19 @@ pub at_snoc : {A : Type 0} (xs : List A) (y x : A) (i : ℕ) → slice_get (xs +
 at_snoc [] y x zero at = inr (refl, cc at)
 at_snoc [] y x (suc i) at = absurd cc
 at_snoc (z ∷ xs) y x zero at = inl at
-at_snoc (z ∷ xs) y x (suc i) at = ⊎_elim (λ old. inl old) (λ (new : (i ≡ length xs) × (y ≡ x)). inr (ap suc new.0, new.1)) (at_snoc xs y x i at)
+at_snoc (z ∷ xs) y x (suc i) at =
+    ⊎_elim (λ old. inl old) (λ (new : (i ≡ length xs) × (y ≡ x)). inr (ap suc new.0, new.1)) (at_snoc xs y x i at)
 
 -- what is so of each is so of what stands at a place
 pub all_at : {A : Type 0} (P : A → Type 0) (xs : List A) (i : ℕ) (x : A) → All P xs → slice_get xs i ≡ Some x → P x
-all_at P xs i x all at = subst P (get_or_from_slice_get xs i x x at) (All-get_or P xs i x (slice_get_within xs i x at) all)
+all_at P xs i x all at =
+    subst P (get_or_from_slice_get xs i x x at) (All-get_or P xs i x (slice_get_within xs i x at) all)
 
 pub all_split : {A : Type 0} (P : A → Type 0) (xs ys : List A) → All P (xs ++ ys) → All P xs × All P ys
 all_split P [] ys all = (All-nil P, all)
 all_split P (x ∷ xs) ys all =
-    let rest = all_split P xs ys (All-tail P x (xs ++ ys) all) in (All-cons P x xs (All-head P x (xs ++ ys) all) rest.0, rest.1)
+    let rest = all_split P xs ys (All-tail P x (xs ++ ys) all) in
+    (All-cons P x xs (All-head P x (xs ++ ys) all) rest.0, rest.1)
 
 pub all_reverse : {A : Type 0} (P : A → Type 0) (xs : List A) → All P (reverse xs) → All P xs
 all_reverse P [] all = All-nil P

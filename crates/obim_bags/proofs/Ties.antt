@@ -22,21 +22,26 @@ pub accesses_begin : {X E : Type 0} (result : Result X E) (old new : List Access
     → IsPrefix (bags_in old) was → IsPrefix was bags
     → OnOk result (bags_in new ≡ bags) → OnErr result (new ≡ old) → IsPrefix (bags_in new) bags
 accesses_begin (Ok x) old new was bags begin longer gained stayed = rw gained (prefix_self bags)
-accesses_begin (Err e) old new was bags begin longer gained stayed = rw stayed (prefix_trans (bags_in old) was bags begin longer)
+accesses_begin (Err e) old new was bags begin longer gained stayed =
+    rw stayed (prefix_trans (bags_in old) was bags begin longer)
 
 -- the index of a mirror is a beginning of the metrics of the list in the slot
-pub index_begins : (index : List ℕ) (known : LogKnown) (bags : List BagSeen) → IsPrefix index (metrics_of known.list) → IsWithin bags known
+pub index_begins : (index : List ℕ) (known : LogKnown) (bags : List BagSeen) → IsPrefix index (metrics_of known.list)
+    → IsWithin bags known
     → IsPrefix index (metrics_of bags)
 index_begins index known bags begin within =
-    prefix_trans index (metrics_of known.list) (metrics_of bags) begin (prefix_map (λ (bag : BagSeen). bag.metric) known.list bags within.list)
+    prefix_trans index (metrics_of known.list) (metrics_of bags) begin
+    (prefix_map (λ (bag : BagSeen). bag.metric) known.list bags within.list)
 
 -- in what a mirror keeps no metric stands twice
-pub distinct_places : {me : Me EntriesSeen LogKnown} (accesses : AccessesSeen) → IsTied me accesses → AreDistinct (metrics_in accesses.list)
+pub distinct_places : {me : Me EntriesSeen LogKnown} (accesses : AccessesSeen) → IsTied me accesses
+    → AreDistinct (metrics_in accesses.list)
 distinct_places {me} accesses tied =
     distinct_beginning (metrics_in accesses.list) (metrics_of me.0.list) tied.distinct
     (prefix_map (λ (bag : BagSeen). bag.metric) (bags_in accesses.list) me.0.list tied.list)
 
-pub gains : (old new : MirrorSeen) → new.log ≡ old.log → AreGained old.accesses new.accesses → AreDistinct (metrics_in new.accesses) → Gains old new
+pub gains : (old new : MirrorSeen) → new.log ≡ old.log → AreGained old.accesses new.accesses
+    → AreDistinct (metrics_in new.accesses) → Gains old new
 gains old new log gained distinct = record {
   log = log;
   kept = (gained.more, sym gained.kept);
@@ -46,4 +51,5 @@ gains old new log gained distinct = record {
 
 -- a mirror as it was
 pub gains_none : (mirror : MirrorSeen) → AreDistinct (metrics_in mirror.accesses) → Gains mirror mirror
-gains_none mirror = gains mirror mirror refl (record { more = []; kept = sym (append-nil mirror.accesses); gained = All-nil IsNew })
+gains_none mirror = gains mirror mirror refl
+    (record { more = []; kept = sym (append-nil mirror.accesses); gained = All-nil IsNew })

@@ -3,7 +3,8 @@ use Rattle.std.proofs.Common.{◌≡◌, ap, refl, ℕ, zero, suc, List, [], ◌
 use Rattle.std.specs.Prelude.{slice_get, Option, IfSome}
 
 -- what follows from what is so of the thing that was found
-pub some_then : {A : Type 0} (P Q : A → Type 0) (found : Option A) → ((x : A) → P x → Q x) → IfSome found P → IfSome found Q
+pub some_then : {A : Type 0} (P Q : A → Type 0) (found : Option A) → ((x : A) → P x → Q x) → IfSome found P
+    → IfSome found Q
 some_then P Q None then' was = tt
 some_then P Q (Some x) then' was = then' x was
 

@@ -46,8 +46,9 @@ IsSeenIn chunks tally =
     × AreLawful chunks tallies
     × (get_elem? tallies place ≡ some tally)
 
--- The bag was empty, if the pass is alone in it, with all shares: what it put is what it got, each chunk as often, however
--- chunks are weighed. Of a bag that has other passes it says nothing, since those may have put and got anything.
+-- The bag was empty, if the pass is alone in it, with all shares: what it put is what it got, each chunk as often,
+-- however chunks are weighed. Of a bag that has other passes it says nothing, since those may have put and got
+-- anything.
 abbrev pub WasEmptyIfAlone : Tally → Type 0
 WasEmptyIfAlone tally =
     tally.share ≡ tally.workers → (weight : ChunkSeen → ℕ) → weight_of weight tally.put ≡ weight_of weight tally.got
@@ -62,7 +63,7 @@ with_put chunk tally = record tally { put = tally.put ++ chunk ∷ [] }
 abbrev pub with_got : ChunkSeen → Tally → Tally
 with_got chunk tally = record tally { got = tally.got ++ chunk ∷ [] }
 
--- a tally of this share, of so many workers, by which nothing was put or got
+-- a tally of this share, among these workers, by which nothing was put or got
 abbrev pub new_tally : ℕ → ℕ → Tally
 new_tally share workers = record { share = share; workers = workers; put = []; got = [] }
 

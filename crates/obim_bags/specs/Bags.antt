@@ -18,7 +18,7 @@ pub record PassSeen : Type 0 where
   pub tally : Tally
   pub empties : ℕ
 
--- a pass of this queue, of so many workers
+-- a pass of this queue, which counts this number of workers
 abbrev pub IsPassAmong : SegId Global → ℕ → PassSeen → Type 0
 IsPassAmong queue workers pass = (pass.queue ≡ queue) × (pass.tally.workers ≡ workers)
 

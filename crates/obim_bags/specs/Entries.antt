@@ -28,7 +28,8 @@ HasAccessOf worker entry = (place : AccessSeen) × (slice_get entry.unclaimed wo
 
 -- the entry at this place still has the worker's place
 abbrev pub HasAccessAt : ℕ → ℕ → EntriesSeen → Type 0
-HasAccessAt worker place entries = (entry : EntrySeen) × (slice_get entries.list place ≡ Some entry) × HasAccessOf worker entry
+HasAccessAt worker place entries =
+    (entry : EntrySeen) × (slice_get entries.list place ≡ Some entry) × HasAccessOf worker entry
 
 -- each entry from this place on does
 abbrev pub HasAccessesFrom : ℕ → ℕ → EntriesSeen → Type 0

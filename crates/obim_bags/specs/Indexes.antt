@@ -14,7 +14,8 @@ Lacks metric metrics = (place : ℕ) → slice_get metrics place ≢ Some metric
 -- no metric stands at two places
 abbrev pub AreDistinct : List ℕ → Type 0
 AreDistinct metrics =
-    (place other metric : ℕ) → slice_get metrics place ≡ Some metric → slice_get metrics other ≡ Some metric → other ≡ place
+    (place other metric : ℕ) → slice_get metrics place ≡ Some metric → slice_get metrics other ≡ Some metric
+    → other ≡ place
 
 -- the map gives each metric's place, and nothing for the others
 abbrev pub AreIndexed : {S : Type 0} → HashMap ℕ ℕ S → List ℕ → Type 0

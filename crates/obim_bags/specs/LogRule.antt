@@ -44,7 +44,8 @@ HoldsSlot {S} me = (value : S) × (me.1 ≡ (0, value) ∷ [])
 
 module _ {S : Type 0} (bags_of : S → List BagSeen) where
   -- the word is 0, the slot is at home with the list, and no seat holds it
-  pub record IsFree (bags : List BagSeen) (words : List ℕ) (homes : List (Option S)) (all_known : List LogKnown) : Type 0 where
+  pub record IsFree (bags : List BagSeen) (words : List ℕ) (homes : List (Option S))
+      (all_known : List LogKnown) : Type 0 where
     pub word : words ≡ 0 ∷ []
     pub value : S
     pub home : homes ≡ some value ∷ []
@@ -52,7 +53,8 @@ module _ {S : Type 0} (bags_of : S → List BagSeen) where
     pub holds : EachKnown (λ (known : LogKnown). known.holds ≡ false) all_known
 
   -- the word is 1, and one seat holds the slot and knows the whole list
-  pub record IsTaken (bags : List BagSeen) (words : List ℕ) (homes : List (Option S)) (all_known : List LogKnown) : Type 0 where
+  pub record IsTaken (bags : List BagSeen) (words : List ℕ) (homes : List (Option S))
+      (all_known : List LogKnown) : Type 0 where
     pub word : words ≡ 1 ∷ []
     pub home : homes ≡ none ∷ []
     pub holder : ℕ
@@ -72,7 +74,8 @@ module _ {S : Type 0} (bags_of : S → List BagSeen) where
   -- all that the seat knew. Otherwise nothing changes.
   abbrev pub MayTake : Me S LogKnown → ℕ → Me S LogKnown → Type 0
   MayTake old found new =
-      (found ≡ 0 → (value : S) × (new ≡ (with_slot (bags_of value) old.0, (0, value) ∷ [])) × IsWithin (bags_of value) old.0)
+      (found ≡ 0 → (value : S) × (new ≡ (with_slot (bags_of value) old.0, (0, value) ∷ []))
+      × IsWithin (bags_of value) old.0)
       × (found ≢ 0 → new ≡ old)
 
   -- the seat gives back the slot, and knows the list in it

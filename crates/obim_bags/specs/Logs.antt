@@ -1,10 +1,12 @@
 -- The log of bags and its mirrors, as contracts see them.
-use Rattle.std.specs.Prelude.{◌≡◌, ◌⊎◌, ℕ, List, [], ◌∷◌, ◌++◌, map, length, drop, slice_set, Option, Some, None, slice_get, All}
+use Rattle.std.specs.Prelude.{◌≡◌, ◌⊎◌, ℕ, List, [], ◌∷◌, ◌++◌, map, length, drop, slice_set, Option, Some, None}
+use Rattle.std.specs.Prelude.{slice_get, All}
 use mathlib.Core.List.{IsPrefix}
 use Rattle.atomic_table.specs.Seated.{TableId}
 use Rattle.obim_bags.specs.Chunks.{ChunkSeen}
 use Rattle.obim_bags.specs.BagRule.{WasEmptyIfAlone}
-use Rattle.obim_bags.specs.Bags.{AreAdded, AreAllPasses, BagSeen, PassSeen, AreSettled, after_put, after_get, after_empty_find, new_pass}
+use Rattle.obim_bags.specs.Bags.{AreAdded, AreAllPasses, BagSeen, PassSeen, AreSettled, after_put, after_get}
+use Rattle.obim_bags.specs.Bags.{after_empty_find, new_pass}
 use Rattle.obim_bags.specs.Indexes.{AreDistinct}
 
 -- a bag of the log, and a pass of it
@@ -68,7 +70,8 @@ ChangesAt place change old new =
 
 -- the bag at this place was empty, if its pass is alone in it
 abbrev pub WasEmptyIfAloneIn : ℕ → List AccessSeen → Type 0
-WasEmptyIfAloneIn place accesses = (was : AccessSeen) × (slice_get accesses place ≡ Some was) × WasEmptyIfAlone was.pass.tally
+WasEmptyIfAloneIn place accesses =
+    (was : AccessSeen) × (slice_get accesses place ≡ Some was) × WasEmptyIfAlone was.pass.tally
 
 -- the same of a mirror
 abbrev pub WasEmptyIfAloneAt : ℕ → MirrorSeen → Type 0
@@ -109,11 +112,12 @@ pub record IsLogSettled (mirrors : List MirrorSeen) (left : List ChunkSeen) : Ty
   pub parts : List (List ChunkSeen)
   pub left_is : left ≡ all_of parts
   pub whole : length parts ≡ length bags
-  pub settled : (place : ℕ) (part : List ChunkSeen) → slice_get parts place ≡ Some part → AreSettled (passes_at place mirrors) part
+  pub settled : (place : ℕ) (part : List ChunkSeen) → slice_get parts place ≡ Some part
+      → AreSettled (passes_at place mirrors) part
   pub all : (place : ℕ) (bag : BagSeen) → slice_get bags place ≡ Some bag → AreAllWithNew bag (passes_at place mirrors)
 
--- There is one list of bags, of which each mirror has a prefix, and of one of them the passes of these mirrors, and those
--- that no mirror has claimed, aren't all.
+-- There is one list of bags, of which each mirror has a prefix, and of one of them the passes of these mirrors, and
+-- those that no mirror has claimed, aren't all.
 pub record LackPasses (mirrors : List MirrorSeen) : Type 0 where
   pub bags : List BagSeen
   pub prefixes : All (λ (mirror : MirrorSeen). IsPrefix (bags_in mirror.accesses) bags) mirrors

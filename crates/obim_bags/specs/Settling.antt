@@ -32,7 +32,8 @@ KnowsAllOf known held = (bags : List BagSeen) → IsWithin bags known → AreOf 
 -- from the bag at this place on, each part is what is left in its bag
 abbrev pub AreDrainedFrom : ℕ → List (List AccessSeen) → List (List ChunkSeen) → Type 0
 AreDrainedFrom first held parts =
-    (place : ℕ) (part : List ChunkSeen) → slice_get parts place ≡ Some part → AreSettled (passes_in (first + place) held) part
+    (place : ℕ) (part : List ChunkSeen) → slice_get parts place ≡ Some part
+    → AreSettled (passes_in (first + place) held) part
 
 -- with the passes that are still in it, the passes of these lists at this place are all of the entry's bag
 pub record IsWholeAt (place : ℕ) (held : List (List AccessSeen)) (entry : EntrySeen) : Type 0 where
@@ -42,7 +43,8 @@ pub record IsWholeAt (place : ℕ) (held : List (List AccessSeen)) (entry : Entr
 -- so it is of each entry from this place on
 abbrev pub AreWholeFrom : ℕ → List (List AccessSeen) → EntriesSeen → Type 0
 AreWholeFrom first held entries =
-    (place : ℕ) (entry : EntrySeen) → first ≤ place → slice_get entries.list place ≡ Some entry → IsWholeAt place held entry
+    (place : ℕ) (entry : EntrySeen) → first ≤ place → slice_get entries.list place ≡ Some entry
+    → IsWholeAt place held entry
 
 -- of one entry's bag they aren't all
 pub record LackSome (held : List (List AccessSeen)) (entries : EntriesSeen) : Type 0 where

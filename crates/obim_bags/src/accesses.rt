@@ -147,7 +147,8 @@ impl Accesses {
     #[inline(always)]
     pub(crate) fn get_boxed<R: Wait>(&mut self, rt: &R, place: usize) -> Option<Box<Chunk>>
         requires { place < length self.old.list }
-        ensures got { IfSome result (λ chunk. ChangesAccess place (access_after_get chunk.value) self.old.list self.new.list) }
+        ensures got { IfSome result (λ chunk.
+            ChangesAccess place (access_after_get chunk.value) self.old.list self.new.list) }
         ensures filled { IfSome result (λ chunk. chunk.value.vertices ≢ []) }
         ensures found_empty { IfNone result (ChangesAccess place access_after_empty_find self.old.list self.new.list) }
         ensures alone { IfNone result (WasEmptyIfAloneIn place self.old.list) }

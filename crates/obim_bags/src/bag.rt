@@ -14,6 +14,7 @@ use crate::fault::SettleFault;
 use crate::passes::{BagPass, add_workers, cut_shares, join_all, take_all};
 use route_walks::Memory;
 use std::alloc::Global;
+use std::fmt;
 use std::marker::Model;
 use std::sync::Wait;
 
@@ -34,6 +35,15 @@ impl Model for Bag {
     ghost view = { λ b. record { metric = b.metric; workers = b.workers; queue = b.queue } };
 
     ghost invariant = { λ b. 1 ≤ b.workers };
+}
+
+impl fmt::Debug for Bag {
+    fn fmt<W: fmt::Write>(&self, f: &mut fmt::Formatter<W>) -> fmt::Result {
+        f.debug_struct("Bag")
+            .field("metric", &self.metric)
+            .field("workers", &self.workers)
+            .finish_non_exhaustive()
+    }
 }
 
 impl Bag {

@@ -22,7 +22,7 @@ pub struct ChunkId {
 
 /// A chunk of vertices, counted from 0: a stack of at most `size`, with its name. It lies in one piece
 /// of some 1,050 bytes and never takes memory.
-#[derive(Drop)]
+#[derive(Debug, Drop)]
 pub struct Chunk {
     id: ChunkId,
     size: usize,

@@ -105,7 +105,8 @@ impl Entry {
 
 // The passes of all accesses, put last.
 fn keep_all(unclaimed: &mut Vec<Option<Access>>, passes: &mut Vec<BagPass>) -> Result<(), Memory>
-    ensures rest { (bag : BagSeen) → All (IsUnclaimed bag) unclaimed.old.items → All (IsUnclaimed bag) unclaimed.new.items }
+    ensures rest { (bag : BagSeen) → All (IsUnclaimed bag) unclaimed.old.items
+        → All (IsUnclaimed bag) unclaimed.new.items }
     ensures added { OnOk result
         ((bag : BagSeen) → All (IsUnclaimed bag) unclaimed.old.items → AreAdded bag passes.old.items passes.new.items) }
     ensures shares { OnOk result (shares_of (tallies_of passes.new.items)
@@ -119,7 +120,8 @@ fn keep_all(unclaimed: &mut Vec<Option<Access>>, passes: &mut Vec<BagPass>) -> R
 
 // The pass of a place, if there is one, put last.
 fn keep(place: Option<Access>, passes: &mut Vec<BagPass>) -> Result<(), Memory>
-    ensures added { OnOk result ((bag : BagSeen) → IsUnclaimed bag place → AreAdded bag passes.old.items passes.new.items) }
+    ensures added { OnOk result ((bag : BagSeen) → IsUnclaimed bag place
+        → AreAdded bag passes.old.items passes.new.items) }
     ensures pass { OnOk result (passes.new.items ≡ passes.old.items ++ pass_in place) }
 {
     if let Some(place) = place {

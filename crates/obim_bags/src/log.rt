@@ -20,6 +20,7 @@ use crate::mirror::Mirror;
 use crossbeam_utils::Backoff;
 use route_walks::Memory;
 use std::alloc::Global;
+use std::fmt;
 use std::marker::Model;
 use std::sync::Wait;
 
@@ -47,6 +48,14 @@ impl Model for BagLog {
 
     ghost invariant = { λ l. (1 ≤ l.workers) × (l.table.shared.table_id.words ≡ 1)
         × (l.table.shared.table_id.slots ≡ 1) };
+}
+
+impl fmt::Debug for BagLog {
+    fn fmt<W: fmt::Write>(&self, f: &mut fmt::Formatter<W>) -> fmt::Result {
+        f.debug_struct("BagLog")
+            .field("workers", &self.workers)
+            .finish_non_exhaustive()
+    }
 }
 
 impl BagLog {

@@ -8,6 +8,7 @@ ghost use Rattle.obim_bags.specs.Logs.{bags_in, metrics_in};
 use crate::access::Access;
 use crate::accesses::Accesses;
 use crate::log_rule::LogSeat;
+use std::fmt;
 use std::marker::Model;
 
 /// A worker's copy of the log, as far as it has caught up: of each bag in it, by place, its metric and
@@ -27,6 +28,12 @@ impl Model for Mirror {
     ghost view = { λ m. record { log = m.seat.table_id; accesses = m.accesses.list } };
 
     ghost invariant = { λ m. IsTied m.seat.me m.accesses };
+}
+
+impl fmt::Debug for Mirror {
+    fn fmt<W: fmt::Write>(&self, f: &mut fmt::Formatter<W>) -> fmt::Result {
+        f.debug_struct("Mirror").finish_non_exhaustive()
+    }
 }
 
 impl Mirror {

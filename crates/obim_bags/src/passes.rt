@@ -9,6 +9,7 @@ ghost use Rattle.obim_bags.specs.Bags.{IsPassAmong, pass_among, tallies_of, AreJ
 use crate::bag_rule::{AddsWorker, ChunkQueue, CutsShare, Gets, Joins, QueuePass};
 use crate::chunk::Chunk;
 use std::alloc::{AllocError, Global};
+use std::fmt;
 use std::marker::Model;
 use std::sync::Wait;
 
@@ -34,6 +35,12 @@ impl Model for BagPass {
 
     ghost invariant = { λ p. (p.pass.me.hand ≡ None) × (p.pass.me.spare ≡ None)
         × (p.pass.me.view.client.share ≡ 1) };
+}
+
+impl fmt::Debug for BagPass {
+    fn fmt<W: fmt::Write>(&self, f: &mut fmt::Formatter<W>) -> fmt::Result {
+        f.debug_struct("BagPass").finish_non_exhaustive()
+    }
 }
 
 impl BagPass {

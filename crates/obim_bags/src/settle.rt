@@ -1,6 +1,7 @@
 //! The end of a log: what is left in its bags.
 
-ghost use Rattle.std.specs.Prelude.{◌≡◌, ◌≢◌, ◌+◌, ◌++◌, ◌<◌, ◌≤◌, ℕ, List, [], Some, length, map, reverse, slice_get, take};
+ghost use Rattle.std.specs.Prelude.{◌≡◌, ◌≢◌, ◌+◌, ◌++◌, ◌<◌, ◌≤◌, ℕ, List, [], Some, length, map, reverse, slice_get};
+ghost use Rattle.std.specs.Prelude.{take};
 ghost use Rattle.std.specs.Prelude.{All, IfErr, IfOk, OnOk};
 ghost use mathlib.Core.List.{IsPrefix};
 ghost use Rattle.obim_bags.specs.declared.fault.SettleFault.TheVariants.{Memory, Missing};
@@ -104,12 +105,14 @@ impl Entries {
         passes: Vec<BagPass>,
     ) -> Result<Vec<Chunk>, SettleFault>
         requires place { place < length self.old.list }
-        requires passes { (bag : BagSeen) → slice_get (bags_of self.old) place ≡ Some bag → All (IsPassOf bag) passes.items }
+        requires passes { (bag : BagSeen) → slice_get (bags_of self.old) place ≡ Some bag
+            → All (IsPassOf bag) passes.items }
         ensures bags { bags_of self.new ≡ bags_of self.old }
         ensures others { (other : ℕ) → other ≢ place → slice_get self.new.list other ≡ slice_get self.old.list other }
         ensures settled { IfOk result (λ left. AreSettled passes.items left.items) }
         ensures entry { (entry : EntrySeen) → slice_get self.old.list place ≡ Some entry → IsEntry entry }
-        ensures all { OnOk result ((entry : EntrySeen) → slice_get self.old.list place ≡ Some entry → AreAllOf entry passes.items) }
+        ensures all { OnOk result ((entry : EntrySeen) → slice_get self.old.list place ≡ Some entry
+            → AreAllOf entry passes.items) }
         ensures missing { IfErr result (λ fault. fault ≡ Missing
             → (entry : EntrySeen) → slice_get self.old.list place ≡ Some entry → AreAllOf entry passes.items → ⊥) }
     {

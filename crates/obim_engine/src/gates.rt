@@ -2,6 +2,7 @@
 
 use crate::gate::Gate;
 use std::alloc::Global;
+use std::fmt;
 use std::sync::atomic::{AtomicU64, Ordering};
 use std::sync::{Mutex, Wait};
 use std::thread::yield_now;
@@ -10,6 +11,12 @@ use std::thread::yield_now;
 #[derive(Drop)]
 pub struct Recorder {
     passed: Mutex<Vec<u32>>,
+}
+
+impl fmt::Debug for Recorder {
+    fn fmt<W: fmt::Write>(&self, f: &mut fmt::Formatter<W>) -> fmt::Result {
+        f.debug_struct("Recorder").finish_non_exhaustive()
+    }
 }
 
 impl Recorder {
@@ -34,7 +41,7 @@ impl Gate for Recorder {
 }
 
 /// Hands the processor on before one visit in eight, drawn at random: for the tests of callers.
-#[derive(Drop)]
+#[derive(Debug, Drop)]
 pub struct Yielding {
     state: AtomicU64,
 }

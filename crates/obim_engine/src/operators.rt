@@ -109,7 +109,7 @@ fn solve_alone<H: Threads + Wait + Clock + Sync, G: Gate + Sync>(
     }
 }
 
-/// The least cost of a walk from the source to each vertex, `INF` where there is none.
+/// The least cost of a walk from the source to each vertex, `INF` where there is none. Takes as long as a `run`.
 pub fn distances<H: Threads + Wait + Clock + Sync, G: Gate + Sync>(
     rt: &H,
     alloc: Global,

@@ -61,6 +61,9 @@ impl From<route_walks::Memory> for RunFault {
 ///
 /// The call returns when its workers do. A worker that draws nothing for long looks at every vertex
 /// itself, so that a pool which loses vertices does not keep a run from its end.
+///
+/// A visit takes time in proportion to the arcs that leave the vertex. How often a vertex is visited depends on
+/// the pool and on the order in which workers step: about once if the pool gives low labels first.
 pub fn run<H: Threads + Wait + Clock + Sync, P: WorkPool + Sync, G: Gate + Sync>(
     rt: &H,
     alloc: Global,

@@ -1,5 +1,6 @@
 -- What a look into one bag and a vertex taken out of it do.
-use Rattle.std.proofs.Common.{◌≡◌, ◌≢◌, ◌∙◌, ap, refl, subst, sym, ℕ, ◌<◌, List, [], ◌∷◌, ◌++◌, length, length-append, Some, None, arith}
+use Rattle.std.proofs.Common.{◌≡◌, ◌≢◌, ◌∙◌, ap, refl, subst, sym, ℕ, ◌<◌, List, [], ◌∷◌, ◌++◌, length, length-append}
+use Rattle.std.proofs.Common.{Some, None, arith}
 use Rattle.std.specs.Prelude.{Option, Box, IfNone, IfSome, sum_by}
 use Rattle.std.specs.declared.alloc.Global.{Global}
 use Rattle.std.proofs.lemmas.List.{append-nil, nil_from_length}
@@ -98,6 +99,7 @@ none_then P Q None then' p = then' p
 none_then P Q (Some x) then' p = tt
 
 -- what follows from what is so where there is one
-pub some_then : {A : Type 0} (P Q : A → Type 0) (found : Option A) → ((x : A) → P x → Q x) → IfSome found P → IfSome found Q
+pub some_then : {A : Type 0} (P Q : A → Type 0) (found : Option A) → ((x : A) → P x → Q x) → IfSome found P
+    → IfSome found Q
 some_then P Q None then' p = tt
 some_then P Q (Some x) then' p = then' x p

@@ -1,5 +1,6 @@
 -- What a side gains: accesses of its mirror, and room for them.
-use Rattle.std.proofs.Common.{◌≡◌, ◌∙◌, ap, refl, subst, sym, ℕ, zero, suc, ◌<◌, ◌≤◌, List, [], ◌∷◌, ◌++◌, drop, length, get_or, Result, Ok, Err, OnErr, OnOk, None, Some, arith, length-append}
+use Rattle.std.proofs.Common.{◌≡◌, ◌∙◌, ap, refl, subst, sym, ℕ, zero, suc, ◌<◌, ◌≤◌, List, [], ◌∷◌, ◌++◌, drop}
+use Rattle.std.proofs.Common.{length, get_or, Result, Ok, Err, OnErr, OnOk, None, Some, arith, length-append}
 use Rattle.std.specs.Prelude.{All, slice_get}
 use Rattle.std.proofs.lemmas.List.{map-append}
 use Rattle.std.proofs.lemmas.List.Elements.{All-head, All-tail}
@@ -27,7 +28,8 @@ account_new held zero (p ∷ ps) new = ap (account_with held) (All-head IsNew p 
 account_new held (suc i) (p ∷ ps) new = account_new held i ps (All-tail IsNew p ps new)
 
 -- new accesses behind the others change no account
-account_longer : (held : List ℕ) (i : ℕ) (old new : List AccessSeen) → IsPrefix old new → All IsNew (drop (length old) new)
+account_longer : (held : List ℕ) (i : ℕ) (old new : List AccessSeen) → IsPrefix old new
+    → All IsNew (drop (length old) new)
     → account_of (slice_get new i) held ≡ account_of (slice_get old i) held
 account_longer held i [] new longer gained = account_new held i new gained
 account_longer held i (x ∷ old) [] longer gained = absurd (cc (longer.1))
@@ -41,7 +43,8 @@ pub record IsLonger (old new : MirrorSeen) : Type 0 where
   pub log : new.log ≡ old.log
   pub bags : IsPrefix (metrics_in old.accesses) (metrics_in new.accesses)
   pub accesses : length old.accesses ≤ length new.accesses
-  pub accounts : (place : ℕ) (held : List (List ℕ)) → account_in place new.accesses held ≡ account_in place old.accesses held
+  pub accounts : (place : ℕ) (held : List (List ℕ))
+      → account_in place new.accesses held ≡ account_in place old.accesses held
 
 pub longer_gains : (old new : MirrorSeen) → Gains old new → IsLonger old new
 longer_gains old new gains = record {
@@ -49,7 +52,8 @@ longer_gains old new gains = record {
   bags = prefix_map (λ (bag : BagSeen). bag.metric) (bags_in old.accesses) (bags_in new.accesses)
       (prefix_map (λ (p : AccessSeen). p.bag) old.accesses new.accesses gains.kept);
   accesses = prefix_length old.accesses new.accesses gains.kept;
-  accounts = λ place held. account_longer (get_or held place []) place old.accesses new.accesses gains.kept gains.gained;
+  accounts = λ place held. account_longer
+      (get_or held place []) place old.accesses new.accesses gains.kept gains.gained;
 }
 
 pub longer_same : (old new : MirrorSeen) → new ≡ old → IsLonger old new
@@ -67,7 +71,8 @@ longer_after old new (Ok x) gains same = longer_gains old new gains
 longer_after old new (Err e) gains same = longer_same old new same
 
 -- a longer mirror, with the room as it was
-pub grows_longer : (old new : MirrorSeen) (chunks : List BagChunks) → length chunks ≤ length old.accesses → IsLonger old new
+pub grows_longer : (old new : MirrorSeen) (chunks : List BagChunks) → length chunks ≤ length old.accesses
+    → IsLonger old new
     → Grows old chunks new chunks
 grows_longer old new chunks fits longer = record {
   log = longer.log;
@@ -85,7 +90,8 @@ get_or_snoc (x ∷ xs) d zero = refl
 get_or_snoc (x ∷ xs) d (suc i) = get_or_snoc xs d i
 
 -- room for one bag more, of which nothing is held
-pub grows_room : (m : MirrorSeen) (chunks : List BagChunks) (k : BagChunks) → length chunks < length m.accesses → held_of k ≡ []
+pub grows_room : (m : MirrorSeen) (chunks : List BagChunks) (k : BagChunks) → length chunks < length m.accesses
+    → held_of k ≡ []
     → Grows m chunks m (chunks ++ k ∷ [])
 grows_room m chunks k less none = record {
   log = refl;

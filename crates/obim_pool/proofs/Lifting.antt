@@ -1,5 +1,6 @@
 -- A change of one bag of a side, seen from all its bags.
-use Rattle.std.proofs.Common.{◌≡◌, ◌≢◌, ◌∙◌, ap, refl, subst, sym, ℕ, zero, suc, ◌<◌, List, [], ◌∷◌, set, length, get_or, Some, arith, length-set}
+use Rattle.std.proofs.Common.{◌≡◌, ◌≢◌, ◌∙◌, ap, refl, subst, sym, ℕ, zero, suc, ◌<◌, List, [], ◌∷◌, set, length}
+use Rattle.std.proofs.Common.{get_or, Some, arith, length-set}
 use Rattle.std.specs.Prelude.{slice_get}
 use Rattle.std.proofs.lemmas.List.{get_or-set_other, map-set}
 use Rattle.std.proofs.lemmas.Option.{get_or_from_slice_get, slice_get-get_or, slice_get_within}
@@ -32,14 +33,16 @@ set_same (z ∷ zs) zero x at = cc
 set_same (z ∷ zs) (suc i) x at = ap (λ rest. z ∷ rest) (set_same zs i x at)
 
 -- what is held stays where that of one bag does
-pub held_same : (chunks : List BagChunks) (i : ℕ) (k k' : BagChunks) → i < length chunks → k ≡ get_or chunks i k → held_of k' ≡ held_of k
+pub held_same : (chunks : List BagChunks) (i : ℕ) (k k' : BagChunks) → i < length chunks → k ≡ get_or chunks i k
+    → held_of k' ≡ held_of k
     → all_held (set chunks i k') ≡ all_held chunks
 held_same chunks i k k' within read same =
     let there = at_map held_of chunks i k (slice_get-get_or chunks i k within ∙ ap Some (sym read)) in
     map-set held_of chunks i k' ∙ ap (set (all_held chunks) i) same ∙ set_same (all_held chunks) i (held_of k) there
 
 -- the account of a bag whose place and chunks are known
-pub account_here : (i : ℕ) (accesses : List AccessSeen) (p : AccessSeen) (chunks : List BagChunks) (k : BagChunks) → slice_get accesses i ≡ Some p
+pub account_here : (i : ℕ) (accesses : List AccessSeen) (p : AccessSeen) (chunks : List BagChunks) (k : BagChunks)
+    → slice_get accesses i ≡ Some p
     → slice_get chunks i ≡ Some k → account_in i accesses (all_held chunks) ≡ account_of (Some p) (held_of k)
 account_here i accesses p chunks k place own =
     let held : get_or (all_held chunks) i [] ≡ held_of k =
@@ -47,11 +50,13 @@ account_here i accesses p chunks k place own =
     ap (λ found. account_of found (get_or (all_held chunks) i [])) place ∙ ap (account_of (Some p)) held
 
 -- the account of another bag stays
-pub account_else : (i j : ℕ) (accesses : List AccessSeen) (p : AccessSeen) (chunks : List BagChunks) (k : BagChunks) → j ≢ i
+pub account_else : (i j : ℕ) (accesses : List AccessSeen) (p : AccessSeen) (chunks : List BagChunks) (k : BagChunks)
+    → j ≢ i
     → account_in j (set accesses i p) (all_held (set chunks i k)) ≡ account_in j accesses (all_held chunks)
 account_else i j accesses p chunks k other =
     let held : get_or (all_held (set chunks i k)) j [] ≡ get_or (all_held chunks) j [] =
-    ap (λ (list : List (List ℕ)). get_or list j []) (map-set held_of chunks i k) ∙ get_or-set_other (all_held chunks) i j (held_of k) [] other in
+    ap (λ (list : List (List ℕ)). get_or list j []) (map-set held_of chunks i k)
+    ∙ get_or-set_other (all_held chunks) i j (held_of k) [] other in
     ap (λ found. account_of found (get_or (all_held (set chunks i k)) j [])) (at_set_else accesses i j p other)
     ∙ ap (account_of (slice_get accesses j)) held
 
@@ -62,21 +67,26 @@ pub record Changed (Changes : Account → Account → Type 0) (place : ℕ)
   pub bags : metrics_in new.accesses ≡ metrics_in old.accesses
   pub accesses : length new.accesses ≡ length old.accesses
   pub own : length new_chunks ≡ length old_chunks
-  pub here : Changes (account_in place old.accesses (all_held old_chunks)) (account_in place new.accesses (all_held new_chunks))
+  pub here : Changes (account_in place old.accesses (all_held old_chunks))
+      (account_in place new.accesses (all_held new_chunks))
   pub others : (other : ℕ) → other ≢ place
       → account_in other new.accesses (all_held new_chunks) ≡ account_in other old.accesses (all_held old_chunks)
 
 -- a change of one bag of the side, among all its bags
-pub changed_all : (Changes : Account → Account → Type 0) (place : ℕ) (old new : MirrorSeen) (chunks : List BagChunks) (k k' : BagChunks)
-    → slice_get chunks place ≡ Some k → OneBag Changes place old k new k' → Changed Changes place old chunks new (set chunks place k')
+pub changed_all : (Changes : Account → Account → Type 0) (place : ℕ) (old new : MirrorSeen) (chunks : List BagChunks)
+    (k k' : BagChunks)
+    → slice_get chunks place ≡ Some k → OneBag Changes place old k new k'
+    → Changed Changes place old chunks new (set chunks place k')
 changed_all Changes place old new chunks k k' own one =
     let after = λ (m : MirrorSeen). Changed Changes place old chunks m (set chunks place k') in
     let was = account_here place old.accesses one.was chunks k one.was_there own in
     let is =
-    account_here place (set old.accesses place one.is) one.is (set chunks place k') k' (at_set old.accesses place one.was one.is one.was_there) (at_set chunks place k k' own) in
+    account_here place (set old.accesses place one.is) one.is (set chunks place k') k'
+    (at_set old.accesses place one.was one.is one.was_there) (at_set chunks place k k' own) in
     subst after (sym one.is_there) record {
       log = refl;
-      bags = ap metrics_of (map_kept (λ (p : AccessSeen). p.bag) old.accesses place one.was one.is one.was_there one.bag);
+      bags = ap metrics_of
+          (map_kept (λ (p : AccessSeen). p.bag) old.accesses place one.was one.is one.was_there one.bag);
       accesses = length-set old.accesses place one.is;
       own = length-set chunks place k';
       here = rw (was, is) one.change;
@@ -84,18 +94,21 @@ changed_all Changes place old new chunks k k' own one =
     }
 
 -- the same, of a bag that was read
-pub changed_here : (Changes : Account → Account → Type 0) (place : ℕ) {old new : MirrorSeen} (chunks : List BagChunks) {k k' : BagChunks}
+pub changed_here : (Changes : Account → Account → Type 0) (place : ℕ) {old new : MirrorSeen}
+    (chunks : List BagChunks) {k k' : BagChunks}
     → place < length chunks → k ≡ get_or chunks place k → OneBag Changes place old k new k'
     → Changed Changes place old chunks new (set chunks place k')
 changed_here Changes place {old} {new} chunks {k} {k'} within read one =
     changed_all Changes place old new chunks k k' (found_at chunks place k within read) one
 
 -- the place of a bag that changed
-pub one_within : {Changes : Account → Account → Type 0} {place : ℕ} {old new : MirrorSeen} {k k' : BagChunks} → OneBag Changes place old k new k'
+pub one_within : {Changes : Account → Account → Type 0} {place : ℕ} {old new : MirrorSeen} {k k' : BagChunks}
+    → OneBag Changes place old k new k'
     → place < length new.accesses
 one_within {Changes} {place} {old} {new} one =
     let there : slice_get new.accesses place ≡ Some one.is =
-    ap (λ (m : MirrorSeen). slice_get m.accesses place) one.is_there ∙ at_set old.accesses place one.was one.is one.was_there in
+    ap (λ (m : MirrorSeen). slice_get m.accesses place) one.is_there
+    ∙ at_set old.accesses place one.was one.is one.was_there in
     slice_get_within new.accesses place one.is there
 
 -- two changes of one bag are one
@@ -104,10 +117,13 @@ pub one_then : {P Q R : Account → Account → Type 0} {place : ℕ} {m1 m2 m3 
     → OneBag R place m1 k1 m3 k3
 one_then {P} {Q} {R} {place} {m1} {m2} {m3} {k1} {k2} {k3} joins first second =
     let there = at_set m1.accesses place first.was first.is first.was_there in
-    let found : slice_get m2.accesses place ≡ Some first.is = ap (λ (m : MirrorSeen). slice_get m.accesses place) first.is_there ∙ there in
+    let found : slice_get m2.accesses place ≡ Some first.is =
+    ap (λ (m : MirrorSeen). slice_get m.accesses place) first.is_there ∙ there in
     let same : second.was ≡ first.is = cc (second.was_there, found) in
     let bag : second.is.bag ≡ first.was.bag = second.bag ∙ (ap (λ (p : AccessSeen). p.bag) same ∙ first.bag) in
-    let change = subst (λ (p : AccessSeen). Q (account_of (Some p) (held_of k2)) (account_of (Some second.is) (held_of k3))) same second.change in
+    let change =
+    subst (λ (p : AccessSeen). Q (account_of (Some p) (held_of k2)) (account_of (Some second.is) (held_of k3))) same
+    second.change in
     let last : m3 ≡ record m1 { accesses = set m1.accesses place second.is } =
     second.is_there ∙ (ap (λ (m : MirrorSeen). record m { accesses = set m.accesses place second.is }) first.is_there
     ∙ ap (λ (ps : List AccessSeen). record m1 { accesses = ps }) (set_twice m1.accesses place first.is second.is)) in
@@ -127,7 +143,8 @@ here (x ∷ xs) zero within = (x, refl)
 here (x ∷ xs) (suc i) within = here xs i (omega arith)
 
 -- a change of the side's two chunks of a bag alone
-pub one_of_held : (Changes : Account → Account → Type 0) (place : ℕ) (m : MirrorSeen) (k k' : BagChunks) → place < length m.accesses
+pub one_of_held : (Changes : Account → Account → Type 0) (place : ℕ) (m : MirrorSeen) (k k' : BagChunks)
+    → place < length m.accesses
     → ((p : AccessSeen) → Changes (account_of (Some p) (held_of k)) (account_of (Some p) (held_of k')))
     → OneBag Changes place m k m k'
 one_of_held Changes place m k k' within change =
@@ -142,7 +159,8 @@ one_of_held Changes place m k k' within change =
     }
 
 -- what is so of a side's order and its current bag stays so where metrics and the number of bags do
-pub order_stays : {Changes : Account → Account → Type 0} {place : ℕ} {old new : MirrorSeen} {chunks chunks' : List BagChunks} (order : List OwnBag)
+pub order_stays : {Changes : Account → Account
+    → Type 0} {place : ℕ} {old new : MirrorSeen} {chunks chunks' : List BagChunks} (order : List OwnBag)
     → Changed Changes place old chunks new chunks' → IsOrder order (length chunks) (metrics_in old.accesses)
     → IsOrder order (length chunks') (metrics_in new.accesses)
 order_stays order change was = rw (change.own, change.bags) was

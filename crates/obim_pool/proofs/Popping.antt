@@ -1,5 +1,6 @@
 -- What a side's pop does, from what its steps do.
-use Rattle.std.proofs.Common.{◌≡◌, ◌≢◌, ◌∙◌, ap, refl, subst, sym, ℕ, zero, suc, ◌+◌, ◌*◌, ◌%◌, ◌/◌, ◌^◌, ◌≤◌, ◌<◌, List, [], ◌∷◌, length, map, replicate, get_or, Some, None, inl, inr, ⊎_elim, arith}
+use Rattle.std.proofs.Common.{◌≡◌, ◌≢◌, ◌∙◌, ap, refl, subst, sym, ℕ, zero, suc, ◌+◌, ◌*◌, ◌%◌, ◌/◌, ◌^◌, ◌≤◌, ◌<◌}
+use Rattle.std.proofs.Common.{List, [], ◌∷◌, length, map, replicate, get_or, Some, None, inl, inr, ⊎_elim, arith}
 use Rattle.std.specs.Prelude.{⊤, All, IfNone, IfSome, Option, slice_get}
 use Rattle.std.proofs.Math.Nat.{add-mul-mod_self_left, mod-add-div}
 use Rattle.std.proofs.lemmas.Bool.{cases_eq}
@@ -13,8 +14,10 @@ use Rattle.obim_pool.specs.declared.order.OwnBag.{OwnBag}
 use Rattle.obim_pool.specs.Accounts.{Account, FindsMore, Gets, OnlyLooks, account_of}
 use Rattle.obim_pool.specs.Held.{all_held, held_of}
 use Rattle.obim_pool.specs.Orders.{IsOrder}
-use Rattle.obim_pool.specs.Sides.{FoundEmptyAt, HasLookedBelow, IsCurrent, IsSideOf, mirrors_of, new_side, IsSide, Keeps, Pops, PopsNone, SideSeen, account_at, account_in, current_of}
-use Rattle.obim_pool.specs.Steps.{AreBare, Draws, FindsAllEmpty, FindsEmpty, FoundOnceAt, Grows, IsBare, OneBag, OneFind, PopsLowest, TriesCurrent}
+use Rattle.obim_pool.specs.Sides.{FoundEmptyAt, HasLookedBelow, IsCurrent, IsSideOf, mirrors_of, new_side, IsSide}
+use Rattle.obim_pool.specs.Sides.{Keeps, Pops, PopsNone, SideSeen, account_at, account_in, current_of}
+use Rattle.obim_pool.specs.Steps.{AreBare, Draws, FindsAllEmpty, FindsEmpty, FoundOnceAt, Grows, IsBare, OneBag}
+use Rattle.obim_pool.specs.Steps.{OneFind, PopsLowest, TriesCurrent}
 use Rattle.obim_pool.proofs.Drawing.{some_same}
 use Rattle.obim_pool.proofs.Lifting.{Changed}
 use Rattle.obim_pool.proofs.Looking.{find_looks, looks_same, looks_then}
@@ -23,7 +26,8 @@ use Rattle.obim_pool.proofs.Standing.{seen}
 -- ---- the lowest bag that gives a vertex
 
 -- a side grew, and bags of its own were tried in this order
-pub record Searched (entries : List OwnBag) (m0 : MirrorSeen) (k0 : List BagChunks) (m1 : MirrorSeen) (k1 : List BagChunks)
+pub record Searched (entries : List OwnBag) (m0 : MirrorSeen) (k0 : List BagChunks) (m1 : MirrorSeen)
+    (k1 : List BagChunks)
     (m2 : MirrorSeen) (k2 : List BagChunks) : Type 0 where
   pub grows : Grows m0 k0 m1 k1
   pub order : IsOrder entries (length k1) (metrics_in m1.accesses)
@@ -37,18 +41,23 @@ pub searched_in : {entries list : List OwnBag} {m0 m1 m2 : MirrorSeen} {k0 k1 k2
 searched_in read grows order bags own = record { grows = grows; order = rw read order; bags = bags; own = own }
 
 -- a bag that was found empty after the side grew was so in the call
-found_once : {entries : List OwnBag} {m0 m1 m2 : MirrorSeen} {k0 k1 k2 : List BagChunks} (before after : Option ℕ) (place : ℕ)
-    → Searched entries m0 k0 m1 k1 m2 k2 → IsBare place m1 k1 m2 k2 → FoundOnceAt place (seen m0 k0 before) (seen m2 k2 after)
+found_once : {entries : List OwnBag} {m0 m1 m2 : MirrorSeen} {k0 k1 k2 : List BagChunks} (before after : Option ℕ)
+    (place : ℕ)
+    → Searched entries m0 k0 m1 k1 m2 k2 → IsBare place m1 k1 m2 k2
+    → FoundOnceAt place (seen m0 k0 before) (seen m2 k2 after)
 found_once {m2 = m2} {k2 = k2} before after place searched bare = record {
-  find = subst (λ (a : Account). OneFind a (account_in place m2.accesses (all_held k2))) (searched.grows.accounts place) bare.find;
+  find = subst (λ (a : Account). OneFind a (account_in place m2.accesses (all_held k2)))
+      (searched.grows.accounts place) bare.find;
   alone = bare.alone;
 }
 
-looks_grown : {entries : List OwnBag} {m0 m1 m2 : MirrorSeen} {k0 k1 k2 : List BagChunks} (place : ℕ) → Searched entries m0 k0 m1 k1 m2 k2
+looks_grown : {entries : List OwnBag} {m0 m1 m2 : MirrorSeen} {k0 k1 k2 : List BagChunks} (place : ℕ)
+    → Searched entries m0 k0 m1 k1 m2 k2
     → OnlyLooks (account_in place m1.accesses (all_held k1)) (account_in place m2.accesses (all_held k2))
     → OnlyLooks (account_in place m0.accesses (all_held k0)) (account_in place m2.accesses (all_held k2))
 looks_grown {m2 = m2} {k2 = k2} place searched looks =
-    subst (λ (a : Account). OnlyLooks a (account_in place m2.accesses (all_held k2))) (searched.grows.accounts place) looks
+    subst (λ (a : Account). OnlyLooks a (account_in place m2.accesses (all_held k2)))
+    (searched.grows.accounts place) looks
 
 -- what is lower comes earlier, where what comes later isn't lower
 less_from : (a b x y : ℕ) → (b ≤ a → x ≤ y) → y < x → a < b
@@ -59,7 +68,8 @@ count_metrics : (accesses : List AccessSeen) → length (metrics_in accesses) �
 count_metrics accesses = length-map (bags_in accesses) _ ∙ length-map accesses _
 
 -- a vertex out of the first bag of the order that gave one came out of the lowest
-pub draws_lowest : {v : ℕ} {at : OwnBag} {entries : List OwnBag} {m0 m1 m2 : MirrorSeen} {k0 k1 k2 : List BagChunks} (before : Option ℕ)
+pub draws_lowest : {v : ℕ} {at : OwnBag} {entries : List OwnBag} {m0 m1 m2 : MirrorSeen} {k0 k1 k2 : List BagChunks}
+    (before : Option ℕ)
     → Searched entries m0 k0 m1 k1 m2 k2 → Draws at v entries m1 k1 m2 k2
     → PopsLowest v (seen m0 k0 before) (seen m2 k2 (Some at.metric))
 draws_lowest {v} {at} {entries} {m0} {m1} {m2} {k0} {k1} {k2} before searched draws =
@@ -73,7 +83,8 @@ draws_lowest {v} {at} {entries} {m0} {m1} {m2} {k0} {k1} {k2} before searched dr
         metric = at.metric;
         current = refl;
         own = (omega (arith, here.0), rw searched.bags here.1);
-        here = subst (λ (a : Account). Gets v a (account_in at.place m2.accesses (all_held k2))) (searched.grows.accounts at.place) draws.here;
+        here = subst (λ (a : Account). Gets v a (account_in at.place m2.accesses (all_held k2)))
+            (searched.grows.accounts at.place) draws.here;
         others = λ other apart. looks_grown other searched (draws.others other apart);
       };
       below = λ place metric own less.
@@ -84,7 +95,9 @@ draws_lowest {v} {at} {entries} {m0} {m1} {m2} {k0} {k1} {k2} before searched dr
           ∙ (ap (slice_get (metrics_in m1.accesses)) (sym stands.3) ∙ is.1))) in
           let up = order.rising draws.rank stands.0 at stands.1 draws.there stands.2 in
           subst (λ (p : ℕ). FoundOnceAt p (seen m0 k0 before) (seen m2 k2 (Some at.metric))) stands.3
-          (found_once before (Some at.metric) stands.1.place searched (draws.before stands.0 stands.1 (less_from stands.0 draws.rank at.metric stands.1.metric up (omega arith)) stands.2));
+          (found_once before (Some at.metric) stands.1.place searched
+          (draws.before stands.0 stands.1
+          (less_from stands.0 draws.rank at.metric stands.1.metric up (omega arith)) stands.2));
     }
 
 -- where no bag of the order gave a vertex, each of the side's own was found empty
@@ -133,7 +146,8 @@ held_is None held = refl
 held_is (Some place) held = refl
 
 -- a bag that was found empty after the try was found empty in the call
-tried_found : {old mid new : SideSeen} (place : ℕ) → TriesCurrent old mid → FoundOnceAt place mid new → FoundEmptyAt place old new
+tried_found : {old mid new : SideSeen} (place : ℕ) → TriesCurrent old mid → FoundOnceAt place mid new
+    → FoundEmptyAt place old new
 tried_found {old} {mid} {new} place tries once =
     let bare : get_or new.held place [] ≡ [] =
     sym (held_is (slice_get new.mirror.accesses place) (get_or new.held place [])) ∙ once.find.bare in
@@ -151,13 +165,15 @@ tried_found {old} {mid} {new} place tries once =
       count = 2;
       some = omega arith;
       few = omega arith;
-      finds = twice_more (account_at place old).empties (account_at place mid).empties (account_at place new).empties more once.find.finds;
+      finds = twice_more (account_at place old).empties (account_at place mid).empties
+          (account_at place new).empties more once.find.finds;
       alone = once.alone;
     })
     (tries.finds place)
 
 -- where the lowest bag gave a vertex after a try of the current one, each bag below it was found empty
-pub tried_below : {v : ℕ} {old mid new : SideSeen} → TriesCurrent old mid → PopsLowest v mid new → HasLookedBelow old new
+pub tried_below : {v : ℕ} {old mid new : SideSeen} → TriesCurrent old mid → PopsLowest v mid new
+    → HasLookedBelow old new
 tried_below tries lowest current is changed place metric own less =
     let same : lowest.pops.metric ≡ current = some_same (sym lowest.pops.current ∙ is) in
     tried_found place tries (lowest.below place metric own (omega arith))
@@ -173,7 +189,8 @@ tried_none tries all = record {
 -- ---- the try of the current bag
 
 -- a side keeps what it has where one bag changes
-pub change_keeps : {Changes : Account → Account → Type 0} {place : ℕ} {m0 m1 : MirrorSeen} {k0 k1 : List BagChunks} (before after : Option ℕ)
+pub change_keeps : {Changes : Account → Account → Type 0} {place : ℕ} {m0 m1 : MirrorSeen} {k0 k1 : List BagChunks}
+    (before after : Option ℕ)
     → Changed Changes place m0 k0 m1 k1 → Keeps (seen m0 k0 before) (seen m1 k1 after)
 change_keeps {m0 = m0} {m1 = m1} {k0 = k0} {k1 = k1} before after change =
     let own = change.own in
@@ -212,13 +229,15 @@ tries_current {place} {m0} {m1} {k0} {k1} current change =
       current = refl;
       looks = find_looks change;
       finds = λ other. ⊎_elim
-          (λ (same : other ≡ place). inr (subst (λ (q : ℕ). FindsMore 1 (before q) (after q)) (sym same) change.here.finds))
+          (λ (same : other ≡ place). inr
+          (subst (λ (q : ℕ). FindsMore 1 (before q) (after q)) (sym same) change.here.finds))
           (λ (apart : other ≢ place). inl (ap (λ (a : Account). a.empties) (change.others other apart)))
           (cases_eq other place);
     }
 
 -- that one bag changed somehow
-one_weaker : {Changes : Account → Account → Type 0} {place : ℕ} {m0 m1 : MirrorSeen} {k k' : BagChunks} → OneBag Changes place m0 k m1 k'
+one_weaker : {Changes : Account → Account → Type 0} {place : ℕ} {m0 m1 : MirrorSeen} {k k' : BagChunks}
+    → OneBag Changes place m0 k m1 k'
     → OneBag (λ _ _. ⊤) place m0 k m1 k'
 one_weaker one = record {
   was = one.was;
@@ -237,14 +256,17 @@ one_of_both None gets finds = one_weaker finds.here
 one_of_both (Some v) gets finds = one_weaker gets
 
 -- the current bag is one of the side's own
-pub current_own : {at : OwnBag} {mirror : MirrorSeen} {chunks : List BagChunks} {entries : List OwnBag} {current : Option OwnBag}
+pub current_own : {at : OwnBag} {mirror : MirrorSeen} {chunks : List BagChunks} {entries : List OwnBag} {current :
+    Option OwnBag}
     → current ≡ Some at → IsSide mirror chunks entries current → at.place < length chunks
-current_own {mirror = mirror} {chunks = chunks} is side = (subst (IsCurrent (metrics_in mirror.accesses) (length chunks)) is side.current_is).0
+current_own {mirror = mirror} {chunks = chunks} is side =
+    (subst (IsCurrent (metrics_in mirror.accesses) (length chunks)) is side.current_is).0
 
 -- ---- sides of a pool
 
 -- the mirrors of sides of a log are mirrors of it
-pub mirrors_are : (log : TableId) (sides : List SideSeen) → All (IsSideOf log) sides → All (IsMirrorOf log) (mirrors_of sides)
+pub mirrors_are : (log : TableId) (sides : List SideSeen) → All (IsSideOf log) sides
+    → All (IsMirrorOf log) (mirrors_of sides)
 mirrors_are log sides are = All-map (IsMirrorOf log) (λ (side : SideSeen). side.mirror) sides are
 
 -- a side without a bag over this mirror
@@ -252,6 +274,7 @@ abbrev pub side_over : MirrorSeen → SideSeen
 side_over mirror = record { mirror = mirror; held = []; current = None }
 
 -- new sides over new mirrors are new
-pub sides_over : (workers : ℕ) (log : TableId) → map side_over (replicate workers (new_mirror log)) ≡ replicate workers (new_side log)
+pub sides_over : (workers : ℕ) (log : TableId)
+    → map side_over (replicate workers (new_mirror log)) ≡ replicate workers (new_side log)
 sides_over zero log = refl
 sides_over (suc workers) log = ap (λ rest. new_side log ∷ rest) (sides_over workers log)

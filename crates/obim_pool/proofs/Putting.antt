@@ -1,5 +1,6 @@
 -- What puts into one bag make of its account.
-use Rattle.std.proofs.Common.{◌≡◌, ◌∙◌, ap, refl, subst, sym, ℕ, ◌+◌, ◌<◌, List, [], ◌∷◌, ◌++◌, length, None, Some, Box, Global, append_assoc, arith}
+use Rattle.std.proofs.Common.{◌≡◌, ◌∙◌, ap, refl, subst, sym, ℕ, ◌+◌, ◌<◌, List, [], ◌∷◌, ◌++◌, length, None, Some}
+use Rattle.std.proofs.Common.{Box, Global, append_assoc, arith}
 use Rattle.std.specs.Prelude.{sum_by}
 use Rattle.std.proofs.lemmas.List.{append-nil}
 use Rattle.std.proofs.lemmas.List.Sums.{sum_by-append}
@@ -15,7 +16,8 @@ use Rattle.obim_pool.proofs.Lifting.{one_of_held, one_then, one_within}
 pub vertices_append : (xs ys : List ChunkSeen) → vertices_of (xs ++ ys) ≡ vertices_of xs ++ vertices_of ys
 vertices_append [] ys = refl
 vertices_append (x ∷ xs) ys =
-    ap (λ rest. x.vertices ++ rest) (vertices_append xs ys) ∙ sym (append_assoc x.vertices (vertices_of xs) (vertices_of ys))
+    ap (λ rest. x.vertices ++ rest) (vertices_append xs ys)
+    ∙ sym (append_assoc x.vertices (vertices_of xs) (vertices_of ys))
 
 -- a weight of two lists is that of the first and that of the second
 weigh_both : (weight : ℕ → ℕ) (xs ys : List ℕ) → sum_by weight (xs ++ ys) ≡ sum_by weight xs + sum_by weight ys
@@ -45,7 +47,8 @@ puts_nothing a b same = record {
 pub puts_then : (xs ys : List ℕ) (a b c : Account) → Puts xs a b → Puts ys b c → Puts (xs ++ ys) a c
 puts_then xs ys a b c first second = record {
   chunks = first.chunks ++ second.chunks;
-  put = second.put ∙ (ap (λ (l : List ChunkSeen). l ++ second.chunks) first.put ∙ append_assoc a.put first.chunks second.chunks);
+  put = second.put
+      ∙ (ap (λ (l : List ChunkSeen). l ++ second.chunks) first.put ∙ append_assoc a.put first.chunks second.chunks);
   got = second.got ∙ first.got;
   account = λ weight.
       let one = vertices_of first.chunks in
@@ -67,7 +70,8 @@ puts_then xs ys a b c first second = record {
 }
 
 -- two changes of one bag by puts
-pub one_puts_then : (xs ys : List ℕ) {place : ℕ} {m1 m2 m3 : MirrorSeen} {k1 k2 k3 : BagChunks} → OneBag (Puts xs) place m1 k1 m2 k2
+pub one_puts_then : (xs ys : List ℕ) {place : ℕ} {m1 m2 m3 : MirrorSeen} {k1 k2 k3 : BagChunks}
+    → OneBag (Puts xs) place m1 k1 m2 k2
     → OneBag (Puts ys) place m2 k2 m3 k3 → OneBag (Puts (xs ++ ys)) place m1 k1 m3 k3
 one_puts_then xs ys first second = one_then (puts_then xs ys) first second
 
@@ -83,21 +87,25 @@ pub one_stays : (place : ℕ) (m : MirrorSeen) (k k' : BagChunks) → place < le
 one_stays place m k k' within same = one_keeps [] place m k k' within (λ weight. ap (sum_by weight) same)
 
 -- where the filling chunk is put back, nothing came
-pub one_put_back : (place : ℕ) (m m' : MirrorSeen) (k k' : BagChunks) → place < length m.accesses → k'.filling ≡ k.filling
+pub one_put_back : (place : ℕ) (m m' : MirrorSeen) (k k' : BagChunks) → place < length m.accesses
+    → k'.filling ≡ k.filling
     → k'.draining ≡ k.draining → m' ≡ m → OneBag (Puts []) place m k m' k'
 one_put_back place m m' k k' within filling draining same =
     subst (λ (new : MirrorSeen). OneBag (Puts []) place m k new k') (sym same)
     (one_stays place m k k' within
-    (ap (λ o. vertices_in o ++ vertices_in k'.draining) filling ∙ ap (λ o. vertices_in k.filling ++ vertices_in o) draining))
+    (ap (λ o. vertices_in o ++ vertices_in k'.draining) filling
+    ∙ ap (λ o. vertices_in k.filling ++ vertices_in o) draining))
 
 -- the filling chunk was put
-pub one_hands_on : (place : ℕ) (old new : MirrorSeen) (k k' : BagChunks) (chunk : Box ChunkSeen Global) → k.filling ≡ Some chunk
+pub one_hands_on : (place : ℕ) (old new : MirrorSeen) (k k' : BagChunks) (chunk : Box ChunkSeen Global)
+    → k.filling ≡ Some chunk
     → k'.filling ≡ None → k'.draining ≡ k.draining → ChangesAt place (access_after_put chunk.value) old new
     → OneBag (Puts []) place old k new k'
 one_hands_on place old new k k' chunk filling empty draining put =
     let held : held_of k ≡ chunk.value.vertices ++ vertices_in k.draining =
     ap (λ o. vertices_in o ++ vertices_in k.draining) filling in
-    let held' : held_of k' ≡ vertices_in k.draining = ap (λ o. vertices_in o ++ vertices_in k'.draining) empty ∙ ap vertices_in draining in
+    let held' : held_of k' ≡ vertices_in k.draining =
+    ap (λ o. vertices_in o ++ vertices_in k'.draining) empty ∙ ap vertices_in draining in
     record {
       was = put.0;
       is = access_after_put chunk.value put.0;
@@ -121,7 +129,8 @@ one_hands_on place old new k k' chunk filling empty draining put =
     }
 
 -- a vertex came to the chunks after that
-pub one_adds : (v : ℕ) {place : ℕ} {m1 m2 : MirrorSeen} {k1 k2 : BagChunks} (k3 k4 : BagChunks) → OneBag (Puts []) place m1 k1 m2 k2
+pub one_adds : (v : ℕ) {place : ℕ} {m1 m2 : MirrorSeen} {k1 k2 : BagChunks} (k3 k4 : BagChunks)
+    → OneBag (Puts []) place m1 k1 m2 k2
     → held_of k3 ≡ held_of k2 → AreSame (held_of k4) (v ∷ held_of k3) → OneBag (Puts (v ∷ [])) place m1 k1 m2 k4
 one_adds v {place} {m1} {m2} {k1} {k2} k3 k4 first same added =
     let came : AreSame (held_of k4) (v ∷ held_of k2) = subst (λ held. AreSame (held_of k4) (v ∷ held)) same added in

@@ -1,5 +1,6 @@
 -- A side of an ObimPool, as contracts see it.
-use Rattle.std.specs.Prelude.{◌≡◌, ◌≢◌, ℕ, ◌≤◌, ◌<◌, ⊤, min, List, [], ◌∷◌, map, length, Option, Some, None, slice_get, get_or}
+use Rattle.std.specs.Prelude.{◌≡◌, ◌≢◌, ℕ, ◌≤◌, ◌<◌, ⊤, min, List, [], ◌∷◌, map, length, Option, Some, None, slice_get}
+use Rattle.std.specs.Prelude.{get_or}
 use mathlib.Core.List.{IsPrefix}
 use Rattle.atomic_table.specs.Seated.{TableId}
 use Rattle.obim_bags.specs.Logs.{MirrorSeen, AccessSeen, WasEmptyIfAloneAt, metrics_in, new_mirror}
@@ -105,7 +106,8 @@ IsCurrent metrics count None = ⊤
 IsCurrent metrics count (Some at) = IsAt metrics count at
 
 -- it has no more bags of its own than the mirror has, knows them by rising metric, and one of them is current, if any
-pub record IsSide (mirror : MirrorSeen) (chunks : List BagChunks) (entries : List OwnBag) (current : Option OwnBag) : Type 0 where
+pub record IsSide (mirror : MirrorSeen) (chunks : List BagChunks) (entries : List OwnBag)
+    (current : Option OwnBag) : Type 0 where
   pub own : length chunks ≤ length mirror.accesses
   pub order : IsOrder entries (length chunks) (metrics_in mirror.accesses)
   pub current_is : IsCurrent (metrics_in mirror.accesses) (length chunks) current

@@ -25,28 +25,35 @@ pub record OneFind (old new : Account) : Type 0 where
   pub bare : new.held ≡ []
 
 -- the bag at this place was found empty, and nothing is held of it
-pub record FindsEmpty (place : ℕ) (old : MirrorSeen) (old_chunks : BagChunks) (new : MirrorSeen) (new_chunks : BagChunks) : Type 0 where
+pub record FindsEmpty (place : ℕ) (old : MirrorSeen) (old_chunks : BagChunks) (new : MirrorSeen)
+    (new_chunks : BagChunks) : Type 0 where
   pub here : OneBag OneFind place old old_chunks new new_chunks
   pub alone : WasEmptyIfAloneAt place new
 
 -- The mirror and what the side has room for may have grown. No account changed.
-pub record Grows (old : MirrorSeen) (old_chunks : List BagChunks) (new : MirrorSeen) (new_chunks : List BagChunks) : Type 0 where
+pub record Grows (old : MirrorSeen) (old_chunks : List BagChunks) (new : MirrorSeen)
+    (new_chunks : List BagChunks) : Type 0 where
   pub log : new.log ≡ old.log
   pub bags : IsPrefix (metrics_in old.accesses) (metrics_in new.accesses)
   pub own : length old_chunks ≤ length new_chunks
   pub fits : length new_chunks ≤ length new.accesses
-  pub accounts : (place : ℕ) → account_in place new.accesses (all_held new_chunks) ≡ account_in place old.accesses (all_held old_chunks)
+  pub accounts : (place : ℕ)
+      → account_in place new.accesses (all_held new_chunks) ≡ account_in place old.accesses (all_held old_chunks)
 
 -- the bag at this place was found empty, once, and nothing is held of it
-pub record IsBare (place : ℕ) (old : MirrorSeen) (old_chunks : List BagChunks) (new : MirrorSeen) (new_chunks : List BagChunks) : Type 0 where
-  pub find : OneFind (account_in place old.accesses (all_held old_chunks)) (account_in place new.accesses (all_held new_chunks))
+pub record IsBare (place : ℕ) (old : MirrorSeen) (old_chunks : List BagChunks) (new : MirrorSeen)
+    (new_chunks : List BagChunks) : Type 0 where
+  pub find : OneFind (account_in place old.accesses (all_held old_chunks))
+      (account_in place new.accesses (all_held new_chunks))
   pub alone : WasEmptyIfAloneAt place new
 
 -- each bag of the order was found empty, and of each bag the side only counted empty finds
-pub record AreBare (entries : List OwnBag) (old : MirrorSeen) (old_chunks : List BagChunks) (new : MirrorSeen) (new_chunks : List BagChunks) : Type 0 where
+pub record AreBare (entries : List OwnBag) (old : MirrorSeen) (old_chunks : List BagChunks) (new : MirrorSeen)
+    (new_chunks : List BagChunks) : Type 0 where
   pub bare : (rank : ℕ) (at : OwnBag) → slice_get entries rank ≡ Some at → IsBare at.place old old_chunks new new_chunks
   pub others : (place : ℕ)
-      → OnlyLooks (account_in place old.accesses (all_held old_chunks)) (account_in place new.accesses (all_held new_chunks))
+      → OnlyLooks (account_in place old.accesses (all_held old_chunks))
+      (account_in place new.accesses (all_held new_chunks))
 
 -- the vertex came out of the bag of this entry, each bag before it was found empty, and of each other bag the side only
 -- counted empty finds
@@ -54,11 +61,13 @@ pub record Draws (at : OwnBag) (vertex : ℕ) (entries : List OwnBag)
     (old : MirrorSeen) (old_chunks : List BagChunks) (new : MirrorSeen) (new_chunks : List BagChunks) : Type 0 where
   pub rank : ℕ
   pub there : slice_get entries rank ≡ Some at
-  pub here : Gets vertex (account_in at.place old.accesses (all_held old_chunks)) (account_in at.place new.accesses (all_held new_chunks))
+  pub here : Gets vertex (account_in at.place old.accesses (all_held old_chunks))
+      (account_in at.place new.accesses (all_held new_chunks))
   pub before : (lower : ℕ) (bare : OwnBag) → lower < rank → slice_get entries lower ≡ Some bare
       → IsBare bare.place old old_chunks new new_chunks
   pub others : (place : ℕ) → place ≢ at.place
-      → OnlyLooks (account_in place old.accesses (all_held old_chunks)) (account_in place new.accesses (all_held new_chunks))
+      → OnlyLooks (account_in place old.accesses (all_held old_chunks))
+      (account_in place new.accesses (all_held new_chunks))
 
 -- ---- what the parts of a side's pop do
 
@@ -70,7 +79,8 @@ pub record TriesCurrent (old new : SideSeen) : Type 0 where
   pub current : new.current ≡ old.current
   pub looks : (place : ℕ) → OnlyLooks (account_at place old) (account_at place new)
   pub finds : (place : ℕ)
-      → ((account_at place new).empties ≡ (account_at place old).empties) ⊎ FindsMore 1 (account_at place old) (account_at place new)
+      → ((account_at place new).empties ≡ (account_at place old).empties) ⊎ FindsMore 1 (account_at place old)
+      (account_at place new)
 
 -- the bag at this place was found empty, once, and nothing is held of it
 pub record FoundOnceAt (place : ℕ) (old new : SideSeen) : Type 0 where

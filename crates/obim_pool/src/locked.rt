@@ -8,6 +8,7 @@ use crate::pool::WorkPool;
 use route_walks::Memory;
 use std::alloc::Global;
 use std::collections::BTreeMap;
+use std::fmt;
 use std::sync::{Mutex, Wait};
 
 /// One pool for all workers, under one lock: it gives the last vertex of the lowest metric.
@@ -16,6 +17,12 @@ use std::sync::{Mutex, Wait};
 #[derive(Drop)]
 pub struct LockedPool {
     bags: Mutex<Bags>,
+}
+
+impl fmt::Debug for LockedPool {
+    fn fmt<W: fmt::Write>(&self, f: &mut fmt::Formatter<W>) -> fmt::Result {
+        f.debug_struct("LockedPool").finish_non_exhaustive()
+    }
 }
 
 /// A worker's side of a `LockedPool`, which keeps nothing there.

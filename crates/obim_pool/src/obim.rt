@@ -6,7 +6,8 @@ ghost use Rattle.std.specs.Bool.{OnFalse, OnTrue};
 ghost use Rattle.obim_bags.specs.declared.chunk.TheConstants.{MAX_SIZE};
 ghost use Rattle.obim_bags.specs.declared.fault.SettleFault.TheVariants.{Missing};
 ghost use Rattle.obim_bags.specs.Logs.{IsLogSettled, WantsMirrors};
-ghost use Rattle.obim_pool.specs.Sides.{IsSideOf, Keeps, PushesTo, PushesNone, Pops, PopsNone, HasLowered, HasLookedBelow};
+ghost use Rattle.obim_pool.specs.Sides.{IsSideOf, Keeps, PushesTo, PushesNone, Pops, PopsNone, HasLowered};
+ghost use Rattle.obim_pool.specs.Sides.{HasLookedBelow};
 ghost use Rattle.obim_pool.specs.Sides.{mirrors_of, new_side};
 
 use crate::chunk_maker::ChunkMaker;
@@ -15,6 +16,7 @@ use crate::side::ObimSide;
 use obim_bags::{BagLog, Chunk, SettleFault};
 use route_walks::Memory;
 use std::alloc::Global;
+use std::fmt;
 use std::marker::Model;
 use std::sync::Wait;
 
@@ -35,6 +37,12 @@ impl Model for ObimPool {
     ghost Value = { TableId };
 
     ghost view = { λ p. p.log };
+}
+
+impl fmt::Debug for ObimPool {
+    fn fmt<W: fmt::Write>(&self, f: &mut fmt::Formatter<W>) -> fmt::Result {
+        f.debug_struct("ObimPool").finish_non_exhaustive()
+    }
 }
 
 impl ObimPool {
@@ -75,7 +83,8 @@ impl ObimPool {
 
     /// Takes a vertex out of the current bag, and where that gives none, out of the lowest bag of this
     /// side that gives one, which is current then. `None` where no bag does; another side may still hold
-    /// vertices.
+    /// vertices. Takes the same time whatever the pool holds while the current bag gives one, and else a look
+    /// at each bag of this side up to the one that does.
     #[inline(always)]
     pub fn pop<R: Wait>(&self, rt: &R, side: &mut ObimSide) -> Option<u32>
         requires { IsSideOf self.now side.old }

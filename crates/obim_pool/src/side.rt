@@ -4,7 +4,8 @@ ghost use Rattle.std.specs.Prelude.{◌≡◌, ◌≤◌, ◌<◌, [], ◌∷◌
 ghost use Rattle.std.specs.Bool.{OnFalse, OnTrue};
 ghost use Rattle.obim_bags.specs.Logs.{metrics_in};
 ghost use Rattle.obim_pool.specs.Orders.{IsAt};
-ghost use Rattle.obim_pool.specs.Sides.{IsSideOf, Keeps, PushesTo, PushesNone, Pops, PopsNone, HasLowered, HasLookedBelow};
+ghost use Rattle.obim_pool.specs.Sides.{IsSideOf, Keeps, PushesTo, PushesNone, Pops, PopsNone, HasLowered};
+ghost use Rattle.obim_pool.specs.Sides.{HasLookedBelow};
 ghost use Rattle.obim_pool.specs.Sides.{new_side};
 ghost use Rattle.obim_pool.specs.Steps.{FindsAllEmpty, PopsLowest, TriesCurrent};
 
@@ -18,6 +19,7 @@ use crate::recent::Recent;
 use crate::worklist::Worklist;
 use obim_bags::{BagLog, Mirror};
 use std::alloc::Global;
+use std::fmt;
 use std::marker::Model;
 use std::sync::Wait;
 
@@ -42,6 +44,12 @@ impl Model for ObimSide {
     ghost view = { λ s. record { mirror = s.mirror; held = all_held s.chunks.items; current = current_of s.current } };
 
     ghost invariant = { λ s. IsSide s.mirror s.chunks.items s.order.items s.current };
+}
+
+impl fmt::Debug for ObimSide {
+    fn fmt<W: fmt::Write>(&self, f: &mut fmt::Formatter<W>) -> fmt::Result {
+        f.debug_struct("ObimSide").finish_non_exhaustive()
+    }
 }
 
 impl ObimSide {

@@ -12,6 +12,7 @@ use crate::side::ObimSide;
 use obim_bags::MAX_SIZE;
 use route_walks::Memory;
 use std::alloc::Global;
+use std::fmt;
 use std::marker::Model;
 use std::sync::Wait;
 
@@ -52,6 +53,12 @@ impl Model for WideningPool {
     ghost Value = { TableId };
 
     ghost view = { λ p. p.pool };
+}
+
+impl fmt::Debug for WideningPool {
+    fn fmt<W: fmt::Write>(&self, f: &mut fmt::Formatter<W>) -> fmt::Result {
+        f.debug_struct("WideningPool").finish_non_exhaustive()
+    }
 }
 
 impl WideningPool {

@@ -98,7 +98,8 @@ hand_at {graph} {seeds} {label} {views} {s} {v} was has e =
     rw e at (all_at (λ (view : View). IsHand graph seeds label view.hand) views s v was.hands has.here)
 
 -- the new view holds an arc
-pub held_here : {views : List View} {s : ℕ} {v : View} (label : ℕ → ℕ) (mark : ℕ → Bool) (w : View) (k : ℕ) (arc : ArcRec)
+pub held_here : {views : List View} {s : ℕ} {v : View} (label : ℕ → ℕ) (mark : ℕ → Bool) (w : View) (k : ℕ)
+    (arc : ArcRec)
     → HasView views s v → HoldsArc label k arc w.hand → IsCovered label mark (set views s w) k arc
 held_here {views} {s} {v} label mark w k arc has holds =
     let within = slice_get_within views s v has.here in
@@ -216,7 +217,8 @@ splitting graph seeds label mark views s v was has idle =
           let sums = sum_replaced (λ (view : View). view.share) views s v (kept_half v) has.here in
           omega (arith, sum_by_push (λ (view : View). view.share) rest (new_half v), was.shares);
       spent =
-          All-push Spent rest (new_half v) (All-set Spent views s (kept_half v) (λ none. idle) was.spent) (λ none. refl);
+          All-push Spent rest (new_half v) (All-set Spent views s (kept_half v) (λ none. idle) was.spent)
+          (λ none. refl);
     }
 
 pub joining : JoiningKeepsCover

@@ -24,7 +24,8 @@ refused state s v may next live is = rw (live, is)
 -- what holds of the arc at a place, where there is one
 pub arc_at_place : (P : ArcRec → Type 0) (graph : Graph) (k : ℕ) → k < length graph.arcs
     → IfSome (slice_get graph.arcs k) P → P (get_or graph.arcs k no_arc)
-arc_at_place P graph k lt is = subst (λ (arc : Option ArcRec). IfSome arc P) (slice_get-get_or graph.arcs k no_arc lt) is
+arc_at_place P graph k lt is =
+    subst (λ (arc : Option ArcRec). IfSome arc P) (slice_get-get_or graph.arcs k no_arc lt) is
 
 -- the head of an arc of a row has a label
 pub head_labelled : (graph : Graph) (state : State) (u k head : ℕ) → IsOf graph state → k < end_place graph.arcs u

@@ -79,7 +79,8 @@ started_more labels marks seeds seed same within fits was =
       starts = λ u lt marked.
           let lt' : u < length labels = omega arith in
           let Starts = λ (l : ℕ) (s : Seed). (s.vertex ≡ u) × (s.start ≡ l) in
-          let old : label u ≡ slice_index labels u → mark_of marks u ≡ true → Any (Starts (label u)) (seeds ++ seed ∷ []) =
+          let old : label u ≡ slice_index labels u → mark_of marks u ≡ true
+          → Any (Starts (label u)) (seeds ++ seed ∷ []) =
           λ kept before. any_added (Starts (slice_index labels u)) (Starts (label u)) seeds seed
           (λ s both. (both.0, both.1 ∙ sym kept)) (was.starts u lt' before) in
           elim (at u) [
@@ -131,7 +132,8 @@ pub opening_lawful : (graph : Graph) (seeds : List Seed) (state : State)
 opening_lawful graph seeds state rows opens =
     let one : (P : View → Type 0) → P (idle_view SHARES) → All P state.views = λ P p.
     rw opens.views (All-cons P (idle_view SHARES) [] p (All-nil P)) in
-    let sums : (f : View → ℕ) → sum_by f state.views ≡ sum_by f (idle_view SHARES ∷ []) = λ f. ap (sum_by f) opens.views in
+    let sums : (f : View → ℕ) → sum_by f state.views ≡ sum_by f (idle_view SHARES ∷ []) =
+    λ f. ap (sum_by f) opens.views in
     record {
       rows = rows;
       labels = opens.labels;

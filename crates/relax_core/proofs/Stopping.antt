@@ -85,7 +85,8 @@ not_before graph seeds events i j stop later less =
       event = stop.event;
       is =
           slice_get-get_or (take j events) i stop.event shorter
-          ∙ ap Some (get_or-take j events i stop.event less ∙ get_or_from_slice_get events i stop.event stop.event stop.is);
+          ∙ ap Some
+          (get_or-take j events i stop.event less ∙ get_or_from_slice_get events i stop.event stop.event stop.is);
       refused = stop.refused;
     }
 

@@ -56,12 +56,15 @@ walk-from_path arcs u v (arc ∷ path) joins =
           let rest = walk-from_path arcs arc.head v path forward.1 in
           (along arc ∷ rest.0, (both_ways-of arcs arc (along arc) joins.0 (0, omega arith, refl), forward.0, rest.1))
       | inr backward ↦
-          let rest = walk-from_path arcs arc.tail v path backward.1 in
-          (against arc ∷ rest.0, (both_ways-of arcs arc (against arc) joins.0 (1, omega arith, refl), backward.0, rest.1))
+          let rest = walk-from_path arcs arc.tail v path backward.1 in (
+            against arc ∷ rest.0,
+            (both_ways-of arcs arc (against arc) joins.0 (1, omega arith, refl), backward.0, rest.1),
+          )
     ]
 
 -- what is connected with the head of an arc taken either way is with its tail
-connected-step : (arcs : List ArcRec) (taken : ArcRec) (v : ℕ) → Contains (both_ways arcs) taken → AreConnected arcs taken.head v
+connected-step : (arcs : List ArcRec) (taken : ArcRec) (v : ℕ) → Contains (both_ways arcs) taken
+    → AreConnected arcs taken.head v
     → AreConnected arcs taken.tail v
 connected-step arcs taken v within rest =
     let source = of_both_ways arcs taken within in
@@ -84,7 +87,8 @@ free (arc ∷ arcs) =
     All-cons (λ (a : ArcRec). a.weight ≤ 0) (along arc) (against arc ∷ both_ways arcs) (omega arith)
     (All-cons (λ (a : ArcRec). a.weight ≤ 0) (against arc) (both_ways arcs) (omega arith) (free arcs))
 
-start-below : (n : ℕ) (arcs : List ArcRec) → IsGraph n arcs → (u v : ℕ) (path : List ArcRec) → IsPath arcs u path v → v < n
+start-below : (n : ℕ) (arcs : List ArcRec) → IsGraph n arcs → (u v : ℕ) (path : List ArcRec) → IsPath arcs u path v
+    → v < n
     → u < n
 start-below n arcs graph u v [] joins below = subst (λ (x : ℕ). x < n) (sym joins) below
 start-below n arcs graph u v (arc ∷ path) joins below =

@@ -1,6 +1,7 @@
 -- A walk that meets a vertex twice can leave out what lies between, so some walk of no more cost meets
 -- none twice; and at most n vertices are met. So no least cost is as large as INF.
-use Rattle.std.proofs.Common.{◌≡◌, ℕ, ◌+◌, ◌*◌, ◌^◌, ◌<◌, ◌≤◌, List, [], ◌∷◌, length, map, true, false, eqb, refl, sym, subst}
+use Rattle.std.proofs.Common.{◌≡◌, ℕ, ◌+◌, ◌*◌, ◌^◌, ◌<◌, ◌≤◌, List, [], ◌∷◌, length, map, true, false, eqb, refl, sym}
+use Rattle.std.proofs.Common.{subst}
 use Rattle.std.proofs.Common.{◌⊎◌, inl, inr, arith}
 use Rattle.std.specs.List.{All, IsDistinct, AllByRecursion, list_any}
 use Rattle.std.proofs.lemmas.List.{length-map}
@@ -20,7 +21,8 @@ heads walk = map (λ (arc : ArcRec). arc.head) walk
 abbrev vertices : ℕ → List ArcRec → List ℕ
 vertices u walk = u ∷ heads walk
 
-vertices-below : (n : ℕ) (arcs : List ArcRec) → IsGraph n arcs → (u v : ℕ) (walk : List ArcRec) → u < n → IsWalk arcs u walk v
+vertices-below : (n : ℕ) (arcs : List ArcRec) → IsGraph n arcs → (u v : ℕ) (walk : List ArcRec) → u < n
+    → IsWalk arcs u walk v
     → All (λ x. x < n) (vertices u walk)
 vertices-below n arcs graph u v [] below walks = All-cons (λ x. x < n) u [] below (All-nil (λ x. x < n))
 vertices-below n arcs graph u v (arc ∷ walk) below walks =
@@ -35,7 +37,8 @@ record Simple (arcs : List ArcRec) (u v most : ℕ) : Type 0 where
   cheap : cost walk ≤ most
 
 -- what follows the vertex q on a walk that begins there or enters it
-from_there : (arcs : List ArcRec) (q u v : ℕ) (walk : List ArcRec) → IsWalk arcs u walk v → IsDistinct eqb (vertices u walk)
+from_there : (arcs : List ArcRec) (q u v : ℕ) (walk : List ArcRec) → IsWalk arcs u walk v
+    → IsDistinct eqb (vertices u walk)
     → (eqb q u ≡ true) ⊎ (list_any (eqb q) (heads walk) ≡ true)
     → Simple arcs q v (cost walk)
 unfolding IsDistinct
@@ -62,7 +65,13 @@ simple arcs u v (arc ∷ walk) walks =
       | inl again ↦
           let meets = or_cases (eqb u arc.head) (list_any (eqb u) (heads rest.walk)) again in
           let cut = from_there arcs u arc.head v rest.walk rest.walks rest.distinct meets in
-          record { walk = cut.walk; walks = cut.walks; distinct = cut.distinct; cheap = omega (arith, cut.cheap, rest.cheap) }
+          record {
+            walk = cut.walk;
+            walks = cut.walks;
+            distinct = cut.distinct;
+            cheap =
+                omega (arith, cut.cheap, rest.cheap);
+          }
       | inr fresh ↦
           record {
             walk = arc ∷ rest.walk;
@@ -78,7 +87,8 @@ walks_can_be_cut n arcs u v walk graph below walks =
     let all = vertices-below n arcs graph u v cut.walk below cut.walks in
     let few =
     length-le_from_distinct_below (vertices u cut.walk) n cut.distinct
-    (λ q meets. All-contains (λ x. x < n) (vertices u cut.walk) q all (Contains-from_any eqb-true q (vertices u cut.walk) meets)) in
+    (λ q meets. All-contains (λ x. x < n) (vertices u cut.walk) q all
+    (Contains-from_any eqb-true q (vertices u cut.walk) meets)) in
     let count = length-map cut.walk (λ (arc : ArcRec). arc.head) in
     record { walk = cut.walk; walks = cut.walks; short = omega (arith, few, count); cheap = cut.cheap }
 

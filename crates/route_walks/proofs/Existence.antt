@@ -65,7 +65,7 @@ offered-arc label (first ∷ arcs) arc (suc k, below, is) =
       offered-arc label arcs arc (k, omega arith, is),
     )
 
--- the same after so many rounds over all arcs
+-- the same after k rounds over all arcs
 abbrev rounds : List ArcRec → ℕ → (ℕ → ℕ) → ℕ → ℕ
 rounds arcs zero label = label
 rounds arcs (suc k) label = rounds arcs k (offered label arcs)
@@ -74,7 +74,7 @@ rounds-le : (arcs : List ArcRec) (k : ℕ) (label : ℕ → ℕ) (v : ℕ) → r
 rounds-le arcs zero label v = omega arith
 rounds-le arcs (suc k) label v = omega (arith, rounds-le arcs k (offered label arcs) v, offered-le label arcs v)
 
--- a walk of so many arcs is followed in as many rounds
+-- a walk of at most k arcs is followed in k rounds
 rounds-walk : (arcs : List ArcRec) (k : ℕ) (label : ℕ → ℕ) (u v : ℕ) (walk : List ArcRec)
     → length walk ≤ k → IsWalk arcs u walk v
     → rounds arcs k label v ≤ label u + cost walk
@@ -91,13 +91,15 @@ module _ (arcs : List ArcRec) (seeds : List Seed) where
   abbrev Sound : (ℕ → ℕ) → Type 0
   Sound label = (v : ℕ) → label v < INF → IsAttained arcs seeds v (label v)
 
-  offered-sound : (label : ℕ → ℕ) → Sound label → (some : List ArcRec) → ((arc : ArcRec) → Contains some arc → Contains arcs arc)
+  offered-sound : (label : ℕ → ℕ) → Sound label → (some : List ArcRec)
+      → ((arc : ArcRec) → Contains some arc → Contains arcs arc)
       → Sound (offered label some)
   offered-sound label sound [] inside v finite = sound v finite
   offered-sound label sound (arc ∷ some) inside v finite =
       elim (pick-is (eqb arc.head v) (label arc.tail + arc.weight) (offered label some v)) [
         | inl same ↦
-            let rest = offered-sound label sound some (λ a within. inside a (Contains-append_right (arc ∷ []) some a within)) in
+            let rest = offered-sound label sound some
+            (λ a within. inside a (Contains-append_right (arc ∷ []) some a within)) in
             subst (IsAttained arcs seeds v) (sym same) (rest v (omega (arith, same, finite)))
         | inr here ↦
             let tail = sound arc.tail (omega (arith, here.1, finite)) in

@@ -61,14 +61,16 @@ least_labels_are_settled n arcs seeds label graph within labelled = (
   record {
     met = λ k d lt.
         let seed = get_or seeds k d in
-        (labelled seed.vertex (within k d lt)).least seed.start (attained-start arcs seeds seed (Contains-get_or seeds k d lt));
+        (labelled seed.vertex (within k d lt)).least seed.start
+        (attained-start arcs seeds seed (Contains-get_or seeds k d lt));
     relaxed = λ k d lt.
         let arc = get_or arcs k d in
         let tail = labelled arc.tail (graph k d lt).0 in
         let head = labelled arc.head (graph k d lt).1 in
         elim (cases_lt (label arc.tail) INF) [
           | inl found ↦
-              let offered = head.least _ (attained-along arcs seeds arc _ (Contains-get_or arcs k d lt) (tail.attained found)) in
+              let offered = head.least _
+              (attained-along arcs seeds arc _ (Contains-get_or arcs k d lt) (tail.attained found)) in
               omega (arith, offered, head.capped)
           | inr none ↦ omega (arith, none, head.capped)
         ];

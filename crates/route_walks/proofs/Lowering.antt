@@ -48,14 +48,16 @@ set-lowered n arcs seeds some labels v x before below less attained =
       capped =
           each-set (λ w d. w < n → d ≤ INF) labels v x inside before.capped
           (λ _. omega (arith, less, before.capped v below));
-      sound = each-set (λ w d. w < n → d < INF → IsAttained arcs seeds w d) labels v x inside before.sound (λ _ _. attained);
+      sound = each-set (λ w d. w < n → d < INF → IsAttained arcs seeds w d) labels v x inside before.sound
+          (λ _ _. attained);
       met =
           All-weaker (IsMet (slice_index labels)) (IsMet (slice_index (set labels v x)))
           (λ seed was. omega (arith, falls seed.vertex, was)) some before.met;
     }
 
 -- one seed more is met
-pub meet-more : (n : ℕ) (arcs : List ArcRec) (seeds : List Seed) (i : ℕ) (zero : Seed) (labels : List ℕ) → i < length seeds
+pub meet-more : (n : ℕ) (arcs : List ArcRec) (seeds : List Seed) (i : ℕ) (zero : Seed) (labels : List ℕ)
+    → i < length seeds
     → AreLowered n arcs seeds (take i seeds) labels → IsMet (slice_index labels) (get_or seeds i zero)
     → AreLowered n arcs seeds (take (i + 1) seeds) labels
 meet-more n arcs seeds i zero labels here before meets = record {

@@ -20,7 +20,8 @@ contains-kept true y x ys (k, below, is) = (suc k, omega arith, is)
 contains-kept false y x ys within = within
 
 -- an element that passes the test is among those that are kept
-contains-filter : {X : Type 0} (p : X → Bool) (xs : List X) (x : X) → Contains xs x → p x ≡ true → Contains (filter p xs) x
+contains-filter : {X : Type 0} (p : X → Bool) (xs : List X) (x : X) → Contains xs x → p x ≡ true
+    → Contains (filter p xs) x
 contains-filter p [] x (k, below, is) passes = absurd (omega arith)
 contains-filter p (y ∷ ys) x (zero, below, is) passes = rw (is, passes) (zero, omega arith, refl)
 contains-filter p (y ∷ ys) x (suc k, below, is) passes =

@@ -63,7 +63,8 @@ hop-same one two =
     let high = two.fewest one.walk.walk one.walk.walks one.walk.costs in
     omega (arith, low, high, one.walk.count, two.walk.count)
 
-module _ {n : ℕ} {arcs : List ArcRec} {s : ℕ} {labels : List ℕ} (least : AreLeastLabels n arcs (seeds_from s) labels) where
+module _ {n : ℕ} {arcs : List ArcRec} {s : ℕ} {labels : List ℕ}
+    (least : AreLeastLabels n arcs (seeds_from s) labels) where
   -- a label that is not below INF is INF
   label-cases : (v : ℕ) → v < n → (slice_index labels v < INF) ⊎ (slice_index labels v ≡ INF)
   label-cases v below =

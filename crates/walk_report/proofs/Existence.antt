@@ -1,6 +1,7 @@
 -- Hops and parents exist. A hop is a least label too: along the tight arcs, each of which counts 1. A parent
 -- is found by asking one vertex after another whether it leads there.
-use Rattle.std.proofs.Common.{◌≡◌, ◌∙◌, ℕ, zero, suc, ◌+◌, ◌<◌, ◌≤◌, ◌⊎◌, List, [], ◌∷◌, length, get_or, map, min, slice_index}
+use Rattle.std.proofs.Common.{◌≡◌, ◌∙◌, ℕ, zero, suc, ◌+◌, ◌<◌, ◌≤◌, ◌⊎◌, List, [], ◌∷◌, length, get_or, map, min}
+use Rattle.std.proofs.Common.{slice_index}
 use Rattle.std.proofs.Common.{refl, sym, subst, ap, arith, inl, inr}
 use Rattle.std.specs.List.{Contains, range_with_len}
 use Rattle.std.proofs.lemmas.Bool.{cases_eq, cases_lt}
@@ -240,7 +241,8 @@ module _ (label hop : ℕ → ℕ) (v : ℕ) where
   -- an arc leads from u to v
   abbrev LeadsFrom : ℕ → ArcRec → Type 0
   LeadsFrom u arc =
-      ((arc.tail ≡ u) × (arc.head ≡ v)) × ((label arc.tail + arc.weight ≡ label arc.head) × (hop arc.tail + 1 ≡ hop arc.head))
+      ((arc.tail ≡ u) × (arc.head ≡ v))
+      × ((label arc.tail + arc.weight ≡ label arc.head) × (hop arc.tail + 1 ≡ hop arc.head))
 
   cases_leads : (u : ℕ) (arcs : List ArcRec) → Leads arcs label hop u v ⊎ (Leads arcs label hop u v → ⊥)
   cases_leads u [] = inr (λ leads. absurd (omega (arith, leads.within.1)))
@@ -266,7 +268,8 @@ module _ (label hop : ℕ → ℕ) (v : ℕ) where
               | inr none ↦
                   inr (λ leads.
                   elim (Contains-append_cases (arc ∷ []) arcs _ leads.within) [
-                    | inl here ↦ not (rw (contains-one arc _ here) ((refl, refl), (leads.leading.tight, leads.leading.nearer)))
+                    | inl here ↦
+                        not (rw (contains-one arc _ here) ((refl, refl), (leads.leading.tight, leads.leading.nearer)))
                     | inr later ↦ none (record { weight = leads.weight; within = later; leading = leads.leading })
                   ])
             ]

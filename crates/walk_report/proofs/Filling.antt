@@ -20,13 +20,15 @@ AreFilled P values u targets = All (λ target. IsFilled P values (arc_to u targe
 
 module _ (P : ArcRec → Type 0) (values : List ℕ) (u : ℕ) (row : List Target) (k : ℕ) where
   -- the next target needs no value
-  pub filled-pass : k < length row → AreFilled P values u (take k row) → IsFilled P values (arc_to u (get_or row k no_target))
+  pub filled-pass : k < length row → AreFilled P values u (take k row)
+      → IsFilled P values (arc_to u (get_or row k no_target))
       → AreFilled P values u (take (k + 1) row)
   filled-pass lt = All-more (λ target. IsFilled P values (arc_to u target)) row k no_target lt
 
   -- the next target gets a value
   pub filled-put : (x : ℕ) → k < length row → (get_or row k no_target).head < length values → x < NONE
-      → AreFilled P values u (take k row) → AreFilled P (set values (get_or row k no_target).head x) u (take (k + 1) row)
+      → AreFilled P values u (take k row)
+      → AreFilled P (set values (get_or row k no_target).head x) u (take (k + 1) row)
   filled-put x lt inside some filled =
       let v = (get_or row k no_target).head in
       let Filled = λ (target : Target). IsFilled P (set values v x) (arc_to u target) in
@@ -34,7 +36,8 @@ module _ (P : ArcRec → Type 0) (values : List ℕ) (u : ℕ) (row : List Targe
       let kept : (w : ℕ) → slice_index values w ≢ NONE → slice_index (set values v x) w ≢ NONE =
       λ w old. grind (arith, get_or-set_at, get_or-set_other, old) in
       All-more Filled row k no_target lt
-      (All-weaker (λ target. IsFilled P values (arc_to u target)) Filled (λ target old p. kept target.head (old p)) (take k row) filled)
+      (All-weaker (λ target. IsFilled P values (arc_to u target)) Filled (λ target old p. kept target.head (old p))
+      (take k row) filled)
       (λ p. here)
 
   -- at the end of the row all arcs from u are passed

@@ -97,7 +97,8 @@ module _ {n : ℕ} {arcs : List ArcRec} {s : ℕ} {labels : List ℕ} (graph : I
     hop-bound u v walk below below' finite costs walks =
         let to_u = (exact.hop u below (omega arith)).walk in
         let far = (exact.hop v below' finite).fewest (to_u.walk ++ walk)
-        (walk-append arcs s u v to_u.walk walk to_u.walks walks) (omega (arith, cost-append to_u.walk walk, to_u.costs)) in
+        (walk-append arcs s u v to_u.walk walk to_u.walks walks)
+        (omega (arith, cost-append to_u.walk walk, to_u.costs)) in
         omega (arith, far, length-append to_u.walk walk, to_u.count)
 
     -- where they rise by as many, the last arc leads to the end

@@ -98,7 +98,13 @@ search-push {hops = hops} {queue = queue} {next = next} search few place v h is 
           rw more
           (below_more _ _ (λ k old. rw (keep 0 (omega arith), hop-kept k old, keep k old) (search.found k old))
           (rw (keep 0 (omega arith), hop-last, last)
-          (record { vertex = below; early = omega (arith, (search.found next place).early); walk = walk; finite = finite })));
+          (record {
+            vertex = below;
+            early = omega (arith, (search.found next place).early);
+            walk = walk;
+            finite =
+                finite;
+          })));
       rising = λ k lt.
           elim (cases_lt (k + 1) (length queue)) [
             | inl old ↦ omega (arith, hop-kept k (omega arith), hop-kept (k + 1) old, search.rising k old)
@@ -173,7 +179,8 @@ search-done {n = n} {arcs = arcs} {s = s} {labels = labels} {hops = hops} graph 
     let over : (v : ℕ) (walk : List ArcRec) → v < n → label v < INF → IsWalk arcs s walk v → cost walk ≡ label v
     → IsReached hop (length walk) v =
     λ v walk below finite walks costs.
-    let far = hop-over graph least hop reached s v walk within below finite (omega (arith, costs)) (omega arith) walks in
+    let far = hop-over graph least hop reached s v walk within below finite (omega (arith, costs))
+    (omega arith) walks in
     (omega (arith, far), far.1) in
     let set : (v : ℕ) → v < n → label v < INF → hop v < NONE =
     λ v below finite.

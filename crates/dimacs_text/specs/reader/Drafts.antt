@@ -34,7 +34,7 @@ question_at (Within Sources missing) sources pairs = from_sources sources
 question_at (Within Pairs missing) sources pairs = of_pairs pairs
 question_at (Within Added missing) sources pairs = absent
 
--- the problem line, and its arcs, of which so many are still to come
+-- the problem line, and its arcs, of which missing are still to come
 abbrev pub graph_records : ℕ → ℕ → List ArcRec → List Record
 graph_records n missing arcs = problem_record n (length arcs + missing) ∷ map arc_record arcs
 
@@ -54,7 +54,7 @@ records_by (Within Added missing) before n arcs sources pairs added =
     ++ records_of_question (question_at before sources pairs)
     ++ added_record (length added + missing) ∷ map arc_record added
 
--- where the arcs of the problem are read, of which so many are still to come
+-- where the arcs of the problem are read, of which missing are still to come
 abbrev pub arcs_progress : ℕ → ℕ → List ArcRec → Progress
 arcs_progress n missing arcs =
     record { records = graph_records n missing arcs; stage = Within Problem missing; vertices = n }

@@ -46,7 +46,7 @@ fn pop_onwards<R: Wait>(rt: &R, pool: &ObimPool, side: &mut ObimSide) -> Option<
     pool.pop(rt, side)
 }
 
-// Pops until there is none, so many times at most: then the side holds no vertex of any bag of its own.
+// Pops until there is none, `most` times at most: then the side holds no vertex of any bag of its own.
 fn pop_to_end<R: Wait>(rt: &R, pool: &ObimPool, side: &mut ObimSide, most: u32) -> bool
     requires { IsSideOf pool.now side.old }
     ensures side { IsSideOf pool.now side.new }

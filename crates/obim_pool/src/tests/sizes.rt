@@ -66,7 +66,7 @@ fn a_side_of_many_bags(rt: HostRuntime) -> Result<(), Fail> {
     Ok(())
 }
 
-// Pushes and pops a vertex so many times, by a chunk of its own each time, and pushes one more.
+// Pushes and pops a vertex `times` times, by a chunk of its own each time, and pushes one more.
 fn push_and_pop_often<R: Wait + Abort>(rt: &R, pool: &ObimPool, side: &mut ObimSide, times: u32)
     requires { IsSideOf pool.now side.old }
     ensures { IsSideOf pool.now side.new }

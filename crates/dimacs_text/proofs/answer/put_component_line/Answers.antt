@@ -10,4 +10,5 @@ returns-clause-put c =
     line_put 107 (c.args.v + 1) begun text (drop c.args.end c.args.lines.now) (omega arith) c.requires.head
     (c.put_head.ensures.put ∙ ap (λ (xs : List ℕ). begun ++ xs) c.put_last-end.ensures.put)
     (c.put_byte-end-2.ensures.put
-    ∙ ap (λ (xs : List ℕ). 32 ∷ xs) (c.put_number-end.ensures.put ∙ ap (λ (xs : List ℕ). text ++ xs) c.put_byte-end.ensures.put))
+    ∙ ap (λ (xs : List ℕ). 32 ∷ xs)
+    (c.put_number-end.ensures.put ∙ ap (λ (xs : List ℕ). text ++ xs) c.put_byte-end.ensures.put))

@@ -16,7 +16,8 @@ loop-rest-preserved c =
     sym (ap₂ (λ (xs ys : List ℕ). xs ++ ys) c.split_at.ensures.front c.split_at.ensures.back
     ∙ take-append-drop c.group_len.result c.loop-rest.rest.now) in
     let put : c.put_component_group.new.out.items ≡ c.loop-rest.out.items ++ component_lines v group =
-    accepted c.put_component_group.result (sym c.is_err.ensures.value ∙ c.if-is_err.false) c.put_component_group.ensures.ok in
+    accepted c.put_component_group.result
+    (sym c.is_err.ensures.value ∙ c.if-is_err.false) c.put_component_group.ensures.ok in
     record {
       count = omega (arith, inv.count, ap length parts, length-append group rest);
       finite = All-rest (λ label. label < INF) group rest parts inv.finite;

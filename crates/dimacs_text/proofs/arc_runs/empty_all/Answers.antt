@@ -16,4 +16,5 @@ loop-run-preserved c bytes =
 
 pub returns : goal.returns
 returns c bytes =
-    subst (λ l. All (IsArcRun bytes) l) (take_all c.loop-run.run-index c.loop-run.runs (omega arith)) (c.loop-run.invariant bytes)
+    subst (λ l. All (IsArcRun bytes) l) (take_all c.loop-run.run-index c.loop-run.runs (omega arith))
+    (c.loop-run.invariant bytes)

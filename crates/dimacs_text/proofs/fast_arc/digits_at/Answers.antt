@@ -11,7 +11,8 @@ loop-digit-preserved c =
       inside =
           not_last c.args.bytes.now c.loop-digit.end c.requires.ended here.inside (λ feed. omega (arith, is, feed));
       led = λ few.
-          digits_more c.args.bytes.now c.args.start c.loop-digit.end c.loop-digit.value c.loop-digit.digit here.inside few
+          digits_more c.args.bytes.now c.args.start c.loop-digit.end c.loop-digit.value c.loop-digit.digit here.inside
+          few
           (here.led (omega (arith, few))) is c.loop-digit-test.true;
       next = λ small.
           omega (arith, small, c.from-digit-in-loop-digit.ensures, c.type_inv.bytes (c.loop-digit.end + 1));

@@ -26,10 +26,13 @@ loop-i-preserved g c =
     let here : numbers_within c.args.limits (fields c.args.args.now)
     ≡ said_after wrong before (limit ∷ limits) (field ∷ after) =
     c.loop-i.invariant.said
-    ∙ ap₂ (λ ls fs. said_after wrong before ls fs) (drop_more c.args.limits i _ (omega arith)) c.in-Some.ensures.fields in
+    ∙ ap₂ (λ ls fs. said_after wrong before ls fs)
+    (drop_more c.args.limits i _ (omega arith)) c.in-Some.ensures.fields in
     elim c.match-number_of.branch [
       | in-None w ↦ record {
-        said = rw w.wrong-is (here ∙ said_no_number wrong before (take (i + 1) c.match-number_of.numbers) limit limits field after w.in-None.ensures);
+        said = rw w.wrong-is
+            (here ∙ said_no_number wrong before
+            (take (i + 1) c.match-number_of.numbers) limit limits field after w.in-None.ensures);
         count = rw w.numbers-is c.loop-i.invariant.count;
       }
       | in-Some-number_of w ↦ record {
@@ -52,7 +55,8 @@ loop-i-preserved g c =
 
 pub returns-in-None-wrong : goal.returns-in-None-wrong
 returns-in-None-wrong g c =
-    let said : Ok c.loop-i.numbers ≡ numbers_within c.args.limits (fields c.args.args.now) = grind (arith, common_steps) in record {
+    let said : Ok c.loop-i.numbers ≡ numbers_within c.args.limits (fields c.args.args.now) =
+    grind (arith, common_steps) in record {
       says = said;
       within =
           are_within c.args.limits c.loop-i.numbers

@@ -20,5 +20,6 @@ loop-expected-preserved c = record {
       c.loop-expected.invariant.begins
       ∙ lead_more _ _ _ _ _ _ _ c.loop-expected-test.true c.in-Some.ensures.fields
       (sym c.if-ne.false ∙ c.ne.ensures);
-  rest = drop_further c.loop-expected.expected-index _ _ (fields c.args.line.now) _ c.loop-expected.invariant.rest c.in-Some.ensures.fields;
+  rest = drop_further c.loop-expected.expected-index _ _
+      (fields c.args.line.now) _ c.loop-expected.invariant.rest c.in-Some.ensures.fields;
 }

@@ -37,7 +37,8 @@ returns-clause-says g c =
     let kind = c.args.asked.now.answer in
     let walks = c.args.asked.now.walks in
     let job = content_of c.args.job in
-    reply-says kind walks job _ _ c.write_text.result (asked-if kind job (sym c.is_unasked.ensures ∙ c.if-is_unasked.false))
+    reply-says kind walks job _ _ c.write_text.result
+    (asked-if kind job (sym c.is_unasked.ensures ∙ c.if-is_unasked.false))
     c.write_text.ensures.kinds
     (on_err_weaker c.write_text.result
     (text_begun c.least_labels_follow_the_arcs.ensures c.hops_and_parents_follow_the_arcs.ensures kind walks job

@@ -63,7 +63,8 @@ returns-in-At-2-clause-prefix g c =
     let source = c.in-At-2.source in
     let text = distances_text source c.args.labels.now in
     let is_block : IsBlock c.args.walks csr.n csr.arcs source text =
-    rw c.if-walks.false (record { labels = c.args.labels.now; least = rw c.in-At-2.is at c.requires.least; written = refl }) in
+    rw c.if-walks.false
+    (record { labels = c.args.labels.now; least = rw c.in-At-2.is at c.requires.least; written = refl }) in
     rw c.in-At-2.is
     (on_err_weaker c.put_labels.result
     (only-text (IsBlock c.args.walks csr.n csr.arcs source) _ _ c.args.waiting.now.bytes.items text

@@ -21,7 +21,8 @@ loop-group-preserved g c =
       count = omega (arith, inv.count, ap length steps.1.0, length-append group rest);
       finite = All-rest (λ label. label < INF) group rest steps.1.0 inv.finite;
       put =
-          put-more _ (g.W.Write.contents c.loop-group.writer) _ c.loop-group.waiting.bytes.items (component_lines v group)
+          put-more _ (g.W.Write.contents c.loop-group.writer) _ c.loop-group.waiting.bytes.items
+          (component_lines v group)
           c.send_if_full.new.self.bytes.items (component_lines (v + length group) rest)
           (c.args.waiting.now.bytes.items ++ components_text c.args.labels.now) (rw lines at inv.put)
           (subst (Waits (g.W.Write.contents c.loop-group.writer) (g.W.Write.contents c.send_if_full.new.writer)
@@ -38,7 +39,8 @@ returns-in_err-send_if_full-clause-prefix g c =
     let rest = c.next.new.self.rest.now in
     let lines = ap (component_lines v) c.in-Some.ensures.steps.1.0 ∙ component_lines-append v group rest in
     at-err _
-    (put-cut _ _ _ c.loop-group.waiting.bytes.items (component_lines v group) (component_lines (v + length group) rest) _
+    (put-cut _ _ _ c.loop-group.waiting.bytes.items (component_lines v group)
+    (component_lines (v + length group) rest) _
     (rw lines at c.loop-group.invariant.put)
     (subst (GivesPrefix (g.W.Write.contents c.loop-group.writer) (g.W.Write.contents c.send_if_full.new.writer))
     c.in_ok-put_components.ensures.ok c.in_err-send_if_full.ensures.prefix))

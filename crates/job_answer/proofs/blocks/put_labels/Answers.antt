@@ -1,4 +1,5 @@
-use Rattle.std.proofs.Common.{◌≡◌, ◌+◌, List, ℕ, ◌++◌, length, length-append, [], refl, ap, ap₂, ◌∙◌, append_assoc, subst, arith, rules}
+use Rattle.std.proofs.Common.{◌≡◌, ◌+◌, List, ℕ, ◌++◌, length, length-append, [], refl, ap, ap₂, ◌∙◌, append_assoc}
+use Rattle.std.proofs.Common.{subst, arith, rules}
 use Rattle.std.specs.Slice.Iter.{chunks_rest}
 use Rattle.dimacs_text.specs.AnswerLines.{source_text, label_lines, distances_text}
 use Rattle.dimacs_text.proofs.Facts.{label_lines-append}
@@ -19,7 +20,12 @@ loop-group-init g c =
       put =
           record {
             text = c.put_source.new.out.items;
-            waits = record { given = []; whole = refl; appended = appends-nothing (g.W.Write.contents c.args.writer.now) };
+            waits = record {
+              given = [];
+              whole = refl;
+              appended =
+                  appends-nothing (g.W.Write.contents c.args.writer.now);
+            };
             is_whole =
                 ap₂ (λ (xs ys : List ℕ). xs ++ label_lines 0 ys) c.in_ok-put_source.ensures.ok all
                 ∙ append_assoc waiting (source_text c.args.source) (label_lines 0 labels);

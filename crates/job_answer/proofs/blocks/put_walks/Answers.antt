@@ -6,7 +6,8 @@ use Rattle.job_answer.proofs.Prefixes.{at-err, put-cut, put-left}
 use Rattle.job_answer.proofs.blocks.put_walks.Goals as goal
 
 -- two lines that are put one after the other
-both_lines : (waiting out more label walk : List ℕ) → out ≡ waiting ++ label → more ≡ out ++ walk → more ≡ waiting ++ (label ++ walk)
+both_lines : (waiting out more label walk : List ℕ) → out ≡ waiting ++ label → more ≡ out ++ walk
+    → more ≡ waiting ++ (label ++ walk)
 both_lines waiting out more label walk one two = two ∙ ap (λ xs. xs ++ walk) one ∙ append_assoc waiting label walk
 
 pub loop-v-preserved : goal.loop-v-preserved
@@ -22,7 +23,8 @@ loop-v-preserved g c =
     (rw (vertex_lines-next hop parent v labels c.loop-v-test.true) at c.loop-v.invariant)
     (subst (Waits (g.W.Write.contents c.loop-v.writer) (g.W.Write.contents c.send_if_full.new.writer)
     c.send_if_full.new.self.bytes.items)
-    (both_lines _ _ _ _ _ c.in_ok-put_label.ensures.ok c.in_ok-put_walk_line.ensures.put) c.in_ok-send_if_full.ensures.sent)
+    (both_lines _ _ _ _ _ c.in_ok-put_label.ensures.ok c.in_ok-put_walk_line.ensures.put)
+    c.in_ok-send_if_full.ensures.sent)
 
 pub returns-in_err-put_label-clause-prefix : goal.returns-in_err-put_label-clause-prefix
 returns-in_err-put_label-clause-prefix g c = at-err _ (put-left _ _ _ _ _ c.loop-v.invariant)
@@ -41,4 +43,5 @@ returns-in_err-send_if_full-clause-prefix g c =
     (vertex_lines hop parent (v + 1) (drop (v + 1) labels)) _
     (rw (vertex_lines-next hop parent v labels c.loop-v-test.true) at c.loop-v.invariant)
     (subst (GivesPrefix (g.W.Write.contents c.loop-v.writer) (g.W.Write.contents c.send_if_full.new.writer))
-    (both_lines _ _ _ _ _ c.in_ok-put_label.ensures.ok c.in_ok-put_walk_line.ensures.put) c.in_err-send_if_full.ensures.prefix))
+    (both_lines _ _ _ _ _ c.in_ok-put_label.ensures.ok c.in_ok-put_walk_line.ensures.put)
+    c.in_err-send_if_full.ensures.prefix))

@@ -24,7 +24,8 @@ loop-place-preserved-in-Some g c =
     record {
       sent =
           sent-more (IsGrownBlock c.args.asked.now.walks graphs.rows.n graphs.rows.arcs growth) c.args.sources.now
-          c.loop-place.place 0 _ _ _ _ c.send_with.new.self.bytes.items c.loop-place-test.true c.loop-place.invariant.sent
+          c.loop-place.place 0 _ _ _ _ c.send_with.new.self.bytes.items c.loop-place-test.true
+          c.loop-place.invariant.sent
           (record {
             text = c.in-Some.text.bytes.items;
             is_text = c.in-Some.ensures.solved;

@@ -10,4 +10,5 @@ loop-place-preserved c =
 pub returns : goal.returns
 returns c =
     all_placed c.args.pairs.now c.loop-place.place c.loop-place.order.items c.sort.new.self.items
-    (omega (arith, c.loop-place-test.false, c.loop-place.auto.place-end)) c.loop-place.invariant c.sort.ensures.permutation
+    (omega (arith, c.loop-place-test.false, c.loop-place.auto.place-end)) c.loop-place.invariant
+    c.sort.ensures.permutation

@@ -19,7 +19,8 @@ returns g c =
     let sent =
     rw c.new-held.ensures at rw c.new-waiting.ensures at rw at_start at c.in_ok-put_solved_pairs.ensures.sent (Some [])
     in
-    let lines = sent-whole is_block rest solve.end _ _ bytes (sent (sent-nothing is_block rest)) c.in_ok-finish.ensures.sent
+    let lines = sent-whole is_block rest solve.end _ _ bytes
+    (sent (sent-nothing is_block rest)) c.in_ok-finish.ensures.sent
     in
     record {
       some = omega (arith, is.some, at_start);

@@ -9,7 +9,8 @@ returns-in_err-labels-clause-prefix g c =
     let graphs = c.args.graphs.now in
     let growth = growth_of graphs.grown in
     err-stands (IsGrownPair true graphs.rows.n graphs.rows.arcs growth)
-    (c.blocks_are_unique.ensures true graphs.rows.n graphs.rows.arcs growth).1 c.args.pairs.now _ c.args.solve.first (0, 0)
+    (c.blocks_are_unique.ensures true graphs.rows.n graphs.rows.arcs growth).1 c.args.pairs.now _ c.args.solve.first
+    (0, 0)
     (g.W.Write.contents c.args.writer.now) c.args.waiting.now.bytes.items
 
 pub returns-in_err-walked-clause-prefix : goal.returns-in_err-walked-clause-prefix
@@ -17,7 +18,8 @@ returns-in_err-walked-clause-prefix g c =
     let graphs = c.args.graphs.now in
     let growth = growth_of graphs.grown in
     err-stands (IsGrownPair true graphs.rows.n graphs.rows.arcs growth)
-    (c.blocks_are_unique.ensures true graphs.rows.n graphs.rows.arcs growth).1 c.args.pairs.now _ c.args.solve.first (0, 0)
+    (c.blocks_are_unique.ensures true graphs.rows.n graphs.rows.arcs growth).1 c.args.pairs.now _ c.args.solve.first
+    (0, 0)
     (g.W.Write.contents c.args.writer.now) c.args.waiting.now.bytes.items
 
 pub returns-in_err-after-clause-prefix : goal.returns-in_err-after-clause-prefix
@@ -25,5 +27,6 @@ returns-in_err-after-clause-prefix g c =
     let graphs = c.args.graphs.now in
     let growth = growth_of graphs.grown in
     err-stands (IsGrownPair true graphs.rows.n graphs.rows.arcs growth)
-    (c.blocks_are_unique.ensures true graphs.rows.n graphs.rows.arcs growth).1 c.args.pairs.now _ c.args.solve.first (0, 0)
+    (c.blocks_are_unique.ensures true graphs.rows.n graphs.rows.arcs growth).1 c.args.pairs.now _ c.args.solve.first
+    (0, 0)
     (g.W.Write.contents c.args.writer.now) c.args.waiting.now.bytes.items

@@ -38,7 +38,8 @@ loop-at-preserved g c before sent =
     (g.W.Write.contents c.loop-at.writer) _ c.loop-at.waiting.bytes.items c.send_if_full.new.self.bytes.items
     (omega (arith, here, solve.within)) (c.loop-at.invariant before sent)
     (record {
-      text = with_growth growth (walked_text (pair_at pairs k) walked) (walked_after_text (pair_at pairs k) c.args.after.now);
+      text = with_growth growth (walked_text (pair_at pairs k) walked)
+          (walked_after_text (pair_at pairs k) c.args.after.now);
       is_text =
           walked-blocks graphs.rows graphs.grown (pair_at pairs k) walked c.args.after.now c.requires.graphs.grows
           (rw same at c.requires.walked) (rw same at c.requires.after);
@@ -68,7 +69,8 @@ returns-in_err-put_walked_lines-clause-prefix g c =
     (g.W.Write.contents c.loop-at.writer) =
     λ before sent.
     block-cut (IsGrownPair true graphs.rows.n graphs.rows.arcs growth)
-    (c.blocks_are_unique.ensures true graphs.rows.n graphs.rows.arcs growth).1 c.args.pairs.now c.loop-at.at (0, 0) before
+    (c.blocks_are_unique.ensures true graphs.rows.n graphs.rows.arcs growth).1 c.args.pairs.now c.loop-at.at
+    (0, 0) before
     (g.W.Write.contents c.loop-at.writer) _ c.loop-at.waiting.bytes.items
     (omega (arith, c.loop-at-test.true, c.requires.solve.within)) (c.loop-at.invariant before sent)
     (puts-nothing _ _ _) in

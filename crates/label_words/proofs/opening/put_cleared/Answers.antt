@@ -1,6 +1,5 @@
 -- Each turn puts the words of a vertex more.
-use Rattle.std.proofs.Common.{ℕ, ◌≡◌, ap, arith, subst, length, length-append, ◌∷◌, []}
-use Rattle.route_walks.specs.declared.graph.TheConstants.{INF}
+use Rattle.std.proofs.Common.{ℕ, arith, subst}
 use Rattle.label_words.proofs.Sowing.{AreCleared, cleared_more, cleared_none, cleared_sown}
 use Rattle.label_words.proofs.opening.put_cleared.Goals as goal
 
@@ -12,7 +11,14 @@ push_reserved-requires c = omega (arith, c.loop.invariant.0.count, c.loop.invari
 
 pub push_reserved-requires-in-loop : goal.push_reserved-requires-in-loop
 push_reserved-requires-in-loop c =
-    omega (arith, c.loop.invariant.0.count, c.loop.invariant.1, c.loop.words.ok, c.push_reserved.ensures.len, c.push_reserved.ensures.capacity)
+    omega (
+      arith,
+      c.loop.invariant.0.count,
+      c.loop.invariant.1,
+      c.loop.words.ok,
+      c.push_reserved.ensures.len,
+      c.push_reserved.ensures.capacity,
+    )
 
 pub loop-preserved : goal.loop-preserved
 loop-preserved c = (
@@ -24,4 +30,5 @@ loop-preserved c = (
 pub returns : goal.returns
 returns c =
     cleared_sown c.loop.words.items c.args.n c.requires.vertices
-    (subst (λ (k : ℕ). AreCleared c.loop.words.items k k) (omega (arith, c.loop-test.false, c.loop.auto.counter-end)) c.loop.invariant.0)
+    (subst (λ (k : ℕ). AreCleared c.loop.words.items k k)
+    (omega (arith, c.loop-test.false, c.loop.auto.counter-end)) c.loop.invariant.0)

@@ -18,7 +18,16 @@ overflow_add-words c =
     ] in
     let same = get_or-set_other c.args.words.now c.label_word-label.result 0 c.min.result 0
     (omega (arith, c.label_word-label.ensures)) in
-    omega (arith, few, marks_le (is_marked sown.state.marks) c.requires.0, same, sown.laid.total, sown.total, sown.vertices)
+    omega (
+      arith,
+      few,
+      marks_le
+          (is_marked sown.state.marks) c.requires.0,
+      same,
+      sown.laid.total,
+      sown.total,
+      sown.vertices,
+    )
 
 pub returns : goal.returns
 returns c n seeds sown lt =

@@ -8,8 +8,10 @@ use Rattle.obim_bags.proofs.entries.keep_all.Given as goal
 abbrev pub invariant-loop-place : goal.invariant-loop-place
 invariant-loop-place l = record {
   rest : (bag : BagSeen) → All (IsUnclaimed bag) l.initial.unclaimed.items → All (IsUnclaimed bag) l.unclaimed.items;
-  added : (bag : BagSeen) → All (IsUnclaimed bag) l.initial.unclaimed.items → AreAdded bag l.initial.passes.items l.passes.items;
-  shares : shares_of (tallies_of (l.passes.items ++ unclaimed_of l.unclaimed.items)) ≡ shares_of (tallies_of (l.initial.passes.items ++ unclaimed_of l.initial.unclaimed.items));
+  added : (bag : BagSeen) → All (IsUnclaimed bag) l.initial.unclaimed.items
+      → AreAdded bag l.initial.passes.items l.passes.items;
+  shares : shares_of (tallies_of (l.passes.items ++ unclaimed_of l.unclaimed.items))
+      ≡ shares_of (tallies_of (l.initial.passes.items ++ unclaimed_of l.initial.unclaimed.items));
 }
 
 abbrev pub decreases-loop-place : goal.decreases-loop-place

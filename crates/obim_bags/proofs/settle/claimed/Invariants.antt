@@ -11,6 +11,7 @@ invariant-loop-at l = record {
   count : length l.held.items ≡ length l.initial.held.items;
   held : lists_of l.held.items ≡ cut l.place l.at (lists_of l.initial.held.items);
   passes : l.passes.items ≡ passes_in l.place (take l.at (lists_of l.initial.held.items));
-  of_bag : (bags : List BagSeen) (bag : BagSeen) → AreOf bags (lists_of l.initial.held.items) → slice_get bags l.place ≡ Some bag
+  of_bag : (bags : List BagSeen) (bag : BagSeen) → AreOf bags (lists_of l.initial.held.items)
+      → slice_get bags l.place ≡ Some bag
       → All (IsPassOf bag) l.passes.items;
 }

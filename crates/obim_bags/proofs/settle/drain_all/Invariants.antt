@@ -11,7 +11,8 @@ invariant-loop-place g l = record {
   bags : bags_of l.entries ≡ bags_of l.initial.entries;
   held : AreOf (bags_of l.entries) (lists_of l.held.items);
   short : All (λ (accesses : List AccessSeen). length accesses ≤ l.place) (lists_of l.held.items);
-  passes : (place : ℕ) → place < l.place → passes_in place (lists_of l.held.items) ≡ passes_in place (lists_of l.fn.held.items);
+  passes : (place : ℕ) → place < l.place
+      → passes_in place (lists_of l.held.items) ≡ passes_in place (lists_of l.fn.held.items);
   count : length l.parts.items + l.place ≡ length (bags_of l.entries);
   rest : (place : ℕ) → place < l.place → slice_get l.entries.list place ≡ slice_get l.initial.entries.list place;
   whole : AreWholeFrom l.place (lists_of l.fn.held.items) l.initial.entries;

@@ -13,5 +13,6 @@ build_both_ways-requires-clause-ends g c κs within =
 
 pub returns-clause-arcs : goal.returns-clause-arcs
 returns-clause-arcs g c =
-    subst (λ (arcs : List ArcRec). IfOk c.build_both_ways.result (λ (rows : Graph). HaveSameArcs rows.arcs (both_ways arcs)))
+    subst (λ (arcs : List ArcRec). IfOk c.build_both_ways.result
+    (λ (rows : Graph). HaveSameArcs rows.arcs (both_ways arcs)))
     c.in_ok-arcs.ensures c.build_both_ways.ensures.arcs

@@ -13,9 +13,12 @@ pub returns : goal.returns
 returns g c seeds within pause =
     let graph = c.args.csr.now in
     let from = ap (λ (s : Held). s.known.seeds) c.in_ok-words.ensures.seat in
-    let least = subst (λ (s : List Seed). IfOk c.solve_alone.result (λ labels. AreLeastLabels graph.n graph.arcs s labels.items))
+    let least =
+    subst (λ (s : List Seed). IfOk c.solve_alone.result
+    (λ labels. AreLeastLabels graph.n graph.arcs s labels.items))
     from c.solve_alone.ensures in
-    IfOk-weaker c.solve_alone.result (λ labels. AreLeastLabels graph.n graph.arcs (seeds_of c.args.rest.labels) labels.items)
+    IfOk-weaker c.solve_alone.result
+    (λ labels. AreLeastLabels graph.n graph.arcs (seeds_of c.args.rest.labels) labels.items)
     (λ labels. AreLeastLabels graph.n graph.arcs seeds labels.items)
     (λ labels is. (c.resumed_runs_end_alike.ensures graph seeds c.args.rest (Settled labels) within pause is).0)
     least

@@ -12,9 +12,11 @@ pub returns-clause-lower : goal.returns-clause-lower
 returns-clause-lower g c =
     let graph = c.args.csr.now in
     let seeds = ap (λ (s : Held). s.known.seeds) c.in_ok-words.ensures.seat in
-    let end = subst (λ (s : List Seed). IfOk c.run_workers.result (λ (closed : Closed). IsEnd graph s closed)) seeds c.run_workers.ensures.end in
+    let end = subst (λ (s : List Seed). IfOk c.run_workers.result (λ (closed : Closed). IsEnd graph s closed)) seeds
+    c.run_workers.ensures.end in
     IfOk-weaker c.run_workers.result (IsEnd graph (seeds_of c.args.rest.labels))
     (λ closed. AreNoHigher (closed_labels closed) c.args.rest.labels)
     (λ closed ended.
-    (c.resumed_runs_end_alike.ensures graph c.args.seeds.now c.args.rest closed c.requires.seeds c.requires.pause ended).1)
+    (c.resumed_runs_end_alike.ensures graph c.args.seeds.now c.args.rest closed c.requires.seeds c.requires.pause
+    ended).1)
     end

@@ -8,4 +8,5 @@ returns-then-has_room g c = one_stays _ _ _ _ c.requires.place refl
 
 pub returns : goal.returns
 returns g c =
-    one_puts_then [] [] c.put_filling.ensures (one_stays _ _ _ c.open.new.chunks (one_within c.put_filling.ensures) c.open.ensures)
+    one_puts_then [] [] c.put_filling.ensures
+    (one_stays _ _ _ c.open.new.chunks (one_within c.put_filling.ensures) c.open.ensures)

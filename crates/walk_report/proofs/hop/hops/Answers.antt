@@ -34,7 +34,8 @@ loop-next-preserved c =
 pub returns-clause-exact : goal.returns-clause-exact
 returns-clause-exact c =
     let inv = c.loop-next.invariant in
-    search-done c.n-n.ensures.in_rows.ends c.requires.source c.requires.least inv.search (omega arith) inv.some inv.source
+    search-done c.n-n.ensures.in_rows.ends c.requires.source c.requires.least inv.search
+    (omega arith) inv.some inv.source
 
 pub returns-clause-from_one_source : goal.returns-clause-from_one_source
 returns-clause-from_one_source c = record {

@@ -23,16 +23,20 @@ use Rattle.walk_report.proofs.hop.visit.Goals.{else-hops-head-via-else-hops-head
 -- the head of a tight arc gets the hop
 reaches : {graph : Graph} → IsInRows graph → {label : ℕ → ℕ} {hops queue : List ℕ} {next u h s : ℕ}
     → IsVisiting graph label hops queue next u h s
-    → (target : Target) → Contains graph.arcs (arc_to u target) × (target.head < graph.n) → IsTight label (arc_to u target)
+    → (target : Target) → Contains graph.arcs (arc_to u target) × (target.head < graph.n)
+    → IsTight label (arc_to u target)
     → slice_index hops target.head ≡ NONE
     → IsVisiting graph label (set hops target.head h) (queue ++ target.head ∷ []) next u h s
-reaches {graph = graph} rows {label = label} {hops = hops} {queue = queue} {next = next} {u = u} {h = h} inv target at tight unset =
+reaches {graph = graph} rows {label = label} {hops = hops} {queue = queue} {next = next} {u = u} {h = h} inv target at
+    tight unset =
     let v = target.head in
     let from = inv.search.found next inv.place in
     let here = slice_index queue next in
     let at_next = rw (← inv.vertex) at at.0 in
     let walk : HasWalk graph.arcs (slice_index queue 0) v (label v) h =
-    rw (← tight.0, inv.hop, ← inv.vertex) (walk-more graph.arcs (slice_index queue 0) here v target.weight (label here) (slice_index hops here) at_next from.walk) in
+    rw (← tight.0, inv.hop, ← inv.vertex)
+    (walk-more graph.arcs (slice_index queue 0) here v target.weight (label here)
+    (slice_index hops here) at_next from.walk) in
     let keep : (k : ℕ) → k < length queue → slice_index (queue ++ v ∷ []) k ≡ slice_index queue k =
     λ k old. get_or_append_left queue (v ∷ []) 0 k old in
     record {
@@ -43,7 +47,8 @@ reaches {graph = graph} rows {label = label} {hops = hops} {queue = queue} {next
           rw (
             keep next inv.place,
             get_or-set_other hops v here h 0
-                (λ same. absurd (omega (arith, search-small inv.search rows.vertices inv.place, ap (slice_index hops) same))),
+                (λ same. absurd
+                (omega (arith, search-small inv.search rows.vertices inv.place, ap (slice_index hops) same))),
           ) inv.hop;
       source = keep 0 (omega (arith, inv.place)) ∙ inv.source;
     }
@@ -57,7 +62,8 @@ overflow_add-hop c =
 pub bounds-hops-head : goal.bounds-hops-head
 bounds-hops-head c =
     let row = c.row-row.ensures in
-    let at = row_arcs c.args.csr.now row.in_rows c.index-u.result.now _ row.targets c.loop-head.head-index no_target (omega arith) in
+    let at = row_arcs c.args.csr.now row.in_rows c.index-u.result.now _ row.targets c.loop-head.head-index no_target
+    (omega arith) in
     omega (arith, at.1, c.loop-head.invariant.0.search.vertices)
 
 pub loop-head-preserved : goal.loop-head-preserved
@@ -72,7 +78,8 @@ loop-head-preserved c =
     elim c.if-hops-head.branch [
       | then-hops-head+then-is_tight+in_ok-push b ↦
           rw (b.hops-is, b.queue-is, b.in_ok-push.ensures.items) (
-            reaches rows inv.0 (get_or row k no_target) at (b.is_tight.ensures.0 b.if-is_tight.true) b.if-hops-head.true,
+            reaches rows inv.0 (get_or row k no_target) at
+                (b.is_tight.ensures.0 b.if-is_tight.true) b.if-hops-head.true,
             filled-put Tight c.loop-head.hops u row k _ (omega arith) (omega (arith, at.1, inv.0.search.vertices))
                 (omega (arith, search-small inv.0.search rows.vertices inv.0.place, inv.0.hop)) inv.1,
           )
@@ -93,7 +100,9 @@ returns-clause-visited c arc within tail tight =
     let graph = c.args.csr.now in
     let inv = c.loop-head.invariant in
     let filled =
-    filled-all (IsTight (slice_index c.args.labels.now)) c.loop-head.hops c.index-u.result.now c.row-row.result.now c.loop-head.head-index
+    filled-all (IsTight (slice_index c.args.labels.now)) c.loop-head.hops c.index-u.result.now c.row-row.result.now
+    c.loop-head.head-index
     graph.arcs c.row-row.ensures.targets (omega arith) inv.1 arc within (tail ∙ inv.0.vertex) tight in
-    let head : arc.head < graph.n = (All-contains (IsArcBelow graph.n) graph.arcs arc c.row-row.ensures.in_rows.ends within).1 in
+    let head : arc.head < graph.n =
+    (All-contains (IsArcBelow graph.n) graph.arcs arc c.row-row.ensures.in_rows.ends within).1 in
     search-near inv.0.search inv.0.place arc.head head filled

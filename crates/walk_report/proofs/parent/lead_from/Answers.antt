@@ -13,7 +13,8 @@ use Rattle.walk_report.proofs.parent.lead_from.Goals.{else-parents-head-via-else
 pub bounds-parents-head : goal.bounds-parents-head
 bounds-parents-head c =
     let row = c.row-head-items.ensures in
-    let at = row_arcs c.args.csr.now row.in_rows c.args.tail _ row.targets c.loop-head.head-index no_target (omega arith) in
+    let at = row_arcs c.args.csr.now row.in_rows c.args.tail _ row.targets c.loop-head.head-index no_target
+    (omega arith) in
     omega (arith, at.1, c.loop-head.invariant.0.count)
 
 pub loop-head-preserved : goal.loop-head-preserved
@@ -49,5 +50,6 @@ pub returns : goal.returns
 returns c =
     let inv = c.loop-head.invariant in
     tails-next inv.0
-    (filled-all (IsLeading _ _) c.loop-head.parents c.args.tail c.row-head-items.result.now c.loop-head.head-index c.args.csr.now.arcs
+    (filled-all (IsLeading _ _) c.loop-head.parents c.args.tail c.row-head-items.result.now c.loop-head.head-index
+    c.args.csr.now.arcs
     c.row-head-items.ensures.targets (omega arith) inv.1)

@@ -20,7 +20,14 @@ loop-run-preserved c =
     (rw c.list-run-items.ensures c.requires.ahead) c.run-item.is in
     let part = take (run.after - run.start) (drop run.start bytes) in
     let few : length run.arcs.items ≤ length part =
-    omega (arith, is_run.inside, is_run.ends, length-drop run.start bytes, length-take-le (run.after - run.start) (drop run.start bytes) (omega (arith, is_run.ends, length-drop run.start bytes))) in
+    omega (
+      arith,
+      is_run.inside,
+      is_run.ends,
+      length-drop run.start bytes,
+      length-take-le (run.after - run.start)
+          (drop run.start bytes) (omega (arith, is_run.ends, length-drop run.start bytes)),
+    ) in
     let up_to : Reads old c.feed.new.self (take run.start bytes) =
     reads_to old c.loop-run.self c.feed.new.self bytes at run.start c.if-run-at.false c.loop-run.invariant.reads
     c.in_ok-feed.ensures.reads in

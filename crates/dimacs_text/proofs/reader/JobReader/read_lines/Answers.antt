@@ -32,7 +32,8 @@ returns c =
                 (c.in_ok-read.ensures.reads r.whole r.lines (omega (arith, few, before, here, all)))
                 (let more = length-append r.whole line in omega (arith, few, before, here, all, more));
             keeps =
-                subst (λ k. Keeps fault ((r.whole ++ line) ++ rest) k (text ++ c.args.lines.now)) (sym c.clear.ensures.items)
+                subst (λ k. Keeps fault ((r.whole ++ line) ++ rest) k (text ++ c.args.lines.now))
+                (sym c.clear.ensures.items)
                 (nothing_kept fault ((r.whole ++ line) ++ rest) (text ++ c.args.lines.now) is);
           }) c.read-2.ensures.reads;
     }

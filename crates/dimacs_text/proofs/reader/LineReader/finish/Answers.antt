@@ -31,14 +31,16 @@ last_read : (c : goal.After-finish-in-Ok) (text : List ℕ)
 last_read c text r =
     let read = text_read c.args.self c.args.last.now text c.in_default.is r in
     let filled = filled_length c.args.last.now (sym c.is_empty.ensures ∙ c.if-is_empty.false) in
-    subst (λ n. IsReadTo text [] n (progress_of c.read.new.self)) (omega (arith, read.0, r.short, c.saturating_add.ensures))
+    subst (λ n. IsReadTo text [] n (progress_of c.read.new.self))
+    (omega (arith, read.0, r.short, c.saturating_add.ensures))
     (line_reads (progress_of c.args.self.draft) (progress_of c.read.new.self) text c.args.last.now
     c.args.last.now [] c.args.self.line
     (lines_whole c.args.last.now filled (λ k few. read.2 k (omega arith) few)) c.in-Ok.ensures.reads read.1)
 
 pub returns-in-Ok-clause-job : goal.returns-in-Ok-clause-job
 returns-in-Ok-clause-job c text r =
-    job_at_end text c.saturating_add.result c.read.new.self c.finish-in-Ok.result (last_read c text r) c.finish-in-Ok.ensures.job
+    job_at_end text c.saturating_add.result c.read.new.self c.finish-in-Ok.result
+    (last_read c text r) c.finish-in-Ok.ensures.job
 
 pub returns-in-Ok-clause-fault : goal.returns-in-Ok-clause-fault
 returns-in-Ok-clause-fault c text r =

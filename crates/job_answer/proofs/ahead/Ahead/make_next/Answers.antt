@@ -10,7 +10,8 @@ loop-team-preserved g c =
     let graphs = solves.graphs.now in
     let walks = solves.asked.now.walks in
     let popped =
-    All-pop (λ team. AreMade walks graphs solves.queries team.made.items) _ _ (Some c.in-Some.team) c.in-Some.ensures.items
+    All-pop (λ team. AreMade walks graphs solves.queries team.made.items) _ _
+    (Some c.in-Some.team) c.in-Some.ensures.items
     c.loop-team.invariant.teams in
     record {
       made =

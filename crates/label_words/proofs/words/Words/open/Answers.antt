@@ -13,7 +13,8 @@ begin-requires c =
     ap (λ (v : Vec Seed Global). v.items) c.of-2.ensures
     ∙ c.in_ok-extend_from_slice.ensures.items
     ∙ ap (λ (xs : List Seed). xs ++ c.args.seeds.now) c.in_ok-copy.ensures.items in
-    let none : c.of-3.result.value.items ≡ [] = ap (λ (v : Vec ℕ Global). v.items) c.of-3.ensures ∙ c.new-none.ensures.items in
+    let none : c.of-3.result.value.items ≡ [] =
+    ap (λ (v : Vec ℕ Global). v.items) c.of-3.ensures ∙ c.new-none.ensures.items in
     rw (c.of.ensures, seeds, none, append-nil c.args.seeds.now)
     (sown_lawful c.args.csr.now c.args.seeds.now c.in_ok-words.words.items c.n.ensures.in_rows
     (rw c.n.ensures.vertices at c.in_ok-words.ensures))

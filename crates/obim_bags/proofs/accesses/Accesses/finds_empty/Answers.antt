@@ -6,20 +6,27 @@ use Rattle.obim_bags.proofs.accesses.Accesses.finds_empty.Goals as goal
 
 pub invariant_of-self : goal.invariant_of-self
 invariant_of-self c =
-    let at = called_at {now = c.finds_empty.new.self} c.self.inside.list.items (rw (← c.self.view_is) at c.requires) c.index_mut.ensures.value c.finds_empty.ensures.bag in
+    let at = called_at {now = c.finds_empty.new.self} c.self.inside.list.items
+    (rw (← c.self.view_is) at c.requires) c.index_mut.ensures.value c.finds_empty.ensures.bag in
     rw (bags_stay at) c.self.invariant
 
 pub returns-clause-bags : goal.returns-clause-bags
 returns-clause-bags c =
-    let at = called_at {now = c.finds_empty.new.self} c.self.inside.list.items (rw (← c.self.view_is) at c.requires) c.index_mut.ensures.value c.finds_empty.ensures.bag in
+    let at = called_at {now = c.finds_empty.new.self} c.self.inside.list.items
+    (rw (← c.self.view_is) at c.requires) c.index_mut.ensures.value c.finds_empty.ensures.bag in
     rw (← c.self.view_is) (bags_stay at)
 
 pub returns-clause-found_empty : goal.returns-clause-found_empty
 returns-clause-found_empty c =
-    let at = called_at {now = c.finds_empty.new.self} c.self.inside.list.items (rw (← c.self.view_is) at c.requires) c.index_mut.ensures.value c.finds_empty.ensures.bag in
-    rw (← c.self.view_is) (true_then _ _ c.finds_empty.result (changed access_after_empty_find at) c.finds_empty.ensures.found_empty)
+    let at = called_at {now = c.finds_empty.new.self} c.self.inside.list.items
+    (rw (← c.self.view_is) at c.requires) c.index_mut.ensures.value c.finds_empty.ensures.bag in
+    rw (← c.self.view_is)
+    (true_then _ _ c.finds_empty.result (changed access_after_empty_find at) c.finds_empty.ensures.found_empty)
 
 pub returns-clause-alone : goal.returns-clause-alone
 returns-clause-alone c =
-    let at = called_at {now = c.finds_empty.new.self} c.self.inside.list.items (rw (← c.self.view_is) at c.requires) c.index_mut.ensures.value c.finds_empty.ensures.bag in
-    rw (← c.self.view_is) (true_then _ _ c.finds_empty.result (λ empty. (c.index_mut.result.now, at.here, empty)) c.finds_empty.ensures.alone)
+    let at = called_at {now = c.finds_empty.new.self} c.self.inside.list.items
+    (rw (← c.self.view_is) at c.requires) c.index_mut.ensures.value c.finds_empty.ensures.bag in
+    rw (← c.self.view_is)
+    (true_then _ _ c.finds_empty.result
+    (λ empty. (c.index_mut.result.now, at.here, empty)) c.finds_empty.ensures.alone)

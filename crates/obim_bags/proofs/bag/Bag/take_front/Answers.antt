@@ -11,5 +11,6 @@ pub returns-then-is_none-clause-alone : goal.returns-then-is_none-clause-alone
 returns-then-is_none-clause-alone g c =
     rw (← c.pass.view_is)
     (none_gives _ _ _ c.pop_as-got.result
-    (λ found all weight. settles c.pass.inside.pass.me.view.client all (omega (arith, c.pass.invariant.2)) found.1 weight)
+    (λ found all weight. settles c.pass.inside.pass.me.view.client all
+    (omega (arith, c.pass.invariant.2)) found.1 weight)
     c.pop_as-got.ensures.rule)

@@ -9,9 +9,11 @@ use Rattle.obim_bags.proofs.entries.Entries.append.Goals as goal
 -- the bags of a list of entries, with one entry more
 longer : (entries new : List EntrySeen) (entry : EntrySeen) → new ≡ entries ++ entry ∷ []
     → map (λ (e : EntrySeen). e.bag) new ≡ map (λ (e : EntrySeen). e.bag) entries ++ entry.bag ∷ []
-longer entries new entry e = ap (map (λ (e : EntrySeen). e.bag)) e ∙ map-append (λ (e : EntrySeen). e.bag) entries (entry ∷ [])
+longer entries new entry e =
+    ap (map (λ (e : EntrySeen). e.bag)) e ∙ map-append (λ (e : EntrySeen). e.bag) entries (entry ∷ [])
 
-pushed : (new room entries : List EntrySeen) (entry : EntrySeen) → new ≡ room ++ entry ∷ [] → room ≡ entries → new ≡ entries ++ entry ∷ []
+pushed : (new room entries : List EntrySeen) (entry : EntrySeen) → new ≡ room ++ entry ∷ [] → room ≡ entries
+    → new ≡ entries ++ entry ∷ []
 pushed new room entries entry e same = cc
 
 pub invariant_of-self-2 : goal.invariant_of-self-2

@@ -6,7 +6,8 @@ use Rattle.obim_bags.proofs.entries.Entries.has_from.Goals as goal
 
 pub loop-place-preserved : goal.loop-place-preserved
 loop-place-preserved c =
-    let below : c.loop-place.place < length c.self.inside.list.items = omega (arith, c.len.ensures, c.loop-place-test.true, c.self.inside.list.ok) in
+    let below : c.loop-place.place < length c.self.inside.list.items =
+    omega (arith, c.len.ensures, c.loop-place-test.true, c.self.inside.list.ok) in
     let here = found_at c.self.inside.list.items c.loop-place.place c.index.result.now below c.index.ensures in
     record {
       begun = omega (arith, c.loop-place.invariant.begun);

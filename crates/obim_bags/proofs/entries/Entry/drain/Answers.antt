@@ -5,4 +5,6 @@ use Rattle.obim_bags.proofs.entries.Entry.drain.Goals as goal
 
 pub returns-clause-settled : goal.returns-clause-settled
 returns-clause-settled g c =
-    IfOk-weaker c.drain.result _ _ (λ left settled. settled_of_some _ _ _ left.items c.in_ok-claim_all.ensures.added settled) c.drain.ensures.settled
+    IfOk-weaker c.drain.result _ _
+    (λ left settled. settled_of_some _ _ _ left.items c.in_ok-claim_all.ensures.added settled)
+    c.drain.ensures.settled

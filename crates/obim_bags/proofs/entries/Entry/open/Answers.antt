@@ -15,13 +15,16 @@ place_unclaimed bag bag' pass place new same is found at =
 pub loop-pass-preserved : goal.loop-pass-preserved
 loop-pass-preserved g c =
     let bag = c.in_ok-bag-2.bag.value in
-    let popped = All-pop (λ (pass : PassSeen). pass ≡ new_pass bag) _ _ (Some c.in-Some.pass) c.in-Some.ensures.items c.loop-pass.invariant.passes in
+    let popped = All-pop (λ (pass : PassSeen). pass ≡ new_pass bag) _ _
+    (Some c.in-Some.pass) c.in-Some.ensures.items c.loop-pass.invariant.passes in
     record {
       bag = refl;
       passes = popped.0;
       unclaimed =
           rw c.in_ok-push.ensures.items
-          (All-append (IsUnclaimed bag) c.loop-pass.unclaimed.items (Some c.new-in-Some.result ∷ []) c.loop-pass.invariant.unclaimed
-          (All-cons (IsUnclaimed bag) (Some c.new-in-Some.result) [] (place_unclaimed bag _ _ _ popped.1 c.in_ok-bag-3.ensures c.new-in-Some.ensures)
+          (All-append (IsUnclaimed bag) c.loop-pass.unclaimed.items
+          (Some c.new-in-Some.result ∷ []) c.loop-pass.invariant.unclaimed
+          (All-cons (IsUnclaimed bag) (Some c.new-in-Some.result) []
+          (place_unclaimed bag _ _ _ popped.1 c.in_ok-bag-3.ensures c.new-in-Some.ensures)
           (All-nil (IsUnclaimed bag))));
     }

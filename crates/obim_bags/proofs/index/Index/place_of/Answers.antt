@@ -4,7 +4,8 @@ use Rattle.obim_bags.proofs.index.Index.place_of.Goals as goal
 
 gives : (c : goal.After-copied) → Gives c.args.self.now c.args.metric c.copied.result
 gives c =
-    let found = subst (Gives c.self.inside.metrics.items c.args.metric) (sym (c.copied.ensures ∙ c.get.ensures.value)) (c.self.invariant c.args.metric) in
+    let found = subst (Gives c.self.inside.metrics.items c.args.metric) (sym (c.copied.ensures ∙ c.get.ensures.value))
+    (c.self.invariant c.args.metric) in
     subst (λ metrics. Gives metrics c.args.metric c.copied.result) c.self.view_is found
 
 pub returns-clause-at : goal.returns-clause-at

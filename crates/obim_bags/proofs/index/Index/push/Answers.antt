@@ -10,8 +10,12 @@ invariant_of-self-2 c metric =
     let metrics = c.self.inside.metrics.items in
     let new = c.args.metric in
     let old = get nat_eq c.self.inside.places metric in
-    let items : c.push_reserved.new.self.items ≡ metrics ++ new ∷ [] = c.push_reserved.ensures.items ∙ ap (λ xs. xs ++ new ∷ []) c.reserve.ensures.items in
-    let len : c.len.result ≡ length metrics = omega (arith, c.len.ensures, c.reserve.ensures.len, ap length c.reserve.ensures.items) in
-    let found = subst (λ n. get nat_eq c.insert.new.self metric ≡ cond (nat_eq new metric) (Some n) old) len (c.in_ok-insert.ensures.updates.0 metric) in
+    let items : c.push_reserved.new.self.items ≡ metrics ++ new ∷ [] =
+    c.push_reserved.ensures.items ∙ ap (λ xs. xs ++ new ∷ []) c.reserve.ensures.items in
+    let len : c.len.result ≡ length metrics =
+    omega (arith, c.len.ensures, c.reserve.ensures.len, ap length c.reserve.ensures.items) in
+    let found = subst (λ n. get nat_eq c.insert.new.self metric ≡ cond (nat_eq new metric) (Some n) old) len
+    (c.in_ok-insert.ensures.updates.0 metric) in
     let lacks = subst (Lacks new) (sym c.self.view_is) c.requires in
-    subst (λ xs. Gives xs metric (get nat_eq c.insert.new.self metric)) (sym items) (gives_next metrics new metric old (get nat_eq c.insert.new.self metric) lacks found (c.self.invariant metric))
+    subst (λ xs. Gives xs metric (get nat_eq c.insert.new.self metric)) (sym items)
+    (gives_next metrics new metric old (get nat_eq c.insert.new.self metric) lacks found (c.self.invariant metric))

@@ -1,5 +1,6 @@
 -- What was drained, by place, is what the passes of the mirrors left.
-use Rattle.std.proofs.Common.{◌≡◌, ◌∙◌, ap, inr, refl, sym, subst, ℕ, ◌+◌, List, [], ◌∷◌, ◌++◌, Some, None, length, reverse, arith}
+use Rattle.std.proofs.Common.{◌≡◌, ◌∙◌, ap, inr, refl, sym, subst, ℕ, ◌+◌, List, [], ◌∷◌, ◌++◌, Some, None, length}
+use Rattle.std.proofs.Common.{reverse, arith}
 use Rattle.std.specs.Prelude.{All, Option, slice_get}
 use Rattle.std.proofs.lemmas.List.Elements.{All-cons, All-head, All-nil, All-tail}
 use Rattle.std.specs.declared.vec.Vec.{Vec}
@@ -11,15 +12,19 @@ use Rattle.obim_bags.specs.Chunks.{ChunkSeen}
 use Rattle.obim_bags.specs.BagRule.{shares_of}
 use Rattle.obim_bags.specs.Bags.{AreAdded, BagSeen, PassSeen, new_pass, tallies_of}
 use Rattle.obim_bags.specs.Indexes.{AreDistinct}
-use Rattle.obim_bags.specs.Logs.{AreAllWithNew, IsLogSettled, LackPasses, MirrorSeen, AccessSeen, all_of, bags_in, metrics_of, passes_at}
+use Rattle.obim_bags.specs.Logs.{AreAllWithNew, IsLogSettled, LackPasses, MirrorSeen, AccessSeen, all_of, bags_in}
+use Rattle.obim_bags.specs.Logs.{metrics_of, passes_at}
 use Rattle.obim_bags.specs.Entries.{EntriesSeen, EntrySeen, IsEntry, IsUnclaimed, bags_of, unclaimed_of}
-use Rattle.obim_bags.specs.Settling.{AreDrainedFrom, AreOf, AreWholeFrom, IsWholeAt, LackSome, lists_of, passes_in, accesses_of}
+use Rattle.obim_bags.specs.Settling.{AreDrainedFrom, AreOf, AreWholeFrom, IsWholeAt, LackSome, lists_of, passes_in}
+use Rattle.obim_bags.specs.Settling.{accesses_of}
 use Rattle.obim_bags.proofs.Listed.{all_mapped, all_reverse, at_map, err_and, mapped_at}
 use Rattle.obim_bags.proofs.Totals.{passes_of_mirrors, settled_reverse, shares_reverse}
 use Rattle.obim_bags.proofs.log.BagLog.drain.Goals as goal
 
-log_settled : (mirrors : List MirrorSeen) (bags : List BagSeen) (held : List (List AccessSeen)) (parts : List (List ChunkSeen)) (left : List ChunkSeen)
-    → AreDistinct (metrics_of bags) → AreOf bags held → held ≡ reverse (accesses_of mirrors) → length parts ≡ length bags
+log_settled : (mirrors : List MirrorSeen) (bags : List BagSeen) (held : List (List AccessSeen))
+    (parts : List (List ChunkSeen)) (left : List ChunkSeen)
+    → AreDistinct (metrics_of bags) → AreOf bags held → held ≡ reverse (accesses_of mirrors)
+    → length parts ≡ length bags
     → AreDrainedFrom 0 held parts → left ≡ all_of parts
     → ((place : ℕ) (bag : BagSeen) → slice_get bags place ≡ Some bag → AreAllWithNew bag (passes_at place mirrors))
     → IsLogSettled mirrors left
@@ -28,13 +33,15 @@ log_settled mirrors bags held parts left distinct of is count drained left_is al
     record {
       bags = bags;
       distinct = distinct;
-      prefixes = all_mapped P (λ (mirror : MirrorSeen). mirror.accesses) mirrors (all_reverse P (accesses_of mirrors) (rw is at of));
+      prefixes = all_mapped P (λ (mirror : MirrorSeen). mirror.accesses) mirrors
+          (all_reverse P (accesses_of mirrors) (rw is at of));
       parts = parts;
       left_is = left_is;
       whole = count;
       settled = λ place part at.
           let here : 0 + place ≡ place = omega arith in
-          rw (passes_of_mirrors place mirrors) (settled_reverse place (accesses_of mirrors) part (rw (here, is) at (drained place part at)));
+          rw (passes_of_mirrors place mirrors)
+          (settled_reverse place (accesses_of mirrors) part (rw (here, is) at (drained place part at)));
       all = all;
     }
 
@@ -49,7 +56,8 @@ new_of_entry bag (Some place ∷ unclaimed) all =
     (is.1 ∙ ap new_pass is.0) (new_of_entry bag unclaimed (All-tail (IsUnclaimed bag) (Some place) unclaimed all))
 
 -- the passes of the mirrors with those that the entry still has
-module _ (mirrors : List MirrorSeen) (held : List (List AccessSeen)) (is : held ≡ reverse (accesses_of mirrors)) (place : ℕ) (entry : EntrySeen) where
+module _ (mirrors : List MirrorSeen) (held : List (List AccessSeen)) (is : held ≡ reverse (accesses_of mirrors))
+    (place : ℕ) (entry : EntrySeen) where
   abbrev Both : List PassSeen
   Both = passes_at place mirrors ++ unclaimed_of entry.unclaimed
 
@@ -61,7 +69,8 @@ module _ (mirrors : List MirrorSeen) (held : List (List AccessSeen)) (is : held 
   }
 
   -- their shares are those of the lists of accesses
-  same_shares : shares_of (tallies_of (passes_in place held ++ unclaimed_of entry.unclaimed)) ≡ shares_of (tallies_of Both)
+  same_shares : shares_of (tallies_of (passes_in place held ++ unclaimed_of entry.unclaimed))
+      ≡ shares_of (tallies_of Both)
   same_shares =
       let more = unclaimed_of entry.unclaimed in
       ap (λ (ls : List (List AccessSeen)). shares_of (tallies_of (passes_in place ls ++ more))) is
@@ -69,10 +78,16 @@ module _ (mirrors : List MirrorSeen) (held : List (List AccessSeen)) (is : held 
       ∙ ap (λ (ps : List PassSeen). shares_of (tallies_of (ps ++ more))) (sym (passes_of_mirrors place mirrors))
 
   whole_with_new : IsWholeAt place held entry → AreAllWithNew entry.bag (passes_at place mirrors)
-  whole_with_new whole = record { whole = Both; added = both_added whole.entry_is; are_all = sym same_shares ∙ whole.all }
+  whole_with_new whole = record {
+    whole = Both;
+    added = both_added whole.entry_is;
+    are_all =
+        sym same_shares ∙ whole.all;
+  }
 
 -- each bag's passes are all
-all_whole : (mirrors : List MirrorSeen) (held : List (List AccessSeen)) (entries : EntriesSeen) → held ≡ reverse (accesses_of mirrors)
+all_whole : (mirrors : List MirrorSeen) (held : List (List AccessSeen)) (entries : EntriesSeen)
+    → held ≡ reverse (accesses_of mirrors)
     → AreWholeFrom 0 held entries → (place : ℕ) (bag : BagSeen) → slice_get (bags_of entries) place ≡ Some bag
     → AreAllWithNew bag (passes_at place mirrors)
 all_whole mirrors held entries is whole place bag there =
@@ -81,13 +96,15 @@ all_whole mirrors held entries is whole place bag there =
     (whole_with_new mirrors held is place found.0 (whole place found.0 (omega arith) found.1))
 
 -- some bag's passes aren't
-lacks_passes : (mirrors : List MirrorSeen) (held : List (List AccessSeen)) (entries : EntriesSeen) → held ≡ reverse (accesses_of mirrors)
+lacks_passes : (mirrors : List MirrorSeen) (held : List (List AccessSeen)) (entries : EntriesSeen)
+    → held ≡ reverse (accesses_of mirrors)
     → AreOf (bags_of entries) held → LackSome held entries → LackPasses mirrors
 lacks_passes mirrors held entries is of lack =
     let P = λ (accesses : List AccessSeen). IsPrefix (bags_in accesses) (bags_of entries) in
     record {
       bags = bags_of entries;
-      prefixes = all_mapped P (λ (mirror : MirrorSeen). mirror.accesses) mirrors (all_reverse P (accesses_of mirrors) (rw is at of));
+      prefixes = all_mapped P (λ (mirror : MirrorSeen). mirror.accesses) mirrors
+          (all_reverse P (accesses_of mirrors) (rw is at of));
       place = lack.place;
       bag = lack.entry.bag;
       there = at_map (λ (entry : EntrySeen). entry.bag) entries.list lack.place lack.entry lack.there;
@@ -101,7 +118,8 @@ returns-clause-settled g c =
     let bags = bags_of c.take-entries.result in
     let parts = c.in_ok-parts.field-0.items in
     let held = lists_of c.in_ok-seat.held.items in
-    let count = length-reverse (lists_of parts) ∙ length-map parts (λ (v : Vec ChunkSeen Global). v.items) ∙ c.in_ok-parts.ensures.count in
+    let count = length-reverse (lists_of parts) ∙ length-map parts (λ (v : Vec ChunkSeen Global). v.items)
+    ∙ c.in_ok-parts.ensures.count in
     let distinct = rw c.in_ok-parts.ensures.bags at c.in_ok-parts.ensures.distinct in
     IfOk-weaker c.flatten.result _ _
     (λ left left_is.
@@ -117,4 +135,5 @@ returns-in_err-parts-clause-missing g c =
     let held = c.in_ok-seat.ensures.held in
     let of = c.in_ok-seat.ensures.known (bags_of entries) c.take-entries.ensures.within in
     err_and c.from_residual-in_err-parts.result _ _ c.from_residual-in_err-parts.ensures.1
-    (λ fault is missing. inr (lacks_passes c.args.mirrors.items _ entries held of (c.in_err-parts.ensures.missing (sym is ∙ missing))))
+    (λ fault is missing. inr
+    (lacks_passes c.args.mirrors.items _ entries held of (c.in_err-parts.ensures.missing (sym is ∙ missing))))

@@ -10,7 +10,8 @@ pub swap-requires : goal.swap-requires
 swap-requires c =
     let me = c.args.seat.now.me in
     let filled : c.exchange.new.seat.me ≡ (me.0, (0, c.args.entries) ∷ []) =
-    c.exchange.ensures.3 ∙ ap (λ (slots : List (ℕ × EntriesSeen)). (me.0, (0, c.args.entries) ∷ rest slots)) c.requires.slot.1 in
+    c.exchange.ensures.3
+    ∙ ap (λ (slots : List (ℕ × EntriesSeen)). (me.0, (0, c.args.entries) ∷ rest slots)) c.requires.slot.1 in
     let same = rw (← c.self.view_is) at c.requires.table in (
       c.exchange.ensures.0 ∙ same,
       omega (arith, c.self.invariant.1),

@@ -18,6 +18,7 @@ returns-clause-within g c =
       | in-None w ↦ absurd (false≢true w.in-None.ensures.steps)
       | in-Some+then-swap-eq0 w ↦
           rw (← c.loop.invariant.me)
-          (taken_within bags_of c.loop.seat.me w.swap.new.seat.me w.swap.result c.exchange.result _ w.swap.ensures.2 w.if-swap-eq0.true
+          (taken_within bags_of c.loop.seat.me w.swap.new.seat.me w.swap.result c.exchange.result _ w.swap.ensures.2
+          w.if-swap-eq0.true
           (rw w.seat-is at c.exchange.ensures.2))
     ]

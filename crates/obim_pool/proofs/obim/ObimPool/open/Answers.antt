@@ -8,7 +8,9 @@ use Rattle.obim_pool.proofs.obim.ObimPool.open.Goals as goal
 pub returns : goal.returns
 returns c =
     let gives = c.into_iter-mirror-iterator.ensures.into_iter_gives in
-    let list = YieldsList-from_vec {s = c.into_iter-mirror-iterator.result} c.in_ok-log.mirrors.items gives.0 (gives.1 ∙ c.in_ok-log.mirrors.ok.0) in
-    let all = YieldsList-end list c.loop-mirror.yielded c.loop-mirror.mirror-iterator c.loop-mirror.yielded_by c.next.result c.next.new.self c.in-None.is c.next.ensures.steps in
+    let list = YieldsList-from_vec {s = c.into_iter-mirror-iterator.result} c.in_ok-log.mirrors.items gives.0
+    (gives.1 ∙ c.in_ok-log.mirrors.ok.0) in
+    let all = YieldsList-end list c.loop-mirror.yielded c.loop-mirror.mirror-iterator c.loop-mirror.yielded_by
+    c.next.result c.next.new.self c.in-None.is c.next.ensures.steps in
     let yielded = sym (map-id c.loop-mirror.yielded) ∙ (all.0 ∙ c.in_ok-log.ensures) in
     c.loop-mirror.invariant ∙ (ap (map side_over) yielded ∙ sides_over c.args.workers c.in_ok-log.log)

@@ -5,5 +5,6 @@ use Rattle.obim_pool.proofs.side.ObimSide.pop.Goals as goal
 
 pub returns-clause-below : goal.returns-clause-below
 returns-clause-below g c =
-    subst (λ (side : SideSeen). IfSome c.pop_far.result (λ v. HasLookedBelow side c.pop_far.new.self)) c.in_default.ensures.unchanged
+    subst (λ (side : SideSeen). IfSome c.pop_far.result (λ v. HasLookedBelow side c.pop_far.new.self))
+    c.in_default.ensures.unchanged
     c.pop_far.ensures.below

@@ -4,7 +4,8 @@ use Rattle.obim_pool.proofs.side.ObimSide.pop_far.Goals as goal
 
 pub returns-in-None-clause-below : goal.returns-in-None-clause-below
 returns-in-None-clause-below g c =
-    some_then _ _ c.pop_lowest.result (λ v lowest. tried_below c.in-None.ensures.none lowest) c.pop_lowest.ensures.popped
+    some_then _ _ c.pop_lowest.result
+    (λ v lowest. tried_below c.in-None.ensures.none lowest) c.pop_lowest.ensures.popped
 
 pub returns-in-None-clause-none : goal.returns-in-None-clause-none
 returns-in-None-clause-none g c =

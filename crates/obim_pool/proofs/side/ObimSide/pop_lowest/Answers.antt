@@ -10,7 +10,8 @@ pub invariant_of-self : goal.invariant_of-self
 invariant_of-self g c =
     let scan = c.in-Some.ensures in
     let grown = c.catch_up.ensures in
-    subst (λ (order : List OwnBag). IsSide c.scan-drawn.new.mirror c.scan-drawn.new.chunks.items order (Some c.in-Some.at)) c.deref.ensures.value
+    subst (λ (order : List OwnBag). IsSide c.scan-drawn.new.mirror c.scan-drawn.new.chunks.items order
+    (Some c.in-Some.at)) c.deref.ensures.value
     (is_side_still scan.popped.rank scan.popped.there
     (searched_in c.deref.ensures.value grown.grows grown.order scan.bags scan.own))
 

@@ -12,8 +12,11 @@ returns-in_err-v-clause-unchanged c =
     let side = c.self.inside in
     let own = current_own c.in_ok-at.was c.self.invariant in
     let same =
-    held_same side.chunks.items c.in_ok-at.at.place _ c.take_last.new.self own c.index_mut.ensures.value c.in_err-v.ensures.unchanged in
-    at_none _ (ap (λ (held : List (List ℕ)). record { mirror = side.mirror; held = held; current = current_of side.current }) same ∙ c.self.view_is)
+    held_same side.chunks.items c.in_ok-at.at.place _ c.take_last.new.self own c.index_mut.ensures.value
+    c.in_err-v.ensures.unchanged in
+    at_none _
+    (ap (λ (held : List (List ℕ)). record { mirror = side.mirror; held = held; current = current_of side.current })
+    same ∙ c.self.view_is)
 
 pub returns-clause-popped : goal.returns-clause-popped
 returns-clause-popped c =

@@ -8,7 +8,8 @@ use Rattle.obim_pool.proofs.Drawing.{none_then}
 use Rattle.obim_pool.proofs.tests.callers.pop_in_vain.Goals as goal
 
 once_or_twice : (place : ℕ) (old new : SideSeen) → FoundEmptyAt place old new
-    → FindsMore 1 (account_at place old) (account_at place new) ⊎ FindsMore 2 (account_at place old) (account_at place new)
+    → FindsMore 1 (account_at place old) (account_at place new) ⊎ FindsMore 2 (account_at place old)
+    (account_at place new)
 once_or_twice place old new found =
     let Finds = λ (count : ℕ). FindsMore count (account_at place old) (account_at place new) in
     ⊎_elim
@@ -20,4 +21,6 @@ once_or_twice place old new found =
 
 pub returns-clause-counted : goal.returns-clause-counted
 returns-clause-counted g c =
-    none_then _ _ c.pop.result (λ none place within. once_or_twice place c.args.side.now c.pop.new.side (none.found place within)) c.pop.ensures.none
+    none_then _ _ c.pop.result
+    (λ none place within. once_or_twice place c.args.side.now c.pop.new.side (none.found place within))
+    c.pop.ensures.none

@@ -24,8 +24,12 @@ none_then_some metric v old mid new first second =
 
 pub returns-clause-pushed : goal.returns-clause-pushed
 returns-clause-pushed g c =
-    true_then _ _ c.push-2.result (none_then_some c.args.metric c.args.v c.args.side.now c.push.new.side c.push-2.new.side c.if-push.ensures.refused) c.push-2.ensures.pushed
+    true_then _ _ c.push-2.result
+    (none_then_some c.args.metric c.args.v c.args.side.now c.push.new.side c.push-2.new.side
+    c.if-push.ensures.refused) c.push-2.ensures.pushed
 
 pub returns-clause-refused : goal.returns-clause-refused
 returns-clause-refused g c =
-    false_then _ _ c.push-2.result (none_then_none c.args.side.now c.push.new.side c.push-2.new.side c.if-push.ensures.refused) c.push-2.ensures.refused
+    false_then _ _ c.push-2.result
+    (none_then_none c.args.side.now c.push.new.side c.push-2.new.side c.if-push.ensures.refused)
+    c.push-2.ensures.refused
