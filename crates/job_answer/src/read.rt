@@ -38,20 +38,13 @@ pub fn read_request<H: Threads + Clock + Sync, R: Read>(
         (R.remaining reader.old) (R.remaining reader.new)) }
     ensures says { IfErr result (IsRequestFault (R.remaining reader.old) (R.remaining reader.new)) }
 {
-    let pieces = Pieces {
+    let mut pieces = Pieces {
         front: Piece::new(alloc, BLOCK)?,
         back: Piece::new(alloc, BLOCK)?,
         spare: Piece::new(alloc, BLOCK)?,
     };
-    read_pieces(
-        rt,
-        alloc,
-        reader,
-        limit,
-        Readers::new(threads),
-        pieces,
-        watch,
-    )
+    let readers = Readers::new(threads);
+    read_pieces(rt, alloc, reader, limit, readers, &mut pieces, watch)
 }
 
 /// The pieces of a text that are at work at the same time.
@@ -83,12 +76,12 @@ fn read_pieces<H: Threads + Clock + Sync, R: Read>(
     reader: &mut R,
     limit: u64,
     mut readers: Readers,
-    mut pieces: Pieces,
+    pieces: &mut Pieces,
     watch: &mut impl Watch,
 ) -> Result<Job, Fault>
     requires limit { limit ≤ 2 ^ 36 }
-    requires front { pieces.front ≡ [] }
-    requires back { pieces.back ≡ [] }
+    requires front { pieces.old.front ≡ [] }
+    requires back { pieces.old.back ≡ [] }
     ensures job { IfOk result (λ job. IsRequest limit
         (R.remaining reader.old) (R.remaining reader.new) (content_of job)) }
     ensures taken { IfErr result (HasTaken limit
@@ -101,7 +94,7 @@ fn read_pieces<H: Threads + Clock + Sync, R: Read>(
     while !ended {
         let limit = readers.piece().min(left + 1);
         let fed = pieces.front.len();
-        ended = step(rt, reader, &mut job, &mut readers, &mut pieces, left, limit)?;
+        ended = step(rt, reader, &mut job, &mut readers, pieces, left, limit)?;
         if pieces.spare.len() > left {
             return Err(Fault::TooLong);
         }
@@ -111,15 +104,11 @@ fn read_pieces<H: Threads + Clock + Sync, R: Read>(
         }
         pieces.turn();
     }
-    let Pieces {
-        front,
-        mut back,
-        ..
-    } = pieces;
-    front.feed_to(&mut job)?;
-    read_ahead(rt, &job, &mut back, readers.threads());
-    back.feed_to(&mut job)?;
-    watch.see_text(front.len().saturating_add(back.len()), job.arcs_so_far());
+    pieces.front.feed_to(&mut job)?;
+    read_ahead(rt, &job, &mut pieces.back, readers.threads());
+    pieces.back.feed_to(&mut job)?;
+    let fed = pieces.front.len().saturating_add(pieces.back.len());
+    watch.see_text(fed, job.arcs_so_far());
     Ok(job.finish()?)
 }
 
