@@ -23,7 +23,9 @@ use crate::{
 use csr_graph::Csr;
 use draws::Draws;
 use gates::Holding;
-use graphs::{SIX_LABELS, WORKED, fit_rows, grid_arcs, random_arcs, rows_of, six};
+use graphs::{
+    SIX_LABELS, WORKED, Worked, fit_rows, grid_arcs, random_arcs, rows_of, same_labels, six,
+};
 use hostile::Hostile;
 use obim_pool::{LockedPool, ObimPool};
 use pools::{FirstIn, Misleading, Repeating, Useless};
@@ -87,38 +89,61 @@ fn random_job(rt: &impl Abort, alloc: Global) -> Result<RandomJob, Fail>
     Ok(RandomJob { csr, seeds, plain })
 }
 
+/// What each operator gives, by rounds over all arcs.
+#[derive(Drop)]
+struct Plain {
+    distances: Vec<u64>,
+    levels: Vec<u64>,
+    components: Vec<u64>,
+}
+
+fn plain_operators(rt: &impl Abort, alloc: Global, graph: &Worked) -> Result<Plain, Fail> {
+    let (n, arcs) = (graph.n, graph.arcs);
+    assert!(rt; fit_rows(n, arcs));
+    let from = seeds_from(alloc, graph.source)?;
+    let (units, both) = (unit_weights(alloc, arcs)?, both_ways(alloc, arcs)?);
+    Ok(Plain {
+        distances: plainly(rt, alloc, n, arcs, &from)?,
+        levels: plainly(rt, alloc, n, &units, &from)?,
+        components: plainly(rt, alloc, n, &both, &seeds_all(alloc, n)?)?,
+    })
+}
+
+fn expect_operators<H: Threads + Wait + Clock + Abort + Sync>(
+    rt: &H,
+    alloc: Global,
+    csr: &Csr,
+    source: u32,
+    settings: &Settings,
+    plain: &Plain,
+) -> Result<(), Fail>
+    requires { source < csr.now.n }
+{
+    let few = csr.arc_count() <= 1 << 31;
+    assert!(rt; few);
+    let labels = distances(rt, alloc, csr, source, settings, &OpenGate)?;
+    same_labels(rt, &labels, &plain.distances);
+    let labels = levels(rt, alloc, csr, source, settings, &OpenGate)?;
+    same_labels(rt, &labels, &plain.levels);
+    let labels = components(rt, alloc, csr, settings, &OpenGate)?;
+    same_labels(rt, &labels, &plain.components);
+    Ok(())
+}
+
 // The operators beside the plain way, by one worker, two and more workers than vertices.
 #[test]
 fn operators_beside_the_plain_way(rt: HostRuntime) -> Result<(), Fail> {
     let alloc = rt.alloc();
     for graph in &WORKED {
-        let (n, arcs) = (graph.n, graph.arcs);
-        let within = fit_rows(n, arcs) && graph.source < n;
-        assert!(rt; within);
-        let csr = Csr::build(alloc, n, arcs)?;
-        let few = csr.arc_count() <= 1 << 31;
-        assert!(rt; few);
-        let from = seeds_from(alloc, graph.source)?;
-        let far = plainly(&rt, alloc, n, arcs, &from)?;
-        let hops = plainly(&rt, alloc, n, &unit_weights(alloc, arcs)?, &from)?;
-        let joined = plainly(
-            &rt,
-            alloc,
-            n,
-            &both_ways(alloc, arcs)?,
-            &seeds_all(alloc, n)?,
-        )?;
+        let plain = plain_operators(&rt, alloc, graph)?;
+        let csr = rows_of(&rt, alloc, graph.n, graph.arcs)?;
+        assert!(rt; graph.source < csr.n());
         for (workers, widening) in [(1, false), (2, false), (8, false), (1, true), (8, true)] {
             let mut settings = settings(&rt, workers, 2);
             if widening {
                 settings = settings.with_widening_buckets();
             }
-            let labels = distances(&rt, alloc, &csr, graph.source, &settings, &OpenGate)?;
-            assert_eq!(rt; labels.as_slice(), far.as_slice());
-            let labels = levels(&rt, alloc, &csr, graph.source, &settings, &OpenGate)?;
-            assert_eq!(rt; labels.as_slice(), hops.as_slice());
-            let labels = components(&rt, alloc, &csr, &settings, &OpenGate)?;
-            assert_eq!(rt; labels.as_slice(), joined.as_slice());
+            expect_operators(&rt, alloc, &csr, graph.source, &settings, &plain)?;
         }
     }
     Ok(())
@@ -132,7 +157,7 @@ fn labels_from_several_seeds(rt: HostRuntime) -> Result<(), Fail> {
     let seeds = vec![in alloc; Seed::new(4, 3), Seed::new(2, 9), Seed::new(2, 1)]?;
     let settings = settings(&rt, 2, 0);
     let labels = least_labels(&rt, alloc, &csr, seeds, &settings, &OpenGate)?;
-    assert_eq!(rt; labels.as_slice(), [u64::MAX, 1, 1, 3, 1, 6].as_slice());
+    same_labels(&rt, &labels, &[u64::MAX, 1, 1, 3, 1, 6]);
     let none = Csr::build(alloc, 0, &[])?;
     let labels = components(&rt, alloc, &none, &settings, &OpenGate)?;
     assert!(rt; labels.is_empty());
@@ -163,7 +188,7 @@ fn a_pool_that_misleads(rt: HostRuntime) -> Result<(), Fail> {
     for workers in [1, 2, 8] {
         for _ in 0..50_u32 {
             let labels = misled_labels(&rt, rt.alloc(), &csr, &settings(&rt, workers, 4))?;
-            assert_eq!(rt; labels.as_slice(), SIX_LABELS.as_slice());
+            same_labels(&rt, &labels, &SIX_LABELS);
         }
     }
     Ok(())
@@ -187,7 +212,7 @@ fn pools_that_are_useless(rt: HostRuntime) -> Result<(), Fail> {
         let labels = run(
             &rt, alloc, &csr, &seeds, &settings, &pool, &mut sides, &OpenGate,
         )?;
-        assert_eq!(rt; labels.as_slice(), SIX_LABELS.as_slice());
+        same_labels(&rt, &labels, &SIX_LABELS);
     }
     Ok(())
 }
@@ -301,7 +326,7 @@ fn visits_and_pushes_of_one_worker(rt: HostRuntime) -> Result<(), Fail> {
             &rt, alloc, &csr, &seeds, &settings, &FirstIn, &mut sides, &gate,
         )?;
         let plain = plainly(&rt, alloc, order.n, order.arcs, &seeds)?;
-        assert_eq!(rt; labels.as_slice(), plain.as_slice());
+        same_labels(&rt, &labels, &plain);
         assert_eq!(rt; sides[0].pushes.as_slice(), order.pushes);
         assert_eq!(rt; gate.into_passed().as_slice(), order.visits);
     }
@@ -387,12 +412,12 @@ fn either_pool_of_four_workers(rt: HostRuntime) -> Result<(), Fail> {
     let labels = run(
         &rt, alloc, &csr, &seeds, &settings, &pool, &mut sides, &OpenGate,
     )?;
-    assert_eq!(rt; labels.as_slice(), SIX_LABELS.as_slice());
+    same_labels(&rt, &labels, &SIX_LABELS);
     let (pool, mut sides) = ObimPool::open(alloc, 4, 16)?;
     let labels = run(
         &rt, alloc, &csr, &seeds, &settings, &pool, &mut sides, &OpenGate,
     )?;
-    assert_eq!(rt; labels.as_slice(), SIX_LABELS.as_slice());
+    same_labels(&rt, &labels, &SIX_LABELS);
     Ok(())
 }
 

@@ -100,6 +100,10 @@ pub(crate) fn six(alloc: Global) -> Result<Csr, Memory>
     Csr::build(alloc, 6, &EXAMPLE_ARCS)
 }
 
+pub(crate) fn same_labels(rt: &impl Abort, labels: &[u64], want: &[u64]) {
+    assert_eq!(rt; labels, want);
+}
+
 /// `count` arcs among `n` vertices, the same ones at each call.
 pub(crate) fn random_arcs(alloc: Global, n: u32, count: usize) -> Result<Vec<ArcRec>, Memory> {
     let mut arcs = Vec::with_capacity(alloc, count)?;

@@ -6,7 +6,7 @@ ghost use Rattle.route_walks.specs.Walk.{AreSeeds, IsGraph, HaveSameArcs};
 ghost use Rattle.label_words.specs.Paused.{IsPause};
 
 use crate::tests::draws::Draws;
-use crate::tests::graphs::{SIX_LABELS, fit_rows, random_arcs, rows_of, six};
+use crate::tests::graphs::{SIX_LABELS, fit_rows, random_arcs, rows_of, same_labels, six};
 use crate::tests::pauses::{
     ONE_VISIT, expect_pause, labels_in_pieces, resume_to_end, run_a_little,
 };
@@ -15,7 +15,7 @@ use crate::{Closed, Paused, Recorder, RunFault, Settings, grow, resume};
 use csr_graph::{Csr, MAX_ARCS};
 use obim_pool::{ObimPool, WorkPool};
 use route_walks::laws::least_labels_follow_the_arcs;
-use route_walks::{ArcRec, EXAMPLE_SEEDS, Memory, Seed, are_seeds};
+use route_walks::{ArcRec, EXAMPLE_SEEDS, Memory, Seed, arcs, are_seeds};
 use std::alloc::Global;
 use std::process::Abort;
 use std::sync::Wait;
@@ -101,27 +101,54 @@ where
     resume_to_end(rt, alloc, &grown, seeds, closed, settings, pool, sides)
 }
 
+/// The labels from vertex 0, by one visit and then the rest.
+fn labels_by_visits<H: Threads + Wait + Clock + Abort + Sync>(
+    rt: &H,
+    alloc: Global,
+    csr: &Csr,
+    settings: &Settings,
+) -> Result<Vec<u64>, Fail>
+    requires { AreSeeds csr.now.n EXAMPLE_SEEDS }
+    ensures { IfOk result (λ labels. AreLeastLabels csr.now.n csr.now.arcs EXAMPLE_SEEDS labels.items) }
+{
+    let seeds = EXAMPLE_SEEDS;
+    let (pool, mut sides) = ObimPool::open(alloc, settings.workers, 16)?;
+    let closed = run_a_little(rt, alloc, csr, &seeds, settings, 1)?;
+    let labels = resume_to_end(rt, alloc, csr, &seeds, closed, settings, &pool, &mut sides)?;
+    Ok(labels.expect(rt, "settled"))
+}
+
+/// The labels with the shorter arc, from those without it.
+fn labels_with_an_arc<H: Threads + Wait + Clock + Abort + Sync>(
+    rt: &H,
+    alloc: Global,
+    csr: &Csr,
+    settings: &Settings,
+    labels: Vec<u64>,
+) -> Result<Vec<u64>, Fail>
+    requires vertices { csr.now.n ≡ 6 }
+    requires arcs { length csr.now.arcs ≡ 8 }
+    requires labels { AreLeastLabels csr.now.n csr.now.arcs EXAMPLE_SEEDS labels.items }
+{
+    let seeds = EXAMPLE_SEEDS;
+    let (pool, mut sides) = ObimPool::open(alloc, settings.workers, 16)?;
+    let labels = grown_labels(
+        rt, alloc, csr, &seeds, labels, &SHORTER, settings, &pool, &mut sides,
+    )?;
+    Ok(labels.expect(rt, "settled"))
+}
+
 // Vertex by vertex to the end, then an arc more, and so to the end again.
 #[test]
 fn six_vertices_get_an_arc(rt: HostRuntime) -> Result<(), Fail> {
     let alloc = rt.alloc();
     let csr = six(alloc)?;
-    let seeds = EXAMPLE_SEEDS;
     for workers in [1, 2] {
         let settings = settings(&rt, workers, 4);
-        let (pool, mut sides) = ObimPool::open(alloc, workers, 16)?;
-        let closed = run_a_little(&rt, alloc, &csr, &seeds, &settings, 1)?;
-        let labels = resume_to_end(
-            &rt, alloc, &csr, &seeds, closed, &settings, &pool, &mut sides,
-        )?;
-        let labels = labels.expect(&rt, "settled");
-        assert_eq!(rt; labels.as_slice(), SIX_LABELS.as_slice());
-        let (pool, mut sides) = ObimPool::open(alloc, workers, 16)?;
-        let labels = grown_labels(
-            &rt, alloc, &csr, &seeds, labels, &SHORTER, &settings, &pool, &mut sides,
-        )?;
-        let labels = labels.expect(&rt, "settled");
-        assert_eq!(rt; labels.as_slice(), SHORTER_LABELS.as_slice());
+        let labels = labels_by_visits(&rt, alloc, &csr, &settings)?;
+        same_labels(&rt, &labels, &SIX_LABELS);
+        let labels = labels_with_an_arc(&rt, alloc, &csr, &settings, labels)?;
+        same_labels(&rt, &labels, &SHORTER_LABELS);
     }
     Ok(())
 }
@@ -143,7 +170,7 @@ fn a_pause_gets_an_arc(rt: HostRuntime) -> Result<(), Fail> {
     let (pool, mut sides) = ObimPool::open(alloc, 1, 16)?;
     let labels = resume_to_end(&rt, alloc, &grown, &seeds, closed, &one, &pool, &mut sides)?;
     let labels = labels.expect(&rt, "settled");
-    assert_eq!(rt; labels.as_slice(), SHORTER_LABELS.as_slice());
+    same_labels(&rt, &labels, &SHORTER_LABELS);
     Ok(())
 }
 
@@ -230,32 +257,44 @@ fn visited_after<H: Threads + Wait + Clock + Abort + Sync>(
     Ok(gate.into_passed())
 }
 
+/// Looks which vertices that run visits, from vertex 0.
+fn expect_visited<H: Threads + Wait + Clock + Abort + Sync>(
+    rt: &H,
+    alloc: Global,
+    csr: &Csr,
+    added: &[ArcRec],
+    settings: &Settings,
+    want: &[u32],
+) -> Result<(), Fail>
+    requires { AreSeeds csr.now.n EXAMPLE_SEEDS }
+{
+    assert!(rt; fit_rows(csr.n(), added) && csr.arc_count() + added.len() <= MAX_ARCS);
+    let mut visited = visited_after(rt, alloc, csr, &EXAMPLE_SEEDS, added, settings)?;
+    // Which of several tails comes first depends on the workers.
+    if added.len() > 1 {
+        visited.sort()?;
+    }
+    assert_eq!(rt; visited.as_slice(), want);
+    Ok(())
+}
+
+/// Arcs that lower no label.
+const NO_SHORTER: [ArcRec; 3] = arcs![(17, 0, 3), (9, 9, 0), (17, 0, 3)];
+
 // The second run costs what the added arcs change: their tails are visited once each, and where a label falls the
 // vertices that this concerns, of however many there are.
 #[test]
 fn only_what_changes_is_visited(rt: HostRuntime) -> Result<(), Fail> {
     let alloc = rt.alloc();
     let n = 20_000;
-    let seeds = EXAMPLE_SEEDS;
     let csr = rows_of(&rt, alloc, n, &random_arcs(alloc, n, 100_000)?)?;
     assert!(rt; csr.arc_count() == 100_000);
-    let none = [
-        ArcRec::new(17, 0, 3),
-        ArcRec::new(9, 9, 0),
-        ArcRec::new(17, 0, 3),
-    ];
-    let within = fit_rows(n, &none) && fit_rows(6, &SHORTER);
-    assert!(rt; within);
     let six = six(alloc)?;
     for workers in [1, 2] {
         let settings = settings(&rt, workers, 4);
-        let mut visited = visited_after(&rt, alloc, &csr, &seeds, &none, &settings)?;
-        visited.sort()?;
-        assert_eq!(rt; visited.as_slice(), [9, 17].as_slice());
-        let visited = visited_after(&rt, alloc, &csr, &seeds, &[], &settings)?;
-        assert_eq!(rt; visited.len(), 0);
-        let visited = visited_after(&rt, alloc, &six, &seeds, &SHORTER, &settings)?;
-        assert_eq!(rt; visited.as_slice(), [0, 5].as_slice());
+        expect_visited(&rt, alloc, &csr, &NO_SHORTER, &settings, &[9, 17])?;
+        expect_visited(&rt, alloc, &csr, &[], &settings, &[])?;
+        expect_visited(&rt, alloc, &six, &SHORTER, &settings, &[0, 5])?;
     }
     Ok(())
 }

@@ -6,7 +6,7 @@ ghost use Rattle.std.specs.Prelude.{◌≡◌, length, All, IfOk};
 ghost use Rattle.route_walks.specs.Walk.{AreSeeds};
 ghost use Rattle.label_words.specs.Paused.{IsPause};
 
-use crate::tests::graphs::{SIX_LABELS, six};
+use crate::tests::graphs::{SIX_LABELS, same_labels, six};
 use crate::tests::pauses::{ONE_VISIT, expect_pause, resume_to_end, run_a_little};
 use crate::tests::settings;
 use crate::{
@@ -36,7 +36,7 @@ macro_rules! expect_labels {
         for workers in [1, 2] {
             let $settings = settings(&$rt, workers, 4);
             let labels = tried_again!($rt, alloc, RunFault::Memory, $call);
-            assert_eq!($rt; labels.as_slice(), $want.as_slice());
+            same_labels(&$rt, &labels, &$want);
         }
     }};
 }
@@ -83,7 +83,7 @@ fn of_run(rt: HostRuntime) -> Result<(), Fail> {
                 &OpenGate
             )
         );
-        assert_eq!(rt; labels.as_slice(), SIX_LABELS.as_slice());
+        same_labels(&rt, &labels, &SIX_LABELS);
     }
     Ok(())
 }
@@ -219,7 +219,7 @@ fn of_least_labels(rt: HostRuntime) -> Result<(), Fail> {
             least_labels(&rt, alloc, &csr, seeds, &settings, &OpenGate),
             least_labels(&rt, alloc, &csr, same, &settings, &OpenGate)
         );
-        assert_eq!(rt; labels.as_slice(), SIX_LABELS.as_slice());
+        same_labels(&rt, &labels, &SIX_LABELS);
     }
     Ok(())
 }
@@ -239,7 +239,7 @@ fn of_least_labels_resumed(rt: HostRuntime) -> Result<(), Fail> {
             least_labels_resumed(&rt, alloc, &csr, rest, &settings, &OpenGate),
             least_labels_resumed(&rt, alloc, &csr, same, &settings, &OpenGate)
         );
-        assert_eq!(rt; labels.as_slice(), SIX_LABELS.as_slice());
+        same_labels(&rt, &labels, &SIX_LABELS);
     }
     Ok(())
 }

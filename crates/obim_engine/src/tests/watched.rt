@@ -3,7 +3,7 @@
 ghost use Rattle.std.specs.Prelude.{◌≡◌, IfOk, ⊤};
 
 use crate::tests::gates::Holding;
-use crate::tests::graphs::rows_of;
+use crate::tests::graphs::{rows_of, same_labels};
 use crate::tests::pools::{Unused, Useless};
 use crate::{Gate, Settings, distances, run};
 use csr_graph::Csr;
@@ -154,7 +154,7 @@ fn a_vertex_is_marked_before_it_is_pushed(rt: HostRuntime) -> Result<(), Fail> {
     let labels = run(
         &rt, alloc, &csr, &seeds, &settings, &relay, &mut sides, &relay,
     )?;
-    assert_eq!(rt; labels.as_slice(), [0, 1].as_slice());
+    same_labels(&rt, &labels, &[0, 1]);
     assert_eq!(rt; relay.pops_at_visit.load(Ordering::SeqCst), 1);
     Ok(())
 }
