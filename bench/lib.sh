@@ -71,18 +71,24 @@ agree() {
 }
 
 # race JOB COMMAND..: runs the commands in turn, $rounds times, and leaves the best time of each, in
-# microseconds, in best[COMMAND].
-declare -A best
+# microseconds, in best[COMMAND], and the middle one in middle[COMMAND].
+declare -A best middle
 race() {
-    local job=$1 command time
+    local job=$1 command sorted
+    local -A times=()
     shift
-    best=()
     # shellcheck disable=SC2154
     for _ in $(seq "$rounds"); do
         for command; do
             # shellcheck disable=SC2086
-            time=$(microseconds "$job" $command)
-            if [[ -z ${best[$command]:-} || $time -lt ${best[$command]} ]]; then best[$command]=$time; fi
+            times[$command]+="$(microseconds "$job" $command) "
         done
+    done
+    best=() middle=()
+    for command; do
+        # shellcheck disable=SC2086
+        mapfile -t sorted < <(printf '%s\n' ${times[$command]} | sort -n)
+        # shellcheck disable=SC2034
+        best[$command]=${sorted[0]} middle[$command]=${sorted[rounds / 2]}
     done
 }
