@@ -5,7 +5,6 @@ ghost use Rattle.route_walks.specs.Walk.{IsGraph};
 ghost use Rattle.route_walks.specs.declared.graph.TheConstants.{MAX_VERTICES};
 
 mod refusals;
-mod threads;
 
 use crate::{Csr, MAX_ARCS, Target};
 use route_walks::{ArcRec, EXAMPLE_ARCS, Memory, arcs, both_ways, is_graph};
@@ -116,24 +115,6 @@ fn arcs_of_six_vertices(rt: HostRuntime) -> Result<(), Fail> {
 }
 
 #[test]
-fn arcs_that_enter(rt: HostRuntime) -> Result<(), Fail> {
-    let alloc = rt.alloc();
-    let reversed = six(&rt, alloc)?.reversed(alloc)?;
-    expect_rows(&rt, alloc, &reversed, 6, &ENTERING)
-}
-
-// The graph itself stays as it is.
-#[test]
-fn an_arc_is_added(rt: HostRuntime) -> Result<(), Fail> {
-    let alloc = rt.alloc();
-    assert!(rt; is_graph(6, &ADDED));
-    let csr = six(&rt, alloc)?;
-    let grown = csr.with_arcs(alloc, &ADDED)?;
-    expect_rows(&rt, alloc, &grown, 6, &GROWN)?;
-    expect_rows(&rt, alloc, &csr, 6, &EXAMPLE_ARCS)
-}
-
-#[test]
 fn a_graph_without_vertices(rt: HostRuntime) -> Result<(), Fail> {
     let csr = Csr::build(rt.alloc(), 0, &[])?;
     expect_rows(&rt, rt.alloc(), &csr, 0, &[])
@@ -173,57 +154,13 @@ fn graph_of(rt: &impl Abort, alloc: Global, n: u32, count: usize) -> Result<Vec<
     Ok(arcs)
 }
 
-// 64 arcs are few, and sorted as they stand; 300000 among 50000 vertices are put into bins first.
+// Arcs that stand by rising tail are sorted by two threads, each of which takes some of them.
 #[test]
-fn built_from_a_list_that_is_given_up(rt: HostRuntime) -> Result<(), Fail> {
-    let alloc = rt.alloc();
-    for (n, count) in [(10, 64), (50_000, 300_000)] {
-        let arcs = graph_of(&rt, alloc, n, count)?;
-        let kept = Csr::build(alloc, n, &arcs)?;
-        let given_up = Csr::build_from(&rt, alloc, n, arcs, 2)?;
-        expect_rows(&rt, alloc, &given_up, n, &kept.arcs(alloc)?)?;
-        assert_eq!(rt; kept.arc_count(), count);
-    }
-    Ok(())
-}
-
-/// Looks whether the rows are those of the arcs and then the added ones, where a graph of `n` vertices has the first
-/// `count` of these arcs, and the others are added.
-fn expect_grown(
-    rt: &impl Abort,
-    alloc: Global,
-    n: u32,
-    whole: &[ArcRec],
-    count: usize,
-) -> Result<(), Fail>
-    requires vertices { n ≤ MAX_VERTICES }
-    requires few { length whole.now ≤ 2 ^ 30 }
-    requires ends { IsGraph n whole.now }
-{
-    assert!(rt; count <= whole.len());
-    let (arcs, added) = whole.split_at(count);
-    assert!(rt; is_graph(n, arcs) && is_graph(n, added));
-    let grown = Csr::build(alloc, n, arcs)?.with_arcs(alloc, added)?;
-    let built = Csr::build(alloc, n, whole)?;
-    expect_rows(rt, alloc, &grown, n, &built.arcs(alloc)?)
-}
-
-// Of none and one, of none added, of arcs that stand twice, and of many.
-#[test]
-fn with_arcs_beside_the_whole_list(rt: HostRuntime) -> Result<(), Fail> {
-    let alloc = rt.alloc();
-    for (n, count, more) in [
-        (1, 0, 1),
-        (3, 5, 0),
-        (2, 9, 9),
-        (10, 64, 20),
-        (500, 9_000, 3_000),
-    ] {
-        let whole = graph_of(&rt, alloc, n, count + more)?;
-        assert_eq!(rt; whole.len(), count + more);
-        expect_grown(&rt, alloc, n, &whole, count)?;
-    }
-    Ok(())
+fn rows_of_arcs_by_rising_tail(rt: HostRuntime) -> Result<(), Fail> {
+    let (alloc, n) = (rt.alloc(), 700);
+    let csr = Csr::build(alloc, n, &graph_of(&rt, alloc, n, 70_000)?)?;
+    let again = Csr::build_from(&rt, alloc, n, csr.arcs(alloc)?, 2)?;
+    expect_rows(&rt, alloc, &again, n, &csr.arcs(alloc)?)
 }
 
 /// The rows of the list of arcs both ways.
@@ -234,18 +171,4 @@ fn both_rows(rt: &impl Abort, alloc: Global, n: u32, arcs: &[ArcRec]) -> Result<
     let both = both_ways(alloc, arcs)?;
     assert!(rt; is_graph(n, &both));
     Ok(Csr::build(alloc, n, &both)?.arcs(alloc)?)
-}
-
-// Of no arc, of a loop, of arcs that stand twice, of few arcs, and of arcs that are put into bins first.
-#[test]
-fn both_ways_in_rows(rt: HostRuntime) -> Result<(), Fail> {
-    let alloc = rt.alloc();
-    for (n, count) in [(1, 0), (1, 1), (2, 9), (10, 64), (50_000, 150_000)] {
-        let arcs = graph_of(&rt, alloc, n, count)?;
-        let rows = both_rows(&rt, alloc, n, &arcs)?;
-        assert_eq!(rt; rows.len(), 2 * count);
-        let csr = Csr::build_both_ways(&rt, alloc, n, arcs, 2)?;
-        expect_rows(&rt, alloc, &csr, n, &rows)?;
-    }
-    Ok(())
 }

@@ -3,8 +3,6 @@
 mod refusals;
 mod several;
 
-ghost use Rattle.std.specs.Prelude.{◌+◌, ◌≤◌, length};
-
 use crate::{
     Ask, Job, JobReader, LineKind, TextFault, put_components, put_distances, put_grown, put_label,
     put_labels, put_pair, put_source, put_walk, read_job,
@@ -221,23 +219,6 @@ fn faults_of_added_sections(rt: HostRuntime) {
     expect_faults(&rt, rt.alloc(), GRAPH, &ADDED_SECTIONS);
 }
 
-#[test]
-fn faults_of_cut_texts(rt: HostRuntime) {
-    let rows = [
-        (1, 1, LineKind::Unknown),
-        (3, 1, LineKind::Unknown),
-        (4, 1, LineKind::Fields),
-        (7, 1, LineKind::Fields),
-        (8, 2, LineKind::TooFew),
-        (9, 2, LineKind::TooFew),
-        (73, 9, LineKind::Fields),
-    ];
-    for (length, line, kind) in rows {
-        let cut = GRAPH.as_bytes().get(..length).unwrap_or(b"".as_slice());
-        assert!(rt; fails(rt.alloc(), "", cut, line, kind), "{length}");
-    }
-}
-
 /// Asserts what a job's text asks for, and its last arc.
 fn assert_job(rt: &impl Abort, job: &Job, n: u32, last: ArcRec, sources: &[u32]) {
     assert_eq!(rt; job.n, n);
@@ -414,37 +395,6 @@ fn lines_of_groups(rt: HostRuntime) -> Result<(), Fail> {
          d 268435455 inf\nd 268435456 18446744073709551614\n\
          k 99 99\nk 100 1\nk 268435456 268435456\n";
     assert_eq!(rt; out.as_slice(), lines.as_bytes());
-    Ok(())
-}
-
-/// Asserts that the lines of labels are those that `format!` writes.
-fn assert_lines(rt: &impl Abort, alloc: Global, first: u32, labels: &[u64]) -> Result<(), Fail>
-    requires { first + length labels.now ≤ 1000000 }
-{
-    let mut want = String::new(alloc);
-    for (i, label) in labels.iter().enumerate() {
-        let number = first + i as u32 + 1;
-        want.push_str(&format!(in alloc; "d {number} {label}\n")?)?;
-    }
-    let mut out = Vec::new(alloc);
-    put_labels(&mut out, first, labels)?;
-    assert_eq!(rt; out.as_slice(), want.as_bytes());
-    Ok(())
-}
-
-#[test]
-fn lines_of_many_labels(rt: HostRuntime) -> Result<(), Fail> {
-    let mut labels = [0u64; 151];
-    for i in 0..151 {
-        labels[i] = 7u64.wrapping_pow(i as u32);
-    }
-    for count in 0..66 {
-        assert_lines(&rt, rt.alloc(), 0, &labels[..count])?;
-        assert_lines(&rt, rt.alloc(), 9990, &labels[..count])?;
-    }
-    for first in 0..102 {
-        assert_lines(&rt, rt.alloc(), first, &labels)?;
-    }
     Ok(())
 }
 

@@ -1,4 +1,4 @@
-//! Worked examples of hops, parents and walks, and a random graph beside a slow way.
+//! Worked examples of hops, parents and walks.
 
 ghost use Rattle.std.specs.Prelude.{◌≡◌, ◌<◌, IfOk};
 ghost use Rattle.route_walks.specs.Label.{AreLeastLabels};
@@ -9,7 +9,7 @@ mod refusals;
 use crate::{NONE, hops, parents, walk_to};
 use csr_graph::{Csr, MAX_ARCS, MAX_VERTICES};
 use route_walks::{
-    ArcRec, EXAMPLE_ARCS, INF, Memory, arcs, is_graph, plain_labels, seeds_from, unit_weights,
+    ArcRec, EXAMPLE_ARCS, Memory, arcs, is_graph, plain_labels, seeds_from, unit_weights,
 };
 use std::alloc::Global;
 use std::process::Abort;
@@ -145,86 +145,4 @@ const PAST: Want<'static> = Want {
 fn walks_past_the_least_tight_tail(rt: HostRuntime) -> Result<(), Fail> {
     expect_walks(&rt, rt.alloc(), &FREE_CIRCLE, 2, &BACK)?;
     expect_walks(&rt, rt.alloc(), &FAR_TAIL, 3, &PAST)
-}
-
-/// The least cost and the fewest arcs of such a walk for each vertex, by rounds over all arcs.
-fn slow_hops(alloc: Global, n: u32, arcs: &[ArcRec], s: u32) -> Result<Vec<(u64, u32)>, Memory> {
-    let mut best = vec![in alloc; (INF, NONE); n as usize]?;
-    if let Some(source) = best.get_mut(s as usize) {
-        *source = (0, 0);
-    }
-    for _ in 0..n {
-        for arc in arcs {
-            let (cost, hop) = best.get(arc.tail as usize).copied().unwrap_or((INF, NONE));
-            let along = (
-                cost.saturating_add(u64::from(arc.weight)),
-                hop.saturating_add(1),
-            );
-            if let Some(head) = best.get_mut(arc.head as usize) {
-                *head = along.min(*head);
-            }
-        }
-    }
-    Ok(best)
-}
-
-/// The least tail of an arc to `v` along which cost and hop of a best walk go.
-fn slow_parent(arcs: &[ArcRec], best: &[(u64, u32)], v: u32) -> u32 {
-    let of = |u: u32| best.get(u as usize).copied().unwrap_or((INF, NONE));
-    let mut parent = NONE;
-    for arc in arcs {
-        let (cost, hop) = of(arc.tail);
-        let along = (
-            cost.saturating_add(u64::from(arc.weight)),
-            hop.saturating_add(1),
-        );
-        if arc.head == v && cost != INF && along == of(v) {
-            parent = parent.min(arc.tail);
-        }
-    }
-    parent
-}
-
-/// Arcs among `n` vertices, of weight 0 to 3, from a linear congruential generator.
-fn random_arcs(alloc: Global, n: u32, count: usize) -> Result<Vec<ArcRec>, Fail>
-    requires { 0 < n }
-{
-    let mut arcs = Vec::with_capacity(alloc, count)?;
-    let mut state: u64 = 12345;
-    for _ in 0..count {
-        state = state
-            .wrapping_mul(6364136223846793005)
-            .wrapping_add(1442695040888963407);
-        let tail = (state >> 33) % u64::from(n);
-        let head = (state >> 13) % u64::from(n);
-        arcs.push(ArcRec::new(tail as u32, head as u32, (state >> 62) as u32))?;
-    }
-    Ok(arcs)
-}
-
-#[test]
-fn a_random_graph(rt: HostRuntime) -> Result<(), Fail> {
-    let alloc = rt.alloc();
-    let n = 300;
-    let arcs = random_arcs(alloc, n, 700)?;
-    let csr = build(&rt, alloc, n, &arcs)?;
-    let labels = distances(alloc, &csr, 0)?;
-    let hops = hops(alloc, &csr, &labels, 0)?;
-    let parents = parents(alloc, &csr, &labels, &hops)?;
-    let best = slow_hops(alloc, n, &arcs, 0)?;
-    let mut reached = 0;
-    for (v, (cost, hop)) in best.iter().enumerate() {
-        assert!(rt; v < hops.len() && v < parents.len());
-        let parent = slow_parent(&arcs, &best, v as u32);
-        assert_eq!(rt;
-            (hops[v], parents[v]),
-            (*hop, parent),
-            "hop and parent of {v}"
-        );
-        let walk = walk_to(alloc, &hops, &parents, v as u32)?;
-        assert_eq!(rt; walk.is_none(), *cost == INF, "to {v}");
-        reached = walk.map_or(reached, |walk| walk.len().max(reached));
-    }
-    assert!(rt; reached > 5, "{reached}");
-    Ok(())
 }

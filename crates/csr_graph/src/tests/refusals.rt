@@ -6,8 +6,8 @@ use crate::tests::{ADDED, ENTERING, GIVEN, GROWN, both_rows, expect_rows, graph_
 use route_walks::{EXAMPLE_ARCS, Memory, is_graph, tried_again};
 use std::test::Fail;
 
-// Few arcs, which are sorted as they stand, and as many as are put into bins by two threads.
-const SIZES: [(u32, usize); 2] = [(10, 64), (4, 65_600)];
+// No arc; few, which are sorted as they stand; and as many as are put into bins by two threads.
+const SIZES: [(u32, usize); 3] = [(1, 0), (10, 64), (4, 65_600)];
 
 #[test]
 fn of_csr_build(rt: HostRuntime) -> Result<(), Fail> {
