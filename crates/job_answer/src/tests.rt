@@ -1,4 +1,5 @@
-//! Worked jobs with their answers and faults, over readers and writers that fail too.
+//! Readers and writers that fail, faults, figures and visits. The rows of whole jobs and their answers, by all
+//! settings, are those of `tests/answers`, which the built program is tried on.
 
 mod added;
 mod at_once;
@@ -17,9 +18,13 @@ use crate::figures::Figures;
 use callers::{append_answer, left_after_fault};
 use dimacs_text::LineKind;
 use gates::Meeting;
-use obim_engine::{MAX_CHUNK, MAX_SHIFT, MAX_WORKERS, OpenGate, Recorder, Settings};
+use obim_engine::{Gate, OpenGate, Recorder, Settings};
+use std::alloc::Global;
 use std::process::Abort;
+use std::sync::Wait;
 use std::test::Fail;
+use std::thread::Threads;
+use std::time::Clock;
 use streams::{Sink, Source};
 
 const SIX: &[u8] =
@@ -61,54 +66,26 @@ fn fault(line: u64, kind: LineKind) -> Fault {
     Fault::Text { line, kind }
 }
 
-#[test]
-fn answers_of_worked_jobs(rt: HostRuntime) -> Result<(), Fail> {
-    let distances = Answer::Distances;
-    let levels = b"s 1\nd 1 0\nd 2 1\nd 3 1\nd 4 2\nd 5 2\nd 6 3\n".as_slice();
-    let components = b"k 1 1\nk 2 1\nk 3 1\nk 4 1\nk 5 1\nk 6 1\n".as_slice();
-    let alone = b"p sp 1 0\np aux sp ss 1\ns 1\n".as_slice();
-    let heavy = b"p sp 3 2\na 1 2 4294967295\na 2 3 4294967295\np aux sp ss 1\ns 1\n".as_slice();
-    let heavy_answer = b"s 1\nd 1 0\nd 2 4294967295\nd 3 8589934590\n".as_slice();
-    let parallel = b"p sp 2 3\na 1 2 7\na 1 2 3\na 1 1 0\np aux sp ss 1\ns 1\n".as_slice();
-    let against = b"p sp 2 1\na 2 1 5\n".as_slice();
-    let table = [
-        (distances, SIX, SIX_ANSWER),
-        (Answer::Levels, SIX, levels),
-        (Answer::Components, SIX, components),
-        (Answer::Components, against, b"k 1 1\nk 2 1\n".as_slice()),
-        (Answer::Components, b"p sp 0 0\n".as_slice(), b"".as_slice()),
-        (distances, alone, b"s 1\nd 1 0\n".as_slice()),
-        (distances, heavy, heavy_answer),
-        (distances, parallel, b"s 1\nd 1 0\nd 2 3\n".as_slice()),
-    ];
-    for (kind, text, want) in table {
-        let bytes = answer_bytes(&rt, rt.alloc(), text, &asked(&rt, kind, 1000), &OpenGate)?;
-        assert_eq!(rt; bytes.as_slice(), want);
-    }
-    Ok(())
-}
-
-// No setting changes a byte.
-#[test]
-fn settings_change_no_answer(rt: HostRuntime) -> Result<(), Fail> {
-    for workers in [1, 2, MAX_WORKERS] {
-        for shift in [0, MAX_SHIFT] {
-            for chunk in [1, MAX_CHUNK] {
-                let asked = asked_with(&rt, Answer::Distances, 1000, (workers, shift, chunk));
-                let bytes = answer_bytes(&rt, rt.alloc(), SIX, &asked, &OpenGate)?;
-                assert_eq!(rt; bytes.as_slice(), SIX_ANSWER);
-            }
-        }
-    }
-    Ok(())
-}
-
-#[test]
-fn answers_with_walks(rt: HostRuntime) -> Result<(), Fail> {
-    let asked = asked_for_walks(&rt, 2, 1000);
-    let bytes = answer_bytes(&rt, rt.alloc(), SIX, &asked, &OpenGate)?;
-    assert_eq!(rt; bytes.as_slice(), SIX_WALKS);
-    Ok(())
+/// The answer to a text, and the figures of it.
+fn answer_with_figures<H: Threads + Wait + Clock + Sync, G: Gate + Sync>(
+    rt: &H,
+    alloc: Global,
+    text: &[u8],
+    asked: &Asked,
+    gate: &G,
+) -> Result<(Vec<u8>, Figures), Fail> {
+    let mut figures = Figures::new(rt);
+    let (mut reader, mut bytes) = (text, Vec::new(alloc));
+    answer_watched(
+        rt,
+        alloc,
+        &mut reader,
+        &mut bytes,
+        asked,
+        gate,
+        &mut figures,
+    )?;
+    Ok((bytes, figures))
 }
 
 // One worker visits the vertices in the order of their distance.
@@ -135,37 +112,26 @@ fn visits_of_one_worker_in_one_bag(rt: HostRuntime) -> Result<(), Fail> {
     Ok(())
 }
 
+// Of each row the answer, the job, its vertices, arcs and runs, and the buckets of the largest run at a shift of 4.
+const FIGURES: [(Answer, &[u8], (u32, usize, usize), u64); 5] = [
+    (Answer::Distances, SIX, (6, 8, 1), 2),
+    (Answer::Levels, SIX, (6, 8, 1), 1),
+    (Answer::Components, SIX, (6, 16, 1), 1),
+    (Answer::Components, b"p sp 300 0\n", (300, 0, 1), 19),
+    (
+        Answer::Distances,
+        b"p sp 3 2\na 1 2 40000\na 2 3 60000\np aux sp ss 2\ns 1\ns 3\n",
+        (3, 2, 2),
+        3,
+    ),
+];
+
 #[test]
 fn figures_of_jobs(rt: HostRuntime) -> Result<(), Fail> {
-    let twice = b"p sp 3 2\na 1 2 40000\na 2 3 60000\np aux sp ss 2\ns 1\ns 3\n".as_slice();
-    // The answer, the job; its vertices, arcs, runs and the buckets of the largest run at a shift of 4.
-    let table = [
-        (Answer::Distances, SIX, (6, 8, 1), 2),
-        (Answer::Levels, SIX, (6, 8, 1), 1),
-        (Answer::Components, SIX, (6, 16, 1), 1),
-        (
-            Answer::Components,
-            b"p sp 300 0\n".as_slice(),
-            (300, 0, 1),
-            19,
-        ),
-        (Answer::Distances, twice, (3, 2, 2), 3),
-    ];
-    for (answer, text, sizes, buckets) in table {
-        let asked = asked(&rt, answer, 1000);
-        let mut figures = Figures::new(&rt);
+    for (answer, text, sizes, buckets) in FIGURES {
         let counter = Counter::open(rt.alloc(), 2)?;
-        let mut reader = text;
-        let mut bytes = Vec::new(rt.alloc());
-        answer_watched(
-            &rt,
-            rt.alloc(),
-            &mut reader,
-            &mut bytes,
-            &asked,
-            &counter,
-            &mut figures,
-        )?;
+        let asked = asked(&rt, answer, 1000);
+        let (_, figures) = answer_with_figures(&rt, rt.alloc(), text, &asked, &counter)?;
         assert_eq!(rt; (figures.vertices, figures.arcs, figures.runs), sizes);
         assert_eq!(rt; counter.worklist().buckets, buckets);
     }
@@ -183,33 +149,48 @@ fn two_workers_meet(rt: HostRuntime) -> Result<(), Fail> {
     Ok(())
 }
 
-// Where the text is refused, what stands in the vector stays as it is, and of the text so much is left.
+// Of each row the text, the limit, the fault, and how many bytes of the text are left then.
+const REFUSED: [(&[u8], u64, Fault, usize); 4] = [
+    (SIX, 93, Fault::TooLong, 0),
+    (SIX, 10, Fault::TooLong, 83),
+    (b"", 0, NO_PROBLEM, 0),
+    (b"p sp 1 0\n", 94, Fault::NoAsk, 0),
+];
+
+const NO_PROBLEM: Fault = Fault::Text {
+    line: 1,
+    kind: LineKind::NoProblem,
+};
+
+// Where the text is refused, what stands in the vector stays as it is.
 #[test]
 fn refusals_of_texts(rt: HostRuntime) -> Result<(), Fail> {
-    let alloc = rt.alloc();
-    let table = [
-        (&SIX[..SIX_GRAPH], 94, Fault::NoAsk, 0),
-        (SIX, 93, Fault::TooLong, 0),
-        (SIX, 10, Fault::TooLong, 83),
-        (b"".as_slice(), 0, fault(1, LineKind::NoProblem), 0),
-        (&SIX[..73], 94, fault(9, LineKind::Fields), 0),
-        (&SIX[..91], 94, fault(11, LineKind::Fields), 0),
-    ];
-    for (text, limit, want, left) in table {
+    for (text, limit, want, left) in REFUSED {
         let asked = asked(&rt, Answer::Distances, limit);
-        let refused = answer_bytes(&rt, alloc, text, &asked, &OpenGate);
-        assert_eq!(rt; refused.err(), Some(want));
-        let mut bytes = b"as it was".to_vec(alloc)?;
-        let refused = append_answer(&rt, alloc, text, &mut bytes, &asked, &OpenGate);
-        assert_eq!(rt; refused, Err(want));
-        assert_eq!(rt; bytes.as_slice(), b"as it was".as_slice());
-        let (refused, rest) = left_after_fault(&rt, alloc, text, &asked, &OpenGate);
-        assert_eq!(rt; refused, Err(want));
-        assert_eq!(rt; rest, left);
+        expect_refusal(&rt, rt.alloc(), text, &asked, want)?;
+        let (refused, rest) = left_after_fault(&rt, rt.alloc(), text, &asked, &OpenGate);
+        assert_eq!(rt; (refused, rest), (Err(want), left));
     }
     let asked = asked(&rt, Answer::Distances, 94);
-    let whole = answer_bytes(&rt, alloc, SIX, &asked, &OpenGate)?;
+    let whole = answer_bytes(&rt, rt.alloc(), SIX, &asked, &OpenGate)?;
     assert_eq!(rt; whole.as_slice(), SIX_ANSWER);
+    Ok(())
+}
+
+/// Looks whether a text has this fault, and what stands in a vector stays as it is.
+fn expect_refusal(
+    rt: &(impl Abort + Threads + Wait + Clock + Sync),
+    alloc: Global,
+    text: &[u8],
+    asked: &Asked,
+    want: Fault,
+) -> Result<(), Fail> {
+    let refused = answer_bytes(rt, alloc, text, asked, &OpenGate);
+    assert_eq!(rt; refused.err(), Some(want));
+    let mut bytes = b"as it was".to_vec(alloc)?;
+    let refused = append_answer(rt, alloc, text, &mut bytes, asked, &OpenGate);
+    assert_eq!(rt; refused, Err(want));
+    assert_eq!(rt; bytes.as_slice(), b"as it was".as_slice());
     Ok(())
 }
 
@@ -258,51 +239,65 @@ fn writers_that_fail_or_take_little(rt: HostRuntime) -> Result<(), Fail> {
     Ok(())
 }
 
+// Of each row the answer, the text, what comes of it, and how often the writer is flushed.
+const FLUSHED: [(Answer, &[u8], Result<(), Fault>, u32); 6] = [
+    (Answer::Distances, SIX, Ok(()), 1),
+    (Answer::Components, SIX, Ok(()), 1),
+    (Answer::Components, b"p sp 0 0\n", Ok(()), 1),
+    (Answer::Distances, b"p sp 1 0\np aux sp ss 0\n", Ok(()), 1),
+    (Answer::Distances, b"p sp 1 0\n", Err(Fault::NoAsk), 0),
+    (Answer::Distances, b"", Err(NO_PROBLEM), 0),
+];
+
 // A writer is flushed once, after an empty answer too, and never where the text is refused.
 #[test]
 fn flushes_of_answers(rt: HostRuntime) -> Result<(), Fail> {
-    let alloc = rt.alloc();
-    let (distances, components) = (Answer::Distances, Answer::Components);
-    let graph = &SIX[..SIX_GRAPH];
-    let no_vertex = b"p sp 0 0\n".as_slice();
-    let no_source = b"p sp 1 0\np aux sp ss 0\n".as_slice();
-    let table = [
-        (distances, SIX, Ok(()), 1),
-        (components, SIX, Ok(()), 1),
-        (components, no_vertex, Ok(()), 1),
-        (distances, no_source, Ok(()), 1),
-        (distances, graph, Err(Fault::NoAsk), 0),
-        (distances, &SIX[..73], Err(fault(9, LineKind::Fields)), 0),
-    ];
-    for (kind, text, want, flushes) in table {
-        let mut sink = Sink::new(alloc, 1000);
+    for (kind, text, want, flushes) in FLUSHED {
+        let mut sink = Sink::new(rt.alloc(), 1000);
         let mut reader = text;
         let asked = asked(&rt, kind, 1000);
-        let outcome = answer(&rt, alloc, &mut reader, &mut sink, &asked, &OpenGate);
-        assert_eq!(rt; outcome, want);
-        assert_eq!(rt; sink.flushes, flushes);
+        let outcome = answer(&rt, rt.alloc(), &mut reader, &mut sink, &asked, &OpenGate);
+        assert_eq!(rt; (outcome, sink.flushes), (want, flushes));
     }
     Ok(())
 }
 
+// Of each row the answer, walks or not, the limit, and whether it can be asked for.
+const ASKED: [(Answer, bool, u64, bool); 5] = [
+    (Answer::Levels, true, 0, true),
+    (Answer::Components, true, 0, false),
+    (Answer::Components, false, 0, true),
+    (Answer::Levels, false, 1 << 36, true),
+    (Answer::Levels, false, (1 << 36) + 1, false),
+];
+
 #[test]
-fn limits_and_statuses(rt: HostRuntime) {
+fn limits_of_what_is_asked(rt: HostRuntime) {
     let settings = Settings::new(1, 0, 1).expect(&rt, "settings within their limits");
-    assert!(rt; Asked::new(Answer::Levels, settings, true, 0).is_some());
-    assert!(rt; Asked::new(Answer::Components, settings, true, 0).is_none());
-    assert!(rt; Asked::new(Answer::Components, settings, false, 0).is_some());
-    assert!(rt; Asked::new(Answer::Levels, settings, false, 1 << 36).is_some());
-    assert!(rt; Asked::new(Answer::Levels, settings, false, (1 << 36) + 1).is_none());
-    let table = [
-        (fault(4, LineKind::TooFew), 2, "line 4: too few lines"),
-        (Fault::TooLong, 2, "input too long"),
-        (Fault::NoAsk, 2, "no sources or pairs"),
-        (Fault::Memory, 3, "out of memory"),
-        (Fault::Read, 4, "read failed"),
-        (Fault::Write, 4, "write failed"),
-        (Fault::Spawn, 5, "cannot start a thread"),
-    ];
-    for (fault, want, message) in table {
+    for (answer, walks, limit, can_be) in ASKED {
+        let asked = Asked::new(answer, settings, walks, limit);
+        assert_eq!(rt; asked.is_some(), can_be, "a limit of {limit}");
+    }
+}
+
+const FEW: Fault = Fault::Text {
+    line: 4,
+    kind: LineKind::TooFew,
+};
+
+const STATUSES: [(Fault, u8, &str); 7] = [
+    (FEW, 2, "line 4: too few lines"),
+    (Fault::TooLong, 2, "input too long"),
+    (Fault::NoAsk, 2, "no sources or pairs"),
+    (Fault::Memory, 3, "out of memory"),
+    (Fault::Read, 4, "read failed"),
+    (Fault::Write, 4, "write failed"),
+    (Fault::Spawn, 5, "cannot start a thread"),
+];
+
+#[test]
+fn statuses_of_faults(rt: HostRuntime) {
+    for (fault, want, message) in STATUSES {
         assert_eq!(rt; status(&fault), want);
         let printed = fault.to_string(rt.alloc()).expect(&rt, "memory");
         assert_eq!(rt; printed.as_str(), message);

@@ -1,16 +1,18 @@
-//! Sources side by side: worked rows, which workers solve them, and what happens where walks are long.
+//! Sources side by side: which workers solve them, and what happens where walks are long.
 
-use crate::answering::{answer_bytes, answer_watched};
+use crate::answering::answer_bytes;
 use crate::asked::{Answer, Asked, AtOnce};
 use crate::counter::Counter;
-use crate::figures::Figures;
 use crate::teams::Team;
+use crate::tests::answer_with_figures;
 use crate::tests::gates::Meeting;
-use crate::tests::pairs::{SIX_PAIRS, SIX_PAIRS_ANSWER, SIX_PAIRS_WALKS};
-use obim_engine::{OpenGate, Settings, Yielding};
+use obim_engine::{OpenGate, Settings};
 use std::alloc::Global;
 use std::process::Abort;
+use std::sync::Wait;
 use std::test::Fail;
+use std::thread::Threads;
+use std::time::Clock;
 
 /// The graph of six vertices with five sources.
 pub const SIX_SOURCES: &[u8] =
@@ -35,23 +37,6 @@ fn asked_for(rt: &impl Abort, walks: bool, workers: u32, at_once: AtOnce) -> Ask
     asked.with_at_once(at_once)
 }
 
-#[test]
-fn answers_of_sources_at_once(rt: HostRuntime) -> Result<(), Fail> {
-    for workers in [1, 2, 3, 5, 64] {
-        for at_once in [
-            AtOnce::Auto,
-            AtOnce::Most(1),
-            AtOnce::Most(3),
-            AtOnce::Most(64),
-        ] {
-            let asked = asked_at_once(&rt, workers, at_once);
-            let bytes = answer_bytes(&rt, rt.alloc(), SIX_SOURCES, &asked, &OpenGate)?;
-            assert_eq!(rt; bytes.as_slice(), SIX_SOURCES_ANSWER);
-        }
-    }
-    Ok(())
-}
-
 // Each of these sources reaches itself alone, so the second visit is of another source.
 #[test]
 fn sources_meet(rt: HostRuntime) -> Result<(), Fail> {
@@ -68,58 +53,36 @@ fn sources_meet(rt: HostRuntime) -> Result<(), Fail> {
     Ok(())
 }
 
+// Of each row the workers, the sources at once that are asked for, and how many were solved at once.
+const AT_ONCE: [(u32, AtOnce, usize); 4] = [
+    (3, AtOnce::Most(3), 3),
+    (3, AtOnce::Most(64), 3),
+    (64, AtOnce::Auto, 5),
+    (1, AtOnce::Most(3), 1),
+];
+
 // One at a time takes each source's visits by one worker: 6, 1, 5, 5 and 6 of them. At a time they are as many.
 #[test]
 fn figures_of_sources_at_once(rt: HostRuntime) -> Result<(), Fail> {
-    for (workers, at_once, most) in [
-        (3, AtOnce::Most(3), 3),
-        (3, AtOnce::Most(64), 3),
-        (64, AtOnce::Auto, 5),
-        (1, AtOnce::Most(3), 1),
-    ] {
-        let counter = Counter::open(rt.alloc(), workers)?;
-        let mut figures = Figures::new(&rt);
+    let alloc = rt.alloc();
+    for (workers, at_once, most) in AT_ONCE {
+        let counter = Counter::open(alloc, workers)?;
         let asked = asked_at_once(&rt, workers, at_once);
-        let (mut reader, mut bytes) = (SIX_SOURCES, Vec::new(rt.alloc()));
-        let writer = &mut bytes;
-        answer_watched(
-            &rt,
-            rt.alloc(),
-            &mut reader,
-            writer,
-            &asked,
-            &counter,
-            &mut figures,
-        )?;
-        let mut visits = 0_u64;
-        for worker in 0..workers {
-            visits = counter.visits_of(worker).saturating_add(visits);
-        }
+        let (bytes, figures) = answer_with_figures(&rt, alloc, SIX_SOURCES, &asked, &counter)?;
         assert_eq!(rt; bytes.as_slice(), SIX_SOURCES_ANSWER);
         assert_eq!(rt; (figures.runs, figures.at_once), (5, most));
-        assert!(rt; visits >= 23);
+        assert!(rt; all_visits(&counter, workers) >= 23);
     }
     Ok(())
 }
 
-// However the workers come to run, the answer is the same.
-#[test]
-fn sources_at_once_that_yield_at_random(rt: HostRuntime) -> Result<(), Fail> {
-    let table = [
-        (false, SIX_SOURCES, SIX_SOURCES_ANSWER),
-        (false, SIX_PAIRS, SIX_PAIRS_ANSWER),
-        (true, SIX_PAIRS, SIX_PAIRS_WALKS),
-    ];
-    for seed in 0..100 {
-        let gate = Yielding::new(seed);
-        for (walks, text, want) in table {
-            let (workers, most) = (2 + seed as u32 % 7, 1 + seed as u32 % 5);
-            let asked = asked_for(&rt, walks, workers, AtOnce::Most(most));
-            let bytes = answer_bytes(&rt, rt.alloc(), text, &asked, &gate)?;
-            assert_eq!(rt; bytes.as_slice(), want);
-        }
+/// The visits of all workers.
+fn all_visits(counter: &Counter, workers: u32) -> u64 {
+    let mut visits = 0_u64;
+    for worker in 0..workers {
+        visits = counter.visits_of(worker).saturating_add(visits);
     }
-    Ok(())
+    visits
 }
 
 /// A path of 200 vertices with arcs of weight 1, and these queries.
@@ -150,30 +113,25 @@ fn long_walks_are_not_kept(rt: HostRuntime) -> Result<(), Fail> {
     let sources = path(rt.alloc(), b"p aux sp ss 6\ns 1\ns 2\ns 3\ns 4\ns 5\ns 6\n")?;
     let pairs = long_pairs(rt.alloc())?;
     for (text, solves) in [(&sources, 6), (&pairs, 2)] {
-        let mut wanted = Vec::new(rt.alloc());
-        for (at_once, runs) in [(1, solves), (2, solves + 2)] {
-            let asked = asked_for(&rt, true, 2, AtOnce::Most(at_once));
-            let mut figures = Figures::new(&rt);
-            let (mut reader, mut bytes) = (text.as_slice(), Vec::new(rt.alloc()));
-            let writer = &mut bytes;
-            answer_watched(
-                &rt,
-                rt.alloc(),
-                &mut reader,
-                writer,
-                &asked,
-                &OpenGate,
-                &mut figures,
-            )?;
-            assert_eq!(rt; figures.runs, runs);
-            if at_once == 1 {
-                wanted = bytes;
-            } else {
-                assert_eq!(rt; bytes.as_slice(), wanted.as_slice());
-            }
-        }
+        let one = answer_by(&rt, rt.alloc(), text, 1, solves)?;
+        let two = answer_by(&rt, rt.alloc(), text, 2, solves + 2)?;
+        assert_eq!(rt; two.as_slice(), one.as_slice());
     }
     Ok(())
+}
+
+/// The answer with walks by two workers and this number of sources at once, which takes this number of runs.
+fn answer_by<H: Abort + Threads + Wait + Clock + Sync>(
+    rt: &H,
+    alloc: Global,
+    text: &[u8],
+    at_once: u32,
+    runs: usize,
+) -> Result<Vec<u8>, Fail> {
+    let asked = asked_for(rt, true, 2, AtOnce::Most(at_once));
+    let (bytes, figures) = answer_with_figures(rt, alloc, text, &asked, &OpenGate)?;
+    assert_eq!(rt; figures.runs, runs);
+    Ok(bytes)
 }
 
 // The workers of a team have no number past those of its place, so each of two teams of two workers has one.
