@@ -1,8 +1,7 @@
 mod callers;
-mod helpers;
+mod calls;
 mod locked;
 mod obim;
 mod refusals;
-mod sizes;
 mod threads;
 mod widening;

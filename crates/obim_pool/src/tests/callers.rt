@@ -5,12 +5,12 @@ ghost use Rattle.std.specs.Bool.{OnFalse, OnTrue};
 ghost use Rattle.obim_pool.specs.Accounts.{FindsMore, OnlyLooks, Puts};
 ghost use Rattle.obim_pool.specs.Sides.{HasLowered, IsOwn, IsSideOf, PushesNone, account_at, new_side};
 
-use crate::tests::helpers::{open_pool, take_side};
+use crate::tests::obim::open_pool;
 use crate::{ObimPool, ObimSide};
 use obim_bags::SettleFault;
 use std::alloc::Global;
+use std::process::Abort;
 use std::sync::Wait;
-use std::test::Fail;
 
 // Tries a push twice. Where one is accepted the vertex is in the bag of its metric once, and the lower of its
 // metric and the current one before is current; else nothing is.
@@ -112,28 +112,32 @@ fn pass_on<R: Wait>(
     Ok(None)
 }
 
-#[test]
-fn a_side_that_is_alone(rt: HostRuntime) -> Result<(), Fail> {
-    let (pool, mut sides) = open_pool(rt.alloc(), 1, 16)?;
-    let mut side = take_side(&rt, &pool, &mut sides);
-    assert!(rt; push_stubbornly(&rt, &pool, &mut side, 50, 5));
-    assert!(rt; push_stubbornly(&rt, &pool, &mut side, 20, 2));
-    assert_eq!(rt; pop_onwards(&rt, &pool, &mut side), Some(20));
-    assert_eq!(rt; pop_onwards(&rt, &pool, &mut side), Some(50));
-    assert!(rt; push_stubbornly(&rt, &pool, &mut side, 70, 7));
-    assert!(rt; !pop_to_end(&rt, &pool, &mut side, 1));
-    assert!(rt; pop_to_end(&rt, &pool, &mut side, 1));
-    assert_eq!(rt; pop_in_vain(&rt, &pool, &mut side), None);
-    assert!(rt; pop_twice_in_vain(&rt, &pool, &mut side));
-    Ok(())
+// Calls each of them on a side that is alone.
+fn expect_alone<R: Wait + Abort>(rt: &R, pool: &ObimPool, side: &mut ObimSide)
+    requires { IsSideOf pool.now side.old }
+{
+    assert!(rt; push_stubbornly(rt, pool, side, 50, 5));
+    assert!(rt; push_stubbornly(rt, pool, side, 20, 2));
+    assert!(rt; pop_onwards(rt, pool, side) == Some(20));
+    assert!(rt; !pop_to_end(rt, pool, side, 1));
+    assert!(rt; pop_to_end(rt, pool, side, 1));
+    assert!(rt; pop_in_vain(rt, pool, side).is_none());
+    assert!(rt; pop_twice_in_vain(rt, pool, side));
 }
 
 #[test]
-fn two_sides(rt: HostRuntime) -> Result<(), Fail> {
-    let alloc = rt.alloc();
-    let (pool, mut sides) = ObimPool::open(alloc, 2, 1)?;
+fn a_side_that_is_alone(rt: HostRuntime) {
+    let (pool, mut sides) = open_pool(&rt, rt.alloc(), 1, 16);
+    assert!(rt; sides.len() == 1);
+    expect_alone(&rt, &pool, &mut sides[0]);
+}
+
+#[test]
+fn two_sides(rt: HostRuntime) {
+    let opened = ObimPool::open(rt.alloc(), 2, 1);
+    let (pool, mut sides) = opened.expect(&rt, "memory for a pool");
     let to = sides.pop().expect(&rt, "two sides");
     let from = sides.pop().expect(&rt, "two sides");
-    assert_eq!(rt; pass_on(&rt, alloc, pool, from, to, 7, 3)?, Some(7));
-    Ok(())
+    let passed = pass_on(&rt, rt.alloc(), pool, from, to, 7, 3);
+    assert!(rt; passed == Ok(Some(7)));
 }

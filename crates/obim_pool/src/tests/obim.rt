@@ -1,264 +1,227 @@
 //! Pools of bags: in which order vertices come, and what is left of them.
 
+ghost use Rattle.std.specs.Prelude.{◌≡◌, ◌≤◌, All, vec_len};
+ghost use Rattle.obim_bags.specs.declared.chunk.TheConstants.{MAX_SIZE};
 ghost use Rattle.obim_pool.specs.Sides.{IsSideOf};
 
-use crate::tests::helpers::{
-    POPS, PUSHES, expect_pops, open_pool, push_all, push_and_pop, put_back, take_side,
-};
+use crate::tests::calls::{Call, expect_calls};
 use crate::{ObimPool, ObimSide};
-use obim_bags::{Chunk, ChunkId, SettleFault};
+use obim_bags::{Chunk, ChunkId, MAX_SIZE, SettleFault};
+use std::alloc::Global;
 use std::process::Abort;
 use std::sync::Wait;
-use std::test::Fail;
+
+pub(crate) const PUSHES: Call = Call::Push(&[(10, 3), (11, 1), (12, 3), (13, 1)]);
+
+// What the pops after them give.
+pub(crate) const POPS: Call = Call::Pop(&[Some(13), Some(11), Some(12), Some(10), None]);
+
+const NONE: Call = Call::Pop(&[None]);
+
+// The lowest metric comes first, and the last vertex of a chunk.
+const IN_ORDER: &[(usize, Call)] = &[(0, PUSHES), (0, POPS)];
+
+// Looking ahead ends with the chunk that is drained.
+const AHEAD: &[(usize, Call)] = &[
+    (0, Call::Ahead(1, None)),
+    (0, Call::Push(&[(4, 1), (5, 1), (6, 1), (7, 1)])),
+    (0, Call::Ahead(1, None)),
+    (0, Call::Pop(&[Some(6)])),
+    (0, Call::Ahead(1, Some(5))),
+    (0, Call::Ahead(2, Some(4))),
+    (0, Call::Ahead(3, None)),
+    (0, Call::Pop(&[Some(5), Some(4), Some(7), None])),
+    (0, Call::Ahead(1, None)),
+];
+
+// What the one side pushes the other pops.
+const HANDED_OVER: &[(usize, Call)] = &[
+    (0, Call::Push(&[(7, 0)])),
+    (1, Call::Pop(&[Some(7)])),
+    (0, NONE),
+];
+
+const A_LOWER_METRIC_COMES_NEXT: &[(usize, Call)] = &[
+    (0, Call::Push(&[(50, 5), (20, 2), (21, 2)])),
+    (0, Call::Pop(&[Some(21)])),
+    (0, Call::Push(&[(70, 7), (22, 2)])),
+    (0, Call::Pop(&[Some(20), Some(22), Some(50)])),
+    (0, Call::Push(&[(40, 4), (30, 3), (90, 9)])),
+    (
+        0,
+        Call::Pop(&[Some(30), Some(40), Some(70), Some(90), None]),
+    ),
+];
+
+// A side goes on with its current bag, and learns of lower ones as that runs empty.
+const AFTER_AN_EMPTY_BAG_COMES_THE_LOWEST: &[(usize, Call)] = &[
+    (0, Call::Push(&[(50, 5), (51, 5), (90, 9)])),
+    (1, Call::Push(&[(20, 2), (70, 7)])),
+    (0, Call::Pop(&[Some(50), Some(51), Some(20)])),
+    (0, Call::Pop(&[Some(70), Some(90), None])),
+    (1, NONE),
+];
 
 // A prime: the multiples of a smaller number, modulo this, are each of the lower numbers once.
 const METRICS: u32 = 1009;
 
-#[test]
-fn lowest_metric_first_and_last_vertex_first(rt: HostRuntime) -> Result<(), Fail> {
-    let (pool, mut sides) = open_pool(rt.alloc(), 1, 2)?;
-    let mut side = take_side(&rt, &pool, &mut sides);
-    push_all(&rt, &pool, &mut side, &PUSHES);
-    expect_pops(&rt, &pool, &mut side, &POPS);
-    put_back(&rt, &pool, &mut sides, side);
-    let left = pool.settle(&rt, rt.alloc(), sides)?;
-    assert!(rt; left.is_empty());
-    Ok(())
+const BY_METRIC: (usize, Call) = (0, Call::PopRising(0, METRICS));
+
+const RISING: &[(usize, Call)] = &[(0, Call::PushAll(METRICS, 1, 1)), BY_METRIC, (0, NONE)];
+
+const FALLING: &[(usize, Call)] = &[
+    (0, Call::PushAll(METRICS, METRICS - 1, 1)),
+    BY_METRIC,
+    (0, NONE),
+];
+
+// At the second pushes all bags are there, and empty.
+const SCRAMBLED: &[(usize, Call)] = &[
+    (0, Call::PushAll(METRICS, 389, 1)),
+    BY_METRIC,
+    (0, Call::PushAll(METRICS, 601, 1)),
+    BY_METRIC,
+    (0, NONE),
+];
+
+// Of a bag the first chunk comes first.
+const CHUNKS_OF_A_BAG: &[(usize, Call)] = &[
+    (0, Call::PushAll(40, 1, 0)),
+    (0, Call::PopFalling(0, 16)),
+    (0, Call::PopFalling(16, 32)),
+    (0, Call::PopFalling(32, 40)),
+    (0, NONE),
+];
+
+// A side is more bags behind than a mirror claims at a time. Most metrics take more than 32 bits.
+const MANY_BAGS_BEHIND: &[(usize, Call)] = &[
+    (0, Call::PushAll(100, 1, 1 << 57)),
+    (1, Call::PopRising(0, 100)),
+    (1, NONE),
+];
+
+const MANY_BAGS: &[(usize, Call)] = &[
+    (0, Call::PushAll(3_000, 1, 3)),
+    (0, Call::PopRising(0, 3_000)),
+    (0, NONE),
+];
+
+const TIMES: u32 = 1_100_000;
+
+// Chunks are named by their side and in turn, in boxes that were used before too.
+const NAMED: &[(usize, Call)] = &[
+    (0, Call::PushAndPop(TIMES)),
+    (0, Call::Push(&[(8, 7)])),
+    (1, Call::Push(&[(9, 7)])),
+];
+
+const MANY_CHUNKS: &[(usize, Call)] = &[(0, Call::PushAll(110_000, 1, 0))];
+
+// What a pool gives as it is settled.
+#[derive(Clone, Copy)]
+pub(crate) enum Left {
+    // So many chunks.
+    Count(usize),
+    // Chunks of these workers and serials, with these vertices.
+    Chunks(&'static [(u32, u64, &'static [u32])]),
+    // Nothing, since the last side is withheld.
+    Missing,
 }
 
-#[test]
-fn the_same_through_the_trait(rt: HostRuntime) -> Result<(), Fail> {
-    let (pool, mut sides) = open_pool(rt.alloc(), 1, 2)?;
-    let mut side = take_side(&rt, &pool, &mut sides);
-    push_and_pop(&rt, &pool, &mut side);
-    Ok(())
-}
+// The full chunks that are left of the first pushes by one side.
+pub(crate) const LEFT: Left = Left::Chunks(&[(0, 0, &[10, 12]), (0, 1, &[11, 13])]);
 
-#[test]
-fn looking_ahead_ends_with_the_chunk(rt: HostRuntime) -> Result<(), Fail> {
-    let (pool, mut sides) = open_pool(rt.alloc(), 1, 3)?;
-    let mut side = take_side(&rt, &pool, &mut sides);
-    assert_eq!(rt; pool.ahead(&side, 1), None);
-    push_all(&rt, &pool, &mut side, &[(4, 1), (5, 1), (6, 1), (7, 1)]);
-    assert_eq!(rt; pool.ahead(&side, 1), None);
-    expect_pops(&rt, &pool, &mut side, &[Some(6)]);
-    let next = [1, 2, 3].map(|by| pool.ahead(&side, by));
-    assert_eq!(rt; next, [Some(5), Some(4), None]);
-    expect_pops(&rt, &pool, &mut side, &[Some(5), Some(4), Some(7), None]);
-    assert_eq!(rt; pool.ahead(&side, 1), None);
-    Ok(())
-}
+// The workers of a pool, the size of its chunks, what is called and what is left.
+const ROWS: [(u32, usize, &[(usize, Call)], Left); 15] = [
+    (1, 2, IN_ORDER, Left::Count(0)),
+    (1, 3, AHEAD, Left::Count(0)),
+    (1, 2, &[(0, PUSHES)], LEFT),
+    // What a side still holds is dropped.
+    (1, 256, &[(0, PUSHES)], Left::Count(0)),
+    (2, 1, HANDED_OVER, Left::Count(0)),
+    (2, 1, HANDED_OVER, Left::Missing),
+    (1, 16, A_LOWER_METRIC_COMES_NEXT, Left::Count(0)),
+    (2, 1, AFTER_AN_EMPTY_BAG_COMES_THE_LOWEST, Left::Count(0)),
+    (1, 16, RISING, Left::Count(0)),
+    (1, 16, FALLING, Left::Count(0)),
+    (1, 16, SCRAMBLED, Left::Count(0)),
+    (1, 16, CHUNKS_OF_A_BAG, Left::Count(0)),
+    (2, 1, MANY_BAGS_BEHIND, Left::Count(0)),
+    (1, 1, MANY_BAGS, Left::Count(0)),
+    (1, 1, MANY_CHUNKS, Left::Count(110_000)),
+];
 
-// The chunk is worker 0's, of this serial, and has these two vertices.
-fn expect_chunk<R: Abort>(rt: &R, mut chunk: Chunk, serial: u64, first: u32, second: u32) {
-    assert!(rt; chunk.id() == ChunkId { worker: 0, serial });
-    assert_eq!(rt; chunk.pop(), Some(second));
-    assert_eq!(rt; chunk.pop(), Some(first));
-    assert_eq!(rt; chunk.pop(), None);
-}
-
-#[test]
-fn full_chunks_are_left_by_bag(rt: HostRuntime) -> Result<(), Fail> {
-    let (pool, mut sides) = open_pool(rt.alloc(), 1, 2)?;
-    let mut side = take_side(&rt, &pool, &mut sides);
-    push_all(&rt, &pool, &mut side, &PUSHES);
-    put_back(&rt, &pool, &mut sides, side);
-    let mut left = pool.settle(&rt, rt.alloc(), sides)?;
-    let second = left.pop().expect(&rt, "a chunk of each bag");
-    let first = left.pop().expect(&rt, "a chunk of each bag");
-    assert!(rt; left.is_empty());
-    expect_chunk(&rt, first, 0, 10, 12);
-    expect_chunk(&rt, second, 1, 11, 13);
-    Ok(())
-}
-
-// What the one pushes the other pops.
-fn hand_over<R: Wait + Abort>(rt: &R, pool: &ObimPool, from: &mut ObimSide, to: &mut ObimSide)
-    requires from { IsSideOf pool.now from.old }
-    requires to { IsSideOf pool.now to.old }
-    ensures from { IsSideOf pool.now from.new }
-    ensures to { IsSideOf pool.now to.new }
-{
-    assert!(rt; pool.push(rt, from, 7, 0));
-    assert_eq!(rt; pool.pop(rt, to), Some(7));
-    assert_eq!(rt; pool.pop(rt, from), None);
-}
-
-#[test]
-fn nothing_is_left_of_what_another_popped(rt: HostRuntime) -> Result<(), Fail> {
-    let (pool, mut sides) = open_pool(rt.alloc(), 2, 1)?;
-    let mut to = take_side(&rt, &pool, &mut sides);
-    let mut from = take_side(&rt, &pool, &mut sides);
-    hand_over(&rt, &pool, &mut from, &mut to);
-    put_back(&rt, &pool, &mut sides, from);
-    put_back(&rt, &pool, &mut sides, to);
-    let left = pool.settle(&rt, rt.alloc(), sides)?;
-    assert!(rt; left.is_empty());
-    Ok(())
-}
-
-#[test]
-fn a_side_withheld_is_missing(rt: HostRuntime) -> Result<(), Fail> {
-    let (pool, mut sides) = open_pool(rt.alloc(), 2, 1)?;
-    let mut to = take_side(&rt, &pool, &mut sides);
-    let mut from = take_side(&rt, &pool, &mut sides);
-    hand_over(&rt, &pool, &mut from, &mut to);
-    put_back(&rt, &pool, &mut sides, from);
-    let left = pool.settle(&rt, rt.alloc(), sides);
-    assert_eq!(rt; left.map(|left| left.len()), Err(SettleFault::Missing));
-    Ok(())
-}
-
-#[test]
-fn what_a_side_still_holds_is_dropped(rt: HostRuntime) -> Result<(), Fail> {
-    let (pool, mut sides) = open_pool(rt.alloc(), 1, 256)?;
-    let mut side = take_side(&rt, &pool, &mut sides);
-    push_all(&rt, &pool, &mut side, &PUSHES);
-    put_back(&rt, &pool, &mut sides, side);
-    let left = pool.settle(&rt, rt.alloc(), sides)?;
-    assert!(rt; left.is_empty());
-    Ok(())
-}
-
-#[test]
-fn a_lower_metric_comes_next(rt: HostRuntime) -> Result<(), Fail> {
-    let (pool, mut sides) = open_pool(rt.alloc(), 1, 16)?;
-    let mut side = take_side(&rt, &pool, &mut sides);
-    push_all(&rt, &pool, &mut side, &[(50, 5), (20, 2), (21, 2)]);
-    expect_pops(&rt, &pool, &mut side, &[Some(21)]);
-    push_all(&rt, &pool, &mut side, &[(70, 7), (22, 2)]);
-    expect_pops(&rt, &pool, &mut side, &[Some(20), Some(22), Some(50)]);
-    push_all(&rt, &pool, &mut side, &[(40, 4), (30, 3), (90, 9)]);
-    expect_pops(
-        &rt,
-        &pool,
-        &mut side,
-        &[Some(30), Some(40), Some(70), Some(90), None],
-    );
-    Ok(())
-}
-
-#[test]
-fn after_an_empty_bag_comes_the_lowest(rt: HostRuntime) -> Result<(), Fail> {
-    let (pool, mut sides) = open_pool(rt.alloc(), 2, 1)?;
-    let mut side = take_side(&rt, &pool, &mut sides);
-    let mut other = take_side(&rt, &pool, &mut sides);
-    push_all(&rt, &pool, &mut side, &[(50, 5), (51, 5), (90, 9)]);
-    push_all(&rt, &pool, &mut other, &[(20, 2), (70, 7)]);
-    // The side goes on with its current bag, and learns of lower ones as that runs empty.
-    expect_pops(
-        &rt,
-        &pool,
-        &mut side,
-        &[Some(50), Some(51), Some(20), Some(70), Some(90), None],
-    );
-    expect_pops(&rt, &pool, &mut other, &[None]);
-    Ok(())
-}
-
-// Pushes each number below METRICS at itself as metric, in the order of the multiples of `step`.
-fn push_multiples<R: Wait + Abort>(rt: &R, pool: &ObimPool, side: &mut ObimSide, step: u32)
-    requires { IsSideOf pool.now side.old }
-    ensures { IsSideOf pool.now side.new }
-{
-    for at in 0..METRICS {
-        let v = at.wrapping_mul(step) % METRICS;
-        assert!(rt; pool.push(rt, side, v, u64::from(v)), "vertex {v}");
-    }
-}
-
-// The pops give the vertices from `first` on and below `end`, in this order.
-fn expect_rising<R: Wait + Abort>(
+pub(crate) fn open_pool<R: Abort>(
     rt: &R,
-    pool: &ObimPool,
-    side: &mut ObimSide,
-    first: u32,
-    end: u32,
-)
-    requires { IsSideOf pool.now side.old }
-    ensures { IsSideOf pool.now side.new }
+    alloc: Global,
+    workers: u32,
+    chunk: usize,
+) -> (ObimPool, Vec<ObimSide>)
+    ensures { All (IsSideOf result.0) result.1.items }
 {
-    for v in first..end {
-        assert_eq!(rt; pool.pop(rt, side), Some(v));
-    }
+    assert!(rt; workers > 0 && chunk > 0 && chunk <= MAX_SIZE);
+    ObimPool::open(alloc, workers, chunk).expect(rt, "memory for a pool")
 }
 
-// A pool of its own gives the metrics by rising order, however they were pushed.
-fn expect_by_metric<R: Wait + Abort>(
+// The chunk has this name and these vertices.
+fn is_chunk(mut chunk: Chunk, (worker, serial, vertices): (u32, u64, &[u32])) -> bool {
+    for &v in vertices.iter().rev() {
+        if chunk.pop() != Some(v) {
+            return false;
+        }
+    }
+    chunk.id() == ChunkId { worker, serial } && chunk.len() == 0
+}
+
+fn are_chunks(left: &mut Vec<Chunk>, wants: &[(u32, u64, &[u32])]) -> bool {
+    for &want in wants.iter().rev() {
+        let right = left.pop().is_some_and(|chunk| is_chunk(chunk, want));
+        if !right {
+            return false;
+        }
+    }
+    left.is_empty()
+}
+
+pub(crate) fn expect_left<R: Abort>(
     rt: &R,
-    pool: &ObimPool,
-    mut side: ObimSide,
-    step: u32,
-) -> ObimSide
-    requires { IsSideOf pool.now side }
-    ensures { IsSideOf pool.now result }
-{
-    push_multiples(rt, pool, &mut side, step);
-    expect_rising(rt, pool, &mut side, 0, METRICS);
-    expect_pops(rt, pool, &mut side, &[None]);
-    side
+    row: usize,
+    settled: Result<Vec<Chunk>, SettleFault>,
+    want: Left,
+) {
+    let right = match (settled, want) {
+        (Err(SettleFault::Missing), Left::Missing) => true,
+        (Ok(left), Left::Count(count)) => left.len() == count,
+        (Ok(mut left), Left::Chunks(wants)) => are_chunks(&mut left, wants),
+        _ => false,
+    };
+    assert!(rt; right, "row {row}");
 }
 
-#[test]
-fn a_thousand_metrics_pushed_rising(rt: HostRuntime) -> Result<(), Fail> {
-    let (pool, mut sides) = open_pool(rt.alloc(), 1, 16)?;
-    let side = take_side(&rt, &pool, &mut sides);
-    expect_by_metric(&rt, &pool, side, 1);
-    Ok(())
-}
-
-#[test]
-fn a_thousand_metrics_pushed_falling(rt: HostRuntime) -> Result<(), Fail> {
-    let (pool, mut sides) = open_pool(rt.alloc(), 1, 16)?;
-    let side = take_side(&rt, &pool, &mut sides);
-    expect_by_metric(&rt, &pool, side, METRICS - 1);
-    Ok(())
-}
-
-#[test]
-fn a_thousand_metrics_pushed_scrambled(rt: HostRuntime) -> Result<(), Fail> {
-    let (pool, mut sides) = open_pool(rt.alloc(), 1, 16)?;
-    let side = take_side(&rt, &pool, &mut sides);
-    let side = expect_by_metric(&rt, &pool, side, 389);
-    // All bags are there now, and empty.
-    expect_by_metric(&rt, &pool, side, 601);
-    Ok(())
-}
-
-// Pushes the vertices below `end` at one metric.
-fn push_range<R: Wait + Abort>(rt: &R, pool: &ObimPool, side: &mut ObimSide, end: u32)
-    requires { IsSideOf pool.now side.old }
-    ensures { IsSideOf pool.now side.new }
-{
-    for v in 0..end {
-        assert!(rt; pool.push(rt, side, v, 4), "vertex {v}");
-    }
-}
-
-// The pops give the vertices from `first` on and below `end`, the last one first.
-fn expect_falling<R: Wait + Abort>(
+// The calls give what they should, and the pool that is settled then leaves what it should.
+fn expect_row<R: Wait + Abort>(
     rt: &R,
-    pool: &ObimPool,
-    side: &mut ObimSide,
-    first: u32,
-    end: u32,
-)
-    requires { IsSideOf pool.now side.old }
-    ensures { IsSideOf pool.now side.new }
-{
-    for v in (first..end).rev() {
-        assert_eq!(rt; pool.pop(rt, side), Some(v));
+    alloc: Global,
+    row: usize,
+    (workers, chunk, calls, left): (u32, usize, &[(usize, Call)], Left),
+) {
+    let (pool, mut sides) = open_pool(rt, alloc, workers, chunk);
+    expect_calls(rt, &pool, &mut sides, row, calls);
+    if let Left::Missing = left {
+        sides.pop();
+    }
+    expect_left(rt, row, pool.settle(rt, alloc, sides), left);
+}
+
+#[test]
+fn rows_of_calls(rt: HostRuntime) {
+    for (row, &row_of_calls) in ROWS.iter().enumerate() {
+        expect_row(&rt, rt.alloc(), row, row_of_calls);
     }
 }
 
 #[test]
-fn the_first_chunk_of_a_bag_comes_first(rt: HostRuntime) -> Result<(), Fail> {
-    let (pool, mut sides) = open_pool(rt.alloc(), 1, 16)?;
-    let mut side = take_side(&rt, &pool, &mut sides);
-    push_range(&rt, &pool, &mut side, 40);
-    expect_falling(&rt, &pool, &mut side, 0, 16);
-    expect_falling(&rt, &pool, &mut side, 16, 32);
-    expect_falling(&rt, &pool, &mut side, 32, 40);
-    expect_pops(&rt, &pool, &mut side, &[None]);
-    Ok(())
+fn chunks_are_named_in_turn(rt: HostRuntime) {
+    let left = Left::Chunks(&[(0, TIMES as u64, &[8]), (1, 0, &[9])]);
+    expect_row(&rt, rt.alloc(), 0, (2, 1, NAMED, left));
 }

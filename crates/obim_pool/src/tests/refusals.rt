@@ -5,14 +5,14 @@
 ghost use Rattle.std.specs.Prelude.{◌≤◌, All, IfOk};
 ghost use Rattle.obim_pool.specs.Sides.{IsSideOf};
 
-use crate::tests::helpers::{PUSHES, open_pool, push_all, put_back, take_side};
+use crate::tests::calls::expect_calls;
+use crate::tests::obim::{LEFT, PUSHES, expect_left, open_pool};
 use crate::{LockedPool, ObimPool, ObimSide, Scale, WideningPool, WorkPool};
-use obim_bags::{ChunkId, SettleFault};
-use route_walks::{Memory, refusable, tried_again};
+use obim_bags::SettleFault;
+use route_walks::{Memory, refusable};
 use std::alloc::Global;
 use std::process::Abort;
 use std::sync::Wait;
-use std::test::Fail;
 
 // The first vertices have a metric each, of which the last is the lowest. All others have that one: more than a
 // block of a bag's queue has chunks, so that some put takes memory for the next block.
@@ -40,7 +40,7 @@ fn push_again<P: WorkPool, R: Wait + Abort>(
     }
     if v > 0 && v < METRICS {
         let last = v.saturating_sub(1);
-        assert_eq!(rt; pool.pop(rt, side), Some(last));
+        assert!(rt; pool.pop(rt, side) == Some(last));
         assert!(rt; pool.push(rt, side, last, metric_of(last)));
     }
     assert!(rt; pool.push(rt, side, v, metric_of(v)));
@@ -55,27 +55,25 @@ fn note(rt: &impl Abort, popped: &mut u64, v: u32) {
     *popped |= bit;
 }
 
-// One side pushes all vertices and pops them, by rising metric.
+// A side pushes all vertices and pops them. Each comes once, by rising metric.
 fn expect_pushes<P: WorkPool, R: Wait + Abort>(
     rt: &R,
     alloc: Global,
     pool: &P,
-    side: &mut P::Side,
-) -> Result<(), Memory>
-    requires { P.is_side pool.now side.old }
-    ensures { P.is_side pool.now side.new }
+    sides: &mut [P::Side],
+)
+    requires { All (P.is_side pool.now) sides.old }
 {
+    assert!(rt; sides.len() == 1);
+    let side = &mut sides[0];
     for v in 0..VERTICES {
-        push_again(rt, alloc, pool, side, v)?;
+        assert!(rt; push_again(rt, alloc, pool, side, v).is_ok());
     }
     expect_rising(rt, pool, side);
-    Ok(())
 }
 
-// Each vertex comes once, by rising metric.
 fn expect_rising<P: WorkPool, R: Wait + Abort>(rt: &R, pool: &P, side: &mut P::Side)
     requires { P.is_side pool.now side.old }
-    ensures { P.is_side pool.now side.new }
 {
     let (mut popped, mut metric) = (0, 0);
     for _ in 0..VERTICES {
@@ -84,33 +82,17 @@ fn expect_rising<P: WorkPool, R: Wait + Abort>(rt: &R, pool: &P, side: &mut P::S
         assert!(rt; metric <= metric_of(v), "vertex {v} comes late");
         metric = metric_of(v);
     }
-    assert_eq!(rt; pool.pop(rt, side), None);
+    assert!(rt; pool.pop(rt, side).is_none());
 }
 
-// One side pushes all vertices, and the other pops them. A refused pop goes on with the bags that its side has, and
-// where it has none gives none, once.
-fn expect_pops_again<P: WorkPool, R: Wait + Abort>(
-    rt: &R,
-    alloc: Global,
-    pool: &P,
-    from: &mut P::Side,
-    to: &mut P::Side,
-) -> Result<(), Memory>
-    requires from { P.is_side pool.now from.old }
-    requires to { P.is_side pool.now to.old }
-    ensures from { P.is_side pool.now from.new }
-    ensures to { P.is_side pool.now to.new }
+// One side pushes all vertices, and the other pops them.
+fn expect_pops<P: WorkPool, R: Wait + Abort>(rt: &R, alloc: Global, pool: &P, sides: &mut [P::Side])
+    requires { All (P.is_side pool.now) sides.old }
 {
-    push_plainly(rt, pool, from);
-    let mut popped = 0;
-    for _ in 0..=VERTICES {
-        if let Some(v) = refusable!(alloc, pool.pop(rt, to)) {
-            note(rt, &mut popped, v);
-        }
-    }
-    assert_eq!(rt; popped, (1 << VERTICES) - 1);
-    assert!(rt; pool.pop(rt, to).is_none() && pool.pop(rt, from).is_none());
-    Ok(())
+    assert!(rt; sides.len() == 2);
+    push_plainly(rt, pool, &mut sides[0]);
+    assert!(rt; pop_again(rt, alloc, pool, &mut sides[1]).is_ok());
+    assert!(rt; pool.pop(rt, &mut sides[0]).is_none());
 }
 
 fn push_plainly<P: WorkPool, R: Wait + Abort>(rt: &R, pool: &P, side: &mut P::Side)
@@ -122,94 +104,90 @@ fn push_plainly<P: WorkPool, R: Wait + Abort>(rt: &R, pool: &P, side: &mut P::Si
     }
 }
 
-#[test]
-fn of_locked_pool_open(rt: HostRuntime) -> Result<(), Fail> {
-    let alloc = rt.alloc();
-    let (_pool, sides) = tried_again!(rt, alloc, Memory, LockedPool::open(alloc, 2));
-    assert_eq!(rt; sides.len(), 2);
-    Ok(())
-}
-
-#[test]
-fn of_locked_pool_push(rt: HostRuntime) -> Result<(), Fail> {
-    let alloc = rt.alloc();
-    let (pool, mut sides) = LockedPool::open(alloc, 1)?;
-    let mut side = sides.pop().expect(&rt, "a side");
-    expect_pushes(&rt, alloc, &pool, &mut side)?;
-    Ok(())
-}
-
-#[test]
-fn of_locked_pool_pop(rt: HostRuntime) -> Result<(), Fail> {
-    let alloc = rt.alloc();
-    let (pool, mut sides) = LockedPool::open(alloc, 2)?;
-    let mut to = sides.pop().expect(&rt, "a side");
-    let mut from = sides.pop().expect(&rt, "a side");
-    expect_pops_again(&rt, alloc, &pool, &mut from, &mut to)?;
-    Ok(())
-}
-
-#[test]
-fn of_obim_pool_open(rt: HostRuntime) -> Result<(), Fail> {
-    let alloc = rt.alloc();
-    let (pool, mut sides) = tried_again!(rt, alloc, Memory, open_pool(alloc, 2, 1));
-    let mut side = take_side(&rt, &pool, &mut sides);
-    assert_eq!(rt; pool.pop(&rt, &mut side), None);
-    assert_eq!(rt; sides.len(), 1);
-    Ok(())
-}
-
-#[test]
-fn of_obim_pool_push(rt: HostRuntime) -> Result<(), Fail> {
-    let alloc = rt.alloc();
-    let (pool, mut sides) = open_pool(alloc, 1, 1)?;
-    let mut side = take_side(&rt, &pool, &mut sides);
-    expect_pushes(&rt, alloc, &pool, &mut side)?;
-    Ok(())
-}
-
-#[test]
-fn of_obim_pool_pop(rt: HostRuntime) -> Result<(), Fail> {
-    let alloc = rt.alloc();
-    let (pool, mut sides) = open_pool(alloc, 2, 1)?;
-    let mut to = take_side(&rt, &pool, &mut sides);
-    let mut from = take_side(&rt, &pool, &mut sides);
-    expect_pops_again(&rt, alloc, &pool, &mut from, &mut to)?;
-    Ok(())
-}
-
-// A pool with a full chunk in each of two bags, and its one side.
-fn left_over<R: Wait + Abort>(rt: &R, alloc: Global) -> Result<(ObimPool, Vec<ObimSide>), Memory>
-    ensures { IfOk result (λ opened. All (IsSideOf opened.0) opened.1.items) }
+// A refused pop goes on with the bags that its side has, and where it has none gives none, once.
+fn pop_again<P: WorkPool, R: Wait + Abort>(
+    rt: &R,
+    alloc: Global,
+    pool: &P,
+    side: &mut P::Side,
+) -> Result<(), Memory>
+    requires { P.is_side pool.now side.old }
+    ensures { P.is_side pool.now side.new }
 {
-    let (pool, mut sides) = open_pool(alloc, 1, 2)?;
-    let mut side = take_side(rt, &pool, &mut sides);
-    push_all(rt, &pool, &mut side, &PUSHES);
-    put_back(rt, &pool, &mut sides, side);
-    Ok((pool, sides))
+    let mut popped = 0;
+    for _ in 0..=VERTICES {
+        if let Some(v) = refusable!(alloc, pool.pop(rt, side)) {
+            note(rt, &mut popped, v);
+        }
+    }
+    assert!(rt; popped == (1 << VERTICES) - 1 && pool.pop(rt, side).is_none());
+    Ok(())
+}
+
+fn opens_locked(alloc: Global) -> bool {
+    LockedPool::open(alloc, 2).is_ok()
 }
 
 #[test]
-fn of_obim_pool_settle(rt: HostRuntime) -> Result<(), Fail> {
+fn of_locked_pool_open(rt: HostRuntime) -> Result<(), Memory> {
     let alloc = rt.alloc();
-    let (pool, sides) = left_over(&rt, alloc)?;
-    let (same, others) = left_over(&rt, alloc)?;
-    let left = tried_again!(
-        rt,
-        alloc,
-        SettleFault::Memory,
-        pool.settle(&rt, alloc, sides),
-        same.settle(&rt, alloc, others)
-    );
-    let mut serial = 0_u64;
-    for chunk in &left {
-        assert_eq!(rt;
-            (chunk.id(), chunk.len()),
-            (ChunkId { worker: 0, serial }, 2)
-        );
-        serial = serial.saturating_add(1);
+    let opened = refusable!(alloc, opens_locked(alloc));
+    assert!(rt; opened || opens_locked(alloc));
+    Ok(())
+}
+
+#[test]
+fn of_locked_pool_push(rt: HostRuntime) {
+    let (pool, mut sides) = LockedPool::open(rt.alloc(), 1).expect(&rt, "memory for a pool");
+    expect_pushes(&rt, rt.alloc(), &pool, &mut sides);
+}
+
+#[test]
+fn of_locked_pool_pop(rt: HostRuntime) {
+    let (pool, mut sides) = LockedPool::open(rt.alloc(), 2).expect(&rt, "memory for a pool");
+    expect_pops(&rt, rt.alloc(), &pool, &mut sides);
+}
+
+fn opens_obim(alloc: Global) -> bool {
+    ObimPool::open(alloc, 2, 1).is_ok()
+}
+
+#[test]
+fn of_obim_pool_open(rt: HostRuntime) -> Result<(), Memory> {
+    let alloc = rt.alloc();
+    let opened = refusable!(alloc, opens_obim(alloc));
+    assert!(rt; opened || opens_obim(alloc));
+    Ok(())
+}
+
+#[test]
+fn of_obim_pool_push(rt: HostRuntime) {
+    let (pool, mut sides) = open_pool(&rt, rt.alloc(), 1, 1);
+    expect_pushes(&rt, rt.alloc(), &pool, &mut sides);
+}
+
+#[test]
+fn of_obim_pool_pop(rt: HostRuntime) {
+    let (pool, mut sides) = open_pool(&rt, rt.alloc(), 2, 1);
+    expect_pops(&rt, rt.alloc(), &pool, &mut sides);
+}
+
+// Settles a pool with a full chunk in each of two bags. False where memory is refused.
+fn settle<R: Wait + Abort>(rt: &R, alloc: Global) -> Result<bool, Memory> {
+    let (pool, mut sides) = open_pool(rt, alloc, 1, 2);
+    expect_calls(rt, &pool, &mut sides, 0, &[(0, PUSHES)]);
+    let settled = refusable!(alloc, pool.settle(rt, alloc, sides));
+    if let Err(SettleFault::Memory) = settled {
+        return Ok(false);
     }
-    assert_eq!(rt; serial, 2);
+    expect_left(rt, 0, settled, LEFT);
+    Ok(true)
+}
+
+#[test]
+fn of_obim_pool_settle(rt: HostRuntime) -> Result<(), Memory> {
+    let settled = settle(&rt, rt.alloc())? || settle(&rt, rt.alloc())?;
+    assert!(rt; settled);
     Ok(())
 }
 
@@ -220,40 +198,26 @@ fn open_widening(alloc: Global, workers: u32) -> Result<(WideningPool, Vec<ObimS
     WideningPool::open(alloc, workers, 1, Scale::widening())
 }
 
-fn take_widening_side<R: Abort>(rt: &R, pool: &WideningPool, sides: &mut Vec<ObimSide>) -> ObimSide
-    requires { All (IsSideOf pool.now) sides.old.items }
-    ensures side { IsSideOf pool.now result }
-    ensures rest { All (IsSideOf pool.now) sides.new.items }
-{
-    let _pool = pool;
-    sides.pop().expect(rt, "a side for each worker")
+fn opens_widening(alloc: Global) -> bool {
+    open_widening(alloc, 2).is_ok()
 }
 
 #[test]
-fn of_widening_pool_open(rt: HostRuntime) -> Result<(), Fail> {
+fn of_widening_pool_open(rt: HostRuntime) -> Result<(), Memory> {
     let alloc = rt.alloc();
-    let (pool, mut sides) = tried_again!(rt, alloc, Memory, open_widening(alloc, 2));
-    let mut side = take_widening_side(&rt, &pool, &mut sides);
-    assert_eq!(rt; pool.pop(&rt, &mut side), None);
-    assert_eq!(rt; sides.len(), 1);
+    let opened = refusable!(alloc, opens_widening(alloc));
+    assert!(rt; opened || opens_widening(alloc));
     Ok(())
 }
 
 #[test]
-fn of_widening_pool_push(rt: HostRuntime) -> Result<(), Fail> {
-    let alloc = rt.alloc();
-    let (pool, mut sides) = open_widening(alloc, 1)?;
-    let mut side = take_widening_side(&rt, &pool, &mut sides);
-    expect_pushes(&rt, alloc, &pool, &mut side)?;
-    Ok(())
+fn of_widening_pool_push(rt: HostRuntime) {
+    let (pool, mut sides) = open_widening(rt.alloc(), 1).expect(&rt, "memory for a pool");
+    expect_pushes(&rt, rt.alloc(), &pool, &mut sides);
 }
 
 #[test]
-fn of_widening_pool_pop(rt: HostRuntime) -> Result<(), Fail> {
-    let alloc = rt.alloc();
-    let (pool, mut sides) = open_widening(alloc, 2)?;
-    let mut to = take_widening_side(&rt, &pool, &mut sides);
-    let mut from = take_widening_side(&rt, &pool, &mut sides);
-    expect_pops_again(&rt, alloc, &pool, &mut from, &mut to)?;
-    Ok(())
+fn of_widening_pool_pop(rt: HostRuntime) {
+    let (pool, mut sides) = open_widening(rt.alloc(), 2).expect(&rt, "memory for a pool");
+    expect_pops(&rt, rt.alloc(), &pool, &mut sides);
 }

@@ -1,18 +1,13 @@
-//! Threads that share a pool of bags pop each vertex once and lose none.
+//! Threads that share a pool pop each vertex once and lose none.
 
-ghost use Rattle.std.specs.Prelude.{◌≤◌, All};
-ghost use Rattle.obim_bags.specs.declared.chunk.TheConstants.{MAX_SIZE};
-ghost use Rattle.obim_pool.specs.Sides.{IsSideOf};
+ghost use Rattle.std.specs.Prelude.{All};
 
-use crate::tests::helpers::open_pool;
-use crate::{ObimPool, ObimSide};
-use obim_bags::SettleFault;
-use route_walks::Memory;
+use crate::tests::obim::open_pool;
+use crate::{LockedPool, WorkPool};
 use std::alloc::Global;
 use std::process::Abort;
 use std::sync::Wait;
 use std::sync::atomic::{AtomicU64, Ordering};
-use std::test::Fail;
 use std::thread::{Threads, for_each_mut};
 
 // How many vertices each thread pushes, over how many metrics.
@@ -21,40 +16,44 @@ const PUSHES: u32 = 5000;
 const METRICS: u32 = 7;
 
 // How often each vertex that these workers push was popped: not yet.
-fn open_counts(alloc: Global, workers: u32) -> Result<Vec<AtomicU64>, Memory> {
+fn open_counts<R: Abort>(rt: &R, alloc: Global, workers: usize) -> Vec<AtomicU64> {
     let mut counts = Vec::new(alloc);
-    for _ in 0..u64::from(workers) * u64::from(PUSHES) {
-        counts.push(AtomicU64::new(0))?;
+    for _ in 0..workers.saturating_mul(PUSHES as usize) {
+        assert!(rt; counts.push(AtomicU64::new(0)).is_ok());
     }
-    Ok(counts)
+    counts
 }
 
 // Pops a vertex, and counts it where there is one.
-fn pop<R: Wait + Abort>(rt: &R, pool: &ObimPool, side: &mut ObimSide, counts: &[AtomicU64]) -> bool
-    requires { IsSideOf pool.now side.old }
-    ensures { IsSideOf pool.now side.new }
+fn pop<P: WorkPool, R: Wait + Abort>(
+    rt: &R,
+    pool: &P,
+    side: &mut P::Side,
+    counts: &[AtomicU64],
+) -> bool
+    requires { P.is_side pool.now side.old }
+    ensures { P.is_side pool.now side.new }
 {
-    match pool.pop(rt, side) {
-        None => false,
-        Some(v) => {
-            let known = (v as usize) < counts.len();
-            assert!(rt; known, "vertex {v}");
-            counts[v as usize].fetch_add(1, Ordering::SeqCst);
-            true
-        }
-    }
+    let Some(v) = pool.pop(rt, side) else {
+        return false;
+    };
+    let count = counts
+        .get(v as usize)
+        .expect(rt, "a vertex that was pushed");
+    count.fetch_add(1, Ordering::SeqCst);
+    true
 }
 
 // Pushes the vertices of the worker of this number, and pops after two of three pushes.
-fn work<R: Wait + Abort>(
+fn work<P: WorkPool, R: Wait + Abort>(
     rt: &R,
-    pool: &ObimPool,
-    side: &mut ObimSide,
+    pool: &P,
+    side: &mut P::Side,
     number: usize,
     counts: &[AtomicU64],
 )
-    requires { IsSideOf pool.now side.old }
-    ensures { IsSideOf pool.now side.new }
+    requires { P.is_side pool.now side.old }
+    ensures { P.is_side pool.now side.new }
 {
     let worker = u32::try_from(number).expect(rt, "few workers");
     let first = worker.wrapping_mul(PUSHES);
@@ -68,9 +67,14 @@ fn work<R: Wait + Abort>(
 }
 
 // Pops what this side can.
-fn pop_rest<R: Wait + Abort>(rt: &R, pool: &ObimPool, side: &mut ObimSide, counts: &[AtomicU64])
-    requires { IsSideOf pool.now side.old }
-    ensures { IsSideOf pool.now side.new }
+fn pop_rest<P: WorkPool, R: Wait + Abort>(
+    rt: &R,
+    pool: &P,
+    side: &mut P::Side,
+    counts: &[AtomicU64],
+)
+    requires { P.is_side pool.now side.old }
+    ensures { P.is_side pool.now side.new }
 {
     for _ in 0..counts.len() {
         pop(rt, pool, side, counts);
@@ -78,15 +82,15 @@ fn pop_rest<R: Wait + Abort>(rt: &R, pool: &ObimPool, side: &mut ObimSide, count
     assert!(rt; !pop(rt, pool, side, counts));
 }
 
-// Each worker by a thread of its own; then one after the other pops what is left.
-fn work_by_threads<R: Threads + Wait + Abort + Sync>(
+// Each worker by a thread of its own; then one after the other pops what is left. Every vertex was popped once.
+fn share<P: WorkPool<Side = S> + Sync, S: Send, R: Threads + Wait + Abort + Sync>(
     rt: &R,
-    pool: &ObimPool,
-    sides: &mut [ObimSide],
+    pool: &P,
+    sides: &mut [S],
     counts: &[AtomicU64],
 )
-    requires { All (IsSideOf pool.now) sides.old }
-    ensures { All (IsSideOf pool.now) sides.new }
+    requires { All (P.is_side pool.now) sides.old }
+    ensures { All (P.is_side pool.now) sides.new }
 {
     for_each_mut(
         rt,
@@ -95,41 +99,26 @@ fn work_by_threads<R: Threads + Wait + Abort + Sync>(
         &|number, side| work(rt, pool, side, number, counts),
     );
     for_each_mut(rt, sides, 1, &|_, side| pop_rest(rt, pool, side, counts));
-}
-
-// Every vertex was popped once, and no chunk is left.
-fn share_pool<R: Threads + Wait + Abort + Sync>(
-    rt: &R,
-    alloc: Global,
-    workers: u32,
-    chunk: usize,
-) -> Result<(), SettleFault>
-    requires { (1 ≤ workers) × (1 ≤ chunk) × (chunk ≤ MAX_SIZE) }
-{
-    let counts = open_counts(alloc, workers)?;
-    let (pool, mut sides) = open_pool(alloc, workers, chunk)?;
-    work_by_threads(rt, &pool, &mut sides, &counts);
-    for count in &counts {
-        assert_eq!(rt; count.load(Ordering::SeqCst), 1);
+    for count in counts {
+        assert!(rt; count.load(Ordering::SeqCst) == 1);
     }
-    assert!(rt; pool.settle(rt, alloc, sides)?.is_empty());
-    Ok(())
 }
 
 #[test]
-fn two_threads(rt: HostRuntime) -> Result<(), Fail> {
-    share_pool(&rt, rt.alloc(), 2, 16)?;
-    Ok(())
+fn of_a_pool_of_bags(rt: HostRuntime) {
+    let alloc = rt.alloc();
+    for (workers, chunk) in [(2, 16), (4, 2), (8, 1)] {
+        let (pool, mut sides) = open_pool(&rt, alloc, workers, chunk);
+        let counts = open_counts(&rt, alloc, sides.len());
+        share(&rt, &pool, &mut sides, &counts);
+        let left = pool.settle(&rt, alloc, sides);
+        assert!(rt; left.is_ok_and(|left| left.is_empty()), "{workers} workers");
+    }
 }
 
 #[test]
-fn four_threads(rt: HostRuntime) -> Result<(), Fail> {
-    share_pool(&rt, rt.alloc(), 4, 2)?;
-    Ok(())
-}
-
-#[test]
-fn eight_threads(rt: HostRuntime) -> Result<(), Fail> {
-    share_pool(&rt, rt.alloc(), 8, 1)?;
-    Ok(())
+fn of_a_locked_pool(rt: HostRuntime) {
+    let (pool, mut sides) = LockedPool::open(rt.alloc(), 2).expect(&rt, "memory for a pool");
+    let counts = open_counts(&rt, rt.alloc(), 2);
+    share(&rt, &pool, &mut sides, &counts);
 }

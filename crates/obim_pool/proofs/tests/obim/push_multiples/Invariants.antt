@@ -1,6 +1,0 @@
--- The side stays one of the pool.
-use Rattle.obim_pool.specs.Sides.{IsSideOf}
-use Rattle.obim_pool.proofs.tests.obim.push_multiples.Given as goal
-
-abbrev pub invariant-loop-at : goal.invariant-loop-at
-invariant-loop-at g l = IsSideOf l.pool l.side

@@ -1,6 +1,0 @@
--- The side stays one of the pool.
-use Rattle.obim_pool.specs.Sides.{IsSideOf}
-use Rattle.obim_pool.proofs.tests.obim.push_range.Given as goal
-
-abbrev pub invariant-loop-v : goal.invariant-loop-v
-invariant-loop-v g l = IsSideOf l.pool l.side

@@ -1,5 +1,0 @@
--- Both sides stay of the pool.
-use Rattle.obim_pool.proofs.tests.refusals.expect_pops_again.Given as goal
-
-abbrev pub invariant-loop : goal.invariant-loop
-invariant-loop g l = g.P.WorkPool.is_side l.pool l.from × g.P.WorkPool.is_side l.pool l.to
