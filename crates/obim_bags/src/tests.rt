@@ -1,7 +1,6 @@
 mod bags;
 mod callers;
 mod chunks;
-mod ends;
 mod faults;
 mod helpers;
 mod logs;

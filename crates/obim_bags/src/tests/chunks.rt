@@ -1,8 +1,5 @@
 //! A chunk is a stack with a name.
 
-ghost use Rattle.std.specs.Prelude.{◌≤◌};
-ghost use Rattle.obim_bags.specs.declared.chunk.TheConstants.{MAX_SIZE};
-
 use crate::{Chunk, ChunkId, Full};
 use std::process::Abort;
 
@@ -11,53 +8,39 @@ const ID: ChunkId = ChunkId {
     serial: 9,
 };
 
-// A chunk of this size with the vertices 4 and 5.
-fn four_and_five(rt: &impl Abort, size: usize) -> Chunk
-    requires { (2 ≤ size) × (size ≤ MAX_SIZE) }
-{
-    let mut chunk = Chunk::new(ID, size);
-    assert!(rt; chunk.len() == 0 && chunk.ahead(1).is_none());
-    assert_eq!(rt; chunk.push(4), Ok(()));
-    assert_eq!(rt; chunk.push(5), Ok(()));
-    chunk
-}
+// What each pop from now on takes, if it takes one, and none is pushed before.
+const AHEAD: [(usize, Option<u32>); 5] = [
+    (1, Some(5)),
+    (2, Some(4)),
+    (0, None),
+    (3, None),
+    (usize::MAX, None),
+];
 
-fn expect_named(rt: &impl Abort, chunk: &Chunk, len: usize) {
-    assert_eq!(rt; (chunk.id(), chunk.len()), (ID, len));
-}
+// What pushes give: two vertices fit.
+const PUSHES: [(u32, Result<(), Full>); 3] = [(4, Ok(())), (5, Ok(())), (6, Err(Full))];
 
-fn expect_pops(rt: &impl Abort, chunk: &mut Chunk, wants: &[Option<u32>]) {
-    for &want in wants {
-        assert_eq!(rt; chunk.pop(), want);
+fn push_each(rt: &impl Abort, chunk: &mut Chunk) {
+    for (v, want) in PUSHES {
+        assert!(rt; chunk.push(v) == want, "vertex {v}");
     }
+    assert!(rt; chunk.id() == ID && chunk.len() == 2);
 }
 
-fn expect_ahead(rt: &impl Abort, chunk: &Chunk, wants: &[(usize, Option<u32>)]) {
-    for &(by, want) in wants {
-        assert_eq!(rt; chunk.ahead(by), want);
+// Looking ahead takes nothing.
+fn look_ahead(rt: &impl Abort, chunk: &Chunk) {
+    for (by, want) in AHEAD {
+        assert!(rt; chunk.ahead(by) == want, "ahead by {by}");
     }
 }
 
 #[test]
 fn two_fit_and_the_last_comes_first(rt: HostRuntime) {
-    let mut chunk = four_and_five(&rt, 2);
-    assert_eq!(rt; chunk.push(6), Err(Full));
-    expect_named(&rt, &chunk, 2);
-    expect_pops(&rt, &mut chunk, &[Some(5), Some(4), None]);
-    expect_named(&rt, &chunk, 0);
-}
-
-#[test]
-fn looking_ahead_takes_nothing(rt: HostRuntime) {
-    let mut chunk = four_and_five(&rt, 3);
-    let aheads = [
-        (1, Some(5)),
-        (2, Some(4)),
-        (0, None),
-        (3, None),
-        (usize::MAX, None),
-    ];
-    expect_ahead(&rt, &chunk, &aheads);
-    expect_pops(&rt, &mut chunk, &[Some(5)]);
-    expect_ahead(&rt, &chunk, &[(1, Some(4))]);
+    let mut chunk = Chunk::new(ID, 2);
+    assert!(rt; chunk.len() == 0 && chunk.ahead(1).is_none());
+    push_each(&rt, &mut chunk);
+    look_ahead(&rt, &chunk);
+    assert!(rt; chunk.pop() == Some(5) && chunk.ahead(1) == Some(4));
+    assert!(rt; chunk.pop() == Some(4) && chunk.pop().is_none());
+    assert!(rt; chunk.id() == ID && chunk.len() == 0);
 }

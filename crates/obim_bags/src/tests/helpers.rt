@@ -77,58 +77,42 @@ pub(crate) fn get<R: Wait + Abort>(rt: &R, bag: &Bag, pass: &mut BagPass) -> Chu
     bag.get(rt, pass).expect(rt, "a chunk that was put")
 }
 
-// Asserts that the chunk is of worker 0 with this serial, and gives these vertices.
-pub(crate) fn expect_chunk(rt: &impl Abort, mut chunk: Chunk, serial: u64, vertices: &[u32]) {
-    assert_eq!(rt; chunk.id(), ChunkId { worker: 0, serial });
-    for &v in vertices {
-        assert_eq!(rt; chunk.pop(), Some(v));
+// It is the chunk of worker 0 with this serial, and has these vertices.
+pub(crate) fn holds(chunk: Option<Chunk>, serial: u64, vertices: &[u32]) -> bool {
+    let Some(mut chunk) = chunk else {
+        return false;
+    };
+    for &v in vertices.iter().rev() {
+        if chunk.pop() != Some(v) {
+            return false;
+        }
     }
-    assert_eq!(rt; chunk.pop(), None);
+    chunk.id() == ChunkId { worker: 0, serial } && chunk.pop().is_none()
 }
 
-// Asserts that these are the chunks of worker 0 with these serials, in order.
-pub(crate) fn expect_serials(rt: &impl Abort, left: &[Chunk], serials: &[u64]) {
-    assert_eq!(rt; left.len(), serials.len());
+// These are the chunks of worker 0 with these serials, in order.
+fn are_serials(left: &[Chunk], serials: &[u64]) -> bool {
     for (chunk, &serial) in left.iter().zip(serials) {
-        assert_eq!(rt; chunk.id(), ChunkId { worker: 0, serial });
+        if chunk.id() != (ChunkId { worker: 0, serial }) {
+            return false;
+        }
     }
+    left.len() == serials.len()
 }
 
-// Asserts that a bag drained by these passes gives the chunks of these serials, or else this fault.
-pub(crate) fn expect_drained<R: Wait + Abort>(
-    rt: &R,
-    alloc: Global,
-    bag: &Bag,
-    passes: Vec<BagPass>,
-    want: Result<&[u64], SettleFault>,
-)
-    requires { All (IsPassOf bag.now) passes.items }
-{
-    expect_left(rt, bag.drain(rt, alloc, passes), want);
-}
-
-// The same of a log and its mirrors.
-pub(crate) fn expect_log_drained<R: Wait + Abort>(
-    rt: &R,
-    alloc: Global,
-    log: &BagLog,
-    mirrors: Vec<Mirror>,
-    want: Result<&[u64], SettleFault>,
-)
-    requires { All (IsMirrorOf log.now) mirrors.items }
-{
-    expect_left(rt, log.drain(rt, alloc, mirrors), want);
-}
-
+// Asserts that a bag or a log that is drained gives the chunks of these serials, or else this fault.
 pub(crate) fn expect_left(
     rt: &impl Abort,
+    row: usize,
     drained: Result<Vec<Chunk>, SettleFault>,
     want: Result<&[u64], SettleFault>,
 ) {
-    match want {
-        Ok(serials) => expect_serials(rt, &drained.expect(rt, "chunks that are left"), serials),
-        Err(fault) => assert_eq!(rt; drained.err(), Some(fault)),
-    }
+    let right = match (drained, want) {
+        (Ok(left), Ok(serials)) => are_serials(&left, serials),
+        (Err(fault), Err(other)) => fault == other,
+        _ => false,
+    };
+    assert!(rt; right, "row {row}");
 }
 
 pub(crate) fn open_log(rt: &impl Abort, alloc: Global, workers: u32) -> (BagLog, Vec<Mirror>)
@@ -158,77 +142,6 @@ pub(crate) fn open_mirrors(rt: &impl Abort, alloc: Global) -> (BagLog, Mirror, M
     (log, first, second)
 }
 
-// Asserts what comes where the mirror asks for a metric.
-pub(crate) fn expect_found<R: Wait + Abort>(
-    rt: &R,
-    alloc: Global,
-    log: &BagLog,
-    mirror: &mut Mirror,
-    metric: u64,
-    want: Result<usize, LogFault>,
-)
-    requires { mirror.old.log ≡ log.now }
-    ensures { mirror.new.log ≡ log.now }
-{
-    assert_eq!(rt; log.find_or_append(rt, alloc, mirror, metric), want);
-}
-
-// Asserts what comes where the mirror catches up.
-pub(crate) fn expect_caught_up<R: Wait + Abort>(
-    rt: &R,
-    alloc: Global,
-    log: &BagLog,
-    mirror: &mut Mirror,
-    want: Result<usize, LogFault>,
-)
-    requires { mirror.old.log ≡ log.now }
-    ensures { mirror.new.log ≡ log.now }
-{
-    assert_eq!(rt; log.catch_up(rt, alloc, mirror), want);
-}
-
-// Asserts that the log has no pass of its bags for the mirror any more.
-pub(crate) fn expect_taken<R: Wait + Abort>(
-    rt: &R,
-    alloc: Global,
-    log: &BagLog,
-    mirror: &mut Mirror,
-    metric: u64,
-)
-    requires { mirror.old.log ≡ log.now }
-    ensures { mirror.new.log ≡ log.now }
-{
-    expect_caught_up(rt, alloc, log, mirror, Err(LogFault::Taken));
-    expect_found(rt, alloc, log, mirror, metric, Err(LogFault::Taken));
-}
-
-pub(crate) fn get_at<R: Wait + Abort>(
-    rt: &R,
-    log: &BagLog,
-    mirror: &mut Mirror,
-    place: usize,
-) -> Option<Chunk>
-    requires { mirror.old.log ≡ log.now }
-    ensures log { mirror.new.log ≡ log.now }
-    ensures filled { IfSome result (λ chunk. chunk.vertices ≢ []) }
-{
-    assert!(rt; place < mirror.len());
-    log.get_at(rt, mirror, place)
-}
-
-pub(crate) fn finds_empty_at<R: Abort>(
-    rt: &R,
-    log: &BagLog,
-    mirror: &mut Mirror,
-    place: usize,
-) -> bool
-    requires { mirror.old.log ≡ log.now }
-    ensures { mirror.new.log ≡ log.now }
-{
-    assert!(rt; place < mirror.len());
-    log.finds_empty_at(mirror, place)
-}
-
 // Puts a chunk into the bag of a metric.
 pub(crate) fn put_by_metric<R: Wait + Abort>(
     rt: &R,
@@ -246,27 +159,4 @@ pub(crate) fn put_by_metric<R: Wait + Abort>(
     let place = found.expect(rt, "the place of a bag");
     assert!(rt; place < mirror.len());
     assert!(rt; log.put_at(rt, mirror, place, chunk).is_ok());
-}
-
-// Puts chunks of worker 0, of these serials into the bags of these metrics.
-pub(crate) fn put_each<R: Wait + Abort>(
-    rt: &R,
-    alloc: Global,
-    log: &BagLog,
-    mirror: &mut Mirror,
-    chunks: &[(u64, u64)],
-)
-    requires { mirror.old.log ≡ log.now }
-    ensures { mirror.new.log ≡ log.now }
-{
-    for &(serial, metric) in chunks {
-        put_by_metric(
-            rt,
-            alloc,
-            log,
-            mirror,
-            metric,
-            chunk_of(rt, 0, serial, &[5]),
-        );
-    }
 }

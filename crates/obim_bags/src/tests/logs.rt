@@ -1,150 +1,281 @@
-//! Logs of two workers, with what each mirror then has and what is left.
+//! Logs and their mirrors, with what each mirror then has and what is left.
 
-ghost use Rattle.std.specs.Prelude.{◌≡◌};
+ghost use Rattle.std.specs.Prelude.{◌≡◌, ◌<◌, All, length};
+ghost use Rattle.obim_bags.specs.Logs.{IsMirrorOf};
 
-use crate::tests::helpers::{
-    chunk_of, expect_caught_up, expect_found, expect_log_drained, expect_taken, finds_empty_at,
-    get_at, list_of, open_log, open_mirrors, put_each, take_mirror,
-};
-use crate::{BagLog, Mirror, SettleFault};
+use crate::tests::bags::{Call, boxed};
+use crate::tests::helpers::{chunk_of, expect_left, holds, open_log};
+use crate::{BagLog, LogFault, Mirror, SettleFault};
 use std::alloc::Global;
 use std::process::Abort;
 use std::sync::Wait;
 
-// The mirror has metric 5 at place 0 and 2 at place 1.
-fn expect_five_and_two(rt: &impl Abort, mirror: &Mirror) {
-    assert!(rt; mirror.len() == 2);
-    assert!(rt; mirror.metric_at(0) == 5 && mirror.metric_at(1) == 2);
-    let accesses = [mirror.place_of(5), mirror.place_of(2), mirror.place_of(7)];
-    assert_eq!(rt; accesses, [Some(0), Some(1), None]);
+// A call on a log through a mirror, and what it gives.
+#[derive(Clone, Copy)]
+enum LogCall {
+    // The place of a metric, which is appended where the log hasn't it.
+    Find(u64, Result<usize, LogFault>),
+    // How many bags the mirror has then.
+    CatchUp(Result<usize, LogFault>),
+    // The mirror has these metrics, in this order.
+    Has(&'static [u64]),
+    // It has no such metric.
+    Lacks(u64),
+    // A call on the bag at this place.
+    At(usize, Call),
+    // The place of each of `BAGS` metrics: they are appended, or the mirror has them.
+    FindAll,
+    HasAll,
 }
 
-fn expect_unknown(rt: &impl Abort, mirror: &Mirror, metric: u64) {
-    assert_eq!(rt; mirror.place_of(metric), None);
-}
+// More bags than a mirror claims at a time or an index begins with.
+const BAGS: usize = 3000;
 
-// A log of which both mirrors know the metrics 5 and 2. The first appended 5, and the second 2; the other one doesn't
-// know it until it catches up.
-fn open_five_and_two<R: Wait + Abort>(rt: &R, alloc: Global) -> (BagLog, Mirror, Mirror)
-    ensures first { result.1.log ≡ result.0 }
-    ensures second { result.2.log ≡ result.0 }
-{
-    let (log, mut first, mut second) = open_mirrors(rt, alloc);
-    expect_unknown(rt, &first, 5);
-    expect_found(rt, alloc, &log, &mut first, 5, Ok(0));
-    expect_unknown(rt, &second, 5);
-    expect_caught_up(rt, alloc, &log, &mut second, Ok(1));
-    expect_found(rt, alloc, &log, &mut second, 5, Ok(0));
-    expect_unknown(rt, &second, 2);
-    expect_found(rt, alloc, &log, &mut second, 2, Ok(1));
-    expect_unknown(rt, &first, 2);
-    expect_caught_up(rt, alloc, &log, &mut first, Ok(2));
-    (log, first, second)
-}
+// Metrics lie this far apart, so that most take more than 32 bits.
+const APART: u64 = 1 << 51;
 
-#[test]
-fn a_metric_has_one_place(rt: HostRuntime) {
-    let (_, first, second) = open_five_and_two(&rt, rt.alloc());
-    expect_five_and_two(&rt, &first);
-    expect_five_and_two(&rt, &second);
-}
-
-// Access 1 has the chunk of this serial, and place 0 has none.
-fn expect_at_1<R: Wait + Abort>(rt: &R, log: &BagLog, mirror: &mut Mirror, serial: u64)
-    requires { mirror.old.log ≡ log.now }
-    ensures { mirror.new.log ≡ log.now }
-{
-    assert!(rt; finds_empty_at(rt, log, mirror, 0) && !finds_empty_at(rt, log, mirror, 1));
-    let got = get_at(rt, log, mirror, 1).expect(rt, "the chunk that was put");
-    assert!(rt; got.id().worker == 0 && got.id().serial == serial);
-    assert!(rt; get_at(rt, log, mirror, 0).is_none());
-}
-
-// The same of a chunk in its box.
-fn expect_boxed_at_1<R: Wait + Abort>(rt: &R, log: &BagLog, mirror: &mut Mirror, serial: u64)
-    requires { mirror.old.log ≡ log.now }
-    ensures { mirror.new.log ≡ log.now }
-{
-    assert!(rt; mirror.len() == 2);
-    let got = log.get_boxed_at(rt, mirror, 1);
-    let got = got.expect(rt, "the chunk that was put");
-    assert!(rt; got.id().worker == 0 && got.id().serial == serial);
-    assert!(rt; mirror.len() == 2);
-    assert!(rt; log.get_boxed_at(rt, mirror, 0).is_none());
-}
-
-fn put_boxed_at_1<R: Wait + Abort>(
+fn is_right<R: Wait + Abort>(
     rt: &R,
     alloc: Global,
     log: &BagLog,
     mirror: &mut Mirror,
-    serial: u64,
-)
+    call: LogCall,
+) -> bool
     requires { mirror.old.log ≡ log.now }
     ensures { mirror.new.log ≡ log.now }
 {
-    let boxed = Box::new(alloc, chunk_of(rt, 0, serial, &[8]));
-    let boxed = boxed.expect(rt, "memory for a chunk");
-    assert!(rt; mirror.len() == 2);
-    assert!(rt; log.put_boxed_at(rt, mirror, 1, boxed).is_ok());
+    match call {
+        LogCall::Find(metric, want) => log.find_or_append(rt, alloc, mirror, metric) == want,
+        LogCall::CatchUp(want) => log.catch_up(rt, alloc, mirror) == want,
+        LogCall::Has(metrics) => has_metrics(mirror, metrics),
+        LogCall::Lacks(metric) => mirror.place_of(metric).is_none(),
+        LogCall::At(place, call) => {
+            place < mirror.len() && is_right_at(rt, alloc, log, mirror, place, call)
+        }
+        LogCall::FindAll => finds_all(rt, alloc, log, mirror),
+        LogCall::HasAll => has_all(mirror),
+    }
 }
 
-// A log of which one mirror put two chunks at place 1, and the other got each from there.
-fn pass_chunks_on<R: Wait + Abort>(rt: &R, alloc: Global) -> (BagLog, Mirror, Mirror)
-    ensures first { result.1.log ≡ result.0 }
-    ensures second { result.2.log ≡ result.0 }
+fn has_metrics(mirror: &Mirror, metrics: &[u64]) -> bool {
+    for (place, &metric) in metrics.iter().enumerate() {
+        if mirror.place_of(metric) != Some(place)
+            || place >= mirror.len()
+            || mirror.metric_at(place) != metric
+        {
+            return false;
+        }
+    }
+    mirror.len() == metrics.len()
+}
+
+fn is_right_at<R: Wait + Abort>(
+    rt: &R,
+    alloc: Global,
+    log: &BagLog,
+    mirror: &mut Mirror,
+    place: usize,
+    call: Call,
+) -> bool
+    requires log { mirror.old.log ≡ log.now }
+    requires place { place < length mirror.old.accesses }
+    ensures { mirror.new.log ≡ log.now }
 {
-    let (log, mut first, mut second) = open_five_and_two(rt, alloc);
-    put_each(rt, alloc, &log, &mut first, &[(0, 2)]);
-    expect_at_1(rt, &log, &mut second, 0);
-    put_boxed_at_1(rt, alloc, &log, &mut first, 1);
-    expect_boxed_at_1(rt, &log, &mut second, 1);
-    (log, first, second)
+    match call {
+        Call::Put(serial, vertices) => {
+            let chunk = chunk_of(rt, 0, serial, vertices);
+            log.put_at(rt, mirror, place, chunk).is_ok()
+        }
+        Call::PutBoxed(serial, vertices) => {
+            let chunk = boxed(rt, alloc, serial, vertices);
+            log.put_boxed_at(rt, mirror, place, chunk).is_ok()
+        }
+        Call::Get(serial, vertices) => holds(log.get_at(rt, mirror, place), serial, vertices),
+        Call::GetBoxed(serial, vertices) => {
+            let got = log.get_boxed_at(rt, mirror, place);
+            holds(got.map(Box::into_inner), serial, vertices)
+        }
+        Call::FindNone => {
+            log.finds_empty_at(mirror, place) && log.get_boxed_at(rt, mirror, place).is_none()
+        }
+        Call::FindSome => !log.finds_empty_at(mirror, place),
+    }
+}
+
+fn finds_all<R: Wait>(rt: &R, alloc: Global, log: &BagLog, mirror: &mut Mirror) -> bool
+    requires { mirror.old.log ≡ log.now }
+    ensures { mirror.new.log ≡ log.now }
+{
+    for place in 0..BAGS {
+        let metric = (place as u64).wrapping_mul(APART);
+        if log.find_or_append(rt, alloc, mirror, metric) != Ok(place) {
+            return false;
+        }
+    }
+    true
+}
+
+fn has_all(mirror: &Mirror) -> bool {
+    for place in 0..BAGS {
+        if mirror.place_of((place as u64).wrapping_mul(APART)) != Some(place) {
+            return false;
+        }
+    }
+    true
+}
+
+// Each call is made through the mirror of its number, and gives what it should.
+fn expect_calls<R: Wait + Abort>(
+    rt: &R,
+    alloc: Global,
+    log: &BagLog,
+    mirrors: &mut [Mirror],
+    row: usize,
+    calls: &[(usize, LogCall)],
+)
+    requires { All (IsMirrorOf log.now) mirrors.old }
+    ensures { All (IsMirrorOf log.now) mirrors.new }
+{
+    for (at, &(number, call)) in calls.iter().enumerate() {
+        let gives = number < mirrors.len() && is_right(rt, alloc, log, &mut mirrors[number], call);
+        assert!(rt; gives, "row {row}, call {at}");
+    }
+}
+
+// The second mirror appends a bag, and the first another; neither knows of the other's until it catches up or asks.
+// Then two chunks go through the bag at place 1, and nothing is found at place 0.
+const HANDED_ON: &[(usize, LogCall)] = &[
+    (1, LogCall::Lacks(5)),
+    (1, LogCall::Find(5, Ok(0))),
+    (0, LogCall::Lacks(5)),
+    (0, LogCall::CatchUp(Ok(1))),
+    (0, LogCall::Find(5, Ok(0))),
+    (0, LogCall::Lacks(2)),
+    (0, LogCall::Find(2, Ok(1))),
+    (1, LogCall::Lacks(2)),
+    (1, LogCall::CatchUp(Ok(2))),
+    (0, LogCall::Has(&[5, 2])),
+    (1, LogCall::Has(&[5, 2])),
+    (1, LogCall::At(1, Call::Put(0, &[5]))),
+    (0, LogCall::At(0, Call::FindNone)),
+    (0, LogCall::At(1, Call::FindSome)),
+    (0, LogCall::At(1, Call::Get(0, &[5]))),
+    (1, LogCall::At(1, Call::PutBoxed(1, &[8]))),
+    (0, LogCall::At(1, Call::GetBoxed(1, &[8]))),
+    (0, LogCall::At(1, Call::FindNone)),
+];
+
+// Chunks by turns in four bags.
+const FIVE_CHUNKS: &[(usize, LogCall)] = &[
+    (0, LogCall::Find(9, Ok(0))),
+    (0, LogCall::Find(4, Ok(1))),
+    (0, LogCall::Find(6, Ok(2))),
+    (0, LogCall::At(0, Call::Put(0, &[5]))),
+    (0, LogCall::At(1, Call::Put(1, &[5]))),
+    (0, LogCall::At(0, Call::Put(2, &[5]))),
+    (0, LogCall::At(2, Call::Put(3, &[5]))),
+    (0, LogCall::At(1, Call::Put(4, &[5]))),
+];
+
+// The passes that nobody claimed are joined in.
+const UNCLAIMED: &[(usize, LogCall)] = &[
+    (2, LogCall::Find(5, Ok(0))),
+    (2, LogCall::At(0, Call::Put(7, &[5]))),
+];
+
+// The log has no passes any more for a mirror that was not handed in.
+const TAKEN: &[(usize, LogCall)] = &[
+    (0, LogCall::CatchUp(Err(LogFault::Taken))),
+    (0, LogCall::Find(5, Err(LogFault::Taken))),
+    (0, LogCall::Has(&[])),
+];
+
+// Two of three mirrors claim their passes.
+const TWO_CLAIMED: &[(usize, LogCall)] = &[
+    (2, LogCall::Find(5, Ok(0))),
+    (1, LogCall::CatchUp(Ok(1))),
+];
+
+// A drain that fails gives the log back: a mirror that was not handed in is answered, and does not wait.
+const GOES_ON: &[(usize, LogCall)] = &[
+    (1, LogCall::Find(5, Ok(0))),
+    (0, LogCall::CatchUp(Err(LogFault::Taken))),
+    (0, LogCall::Find(9, Err(LogFault::Taken))),
+];
+
+const MANY_BAGS: &[(usize, LogCall)] = &[
+    (0, LogCall::FindAll),
+    (1, LogCall::CatchUp(Ok(BAGS))),
+    (1, LogCall::HasAll),
+];
+
+// How many of the last mirrors are handed in, and what is left.
+type Drain = (usize, Result<&'static [u64], SettleFault>);
+
+const MISSING: Drain = (0, Err(SettleFault::Missing));
+
+// The workers of a log, what is called, how it is drained once and again, and what is called then.
+type Row = (
+    u32,
+    &'static [(usize, LogCall)],
+    &'static [Drain],
+    &'static [(usize, LogCall)],
+);
+
+const ROWS: [Row; 7] = [
+    (2, HANDED_ON, &[(2, Ok(&[]))], &[]),
+    (
+        2,
+        HANDED_ON,
+        &[(1, Err(SettleFault::Missing)), MISSING],
+        &[],
+    ),
+    (2, &[], &[MISSING, (2, Ok(&[]))], &[]),
+    // By place, and then in the order of the bag.
+    (1, FIVE_CHUNKS, &[(1, Ok(&[0, 2, 1, 4, 3]))], &[]),
+    (3, UNCLAIMED, &[(1, Ok(&[7]))], TAKEN),
+    (3, TWO_CLAIMED, &[(1, Err(SettleFault::Missing))], GOES_ON),
+    (2, MANY_BAGS, &[(2, Ok(&[]))], &[]),
+];
+
+// Drains the log by the last mirrors, once and again.
+fn expect_drains<R: Wait + Abort>(
+    rt: &R,
+    alloc: Global,
+    log: &BagLog,
+    mirrors: &mut Vec<Mirror>,
+    row: usize,
+    drains: &[Drain],
+)
+    requires { All (IsMirrorOf log.now) mirrors.old.items }
+    ensures { All (IsMirrorOf log.now) mirrors.new.items }
+{
+    for &(handed, want) in drains {
+        let first = mirrors
+            .len()
+            .checked_sub(handed)
+            .expect(rt, "so many mirrors");
+        let last = mirrors.split_off(first).expect(rt, "memory for mirrors");
+        expect_left(rt, row, log.drain(rt, alloc, last), want);
+    }
+}
+
+fn expect_row<R: Wait + Abort>(
+    rt: &R,
+    alloc: Global,
+    row: usize,
+    (workers, calls, drains, after): Row,
+) {
+    assert!(rt; workers > 0);
+    let (log, mut mirrors) = open_log(rt, alloc, workers);
+    expect_calls(rt, alloc, &log, &mut mirrors, row, calls);
+    expect_drains(rt, alloc, &log, &mut mirrors, row, drains);
+    expect_calls(rt, alloc, &log, &mut mirrors, row, after);
 }
 
 #[test]
-fn nothing_is_left_of_what_was_got(rt: HostRuntime) {
-    let alloc = rt.alloc();
-    let (log, first, second) = pass_chunks_on(&rt, alloc);
-    let mirrors = list_of(&rt, alloc, [first, second]);
-    expect_log_drained(&rt, alloc, &log, mirrors, Ok(&[]));
-}
-
-#[test]
-fn passes_withheld_are_missing(rt: HostRuntime) {
-    let alloc = rt.alloc();
-    let (log, first, _) = pass_chunks_on(&rt, alloc);
-    let mirrors = list_of(&rt, alloc, [first]);
-    expect_log_drained(&rt, alloc, &log, mirrors, Err(SettleFault::Missing));
-    expect_log_drained(&rt, alloc, &log, Vec::new(alloc), Err(SettleFault::Missing));
-}
-
-#[test]
-fn a_log_without_bags_wants_a_mirror(rt: HostRuntime) {
-    let alloc = rt.alloc();
-    let (log, mirrors) = open_log(&rt, alloc, 2);
-    expect_log_drained(&rt, alloc, &log, Vec::new(alloc), Err(SettleFault::Missing));
-    expect_log_drained(&rt, alloc, &log, mirrors, Ok(&[]));
-}
-
-#[test]
-fn unclaimed_passes_are_joined_in(rt: HostRuntime) {
-    let alloc = rt.alloc();
-    let (log, mut first, mut second) = open_mirrors(&rt, alloc);
-    expect_found(&rt, alloc, &log, &mut first, 5, Ok(0));
-    let mirrors = list_of(&rt, alloc, [first]);
-    expect_log_drained(&rt, alloc, &log, mirrors, Ok(&[]));
-    expect_taken(&rt, alloc, &log, &mut second, 5);
-    assert!(rt; second.len() == 0);
-}
-
-#[test]
-fn chunks_left_stand_by_place_and_then_in_order(rt: HostRuntime) {
-    let alloc = rt.alloc();
-    let (log, mut mirrors) = open_log(&rt, alloc, 1);
-    let mut mirror = take_mirror(&rt, &log, &mut mirrors);
-    let chunks = [(0, 9), (1, 4), (2, 9), (3, 6), (4, 4)];
-    put_each(&rt, alloc, &log, &mut mirror, &chunks);
-    let mirrors = list_of(&rt, alloc, [mirror]);
-    expect_log_drained(&rt, alloc, &log, mirrors, Ok(&[0, 2, 1, 4, 3]));
+fn rows_of_calls(rt: HostRuntime) {
+    for (row, &row_of_calls) in ROWS.iter().enumerate() {
+        expect_row(&rt, rt.alloc(), row, row_of_calls);
+    }
 }

@@ -1,18 +1,18 @@
-//! Each call that may be refused memory, with one allocation of it refused: the chunk comes back, the mirror stays as
-//! it was, and made once more the call gives what was worked by hand. `tests/refusals` refuses each in turn;
+//! Each call that may be refused memory, with one allocation of it refused: nobody finds a chunk that was refused, and
+//! made once more the call gives what was worked by hand. `tests/refusals` refuses each in turn;
 //! `tests/refusals.tsv` has the calls.
 
-ghost use Rattle.std.specs.Prelude.{◌≡◌, ◌≢◌, ◌<◌, [], All, IfErr, IfOk};
+ghost use Rattle.std.specs.Prelude.{◌≡◌, All};
 ghost use Rattle.obim_bags.specs.Bags.{IsPassOf};
 ghost use Rattle.obim_bags.specs.Logs.{IsMirrorOf};
 
+use crate::tests::bags::boxed;
 use crate::tests::helpers::{
-    chunk_of, expect_caught_up, expect_chunk, expect_drained, expect_found, expect_left,
-    expect_log_drained, finds_empty_at, get, get_at, list_of, open_log, open_mirrors, open_two,
-    put, put_each, take_mirror,
+    chunk_of, expect_left, holds, open_bag, open_log, open_mirrors, open_two, put, put_by_metric,
+    take_mirror,
 };
 use crate::{Bag, BagLog, BagPass, Chunk, LogFault, Mirror, SettleFault};
-use route_walks::{Memory, refusable, tried_again};
+use route_walks::{Memory, refusable};
 use std::alloc::Global;
 use std::process::Abort;
 use std::sync::Wait;
@@ -26,99 +26,96 @@ const METRICS: u64 = 12;
 // What is left where chunks 1 to 8 were put.
 const REST: [u64; 8] = [1, 2, 3, 4, 5, 6, 7, 8];
 
-// The chunk that came back, out of its box.
-fn unboxed(put: Result<(), Box<Chunk>>) -> Result<(), Chunk>
-    requires { IfErr put (λ back. back.value.vertices ≢ []) }
-    ensures { IfErr result (λ back. back.vertices ≢ []) }
-{
-    match put {
-        Ok(()) => Ok(()),
-        Err(back) => Err(Box::into_inner(back)),
-    }
+fn opens<R: Wait>(rt: &R, alloc: Global) -> bool {
+    Bag::open(rt, alloc, 3, 2).is_ok()
 }
 
 #[test]
 fn of_bag_open(rt: HostRuntime) -> Result<(), Memory> {
-    let alloc = rt.alloc();
-    let (bag, passes) = tried_again!(rt, alloc, Memory, Bag::open(&rt, alloc, 3, 2));
-    assert!(rt; bag.metric() == 3 && passes.len() == 2);
+    let opened = refusable!(rt.alloc(), opens(&rt, rt.alloc()));
+    assert!(rt; opened || opens(&rt, rt.alloc()));
     Ok(())
 }
 
-// Puts a chunk, in a box or without one. Only the put may be refused memory.
-fn put_refusably<R: Wait>(
-    rt: &R,
-    alloc: Global,
-    bag: &Bag,
-    pass: &mut BagPass,
-    is_boxed: bool,
-    chunk: Chunk,
-) -> Result<Result<(), Chunk>, Memory>
-    requires pass { IsPassOf bag.now pass.old }
-    requires filled { chunk.vertices ≢ [] }
-    ensures pass { IsPassOf bag.now pass.new }
-    ensures filled { IfOk result (λ given. IfErr given (λ back. back.vertices ≢ [])) }
+// A chunk that is refused is kept.
+fn put_kept<R: Wait + Abort>(rt: &R, bag: &Bag, pass: &mut BagPass, kept: &mut Option<Chunk>)
+    requires { IsPassOf bag.now pass.old }
+    ensures { IsPassOf bag.now pass.new }
 {
-    if !is_boxed {
-        return Ok(refusable!(alloc, bag.put(rt, pass, chunk)));
-    }
-    let boxed = Box::new(alloc, chunk)?;
-    Ok(unboxed(refusable!(alloc, bag.put_boxed(rt, pass, boxed))))
+    let chunk = kept.take().expect(rt, "a chunk");
+    assert!(rt; chunk.len() > 0);
+    *kept = bag.put(rt, pass, chunk).err();
 }
 
-// One pass puts a chunk, and the other gets it. A chunk that comes back is the same, and nobody finds it in the bag
-// until it is put again.
-fn put_again<R: Wait + Abort>(
+// One pass puts a chunk, and the other gets it, time and again. Nobody finds a chunk that was refused until it is put
+// again.
+fn put_each<R: Wait + Abort>(
     rt: &R,
     alloc: Global,
     bag: &Bag,
     first: &mut BagPass,
     second: &mut BagPass,
-    is_boxed: bool,
-    serial: u64,
 ) -> Result<(), Memory>
-    requires first { IsPassOf bag.now first.old }
-    requires second { IsPassOf bag.now second.old }
-    ensures first { IsPassOf bag.now first.new }
-    ensures second { IsPassOf bag.now second.new }
+    requires { IsPassOf bag.now first.old × IsPassOf bag.now second.old }
 {
-    let chunk = chunk_of(rt, 0, serial, &[5]);
-    let id = chunk.id();
-    if let Err(back) = put_refusably(rt, alloc, bag, first, is_boxed, chunk)? {
-        assert!(rt; back.id() == id && back.len() == 1);
-        assert!(rt; bag.finds_empty(second));
-        assert!(rt; put_refusably(rt, alloc, bag, first, is_boxed, back)?.is_ok());
-    }
-    expect_chunk(rt, get(rt, bag, second), serial, &[5]);
-    assert!(rt; bag.finds_empty(second));
-    Ok(())
-}
-
-fn put_each_again<R: Wait + Abort>(rt: &R, alloc: Global, is_boxed: bool) -> Result<(), Memory> {
-    let (bag, mut first, mut second) = open_two(rt, alloc);
     for serial in 0..CHUNKS {
-        put_again(rt, alloc, &bag, &mut first, &mut second, is_boxed, serial)?;
+        let mut kept = Some(chunk_of(rt, 0, serial, &[5]));
+        refusable!(alloc, put_kept(rt, bag, first, &mut kept));
+        if kept.is_some() {
+            assert!(rt; bag.finds_empty(second));
+            put_kept(rt, bag, first, &mut kept);
+        }
+        assert!(rt; holds(bag.get(rt, second), serial, &[5]));
     }
     Ok(())
 }
 
 #[test]
-fn of_bag_put(rt: HostRuntime) -> Result<(), Memory> {
-    put_each_again(&rt, rt.alloc(), false)
+fn of_bag_put(rt: HostRuntime) {
+    let (bag, mut first, mut second) = open_two(&rt, rt.alloc());
+    assert!(rt; put_each(&rt, rt.alloc(), &bag, &mut first, &mut second).is_ok());
+}
+
+// The same of a chunk in its box.
+fn put_boxed_kept<R: Wait + Abort>(
+    rt: &R,
+    bag: &Bag,
+    pass: &mut BagPass,
+    kept: &mut Option<Box<Chunk>>,
+)
+    requires { IsPassOf bag.now pass.old }
+    ensures { IsPassOf bag.now pass.new }
+{
+    let chunk = kept.take().expect(rt, "a chunk");
+    assert!(rt; chunk.len() > 0);
+    *kept = bag.put_boxed(rt, pass, chunk).err();
+}
+
+fn put_boxed_each<R: Wait + Abort>(
+    rt: &R,
+    alloc: Global,
+    bag: &Bag,
+    first: &mut BagPass,
+    second: &mut BagPass,
+) -> Result<(), Memory>
+    requires { IsPassOf bag.now first.old × IsPassOf bag.now second.old }
+{
+    for serial in 0..CHUNKS {
+        let mut kept = Some(boxed(rt, alloc, serial, &[5]));
+        refusable!(alloc, put_boxed_kept(rt, bag, first, &mut kept));
+        if kept.is_some() {
+            assert!(rt; bag.finds_empty(second));
+            put_boxed_kept(rt, bag, first, &mut kept);
+        }
+        assert!(rt; holds(bag.get(rt, second), serial, &[5]));
+    }
+    Ok(())
 }
 
 #[test]
-fn of_bag_put_boxed(rt: HostRuntime) -> Result<(), Memory> {
-    put_each_again(&rt, rt.alloc(), true)
-}
-
-// A bag of which a few chunks are left, and all of its passes.
-fn left_over<R: Wait + Abort>(rt: &R, alloc: Global) -> (Bag, Vec<BagPass>)
-    ensures { All (IsPassOf result.0) result.1.items }
-{
-    let (bag, mut first, second) = open_two(rt, alloc);
-    put_nine(rt, &bag, &mut first);
-    (bag, list_of(rt, alloc, [first, second]))
+fn of_bag_put_boxed(rt: HostRuntime) {
+    let (bag, mut first, mut second) = open_two(&rt, rt.alloc());
+    assert!(rt; put_boxed_each(&rt, rt.alloc(), &bag, &mut first, &mut second).is_ok());
 }
 
 // Puts nine chunks and gets the first.
@@ -129,20 +126,19 @@ fn put_nine<R: Wait + Abort>(rt: &R, bag: &Bag, pass: &mut BagPass)
     for serial in 0..9 {
         put(rt, bag, pass, chunk_of(rt, 0, serial, &[5]));
     }
-    expect_chunk(rt, get(rt, bag, pass), 0, &[5]);
+    assert!(rt; holds(bag.get(rt, pass), 0, &[5]));
 }
 
-// Whether memory was refused, and nothing is given. Else all that is left is.
-fn is_refused(rt: &impl Abort, drained: Result<Vec<Chunk>, SettleFault>) -> bool {
+// Whether all that is left is given. Else memory was refused, and nothing is.
+fn is_all(rt: &impl Abort, drained: Result<Vec<Chunk>, SettleFault>) -> bool {
     if let Err(SettleFault::Memory) = drained {
-        return true;
+        return false;
     }
-    expect_left(rt, drained, Ok(&REST));
-    false
+    expect_left(rt, 0, drained, Ok(&REST));
+    true
 }
 
-// Drains a bag by these passes, where memory may be refused: whether it was.
-fn drain_refusably<R: Wait + Abort>(
+fn drain<R: Wait + Abort>(
     rt: &R,
     alloc: Global,
     bag: &Bag,
@@ -150,221 +146,217 @@ fn drain_refusably<R: Wait + Abort>(
 ) -> Result<bool, Memory>
     requires { All (IsPassOf bag.now) passes.items }
 {
-    let drained = refusable!(alloc, bag.drain(rt, alloc, passes));
-    Ok(is_refused(rt, drained))
+    Ok(refusable!(alloc, is_all(rt, bag.drain(rt, alloc, passes))))
+}
+
+fn drain_filled<R: Wait + Abort>(rt: &R, alloc: Global) -> bool {
+    let (bag, mut passes) = open_bag(rt, alloc, 2);
+    assert!(rt; passes.len() == 2);
+    put_nine(rt, &bag, &mut passes[0]);
+    drain(rt, alloc, &bag, passes).expect(rt, "memory for the signals")
 }
 
 #[test]
 fn of_bag_drain(rt: HostRuntime) {
-    let alloc = rt.alloc();
-    let (bag, passes) = left_over(&rt, alloc);
-    let refused = drain_refusably(&rt, alloc, &bag, passes);
-    if refused.expect(&rt, "memory for the signals") {
-        let (same, others) = left_over(&rt, alloc);
-        expect_drained(&rt, alloc, &same, others, Ok(&REST));
-    }
+    assert!(rt; drain_filled(&rt, rt.alloc()) || drain_filled(&rt, rt.alloc()));
+}
+
+fn opens_log(alloc: Global) -> bool {
+    BagLog::open(alloc, 2).is_ok()
 }
 
 #[test]
 fn of_bag_log_open(rt: HostRuntime) -> Result<(), Memory> {
-    let alloc = rt.alloc();
-    let (_, mirrors) = tried_again!(rt, alloc, Memory, BagLog::open(alloc, 2));
-    expect_two_empty(&rt, &mirrors);
+    let opened = refusable!(rt.alloc(), opens_log(rt.alloc()));
+    assert!(rt; opened || opens_log(rt.alloc()));
     Ok(())
 }
 
-// These are two mirrors, without a bag.
-fn expect_two_empty(rt: &impl Abort, mirrors: &[Mirror]) {
-    assert!(rt; mirrors.len() == 2);
-    assert!(rt; mirrors[0].len() == 0 && mirrors[1].len() == 0);
-}
-
-// Finds a metric's bag, at this place. A refusal leaves the mirror without it.
+// Finds the bag of a metric, which is its place.
 fn find_again<R: Wait + Abort>(
     rt: &R,
     alloc: Global,
     log: &BagLog,
     mirror: &mut Mirror,
     metric: u64,
-    place: usize,
 ) -> Result<(), Memory>
     requires { mirror.old.log ≡ log.now }
     ensures { mirror.new.log ≡ log.now }
 {
-    let len = mirror.len();
-    let found = refusable!(alloc, log.find_or_append(rt, alloc, mirror, metric));
+    let mut found = refusable!(alloc, log.find_or_append(rt, alloc, mirror, metric));
     if found == Err(LogFault::Memory) {
-        assert!(rt; mirror.len() == len && mirror.place_of(metric).is_none());
-        expect_found(rt, alloc, log, mirror, metric, Ok(place));
-    } else {
-        assert_eq!(rt; found, Ok(place));
+        found = log.find_or_append(rt, alloc, mirror, metric);
     }
+    assert!(rt; found == Ok(metric as usize), "metric {metric}");
     Ok(())
 }
 
-// Catches up, to `count` bags. A refusal leaves the mirror as it was.
+// Each metric has one bag, whichever allocation was refused: the other mirror finds it at the same place.
+fn find_each<R: Wait + Abort>(rt: &R, alloc: Global, log: &BagLog, mirrors: &mut [Mirror])
+    requires { All (IsMirrorOf log.now) mirrors.old }
+{
+    assert!(rt; mirrors.len() == 2);
+    for turn in 0..2 * METRICS {
+        let mirror = &mut mirrors[(turn % 2) as usize];
+        assert!(rt; find_again(rt, alloc, log, mirror, turn / 2).is_ok());
+    }
+    assert!(rt; log.catch_up(rt, alloc, &mut mirrors[1]) == Ok(METRICS as usize));
+}
+
+#[test]
+fn of_bag_log_find_or_append(rt: HostRuntime) {
+    let (log, mut mirrors) = open_log(&rt, rt.alloc(), 2);
+    find_each(&rt, rt.alloc(), &log, &mut mirrors);
+}
+
+// Catches up, to `count` bags.
 fn catch_up_again<R: Wait + Abort>(
     rt: &R,
     alloc: Global,
     log: &BagLog,
     mirror: &mut Mirror,
-    count: usize,
+    count: u64,
 ) -> Result<(), Memory>
     requires { mirror.old.log ≡ log.now }
     ensures { mirror.new.log ≡ log.now }
 {
-    let len = mirror.len();
-    let caught = refusable!(alloc, log.catch_up(rt, alloc, mirror));
+    let mut caught = refusable!(alloc, log.catch_up(rt, alloc, mirror));
     if caught == Err(LogFault::Memory) {
-        assert_eq!(rt; mirror.len(), len);
-        expect_caught_up(rt, alloc, log, mirror, Ok(count));
-    } else {
-        assert_eq!(rt; caught, Ok(count));
+        caught = log.catch_up(rt, alloc, mirror);
     }
+    assert!(rt; caught == Ok(count as usize), "{count} bags");
     Ok(())
 }
 
-// Each metric has one bag, whichever allocation was refused: the other mirror finds it at the same place.
-fn find_each_again<R: Wait + Abort>(
+// One mirror appends the bags, and at every fourth the other catches up.
+fn append_each<R: Wait + Abort>(
     rt: &R,
     alloc: Global,
     log: &BagLog,
     first: &mut Mirror,
     second: &mut Mirror,
-) -> Result<(), Memory>
+)
     requires { (first.old.log ≡ log.now) × (second.old.log ≡ log.now) }
 {
     for metric in 0..METRICS {
-        find_again(rt, alloc, log, first, metric, metric as usize)?;
-        find_again(rt, alloc, log, second, metric, metric as usize)?;
+        assert!(rt; log.find_or_append(rt, alloc, first, metric) == Ok(metric as usize));
+        if metric % 4 == 3 {
+            assert!(rt; catch_up_again(rt, alloc, log, second, metric + 1).is_ok());
+            assert!(rt; second.place_of(metric) == Some(metric as usize));
+        }
     }
-    expect_caught_up(rt, alloc, log, second, Ok(METRICS as usize));
-    Ok(())
 }
 
 #[test]
-fn of_bag_log_find_or_append(rt: HostRuntime) -> Result<(), Memory> {
-    let alloc = rt.alloc();
-    let (log, mut first, mut second) = open_mirrors(&rt, alloc);
-    find_each_again(&rt, alloc, &log, &mut first, &mut second)
+fn of_bag_log_catch_up(rt: HostRuntime) {
+    let (log, mut first, mut second) = open_mirrors(&rt, rt.alloc());
+    append_each(&rt, rt.alloc(), &log, &mut first, &mut second);
 }
 
-// One mirror appends four bags from this metric on, and then the other catches up.
-fn append_four<R: Wait + Abort>(
-    rt: &R,
-    alloc: Global,
-    log: &BagLog,
-    first: &mut Mirror,
-    second: &mut Mirror,
-    from: u64,
-) -> Result<(), Memory>
-    requires log { (first.old.log ≡ log.now) × (second.old.log ≡ log.now) }
-    requires from { from < 12 }
-    ensures { (first.new.log ≡ log.now) × (second.new.log ≡ log.now) }
+// A log of one worker with two bags, the second of this metric.
+fn open_two_bags<R: Wait + Abort>(rt: &R, alloc: Global) -> (BagLog, Mirror)
+    ensures { result.1.log ≡ result.0 }
 {
-    for metric in from..from + 4 {
-        expect_found(rt, alloc, log, first, metric, Ok(metric as usize));
-    }
-    catch_up_again(rt, alloc, log, second, from as usize + 4)?;
-    let last = from + 3;
-    assert_eq!(rt; second.place_of(last), Some(last as usize));
-    Ok(())
+    let (log, mut mirrors) = open_log(rt, alloc, 1);
+    let mut mirror = take_mirror(rt, &log, &mut mirrors);
+    assert!(rt; log.find_or_append(rt, alloc, &mut mirror, 0) == Ok(0));
+    assert!(rt; log.find_or_append(rt, alloc, &mut mirror, METRICS) == Ok(1));
+    (log, mirror)
 }
 
-fn append_thrice<R: Wait + Abort>(
-    rt: &R,
-    alloc: Global,
-    log: &BagLog,
-    first: &mut Mirror,
-    second: &mut Mirror,
-) -> Result<(), Memory>
-    requires { (first.old.log ≡ log.now) × (second.old.log ≡ log.now) }
-{
-    append_four(rt, alloc, log, first, second, 0)?;
-    append_four(rt, alloc, log, first, second, 4)?;
-    append_four(rt, alloc, log, first, second, 8)
-}
-
-#[test]
-fn of_bag_log_catch_up(rt: HostRuntime) -> Result<(), Memory> {
-    let alloc = rt.alloc();
-    let (log, mut first, mut second) = open_mirrors(&rt, alloc);
-    append_thrice(&rt, alloc, &log, &mut first, &mut second)
-}
-
-// Puts a chunk at place 1, in a box or without one. Only the put may be refused memory.
-fn put_at_refusably<R: Wait + Abort>(
-    rt: &R,
-    alloc: Global,
-    log: &BagLog,
-    mirror: &mut Mirror,
-    is_boxed: bool,
-    chunk: Chunk,
-) -> Result<Result<(), Chunk>, Memory>
-    requires log { mirror.old.log ≡ log.now }
-    requires filled { chunk.vertices ≢ [] }
-    ensures log { mirror.new.log ≡ log.now }
-    ensures filled { IfOk result (λ given. IfErr given (λ back. back.vertices ≢ [])) }
-{
-    assert!(rt; mirror.len() == 2);
-    if !is_boxed {
-        return Ok(refusable!(alloc, log.put_at(rt, mirror, 1, chunk)));
-    }
-    let boxed = Box::new(alloc, chunk)?;
-    Ok(unboxed(refusable!(alloc, log.put_boxed_at(rt, mirror, 1, boxed))))
-}
-
-// Puts a chunk into the second bag of two, and gets it. A chunk that comes back is the same, and isn't in the bag.
-fn put_at_again<R: Wait + Abort>(
-    rt: &R,
-    alloc: Global,
-    log: &BagLog,
-    mirror: &mut Mirror,
-    is_boxed: bool,
-    serial: u64,
-) -> Result<(), Memory>
+// Puts a chunk into the second bag of two. One that is refused is kept.
+fn put_kept_at<R: Wait + Abort>(rt: &R, log: &BagLog, mirror: &mut Mirror, kept: &mut Option<Chunk>)
     requires { mirror.old.log ≡ log.now }
     ensures { mirror.new.log ≡ log.now }
 {
-    let chunk = chunk_of(rt, 0, serial, &[5]);
-    let id = chunk.id();
-    if let Err(back) = put_at_refusably(rt, alloc, log, mirror, is_boxed, chunk)? {
-        assert!(rt; back.id() == id && back.len() == 1);
-        assert!(rt; finds_empty_at(rt, log, mirror, 1));
-        assert!(rt; put_at_refusably(rt, alloc, log, mirror, is_boxed, back)?.is_ok());
-    }
-    let got = get_at(rt, log, mirror, 1);
-    expect_chunk(rt, got.expect(rt, "the chunk that was put"), serial, &[5]);
-    Ok(())
+    let chunk = kept.take().expect(rt, "a chunk");
+    assert!(rt; chunk.len() > 0 && mirror.len() == 2);
+    *kept = log.put_at(rt, mirror, 1, chunk).err();
 }
 
-fn put_each_at_again<R: Wait + Abort>(
+// The same of a chunk in its box.
+fn put_boxed_kept_at<R: Wait + Abort>(
+    rt: &R,
+    log: &BagLog,
+    mirror: &mut Mirror,
+    kept: &mut Option<Box<Chunk>>,
+)
+    requires { mirror.old.log ≡ log.now }
+    ensures { mirror.new.log ≡ log.now }
+{
+    let chunk = kept.take().expect(rt, "a chunk");
+    assert!(rt; chunk.len() > 0 && mirror.len() == 2);
+    *kept = log.put_boxed_at(rt, mirror, 1, chunk).err();
+}
+
+fn finds_empty<R: Abort>(rt: &R, log: &BagLog, mirror: &mut Mirror) -> bool
+    requires { mirror.old.log ≡ log.now }
+    ensures { mirror.new.log ≡ log.now }
+{
+    assert!(rt; mirror.len() == 2);
+    log.finds_empty_at(mirror, 1)
+}
+
+// The chunk of this serial is got.
+fn expect_got<R: Wait + Abort>(rt: &R, log: &BagLog, mirror: &mut Mirror, serial: u64)
+    requires { mirror.old.log ≡ log.now }
+    ensures { mirror.new.log ≡ log.now }
+{
+    assert!(rt; mirror.len() == 2);
+    assert!(rt; holds(log.get_at(rt, mirror, 1), serial, &[5]));
+}
+
+// Puts chunks and gets them. One that is refused isn't in the bag until it is put again.
+fn put_each_at<R: Wait + Abort>(
     rt: &R,
     alloc: Global,
     log: &BagLog,
     mirror: &mut Mirror,
-    is_boxed: bool,
 ) -> Result<(), Memory>
     requires { mirror.old.log ≡ log.now }
 {
-    expect_found(rt, alloc, log, mirror, 0, Ok(0));
-    expect_found(rt, alloc, log, mirror, METRICS, Ok(1));
     for serial in 0..CHUNKS {
-        put_at_again(rt, alloc, log, mirror, is_boxed, serial)?;
+        let mut kept = Some(chunk_of(rt, 0, serial, &[5]));
+        refusable!(alloc, put_kept_at(rt, log, mirror, &mut kept));
+        if kept.is_some() {
+            assert!(rt; finds_empty(rt, log, mirror));
+            put_kept_at(rt, log, mirror, &mut kept);
+        }
+        expect_got(rt, log, mirror, serial);
+    }
+    Ok(())
+}
+
+fn put_boxed_each_at<R: Wait + Abort>(
+    rt: &R,
+    alloc: Global,
+    log: &BagLog,
+    mirror: &mut Mirror,
+) -> Result<(), Memory>
+    requires { mirror.old.log ≡ log.now }
+{
+    for serial in 0..CHUNKS {
+        let mut kept = Some(boxed(rt, alloc, serial, &[5]));
+        refusable!(alloc, put_boxed_kept_at(rt, log, mirror, &mut kept));
+        if kept.is_some() {
+            assert!(rt; finds_empty(rt, log, mirror));
+            put_boxed_kept_at(rt, log, mirror, &mut kept);
+        }
+        expect_got(rt, log, mirror, serial);
     }
     Ok(())
 }
 
 #[test]
-fn of_bag_log_put_at(rt: HostRuntime) -> Result<(), Memory> {
-    let (log, mut mirror, _) = open_mirrors(&rt, rt.alloc());
-    put_each_at_again(&rt, rt.alloc(), &log, &mut mirror, false)
+fn of_bag_log_put_at(rt: HostRuntime) {
+    let (log, mut mirror) = open_two_bags(&rt, rt.alloc());
+    assert!(rt; put_each_at(&rt, rt.alloc(), &log, &mut mirror).is_ok());
 }
 
 #[test]
-fn of_bag_log_put_boxed_at(rt: HostRuntime) -> Result<(), Memory> {
-    let (log, mut mirror, _) = open_mirrors(&rt, rt.alloc());
-    put_each_at_again(&rt, rt.alloc(), &log, &mut mirror, true)
+fn of_bag_log_put_boxed_at(rt: HostRuntime) {
+    let (log, mut mirror) = open_two_bags(&rt, rt.alloc());
+    assert!(rt; put_boxed_each_at(&rt, rt.alloc(), &log, &mut mirror).is_ok());
 }
 
 // Eight serials and metrics by turns, so that the serials rise by bag.
@@ -379,20 +371,17 @@ const EIGHT: [(u64, u64); 8] = [
     (8, 2),
 ];
 
-// A log of three workers, of which one put eight chunks into two bags, and another's mirror is apart.
-fn filled_log<R: Wait + Abort>(rt: &R, alloc: Global) -> (BagLog, Vec<Mirror>, Mirror)
-    ensures rest { All (IsMirrorOf result.0) result.1.items }
-    ensures apart { result.2.log ≡ result.0 }
+fn put_eight<R: Wait + Abort>(rt: &R, alloc: Global, log: &BagLog, mirror: &mut Mirror)
+    requires { mirror.old.log ≡ log.now }
+    ensures { mirror.new.log ≡ log.now }
 {
-    let (log, mut mirrors) = open_log(rt, alloc, 3);
-    let third = take_mirror(rt, &log, &mut mirrors);
-    assert!(rt; mirrors.len() > 0);
-    put_each(rt, alloc, &log, &mut mirrors[0], &EIGHT);
-    (log, mirrors, third)
+    for (serial, metric) in EIGHT {
+        let chunk = chunk_of(rt, 0, serial, &[5]);
+        put_by_metric(rt, alloc, log, mirror, metric, chunk);
+    }
 }
 
-// Drains a log by these mirrors, where memory may be refused: whether it was.
-fn drain_log_refusably<R: Wait + Abort>(
+fn drain_log<R: Wait + Abort>(
     rt: &R,
     alloc: Global,
     log: &BagLog,
@@ -400,28 +389,23 @@ fn drain_log_refusably<R: Wait + Abort>(
 ) -> Result<bool, Memory>
     requires { All (IsMirrorOf log.now) mirrors.items }
 {
-    let drained = refusable!(alloc, log.drain(rt, alloc, mirrors));
-    Ok(is_refused(rt, drained))
+    Ok(refusable!(alloc, is_all(rt, log.drain(rt, alloc, mirrors))))
 }
 
-// A call returns, though it may find its passes taken.
-fn expect_free<R: Wait + Abort>(rt: &R, alloc: Global, log: &BagLog, mirror: &mut Mirror)
-    requires { mirror.old.log ≡ log.now }
-{
-    if let Err(fault) = log.catch_up(rt, alloc, mirror) {
-        assert_eq!(rt; fault, LogFault::Taken);
-    }
+// Drains a log of three workers, of which one put eight chunks into two bags. After a refusal the slot is free: the
+// third worker is answered, though it may find its passes taken.
+fn drain_filled_log<R: Wait + Abort>(rt: &R, alloc: Global) -> bool {
+    let (log, mut mirrors) = open_log(rt, alloc, 3);
+    let mut third = take_mirror(rt, &log, &mut mirrors);
+    assert!(rt; mirrors.len() == 2);
+    put_eight(rt, alloc, &log, &mut mirrors[0]);
+    let drained = drain_log(rt, alloc, &log, mirrors).expect(rt, "memory for the signals");
+    let caught = log.catch_up(rt, alloc, &mut third);
+    assert!(rt; caught.is_ok() || caught == Err(LogFault::Taken));
+    drained
 }
 
-// After a refusal the slot is free for the third worker.
 #[test]
 fn of_bag_log_drain(rt: HostRuntime) {
-    let alloc = rt.alloc();
-    let (log, mirrors, mut third) = filled_log(&rt, alloc);
-    let refused = drain_log_refusably(&rt, alloc, &log, mirrors);
-    expect_free(&rt, alloc, &log, &mut third);
-    if refused.expect(&rt, "memory for the signals") {
-        let (same, others, _) = filled_log(&rt, alloc);
-        expect_log_drained(&rt, alloc, &same, others, Ok(&REST));
-    }
+    assert!(rt; drain_filled_log(&rt, rt.alloc()) || drain_filled_log(&rt, rt.alloc()));
 }

@@ -6,7 +6,6 @@ ghost use Rattle.obim_bags.specs.Logs.{IsMirrorOf};
 
 use crate::tests::helpers::{chunk_of, open_bag, open_log, put, put_by_metric};
 use crate::{Bag, BagLog, BagPass, Chunk, ChunkId, Mirror};
-use route_walks::Memory;
 use std::alloc::Global;
 use std::process::Abort;
 use std::sync::Wait;
@@ -20,12 +19,12 @@ const CHUNKS: u64 = 5000;
 const METRICS: u64 = 7;
 
 // How often each chunk of these workers came, by worker and then by serial: not yet.
-fn open_counts(alloc: Global, workers: u32) -> Result<Vec<AtomicU64>, Memory> {
+fn open_counts(rt: &impl Abort, alloc: Global, workers: u32) -> Vec<AtomicU64> {
     let mut counts = Vec::new(alloc);
     for _ in 0..u64::from(workers) * CHUNKS {
-        counts.push(AtomicU64::new(0))?;
+        assert!(rt; counts.push(AtomicU64::new(0)).is_ok());
     }
-    Ok(counts)
+    counts
 }
 
 fn count(rt: &impl Abort, counts: &[AtomicU64], chunk: &Chunk) {
@@ -42,7 +41,7 @@ fn expect_each_once(rt: &impl Abort, counts: &[AtomicU64], left: &[Chunk]) {
         count(rt, counts, chunk);
     }
     for count in counts {
-        assert_eq!(rt; count.load(Ordering::SeqCst), 1);
+        assert!(rt; count.load(Ordering::SeqCst) == 1);
     }
 }
 
@@ -91,7 +90,7 @@ fn work_by_threads<R: Threads + Wait + Abort + Sync>(
 fn share_bag<R: Threads + Wait + Abort + Sync>(rt: &R, alloc: Global, workers: u32)
     requires { 1 ≤ workers }
 {
-    let counts = open_counts(alloc, workers).expect(rt, "memory for counts");
+    let counts = open_counts(rt, alloc, workers);
     let (bag, mut passes) = open_bag(rt, alloc, workers);
     work_by_threads(rt, &bag, &mut passes, &counts);
     let left = bag.drain(rt, alloc, passes);
@@ -162,7 +161,7 @@ fn work_in_log_by_threads<R: Threads + Wait + Abort + Sync>(
 fn share_log<R: Threads + Wait + Abort + Sync>(rt: &R, alloc: Global, workers: u32)
     requires { 1 ≤ workers }
 {
-    let counts = open_counts(alloc, workers).expect(rt, "memory for counts");
+    let counts = open_counts(rt, alloc, workers);
     let (log, mut mirrors) = open_log(rt, alloc, workers);
     work_in_log_by_threads(rt, alloc, &log, &mut mirrors, &counts);
     let left = log.drain(rt, alloc, mirrors);
