@@ -1,23 +1,42 @@
-//! Two seats go through a schedule that was worked out by hand, callers sweep a graph, and labels are taken as a pause.
+//! Scripts of calls on the words, worked out by hand, and callers that know the words by their contracts.
 
-ghost use Rattle.std.specs.Prelude.{◌≡◌, ◌<◌, IfOk};
+ghost use Rattle.std.specs.Prelude.{◌≡◌, IfOk};
+ghost use Rattle.relax_core.specs.declared.views.TheConstants.{SHARES};
+ghost use Rattle.label_words.specs.Callers.{Stays};
+ghost use Rattle.label_words.specs.Closed.{IsEnd};
+ghost use Rattle.label_words.specs.Known.{IsIdle};
+ghost use Rattle.label_words.specs.Paused.{IsPause};
+ghost use Rattle.route_walks.specs.Walk.{AreSeeds};
 
 mod callers;
-mod pauses;
 mod refusals;
 
-use crate::{Closed, Step, Words, WorkSeat};
+use crate::{Closed, Paused, Step, Words, WorkSeat};
 use csr_graph::Csr;
 use relax_core::{Hand, SHARES};
-use route_walks::{ArcRec, EXAMPLE_SEEDS, INF, Seed, arcs};
+use route_walks::{ArcRec, EXAMPLE_SEEDS, INF, Memory, Seed, arcs, are_seeds};
 use std::alloc::Global;
 use std::process::Abort;
-use std::test::Fail;
 
 const ARCS: [ArcRec; 4] = arcs![(0, 1, 10), (0, 2, 1), (2, 1, 1), (1, 3, 1)];
 
+const SEVERAL: [Seed; 3] = [
+    Seed {
+        vertex: 2,
+        start: 5,
+    },
+    Seed {
+        vertex: 0,
+        start: 3,
+    },
+    Seed {
+        vertex: 2,
+        start: 4,
+    },
+];
+
 // A call, and what it returns.
-#[derive(Clone, Copy, Debug)]
+#[derive(Clone, Copy)]
 enum Call {
     Take(u32, bool),
     Read(u64),
@@ -30,54 +49,91 @@ enum Call {
 
 use Call::{Finish, Lowers, Raise, Read, See, SetMark, Take};
 
-// Which of the two seats calls, what it calls, and the credits that it has then.
-const SCHEDULE: [(u8, Call, u8); 31] = [
-    (0, Take(0, true), 1),
-    (0, Read(0), 1),
-    (0, Lowers(1, 10), 1),
-    (0, Raise, 2),
-    (0, SetMark(true), 1),
-    (1, Take(1, true), 1),
-    (1, Read(10), 1),
-    (0, Lowers(2, 1), 1),
-    (0, Raise, 2),
-    (0, SetMark(true), 1),
-    (0, Finish, 0),
-    (0, Take(2, true), 1),
-    (0, Read(1), 1),
-    (0, Lowers(1, 2), 1),
-    (0, Raise, 2),
-    (0, SetMark(true), 1),
-    (0, Finish, 0),
-    (1, Lowers(3, 11), 1),
-    (1, Raise, 2),
-    (1, SetMark(true), 1),
-    (1, Finish, 0),
-    (0, Take(1, true), 1),
-    (0, Read(2), 1),
-    (0, Lowers(3, 3), 1),
-    (0, Raise, 2),
-    (0, SetMark(false), 2),
-    (0, Finish, 0),
-    (1, Take(3, true), 1),
-    (1, Read(3), 1),
-    (1, Finish, 0),
-    (0, See(true), 0),
-];
-
-fn graph(alloc: Global) -> Result<Csr, Fail>
-    ensures { IfOk result (λ csr. csr.n ≡ 4) }
-{
-    Ok(Csr::build(alloc, 4, &ARCS)?)
+// What two seats of the words of four vertices do, and what the words are then: settled where no vertex is marked.
+struct Script {
+    name: &'static str,
+    seeds: &'static [Seed],
+    // Which of the two seats calls, what it calls, and the credits that it has then.
+    calls: &'static [(u8, Call, u8)],
+    labels: [u64; 4],
+    marked: &'static [u32],
 }
 
-// Whether the seat is as the call asks, the call returns what the schedule says, and the credits are
-// those of the schedule then.
+const SCRIPTS: [Script; 4] = [
+    Script {
+        name: "opened and closed",
+        seeds: &EXAMPLE_SEEDS,
+        calls: &[(0, Take(1, false), 0), (1, See(false), 0)],
+        labels: [0, INF, INF, INF],
+        marked: &[0],
+    },
+    Script {
+        name: "by two seats to the end",
+        seeds: &EXAMPLE_SEEDS,
+        calls: &[
+            (0, Take(0, true), 1),
+            (0, Read(0), 1),
+            (0, Lowers(1, 10), 1),
+            (0, Raise, 2),
+            (0, SetMark(true), 1),
+            (1, Take(1, true), 1),
+            (1, Read(10), 1),
+            (0, Lowers(2, 1), 1),
+            (0, Raise, 2),
+            (0, SetMark(true), 1),
+            (0, Finish, 0),
+            (0, Take(2, true), 1),
+            (0, Read(1), 1),
+            (0, Lowers(1, 2), 1),
+            (0, Raise, 2),
+            (0, SetMark(true), 1),
+            (0, Finish, 0),
+            (1, Lowers(3, 11), 1),
+            (1, Raise, 2),
+            (1, SetMark(true), 1),
+            (1, Finish, 0),
+            (0, Take(1, true), 1),
+            (0, Read(2), 1),
+            (0, Lowers(3, 3), 1),
+            (0, Raise, 2),
+            (0, SetMark(false), 2),
+            (0, Finish, 0),
+            (1, Take(3, true), 1),
+            (1, Read(3), 1),
+            (1, Finish, 0),
+            (0, See(true), 0),
+        ],
+        labels: [0, 2, 1, 3],
+        marked: &[],
+    },
+    Script {
+        name: "several seeds",
+        seeds: &SEVERAL,
+        calls: &[],
+        labels: [3, INF, 4, INF],
+        marked: &[0, 2],
+    },
+    Script {
+        name: "no seeds",
+        seeds: &[],
+        calls: &[(0, See(true), 0)],
+        labels: [INF; 4],
+        marked: &[],
+    },
+];
+
+fn graph(alloc: Global) -> Result<Csr, Memory>
+    ensures { IfOk result (λ csr. csr.n ≡ 4) }
+{
+    Csr::build(alloc, 4, &ARCS)
+}
+
+// Whether the seat is as the call asks, the call returns what the script says, and the credits are those of the
+// script then.
 fn goes(words: &Words, seat: &mut WorkSeat, csr: &Csr, call: Call, credits: u8) -> bool
     requires words { seat.old.words ≡ words.now }
     requires graph { csr.now ≡ seat.old.known.graph }
-    ensures words { seat.new.words ≡ seat.old.words }
-    ensures graph { seat.new.known.graph ≡ seat.old.known.graph }
+    ensures stays { Stays seat.old seat.new }
 {
     let answers = match (call, seat.hand()) {
         (Take(u, taken), Hand::Idle) if u < csr.n() => words.take(seat, u) == taken,
@@ -103,79 +159,124 @@ fn goes(words: &Words, seat: &mut WorkSeat, csr: &Csr, call: Call, credits: u8) 
     answers && seat.credits() == credits
 }
 
-// Goes through the schedule with two seats of the same words.
-fn play(rt: &impl Abort, words: &Words, left: &mut WorkSeat, right: &mut WorkSeat, csr: &Csr)
+// Stops where something does not hold, and says where in which script.
+fn expect(rt: &impl Abort, holds: bool, script: &Script, what: &str, number: usize) {
+    assert!(rt; holds, "{}: {what} {number}", script.name);
+}
+
+// Goes through the calls of a script with two seats of the same words.
+fn go_along(
+    rt: &impl Abort,
+    words: &Words,
+    left: &mut WorkSeat,
+    right: &mut WorkSeat,
+    csr: &Csr,
+    script: &Script,
+)
     requires words { (left.old.words ≡ words.now) × (right.old.words ≡ words.now) }
     requires graph { (csr.now ≡ left.old.known.graph) × (csr.now ≡ right.old.known.graph) }
-    ensures words { (left.new.words ≡ words.now) × (right.new.words ≡ words.now) }
+    ensures left { Stays left.old left.new }
+    ensures right { Stays right.old right.new }
 {
-    for i in 0..31_usize {
-        let (seat, call, credits) = SCHEDULE[i];
+    for i in 0..script.calls.len() {
+        let (seat, call, credits) = script.calls[i];
         let went = if seat == 0 {
             goes(words, left, csr, call, credits)
         } else {
             goes(words, right, csr, call, credits)
         };
-        assert!(rt; went, "call {i}");
+        expect(rt, went, script, "call", i);
     }
 }
 
-#[test]
-fn two_seats_go_through_the_schedule(rt: HostRuntime) -> Result<(), Fail> {
-    let csr = graph(rt.alloc())?;
-    let (words, mut left) = Words::open(rt.alloc(), &csr, &EXAMPLE_SEEDS)?;
-    let mut right = words.split(&mut left);
-    assert_eq!(rt; (left.share(), right.share()), (32768, 32768));
-    play(&rt, &words, &mut left, &mut right, &csr);
-    assert!(rt; left.saw() && !right.saw());
-    assert!(rt; left.hand() == Hand::Idle && right.hand() == Hand::Idle);
-    words.join(&mut left, right);
-    assert_eq!(rt; left.share(), SHARES);
-    match words.close(rt.alloc(), left)? {
-        Closed::Settled(labels) => assert_eq!(rt; labels.as_slice(), [0, 2, 1, 3].as_slice()),
-        Closed::Paused(_) => assert!(rt; false, "paused"),
-    }
-    Ok(())
+// Goes through a script with this seat and one that is split off it and joined again.
+fn play(rt: &impl Abort, words: &Words, seat: &mut WorkSeat, csr: &Csr, script: &Script)
+    requires words { seat.old.words ≡ words.now }
+    requires graph { csr.now ≡ seat.old.known.graph }
+    requires idle { IsIdle seat.old }
+    requires share { seat.old.known.view.share ≡ SHARES }
+    ensures words { seat.new.words ≡ words.now }
+    ensures graph { seat.new.known.graph ≡ csr.now }
+    ensures seeds { seat.new.known.seeds ≡ seat.old.known.seeds }
+    ensures idle { IsIdle seat.new }
+    ensures share { seat.new.known.view.share ≡ SHARES }
+{
+    let mut right = words.split(seat);
+    go_along(rt, words, seat, &mut right, csr, script);
+    assert!(rt; seat.hand() == Hand::Idle && right.hand() == Hand::Idle);
+    words.join(seat, right);
+    assert!(rt; seat.share() == SHARES);
 }
 
-#[test]
-fn marked_just_after_opening(rt: HostRuntime) -> Result<(), Fail> {
-    let csr = graph(rt.alloc())?;
-    let seeds = [Seed::new(2, 5), Seed::new(0, 3), Seed::new(2, 4)];
-    let (words, seat) = Words::open(rt.alloc(), &csr, &seeds)?;
-    assert_eq!(rt; words.marked_label(&seat, 0), Some(3));
-    assert_eq!(rt; words.marked_label(&seat, 1), None);
-    assert_eq!(rt; words.marked_label(&seat, 2), Some(4));
-    assert_eq!(rt; words.marked_label(&seat, 3), None);
-    Ok(())
-}
-
-#[test]
-fn closed_just_after_opening(rt: HostRuntime) -> Result<(), Fail> {
-    let csr = graph(rt.alloc())?;
-    let (words, mut seat) = Words::open(rt.alloc(), &csr, &EXAMPLE_SEEDS)?;
-    assert!(rt; !words.take(&mut seat, 1));
-    assert!(rt; !words.see(&mut seat));
-    let Closed::Paused(rest) = words.close(rt.alloc(), seat)? else {
-        assert!(rt; false, "settled");
-        return Ok(());
-    };
-    assert_eq!(rt; rest.labels(), [0, INF, INF, INF].as_slice());
+// The words give the label of each marked vertex of a script, and no other.
+fn expect_marked_labels(rt: &impl Abort, words: &Words, seat: &WorkSeat, script: &Script)
+    requires words { seat.now.words ≡ words.now }
+    requires vertices { seat.now.known.graph.n ≡ 4 }
+{
     for v in 0..4_u32 {
-        assert_eq!(rt; rest.marked(v), v == 0, "mark of {v}");
+        let place = v as usize;
+        let holds = match words.marked_label(seat, v) {
+            Some(label) => script.marked.contains(&v) && label == script.labels[place],
+            None => !script.marked.contains(&v),
+        };
+        expect(rt, holds, script, "label of", place);
     }
-    Ok(())
 }
 
-#[test]
-fn nothing_to_do_without_seeds(rt: HostRuntime) -> Result<(), Fail> {
-    let csr = graph(rt.alloc())?;
-    let (words, mut seat) = Words::open(rt.alloc(), &csr, &[])?;
-    assert!(rt; words.see(&mut seat));
-    let Closed::Settled(labels) = words.close(rt.alloc(), seat)? else {
-        assert!(rt; false, "paused");
-        return Ok(());
-    };
-    assert_eq!(rt; labels.as_slice(), [INF; 4].as_slice());
+// Closes words to what a script says.
+fn close(
+    rt: &impl Abort,
+    alloc: Global,
+    words: Words,
+    seat: WorkSeat,
+    script: &Script,
+) -> Result<Closed, Memory>
+    requires words { seat.words ≡ words }
+    requires vertices { seat.known.graph.n ≡ 4 }
+    requires idle { IsIdle seat }
+    requires share { seat.known.view.share ≡ SHARES }
+    ensures { IfOk result (λ closed. IsEnd seat.known.graph seat.known.seeds closed) }
+{
+    expect_marked_labels(rt, &words, &seat, script);
+    let closed = words.close(alloc, seat)?;
+    for v in 0..4_u32 {
+        let place = v as usize;
+        let (label, marked) = match &closed {
+            Closed::Settled(labels) => (labels[place], false),
+            Closed::Paused(rest) => (rest.labels()[place], rest.marked(v)),
+        };
+        let holds = label == script.labels[place] && marked == script.marked.contains(&v);
+        expect(rt, holds, script, "vertex", place);
+    }
+    Ok(closed)
+}
+
+// What words were closed to, as a pause.
+fn pause_of(alloc: Global, csr: &Csr, seeds: &[Seed], closed: Closed) -> Result<Paused, Memory>
+    requires seeds { AreSeeds csr.now.n seeds.now }
+    requires end { IsEnd csr.now seeds.now closed }
+    ensures { IfOk result (λ rest. IsPause csr.now seeds.now rest) }
+{
+    let _ = seeds;
+    let _n = csr.n();
+    match closed {
+        Closed::Paused(rest) => Ok(rest),
+        Closed::Settled(labels) => Paused::settled(alloc, labels),
+    }
+}
+
+// Goes through a script from opening to closing. What is left is taken as a pause, and comes back as it was.
+fn open_and_close(rt: &impl Abort, alloc: Global, csr: &Csr, script: &Script) -> Result<(), Memory>
+    requires { csr.now.n ≡ 4 }
+{
+    let sown = are_seeds(csr.n(), script.seeds);
+    assert!(rt; sown);
+    let (words, mut seat) = Words::open(alloc, csr, script.seeds)?;
+    play(rt, &words, &mut seat, csr, script);
+    let closed = close(rt, alloc, words, seat, script)?;
+    let rest = pause_of(alloc, csr, script.seeds, closed)?;
+    let (words, mut seat) = Words::reopen(alloc, csr, &rest)?;
+    words.see(&mut seat);
+    close(rt, alloc, words, seat, script)?;
     Ok(())
 }
