@@ -51,7 +51,6 @@ use Call::{Finish, Lowers, Raise, Read, See, SetMark, Take};
 
 // What two seats of the words of four vertices do, and what the words are then: settled where no vertex is marked.
 struct Script {
-    name: &'static str,
     seeds: &'static [Seed],
     // Which of the two seats calls, what it calls, and the credits that it has then.
     calls: &'static [(u8, Call, u8)],
@@ -59,68 +58,65 @@ struct Script {
     marked: &'static [u32],
 }
 
-const SCRIPTS: [Script; 4] = [
-    Script {
-        name: "opened and closed",
-        seeds: &EXAMPLE_SEEDS,
-        calls: &[(0, Take(1, false), 0), (1, See(false), 0)],
-        labels: [0, INF, INF, INF],
-        marked: &[0],
-    },
-    Script {
-        name: "by two seats to the end",
-        seeds: &EXAMPLE_SEEDS,
-        calls: &[
-            (0, Take(0, true), 1),
-            (0, Read(0), 1),
-            (0, Lowers(1, 10), 1),
-            (0, Raise, 2),
-            (0, SetMark(true), 1),
-            (1, Take(1, true), 1),
-            (1, Read(10), 1),
-            (0, Lowers(2, 1), 1),
-            (0, Raise, 2),
-            (0, SetMark(true), 1),
-            (0, Finish, 0),
-            (0, Take(2, true), 1),
-            (0, Read(1), 1),
-            (0, Lowers(1, 2), 1),
-            (0, Raise, 2),
-            (0, SetMark(true), 1),
-            (0, Finish, 0),
-            (1, Lowers(3, 11), 1),
-            (1, Raise, 2),
-            (1, SetMark(true), 1),
-            (1, Finish, 0),
-            (0, Take(1, true), 1),
-            (0, Read(2), 1),
-            (0, Lowers(3, 3), 1),
-            (0, Raise, 2),
-            (0, SetMark(false), 2),
-            (0, Finish, 0),
-            (1, Take(3, true), 1),
-            (1, Read(3), 1),
-            (1, Finish, 0),
-            (0, See(true), 0),
-        ],
-        labels: [0, 2, 1, 3],
-        marked: &[],
-    },
-    Script {
-        name: "several seeds",
-        seeds: &SEVERAL,
-        calls: &[],
-        labels: [3, INF, 4, INF],
-        marked: &[0, 2],
-    },
-    Script {
-        name: "no seeds",
-        seeds: &[],
-        calls: &[(0, See(true), 0)],
-        labels: [INF; 4],
-        marked: &[],
-    },
-];
+const OPENED: Script = Script {
+    seeds: &EXAMPLE_SEEDS,
+    calls: &[(0, Take(1, false), 0), (1, See(false), 0)],
+    labels: [0, INF, INF, INF],
+    marked: &[0],
+};
+
+const TO_THE_END: Script = Script {
+    seeds: &EXAMPLE_SEEDS,
+    calls: &[
+        (0, Take(0, true), 1),
+        (0, Read(0), 1),
+        (0, Lowers(1, 10), 1),
+        (0, Raise, 2),
+        (0, SetMark(true), 1),
+        (1, Take(1, true), 1),
+        (1, Read(10), 1),
+        (0, Lowers(2, 1), 1),
+        (0, Raise, 2),
+        (0, SetMark(true), 1),
+        (0, Finish, 0),
+        (0, Take(2, true), 1),
+        (0, Read(1), 1),
+        (0, Lowers(1, 2), 1),
+        (0, Raise, 2),
+        (0, SetMark(true), 1),
+        (0, Finish, 0),
+        (1, Lowers(3, 11), 1),
+        (1, Raise, 2),
+        (1, SetMark(true), 1),
+        (1, Finish, 0),
+        (0, Take(1, true), 1),
+        (0, Read(2), 1),
+        (0, Lowers(3, 3), 1),
+        (0, Raise, 2),
+        (0, SetMark(false), 2),
+        (0, Finish, 0),
+        (1, Take(3, true), 1),
+        (1, Read(3), 1),
+        (1, Finish, 0),
+        (0, See(true), 0),
+    ],
+    labels: [0, 2, 1, 3],
+    marked: &[],
+};
+
+const SEVERAL_SEEDS: Script = Script {
+    seeds: &SEVERAL,
+    calls: &[],
+    labels: [3, INF, 4, INF],
+    marked: &[0, 2],
+};
+
+const NO_SEEDS: Script = Script {
+    seeds: &[],
+    calls: &[(0, See(true), 0)],
+    labels: [INF; 4],
+    marked: &[],
+};
 
 fn graph(alloc: Global) -> Result<Csr, Memory>
     ensures { IfOk result (λ csr. csr.n ≡ 4) }
@@ -159,9 +155,9 @@ fn goes(words: &Words, seat: &mut WorkSeat, csr: &Csr, call: Call, credits: u8) 
     answers && seat.credits() == credits
 }
 
-// Stops where something does not hold, and says where in which script.
-fn expect(rt: &impl Abort, holds: bool, script: &Script, what: &str, number: usize) {
-    assert!(rt; holds, "{}: {what} {number}", script.name);
+// Stops where something does not hold, and says where in the script.
+fn expect(rt: &impl Abort, holds: bool, what: &str, number: usize) {
+    assert!(rt; holds, "{what} {number}");
 }
 
 // Goes through the calls of a script with two seats of the same words.
@@ -185,7 +181,7 @@ fn go_along(
         } else {
             goes(words, right, csr, call, credits)
         };
-        expect(rt, went, script, "call", i);
+        expect(rt, went, "call", i);
     }
 }
 
@@ -219,7 +215,7 @@ fn expect_marked_labels(rt: &impl Abort, words: &Words, seat: &WorkSeat, script:
             Some(label) => script.marked.contains(&v) && label == script.labels[place],
             None => !script.marked.contains(&v),
         };
-        expect(rt, holds, script, "label of", place);
+        expect(rt, holds, "label of", place);
     }
 }
 
@@ -246,7 +242,7 @@ fn close(
             Closed::Paused(rest) => (rest.labels()[place], rest.marked(v)),
         };
         let holds = label == script.labels[place] && marked == script.marked.contains(&v);
-        expect(rt, holds, script, "vertex", place);
+        expect(rt, holds, "vertex", place);
     }
     Ok(closed)
 }
