@@ -37,8 +37,6 @@ mod readers;
 mod solved;
 mod solves;
 mod teams;
-#[cfg(test)]
-mod tests;
 mod walked_pairs;
 mod watch;
 

@@ -12,7 +12,7 @@ pub(crate) enum Call {
     // Of these vertices at these metrics.
     Push(&'static [(u32, u64)]),
     Pop(&'static [Option<u32>]),
-    // What the pop of this number from now on draws.
+    // What the pop of this number from now on gives.
     Ahead(usize, Option<u32>),
     // Of each vertex below a count, in the order of the multiples of a step, at itself times a factor.
     PushAll(u32, u32, u64),

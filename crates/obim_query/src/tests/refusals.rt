@@ -2,15 +2,11 @@
 //! the answer, and made once more it writes the answer that was worked by hand. `tests/refusals` refuses each in
 //! turn; `tests/refusals.tsv` has the calls.
 
-use crate::answering::{answer, answer_bytes, answer_watched};
-use crate::asked::{Answer, AtOnce};
-use crate::counter::Counter;
-use crate::fault::Fault;
-use crate::figures::Figures;
 use crate::tests::added::{SIX_ADDED, SIX_ADDED_WALKS};
 use crate::tests::at_once::{SIX_SOURCES, SIX_SOURCES_ANSWER, asked_at_once};
 use crate::tests::pairs::{SIX_PAIRS, SIX_PAIRS_ANSWER, SIX_PAIRS_WALKS};
 use crate::tests::{SIX, SIX_WALKS, asked_for_walks, asked_with};
+use job_answer::{Answer, AtOnce, Counter, Fault, Figures, answer, answer_bytes, answer_watched};
 use obim_engine::{Gate, OpenGate};
 use route_walks::{Memory, refusable, tried_again};
 use std::process::Abort;

@@ -6,11 +6,9 @@ ghost use Rattle.dimacs_text.specs.declared.fault.LineKind.{LineKind};
 ghost use Rattle.job_answer.specs.AnswerText.{IsAnswerText};
 ghost use Rattle.job_answer.specs.Outcome.{IsAnswerOf};
 
-use crate::answering::answer;
-use crate::asked::Asked;
-use crate::fault::Fault;
-use crate::laws::asked_jobs_have_answers;
 use dimacs_text::laws::a_text_has_one_job;
+use job_answer::laws::asked_jobs_have_answers;
+use job_answer::{Asked, Fault, answer};
 use obim_engine::Gate;
 use std::alloc::Global;
 use std::sync::Wait;

@@ -10,7 +10,7 @@ use Rattle.job_answer.specs.AnswerText.{IsAnswerText}
 use Rattle.job_answer.specs.Bytes.{IsPrefix}
 use Rattle.job_answer.specs.Outcome.{IsAnswerOf, IsBegun, row_of}
 use Rattle.job_answer.specs.Existence.{AskedJobsHaveAnswers}
-use Rattle.job_answer.proofs.tests.callers.append_answer.Goals as goal
+use Rattle.obim_query.proofs.tests.callers.append_answer.Goals as goal
 
 module _ (limit : ℕ) (kind : Answer) (walks : Bool) (text rest old new : List ℕ) where
   abbrev Begun : Type 0

@@ -1,11 +1,8 @@
 //! Sources side by side: which workers solve them, and what happens where walks are long.
 
-use crate::answering::answer_bytes;
-use crate::asked::{Answer, Asked, AtOnce};
-use crate::counter::Counter;
-use crate::teams::Team;
 use crate::tests::answer_with_figures;
 use crate::tests::gates::Meeting;
+use job_answer::{Answer, Asked, AtOnce, Counter, answer_bytes};
 use obim_engine::{OpenGate, Settings};
 use std::alloc::Global;
 use std::process::Abort;
@@ -132,21 +129,4 @@ fn answer_by<H: Abort + Threads + Wait + Clock + Sync>(
     let (bytes, figures) = answer_with_figures(rt, alloc, text, &asked, &OpenGate)?;
     assert_eq!(rt; figures.runs, runs);
     Ok(bytes)
-}
-
-// The workers of a team have no number past those of its place, so each of two teams of two workers has one.
-#[test]
-fn settings_of_teams(rt: HostRuntime) -> Result<(), Fail> {
-    let asked = asked_at_once(&rt, 2, AtOnce::Auto);
-    for place in [0, 1] {
-        let team = Team::at(place, 2, 2);
-        let own = asked.with_settings(team.settings(&asked.settings));
-        assert_eq!(rt; (team.first, own.settings.workers), (place as u32, 1));
-        assert_eq!(rt; (own.settings.shift, own.settings.chunk), (0, 16));
-        assert_eq!(rt;
-            (own.walks, own.limit, own.at_once),
-            (asked.walks, asked.limit, asked.at_once)
-        );
-    }
-    Ok(())
 }

@@ -1,8 +1,8 @@
 //! Pairs: how often labels are worked out for them.
 
-use crate::asked::Answer;
 use crate::tests::added::{asked, six_with};
 use crate::tests::answer_with_figures;
+use job_answer::Answer;
 use obim_engine::OpenGate;
 use std::test::Fail;
 

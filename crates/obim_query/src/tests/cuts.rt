@@ -3,10 +3,8 @@
 
 use super::streams::{Sink, Source};
 use super::{SIX, SIX_ANSWER, asked, asked_with, fault};
-use crate::answering::answer;
-use crate::asked::Answer;
-use crate::fault::Fault;
 use dimacs_text::LineKind;
+use job_answer::{Answer, Fault, answer};
 use obim_engine::OpenGate;
 use std::alloc::{AllocError, Global};
 use std::process::Abort;

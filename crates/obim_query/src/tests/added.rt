@@ -1,8 +1,7 @@
 //! Added arcs: how often labels are worked out, and which vertices are visited.
 
-use crate::answering::answer_bytes;
-use crate::asked::{Answer, Asked};
 use crate::tests::{SIX, SIX_GRAPH, answer_with_figures};
+use job_answer::{Answer, Asked, answer_bytes};
 use obim_engine::{OpenGate, Recorder, Settings};
 use std::alloc::Global;
 use std::process::Abort;
