@@ -1,11 +1,10 @@
 //! A bag gives first what was put first, and all of it in the end.
 
-ghost use Rattle.std.specs.Prelude.{◌≢◌, ◌≤◌, [], All};
-ghost use Rattle.obim_bags.specs.declared.chunk.TheConstants.{MAX_SIZE};
+ghost use Rattle.std.specs.Prelude.{◌≢◌, [], All, IfSome};
 ghost use Rattle.obim_bags.specs.Bags.{IsPassOf};
 
-use crate::tests::helpers::{chunk_of, expect_left, get, holds, open_bag, put};
-use crate::{Bag, BagPass, Chunk, ChunkId, MAX_SIZE, SettleFault};
+use crate::tests::helpers::{METRIC, chunk_of, expect_left, holds, open_bag};
+use crate::{Bag, BagPass, Chunk, SettleFault};
 use std::alloc::Global;
 use std::process::Abort;
 use std::sync::Wait;
@@ -23,13 +22,19 @@ pub(crate) enum Call {
     FindSome,
 }
 
-pub(crate) fn boxed<R: Abort>(rt: &R, alloc: Global, serial: u64, vertices: &[u32]) -> Box<Chunk>
-    ensures { result.value.vertices ≢ [] }
+// A chunk in its box, where memory is there.
+pub(crate) fn boxed<R: Abort>(
+    rt: &R,
+    alloc: Global,
+    serial: u64,
+    vertices: &[u32],
+) -> Option<Box<Chunk>>
+    ensures { IfSome result (λ chunk. chunk.value.vertices ≢ []) }
 {
-    Box::new(alloc, chunk_of(rt, 0, serial, vertices)).expect(rt, "memory for a box")
+    Box::new(alloc, chunk_of(rt, 0, serial, vertices)).ok()
 }
 
-fn is_right<R: Wait + Abort>(
+pub(crate) fn is_right<R: Wait + Abort>(
     rt: &R,
     alloc: Global,
     bag: &Bag,
@@ -43,10 +48,10 @@ fn is_right<R: Wait + Abort>(
         Call::Put(serial, vertices) => {
             bag.put(rt, pass, chunk_of(rt, 0, serial, vertices)).is_ok()
         }
-        Call::PutBoxed(serial, vertices) => {
-            bag.put_boxed(rt, pass, boxed(rt, alloc, serial, vertices))
-                .is_ok()
-        }
+        Call::PutBoxed(serial, vertices) => match boxed(rt, alloc, serial, vertices) {
+            Some(chunk) => bag.put_boxed(rt, pass, chunk).is_ok(),
+            None => false,
+        },
         Call::Get(serial, vertices) => holds(bag.get(rt, pass), serial, vertices),
         Call::GetBoxed(serial, vertices) => {
             holds(
@@ -65,7 +70,7 @@ fn is_right<R: Wait + Abort>(
 }
 
 // Each call is made by the pass of its number, and gives what it should.
-fn expect_calls<R: Wait + Abort>(
+pub(crate) fn expect_calls<R: Wait + Abort>(
     rt: &R,
     alloc: Global,
     bag: &Bag,
@@ -117,6 +122,7 @@ fn expect_row<R: Wait + Abort>(
 ) {
     assert!(rt; workers > 0);
     let (bag, mut passes) = open_bag(rt, alloc, workers);
+    assert!(rt; bag.metric() == METRIC);
     expect_calls(rt, alloc, &bag, &mut passes, row, calls);
     let first = passes
         .len()
@@ -131,51 +137,4 @@ fn rows_of_calls(rt: HostRuntime) {
     for (row, &row_of_calls) in ROWS.iter().enumerate() {
         expect_row(&rt, rt.alloc(), row, row_of_calls);
     }
-}
-
-// A chunk of this size that is as full as can be.
-fn full_chunk<R: Abort>(rt: &R, size: usize) -> Chunk
-    requires { (1 ≤ size) × (size ≤ MAX_SIZE) }
-    ensures { result.vertices ≢ [] }
-{
-    let id = ChunkId {
-        worker: 0,
-        serial: 0,
-    };
-    let mut chunk = Chunk::new(id, size);
-    for v in 0..size {
-        assert!(rt; chunk.push(v as u32).is_ok());
-    }
-    assert!(rt; chunk.push(0).is_err() && chunk.len() > 0);
-    chunk
-}
-
-// It has the vertices of a full chunk of this size.
-fn expect_full<R: Abort>(rt: &R, mut chunk: Chunk, size: usize)
-    requires { size ≤ MAX_SIZE }
-{
-    assert!(rt; chunk.len() == size);
-    for v in 0..size {
-        assert!(rt;
-            chunk.pop() == Some((size - 1 - v) as u32),
-            "vertex {v} of {size}"
-        );
-    }
-}
-
-// A full chunk of each size comes back with all that it held.
-fn expect_sizes<R: Wait + Abort>(rt: &R, bag: &Bag, pass: &mut BagPass)
-    requires { IsPassOf bag.now pass.old }
-{
-    for size in 1..MAX_SIZE + 1 {
-        put(rt, bag, pass, full_chunk(rt, size));
-        expect_full(rt, get(rt, bag, pass), size);
-    }
-}
-
-#[test]
-fn full_chunks_come_back_whole(rt: HostRuntime) {
-    let (bag, mut passes) = open_bag(&rt, rt.alloc(), 1);
-    assert!(rt; bag.metric() == 3 && passes.len() == 1);
-    expect_sizes(&rt, &bag, &mut passes[0]);
 }

@@ -9,7 +9,7 @@ ghost use Rattle.obim_bags.specs.Bags.{new_pass};
 ghost use Rattle.obim_bags.specs.Logs.{AccessSeen, ChangesAt, Gains, IsLogSettled, IsNew, metrics_in, new_mirror};
 ghost use Rattle.obim_bags.specs.Logs.{access_after_put, access_after_get, access_after_empty_find};
 
-use crate::tests::helpers::{chunk_of, list_of, open_log, open_mirrors, put, take_mirror};
+use crate::tests::helpers::{chunk_of, list_of, open_log, put};
 use crate::{Bag, BagLog, BagPass, Chunk, LogFault, Mirror, SettleFault};
 use std::alloc::Global;
 use std::process::Abort;
@@ -126,30 +126,23 @@ fn ask_by_two<R: Wait + Abort>(
     Ok((place, other))
 }
 
-// Asked for twice, the metric is at this place.
-fn expect_place<R: Wait + Abort>(
-    rt: &R,
-    alloc: Global,
-    log: &BagLog,
-    mirror: &mut Mirror,
-    metric: u64,
-    place: usize,
-)
-    requires { mirror.old.log ≡ log.now }
-    ensures { mirror.new.log ≡ log.now }
+// A log without bags, and both its mirrors.
+fn open_new(rt: &impl Abort, alloc: Global) -> (BagLog, Mirror, Mirror)
+    ensures first { result.1 ≡ new_mirror result.0 }
+    ensures second { result.2 ≡ new_mirror result.0 }
 {
-    let both = ask_twice(rt, alloc, log, mirror, metric);
-    assert_eq!(rt; both, Ok((place, place)));
+    let (log, mut mirrors) = BagLog::open(alloc, 2).expect(rt, "memory for a log");
+    let second = mirrors.pop().expect(rt, "two mirrors");
+    let first = mirrors.pop().expect(rt, "two mirrors");
+    (log, first, second)
 }
 
 #[test]
 fn a_metric_has_one_place(rt: HostRuntime) {
     let alloc = rt.alloc();
-    let (log, mut first, second) = open_mirrors(&rt, alloc);
-    expect_place(&rt, alloc, &log, &mut first, 9, 0);
-    expect_place(&rt, alloc, &log, &mut first, 5, 1);
-    let both = ask_by_two(&rt, alloc, &log, first, second, 5);
-    assert_eq!(rt; both, Ok((1, 1)));
+    let (log, mut first, second) = open_new(&rt, alloc);
+    assert!(rt; ask_twice(&rt, alloc, &log, &mut first, 9) == Ok((0, 0)));
+    assert!(rt; ask_by_two(&rt, alloc, &log, first, second, 5) == Ok((1, 1)));
 }
 
 // A chunk is put at a place and one is got there: nothing else of the mirror changes. Where a bag has one worker, that
@@ -228,7 +221,6 @@ fn expect_back<R: Wait + Abort>(
 )
     requires log { mirror.old.log ≡ log.now }
     requires filled { chunk.vertices ≢ [] }
-    ensures { mirror.new.log ≡ log.now }
 {
     let place = place_in(rt, alloc, log, mirror, 9);
     let found = put_and_get_at(rt, log, mirror, place, chunk);
@@ -237,22 +229,10 @@ fn expect_back<R: Wait + Abort>(
 
 #[test]
 fn what_is_put_at_a_place(rt: HostRuntime) {
-    let alloc = rt.alloc();
-    let (log, mut mirrors) = open_log(&rt, alloc, 1);
-    let mut mirror = take_mirror(&rt, &log, &mut mirrors);
-    expect_back(&rt, alloc, &log, &mut mirror, chunk_of(&rt, 0, 0, &[4, 5]));
-    expect_back(&rt, alloc, &log, &mut mirror, chunk_of(&rt, 0, 1, &[6]));
-}
-
-// A log without bags, and both its mirrors.
-fn open_new(rt: &impl Abort, alloc: Global) -> (BagLog, Mirror, Mirror)
-    ensures first { result.1 ≡ new_mirror result.0 }
-    ensures second { result.2 ≡ new_mirror result.0 }
-{
-    let (log, mut mirrors) = BagLog::open(alloc, 2).expect(rt, "memory for a log");
-    let second = mirrors.pop().expect(rt, "two mirrors");
-    let first = mirrors.pop().expect(rt, "two mirrors");
-    (log, first, second)
+    let (log, mut mirrors) = open_log(&rt, rt.alloc(), 1);
+    assert!(rt; mirrors.len() == 1);
+    let chunk = chunk_of(&rt, 0, 0, &[4, 5]);
+    expect_back(&rt, rt.alloc(), &log, &mut mirrors[0], chunk);
 }
 
 fn expect_none(rt: &impl Abort, left: Result<Vec<Chunk>, SettleFault>) {

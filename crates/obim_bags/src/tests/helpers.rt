@@ -54,7 +54,7 @@ pub(crate) fn chunk_of<R: Abort>(rt: &R, worker: u32, serial: u64, vertices: &[u
 {
     let mut chunk = Chunk::new(ChunkId { worker, serial }, 2);
     for &v in vertices {
-        assert!(rt; chunk.push(v).is_ok(), "vertex {v}");
+        assert!(rt; chunk.push(v).is_ok());
     }
     assert!(rt; chunk.len() > 0);
     chunk
@@ -67,14 +67,6 @@ pub(crate) fn put<R: Wait + Abort>(rt: &R, bag: &Bag, pass: &mut BagPass, chunk:
     ensures put { pass.new ≡ after_put chunk pass.old }
 {
     assert!(rt; bag.put(rt, pass, chunk).is_ok());
-}
-
-pub(crate) fn get<R: Wait + Abort>(rt: &R, bag: &Bag, pass: &mut BagPass) -> Chunk
-    requires { IsPassOf bag.now pass.old }
-    ensures pass { IsPassOf bag.now pass.new }
-    ensures filled { result.vertices ≢ [] }
-{
-    bag.get(rt, pass).expect(rt, "a chunk that was put")
 }
 
 // It is the chunk of worker 0 with this serial, and has these vertices.
@@ -124,22 +116,11 @@ pub(crate) fn open_log(rt: &impl Abort, alloc: Global, workers: u32) -> (BagLog,
 
 pub(crate) fn take_mirror<R: Abort>(rt: &R, log: &BagLog, mirrors: &mut Vec<Mirror>) -> Mirror
     requires { All (IsMirrorOf log.now) mirrors.old.items }
-    ensures mirror { result.log ≡ log.now }
+    ensures mirror { IsMirrorOf log.now result }
     ensures rest { All (IsMirrorOf log.now) mirrors.new.items }
 {
     let _log = log;
     mirrors.pop().expect(rt, "a mirror for each worker")
-}
-
-// A log of two workers, and the mirror of each.
-pub(crate) fn open_mirrors(rt: &impl Abort, alloc: Global) -> (BagLog, Mirror, Mirror)
-    ensures first { result.1.log ≡ result.0 }
-    ensures second { result.2.log ≡ result.0 }
-{
-    let (log, mut mirrors) = open_log(rt, alloc, 2);
-    let second = take_mirror(rt, &log, &mut mirrors);
-    let first = take_mirror(rt, &log, &mut mirrors);
-    (log, first, second)
 }
 
 // Puts a chunk into the bag of a metric.

@@ -12,7 +12,7 @@ use std::sync::Wait;
 
 // A call on a log through a mirror, and what it gives.
 #[derive(Clone, Copy)]
-enum LogCall {
+pub(crate) enum LogCall {
     // The place of a metric, which is appended where the log hasn't it.
     Find(u64, Result<usize, LogFault>),
     // How many bags the mirror has then.
@@ -23,9 +23,9 @@ enum LogCall {
     Lacks(u64),
     // A call on the bag at this place.
     At(usize, Call),
-    // The place of each of `BAGS` metrics: they are appended, or the mirror has them.
-    FindAll,
-    HasAll,
+    // The places of so many metrics: they are appended where the log hasn't them, or the mirror has them.
+    FindAll(usize),
+    HasAll(usize),
 }
 
 // More bags than a mirror claims at a time or an index begins with.
@@ -34,7 +34,7 @@ const BAGS: usize = 3000;
 // Metrics lie this far apart, so that most take more than 32 bits.
 const APART: u64 = 1 << 51;
 
-fn is_right<R: Wait + Abort>(
+pub(crate) fn is_right<R: Wait + Abort>(
     rt: &R,
     alloc: Global,
     log: &BagLog,
@@ -52,8 +52,8 @@ fn is_right<R: Wait + Abort>(
         LogCall::At(place, call) => {
             place < mirror.len() && is_right_at(rt, alloc, log, mirror, place, call)
         }
-        LogCall::FindAll => finds_all(rt, alloc, log, mirror),
-        LogCall::HasAll => has_all(mirror),
+        LogCall::FindAll(count) => finds_all(rt, alloc, log, mirror, count),
+        LogCall::HasAll(count) => has_all(mirror, count),
     }
 }
 
@@ -86,10 +86,10 @@ fn is_right_at<R: Wait + Abort>(
             let chunk = chunk_of(rt, 0, serial, vertices);
             log.put_at(rt, mirror, place, chunk).is_ok()
         }
-        Call::PutBoxed(serial, vertices) => {
-            let chunk = boxed(rt, alloc, serial, vertices);
-            log.put_boxed_at(rt, mirror, place, chunk).is_ok()
-        }
+        Call::PutBoxed(serial, vertices) => match boxed(rt, alloc, serial, vertices) {
+            Some(chunk) => log.put_boxed_at(rt, mirror, place, chunk).is_ok(),
+            None => false,
+        },
         Call::Get(serial, vertices) => holds(log.get_at(rt, mirror, place), serial, vertices),
         Call::GetBoxed(serial, vertices) => {
             let got = log.get_boxed_at(rt, mirror, place);
@@ -102,11 +102,17 @@ fn is_right_at<R: Wait + Abort>(
     }
 }
 
-fn finds_all<R: Wait>(rt: &R, alloc: Global, log: &BagLog, mirror: &mut Mirror) -> bool
+fn finds_all<R: Wait>(
+    rt: &R,
+    alloc: Global,
+    log: &BagLog,
+    mirror: &mut Mirror,
+    count: usize,
+) -> bool
     requires { mirror.old.log ≡ log.now }
     ensures { mirror.new.log ≡ log.now }
 {
-    for place in 0..BAGS {
+    for place in 0..count {
         let metric = (place as u64).wrapping_mul(APART);
         if log.find_or_append(rt, alloc, mirror, metric) != Ok(place) {
             return false;
@@ -115,8 +121,8 @@ fn finds_all<R: Wait>(rt: &R, alloc: Global, log: &BagLog, mirror: &mut Mirror) 
     true
 }
 
-fn has_all(mirror: &Mirror) -> bool {
-    for place in 0..BAGS {
+fn has_all(mirror: &Mirror, count: usize) -> bool {
+    for place in 0..count {
         if mirror.place_of((place as u64).wrapping_mul(APART)) != Some(place) {
             return false;
         }
@@ -125,7 +131,7 @@ fn has_all(mirror: &Mirror) -> bool {
 }
 
 // Each call is made through the mirror of its number, and gives what it should.
-fn expect_calls<R: Wait + Abort>(
+pub(crate) fn expect_calls<R: Wait + Abort>(
     rt: &R,
     alloc: Global,
     log: &BagLog,
@@ -166,7 +172,7 @@ const HANDED_ON: &[(usize, LogCall)] = &[
 ];
 
 // Chunks by turns in four bags.
-const FIVE_CHUNKS: &[(usize, LogCall)] = &[
+pub(crate) const FIVE_CHUNKS: &[(usize, LogCall)] = &[
     (0, LogCall::Find(9, Ok(0))),
     (0, LogCall::Find(4, Ok(1))),
     (0, LogCall::Find(6, Ok(2))),
@@ -176,6 +182,9 @@ const FIVE_CHUNKS: &[(usize, LogCall)] = &[
     (0, LogCall::At(2, Call::Put(3, &[5]))),
     (0, LogCall::At(1, Call::Put(4, &[5]))),
 ];
+
+// What is left of them: by place, and then in the order of the bag.
+pub(crate) const FIVE_LEFT: &[u64] = &[0, 2, 1, 4, 3];
 
 // The passes that nobody claimed are joined in.
 const UNCLAIMED: &[(usize, LogCall)] = &[
@@ -204,9 +213,9 @@ const GOES_ON: &[(usize, LogCall)] = &[
 ];
 
 const MANY_BAGS: &[(usize, LogCall)] = &[
-    (0, LogCall::FindAll),
+    (0, LogCall::FindAll(BAGS)),
     (1, LogCall::CatchUp(Ok(BAGS))),
-    (1, LogCall::HasAll),
+    (1, LogCall::HasAll(BAGS)),
 ];
 
 // How many of the last mirrors are handed in, and what is left.
@@ -231,8 +240,7 @@ const ROWS: [Row; 7] = [
         &[],
     ),
     (2, &[], &[MISSING, (2, Ok(&[]))], &[]),
-    // By place, and then in the order of the bag.
-    (1, FIVE_CHUNKS, &[(1, Ok(&[0, 2, 1, 4, 3]))], &[]),
+    (1, FIVE_CHUNKS, &[(1, Ok(FIVE_LEFT))], &[]),
     (3, UNCLAIMED, &[(1, Ok(&[7]))], TAKEN),
     (3, TWO_CLAIMED, &[(1, Err(SettleFault::Missing))], GOES_ON),
     (2, MANY_BAGS, &[(2, Ok(&[]))], &[]),

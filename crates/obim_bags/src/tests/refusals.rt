@@ -1,16 +1,15 @@
-//! Each call that may be refused memory, with one allocation of it refused: nobody finds a chunk that was refused, and
-//! made once more the call gives what was worked by hand. `tests/refusals` refuses each in turn;
+//! Each call that may be refused memory, with one allocation of it refused: made once more the call gives what was
+//! worked by hand, and nothing of the refused one is there. `tests/refusals` refuses each in turn;
 //! `tests/refusals.tsv` has the calls.
 
 ghost use Rattle.std.specs.Prelude.{◌≡◌, All};
 ghost use Rattle.obim_bags.specs.Bags.{IsPassOf};
 ghost use Rattle.obim_bags.specs.Logs.{IsMirrorOf};
 
-use crate::tests::bags::boxed;
-use crate::tests::helpers::{
-    chunk_of, expect_left, holds, open_bag, open_log, open_mirrors, open_two, put, put_by_metric,
-    take_mirror,
-};
+use crate::tests::bags::Call;
+use crate::tests::helpers::{expect_left, open_bag, open_log, open_two, take_mirror};
+use crate::tests::logs::{FIVE_CHUNKS, FIVE_LEFT, LogCall};
+use crate::tests::{bags, logs};
 use crate::{Bag, BagLog, BagPass, Chunk, LogFault, Mirror, SettleFault};
 use route_walks::{Memory, refusable};
 use std::alloc::Global;
@@ -19,12 +18,6 @@ use std::sync::Wait;
 
 // More chunks than a block of a bag's queue has, so that one put takes memory for the next block.
 const CHUNKS: u64 = 40;
-
-// More metrics than a list or an index has room for at first.
-const METRICS: u64 = 12;
-
-// What is left where chunks 1 to 8 were put.
-const REST: [u64; 8] = [1, 2, 3, 4, 5, 6, 7, 8];
 
 fn opens<R: Wait>(rt: &R, alloc: Global) -> bool {
     Bag::open(rt, alloc, 3, 2).is_ok()
@@ -37,106 +30,86 @@ fn of_bag_open(rt: HostRuntime) -> Result<(), Memory> {
     Ok(())
 }
 
-// A chunk that is refused is kept.
-fn put_kept<R: Wait + Abort>(rt: &R, bag: &Bag, pass: &mut BagPass, kept: &mut Option<Chunk>)
-    requires { IsPassOf bag.now pass.old }
-    ensures { IsPassOf bag.now pass.new }
-{
-    let chunk = kept.take().expect(rt, "a chunk");
-    assert!(rt; chunk.len() > 0);
-    *kept = bag.put(rt, pass, chunk).err();
+fn put_of(is_boxed: bool, serial: u64) -> Call {
+    if is_boxed {
+        Call::PutBoxed(serial, &[5])
+    } else {
+        Call::Put(serial, &[5])
+    }
 }
 
-// One pass puts a chunk, and the other gets it, time and again. Nobody finds a chunk that was refused until it is put
-// again.
-fn put_each<R: Wait + Abort>(
+// One pass puts chunks, and the other gets each. Where a put is refused the bag is empty.
+fn hand_over<R: Wait + Abort>(
     rt: &R,
     alloc: Global,
     bag: &Bag,
     first: &mut BagPass,
     second: &mut BagPass,
+    is_boxed: bool,
+) -> bool
+    requires { IsPassOf bag.now first.old × IsPassOf bag.now second.old }
+    ensures { IsPassOf bag.now first.new × IsPassOf bag.now second.new }
+{
+    for serial in 0..CHUNKS {
+        if !bags::is_right(rt, alloc, bag, first, put_of(is_boxed, serial)) {
+            assert!(rt; bag.finds_empty(second));
+            return false;
+        }
+        if !bags::is_right(rt, alloc, bag, second, Call::Get(serial, &[5])) {
+            return false;
+        }
+    }
+    true
+}
+
+fn hand_over_again<R: Wait + Abort>(
+    rt: &R,
+    alloc: Global,
+    bag: &Bag,
+    first: &mut BagPass,
+    second: &mut BagPass,
+    is_boxed: bool,
 ) -> Result<(), Memory>
     requires { IsPassOf bag.now first.old × IsPassOf bag.now second.old }
 {
-    for serial in 0..CHUNKS {
-        let mut kept = Some(chunk_of(rt, 0, serial, &[5]));
-        refusable!(alloc, put_kept(rt, bag, first, &mut kept));
-        if kept.is_some() {
-            assert!(rt; bag.finds_empty(second));
-            put_kept(rt, bag, first, &mut kept);
-        }
-        assert!(rt; holds(bag.get(rt, second), serial, &[5]));
-    }
+    let done = refusable!(alloc, hand_over(rt, alloc, bag, first, second, is_boxed));
+    assert!(rt; done || hand_over(rt, alloc, bag, first, second, is_boxed));
     Ok(())
+}
+
+fn expect_puts<R: Wait + Abort>(rt: &R, alloc: Global, is_boxed: bool) {
+    let (bag, mut first, mut second) = open_two(rt, alloc);
+    let done = hand_over_again(rt, alloc, &bag, &mut first, &mut second, is_boxed);
+    assert!(rt; done.is_ok());
 }
 
 #[test]
 fn of_bag_put(rt: HostRuntime) {
-    let (bag, mut first, mut second) = open_two(&rt, rt.alloc());
-    assert!(rt; put_each(&rt, rt.alloc(), &bag, &mut first, &mut second).is_ok());
-}
-
-// The same of a chunk in its box.
-fn put_boxed_kept<R: Wait + Abort>(
-    rt: &R,
-    bag: &Bag,
-    pass: &mut BagPass,
-    kept: &mut Option<Box<Chunk>>,
-)
-    requires { IsPassOf bag.now pass.old }
-    ensures { IsPassOf bag.now pass.new }
-{
-    let chunk = kept.take().expect(rt, "a chunk");
-    assert!(rt; chunk.len() > 0);
-    *kept = bag.put_boxed(rt, pass, chunk).err();
-}
-
-fn put_boxed_each<R: Wait + Abort>(
-    rt: &R,
-    alloc: Global,
-    bag: &Bag,
-    first: &mut BagPass,
-    second: &mut BagPass,
-) -> Result<(), Memory>
-    requires { IsPassOf bag.now first.old × IsPassOf bag.now second.old }
-{
-    for serial in 0..CHUNKS {
-        let mut kept = Some(boxed(rt, alloc, serial, &[5]));
-        refusable!(alloc, put_boxed_kept(rt, bag, first, &mut kept));
-        if kept.is_some() {
-            assert!(rt; bag.finds_empty(second));
-            put_boxed_kept(rt, bag, first, &mut kept);
-        }
-        assert!(rt; holds(bag.get(rt, second), serial, &[5]));
-    }
-    Ok(())
+    expect_puts(&rt, rt.alloc(), false);
 }
 
 #[test]
 fn of_bag_put_boxed(rt: HostRuntime) {
-    let (bag, mut first, mut second) = open_two(&rt, rt.alloc());
-    assert!(rt; put_boxed_each(&rt, rt.alloc(), &bag, &mut first, &mut second).is_ok());
+    expect_puts(&rt, rt.alloc(), true);
 }
 
-// Puts nine chunks and gets the first.
-fn put_nine<R: Wait + Abort>(rt: &R, bag: &Bag, pass: &mut BagPass)
-    requires { IsPassOf bag.now pass.old }
-    ensures { IsPassOf bag.now pass.new }
-{
-    for serial in 0..9 {
-        put(rt, bag, pass, chunk_of(rt, 0, serial, &[5]));
-    }
-    assert!(rt; holds(bag.get(rt, pass), 0, &[5]));
-}
-
-// Whether all that is left is given. Else memory was refused, and nothing is.
-fn is_all(rt: &impl Abort, drained: Result<Vec<Chunk>, SettleFault>) -> bool {
+// Whether these chunks are left. Else memory was refused, and nothing is given.
+fn is_left(rt: &impl Abort, drained: Result<Vec<Chunk>, SettleFault>, serials: &[u64]) -> bool {
     if let Err(SettleFault::Memory) = drained {
         return false;
     }
-    expect_left(rt, 0, drained, Ok(&REST));
+    expect_left(rt, 0, drained, Ok(serials));
     true
 }
+
+const SIX_CHUNKS: &[(usize, Call)] = &[
+    (0, Call::Put(0, &[5])),
+    (0, Call::Put(1, &[5])),
+    (0, Call::Put(2, &[5])),
+    (0, Call::Put(3, &[5])),
+    (0, Call::Put(4, &[5])),
+    (0, Call::Put(5, &[5])),
+];
 
 fn drain<R: Wait + Abort>(
     rt: &R,
@@ -146,13 +119,13 @@ fn drain<R: Wait + Abort>(
 ) -> Result<bool, Memory>
     requires { All (IsPassOf bag.now) passes.items }
 {
-    Ok(refusable!(alloc, is_all(rt, bag.drain(rt, alloc, passes))))
+    let left = &[0, 1, 2, 3, 4, 5];
+    Ok(refusable!(alloc, is_left(rt, bag.drain(rt, alloc, passes), left)))
 }
 
 fn drain_filled<R: Wait + Abort>(rt: &R, alloc: Global) -> bool {
     let (bag, mut passes) = open_bag(rt, alloc, 2);
-    assert!(rt; passes.len() == 2);
-    put_nine(rt, &bag, &mut passes[0]);
+    bags::expect_calls(rt, alloc, &bag, &mut passes, 0, SIX_CHUNKS);
     drain(rt, alloc, &bag, passes).expect(rt, "memory for the signals")
 }
 
@@ -172,213 +145,116 @@ fn of_bag_log_open(rt: HostRuntime) -> Result<(), Memory> {
     Ok(())
 }
 
-// Finds the bag of a metric, which is its place.
-fn find_again<R: Wait + Abort>(
+// Each call is made by the mirror of its number: where it doesn't give what it should, since memory is refused, it does
+// when it is made once more.
+fn call_again<R: Wait + Abort>(
     rt: &R,
     alloc: Global,
     log: &BagLog,
-    mirror: &mut Mirror,
-    metric: u64,
+    mirrors: &mut [Mirror],
+    calls: &[(usize, LogCall)],
 ) -> Result<(), Memory>
-    requires { mirror.old.log ≡ log.now }
-    ensures { mirror.new.log ≡ log.now }
+    requires { All (IsMirrorOf log.now) mirrors.old }
 {
-    let mut found = refusable!(alloc, log.find_or_append(rt, alloc, mirror, metric));
-    if found == Err(LogFault::Memory) {
-        found = log.find_or_append(rt, alloc, mirror, metric);
+    for &(number, call) in calls {
+        assert!(rt; number < mirrors.len());
+        let mirror = &mut mirrors[number];
+        let right = refusable!(alloc, logs::is_right(rt, alloc, log, mirror, call));
+        assert!(rt; right || logs::is_right(rt, alloc, log, mirror, call));
     }
-    assert!(rt; found == Ok(metric as usize), "metric {metric}");
     Ok(())
 }
 
-// Each metric has one bag, whichever allocation was refused: the other mirror finds it at the same place.
-fn find_each<R: Wait + Abort>(rt: &R, alloc: Global, log: &BagLog, mirrors: &mut [Mirror])
-    requires { All (IsMirrorOf log.now) mirrors.old }
-{
-    assert!(rt; mirrors.len() == 2);
-    for turn in 0..2 * METRICS {
-        let mirror = &mut mirrors[(turn % 2) as usize];
-        assert!(rt; find_again(rt, alloc, log, mirror, turn / 2).is_ok());
-    }
-    assert!(rt; log.catch_up(rt, alloc, &mut mirrors[1]) == Ok(METRICS as usize));
+fn expect_again<R: Wait + Abort>(rt: &R, alloc: Global, calls: &[(usize, LogCall)]) {
+    let (log, mut mirrors) = open_log(rt, alloc, 2);
+    assert!(rt; call_again(rt, alloc, &log, &mut mirrors, calls).is_ok());
 }
+
+// More metrics than a list or an index has room for at first. Each has one bag, whichever allocation was refused: the
+// other mirror finds it at the same place.
+const FOUND: &[(usize, LogCall)] = &[
+    (0, LogCall::FindAll(12)),
+    (1, LogCall::FindAll(12)),
+    (1, LogCall::CatchUp(Ok(12))),
+];
 
 #[test]
 fn of_bag_log_find_or_append(rt: HostRuntime) {
-    let (log, mut mirrors) = open_log(&rt, rt.alloc(), 2);
-    find_each(&rt, rt.alloc(), &log, &mut mirrors);
-}
-
-// Catches up, to `count` bags.
-fn catch_up_again<R: Wait + Abort>(
-    rt: &R,
-    alloc: Global,
-    log: &BagLog,
-    mirror: &mut Mirror,
-    count: u64,
-) -> Result<(), Memory>
-    requires { mirror.old.log ≡ log.now }
-    ensures { mirror.new.log ≡ log.now }
-{
-    let mut caught = refusable!(alloc, log.catch_up(rt, alloc, mirror));
-    if caught == Err(LogFault::Memory) {
-        caught = log.catch_up(rt, alloc, mirror);
-    }
-    assert!(rt; caught == Ok(count as usize), "{count} bags");
-    Ok(())
+    expect_again(&rt, rt.alloc(), FOUND);
 }
 
 // One mirror appends the bags, and at every fourth the other catches up.
-fn append_each<R: Wait + Abort>(
-    rt: &R,
-    alloc: Global,
-    log: &BagLog,
-    first: &mut Mirror,
-    second: &mut Mirror,
-)
-    requires { (first.old.log ≡ log.now) × (second.old.log ≡ log.now) }
-{
-    for metric in 0..METRICS {
-        assert!(rt; log.find_or_append(rt, alloc, first, metric) == Ok(metric as usize));
-        if metric % 4 == 3 {
-            assert!(rt; catch_up_again(rt, alloc, log, second, metric + 1).is_ok());
-            assert!(rt; second.place_of(metric) == Some(metric as usize));
-        }
-    }
-}
+const CAUGHT_UP: &[(usize, LogCall)] = &[
+    (0, LogCall::FindAll(4)),
+    (1, LogCall::CatchUp(Ok(4))),
+    (0, LogCall::FindAll(8)),
+    (1, LogCall::CatchUp(Ok(8))),
+    (0, LogCall::FindAll(12)),
+    (1, LogCall::CatchUp(Ok(12))),
+    (1, LogCall::HasAll(12)),
+];
 
 #[test]
 fn of_bag_log_catch_up(rt: HostRuntime) {
-    let (log, mut first, mut second) = open_mirrors(&rt, rt.alloc());
-    append_each(&rt, rt.alloc(), &log, &mut first, &mut second);
+    expect_again(&rt, rt.alloc(), CAUGHT_UP);
 }
 
-// A log of one worker with two bags, the second of this metric.
-fn open_two_bags<R: Wait + Abort>(rt: &R, alloc: Global) -> (BagLog, Mirror)
-    ensures { result.1.log ≡ result.0 }
-{
-    let (log, mut mirrors) = open_log(rt, alloc, 1);
-    let mut mirror = take_mirror(rt, &log, &mut mirrors);
-    assert!(rt; log.find_or_append(rt, alloc, &mut mirror, 0) == Ok(0));
-    assert!(rt; log.find_or_append(rt, alloc, &mut mirror, METRICS) == Ok(1));
-    (log, mirror)
-}
-
-// Puts a chunk into the second bag of two. One that is refused is kept.
-fn put_kept_at<R: Wait + Abort>(rt: &R, log: &BagLog, mirror: &mut Mirror, kept: &mut Option<Chunk>)
-    requires { mirror.old.log ≡ log.now }
-    ensures { mirror.new.log ≡ log.now }
-{
-    let chunk = kept.take().expect(rt, "a chunk");
-    assert!(rt; chunk.len() > 0 && mirror.len() == 2);
-    *kept = log.put_at(rt, mirror, 1, chunk).err();
-}
-
-// The same of a chunk in its box.
-fn put_boxed_kept_at<R: Wait + Abort>(
-    rt: &R,
-    log: &BagLog,
-    mirror: &mut Mirror,
-    kept: &mut Option<Box<Chunk>>,
-)
-    requires { mirror.old.log ≡ log.now }
-    ensures { mirror.new.log ≡ log.now }
-{
-    let chunk = kept.take().expect(rt, "a chunk");
-    assert!(rt; chunk.len() > 0 && mirror.len() == 2);
-    *kept = log.put_boxed_at(rt, mirror, 1, chunk).err();
-}
-
-fn finds_empty<R: Abort>(rt: &R, log: &BagLog, mirror: &mut Mirror) -> bool
-    requires { mirror.old.log ≡ log.now }
-    ensures { mirror.new.log ≡ log.now }
-{
-    assert!(rt; mirror.len() == 2);
-    log.finds_empty_at(mirror, 1)
-}
-
-// The chunk of this serial is got.
-fn expect_got<R: Wait + Abort>(rt: &R, log: &BagLog, mirror: &mut Mirror, serial: u64)
-    requires { mirror.old.log ≡ log.now }
-    ensures { mirror.new.log ≡ log.now }
-{
-    assert!(rt; mirror.len() == 2);
-    assert!(rt; holds(log.get_at(rt, mirror, 1), serial, &[5]));
-}
-
-// Puts chunks and gets them. One that is refused isn't in the bag until it is put again.
+// Puts chunks into the second bag, and gets each. Where a put is refused the bag is empty.
 fn put_each_at<R: Wait + Abort>(
     rt: &R,
     alloc: Global,
     log: &BagLog,
     mirror: &mut Mirror,
-) -> Result<(), Memory>
+    is_boxed: bool,
+) -> bool
     requires { mirror.old.log ≡ log.now }
+    ensures { mirror.new.log ≡ log.now }
 {
     for serial in 0..CHUNKS {
-        let mut kept = Some(chunk_of(rt, 0, serial, &[5]));
-        refusable!(alloc, put_kept_at(rt, log, mirror, &mut kept));
-        if kept.is_some() {
-            assert!(rt; finds_empty(rt, log, mirror));
-            put_kept_at(rt, log, mirror, &mut kept);
+        let put = LogCall::At(1, put_of(is_boxed, serial));
+        if !logs::is_right(rt, alloc, log, mirror, put) {
+            assert!(rt; logs::is_right(rt, alloc, log, mirror, LogCall::At(1, Call::FindNone)));
+            return false;
         }
-        expect_got(rt, log, mirror, serial);
+        let get = LogCall::At(1, Call::Get(serial, &[5]));
+        if !logs::is_right(rt, alloc, log, mirror, get) {
+            return false;
+        }
     }
-    Ok(())
+    true
 }
 
-fn put_boxed_each_at<R: Wait + Abort>(
+const TWO_BAGS: &[(usize, LogCall)] = &[(0, LogCall::FindAll(2)), (1, LogCall::CatchUp(Ok(2)))];
+
+fn put_each_at_again<R: Wait + Abort>(
     rt: &R,
     alloc: Global,
     log: &BagLog,
     mirror: &mut Mirror,
+    is_boxed: bool,
 ) -> Result<(), Memory>
     requires { mirror.old.log ≡ log.now }
 {
-    for serial in 0..CHUNKS {
-        let mut kept = Some(boxed(rt, alloc, serial, &[5]));
-        refusable!(alloc, put_boxed_kept_at(rt, log, mirror, &mut kept));
-        if kept.is_some() {
-            assert!(rt; finds_empty(rt, log, mirror));
-            put_boxed_kept_at(rt, log, mirror, &mut kept);
-        }
-        expect_got(rt, log, mirror, serial);
-    }
+    let done = refusable!(alloc, put_each_at(rt, alloc, log, mirror, is_boxed));
+    assert!(rt; done || put_each_at(rt, alloc, log, mirror, is_boxed));
     Ok(())
+}
+
+fn expect_puts_at<R: Wait + Abort>(rt: &R, alloc: Global, is_boxed: bool) {
+    let (log, mut mirrors) = open_log(rt, alloc, 2);
+    logs::expect_calls(rt, alloc, &log, &mut mirrors, 0, TWO_BAGS);
+    assert!(rt; mirrors.len() == 2);
+    assert!(rt; put_each_at_again(rt, alloc, &log, &mut mirrors[1], is_boxed).is_ok());
 }
 
 #[test]
 fn of_bag_log_put_at(rt: HostRuntime) {
-    let (log, mut mirror) = open_two_bags(&rt, rt.alloc());
-    assert!(rt; put_each_at(&rt, rt.alloc(), &log, &mut mirror).is_ok());
+    expect_puts_at(&rt, rt.alloc(), false);
 }
 
 #[test]
 fn of_bag_log_put_boxed_at(rt: HostRuntime) {
-    let (log, mut mirror) = open_two_bags(&rt, rt.alloc());
-    assert!(rt; put_boxed_each_at(&rt, rt.alloc(), &log, &mut mirror).is_ok());
-}
-
-// Eight serials and metrics by turns, so that the serials rise by bag.
-const EIGHT: [(u64, u64); 8] = [
-    (1, 5),
-    (2, 5),
-    (5, 2),
-    (3, 5),
-    (6, 2),
-    (7, 2),
-    (4, 5),
-    (8, 2),
-];
-
-fn put_eight<R: Wait + Abort>(rt: &R, alloc: Global, log: &BagLog, mirror: &mut Mirror)
-    requires { mirror.old.log ≡ log.now }
-    ensures { mirror.new.log ≡ log.now }
-{
-    for (serial, metric) in EIGHT {
-        let chunk = chunk_of(rt, 0, serial, &[5]);
-        put_by_metric(rt, alloc, log, mirror, metric, chunk);
-    }
+    expect_puts_at(&rt, rt.alloc(), true);
 }
 
 fn drain_log<R: Wait + Abort>(
@@ -389,16 +265,14 @@ fn drain_log<R: Wait + Abort>(
 ) -> Result<bool, Memory>
     requires { All (IsMirrorOf log.now) mirrors.items }
 {
-    Ok(refusable!(alloc, is_all(rt, log.drain(rt, alloc, mirrors))))
+    Ok(refusable!(alloc, is_left(rt, log.drain(rt, alloc, mirrors), FIVE_LEFT)))
 }
 
-// Drains a log of three workers, of which one put eight chunks into two bags. After a refusal the slot is free: the
-// third worker is answered, though it may find its passes taken.
+// After a refusal the slot is free: a mirror that was not handed in is answered, though it may find its passes taken.
 fn drain_filled_log<R: Wait + Abort>(rt: &R, alloc: Global) -> bool {
     let (log, mut mirrors) = open_log(rt, alloc, 3);
     let mut third = take_mirror(rt, &log, &mut mirrors);
-    assert!(rt; mirrors.len() == 2);
-    put_eight(rt, alloc, &log, &mut mirrors[0]);
+    logs::expect_calls(rt, alloc, &log, &mut mirrors, 0, FIVE_CHUNKS);
     let drained = drain_log(rt, alloc, &log, mirrors).expect(rt, "memory for the signals");
     let caught = log.catch_up(rt, alloc, &mut third);
     assert!(rt; caught.is_ok() || caught == Err(LogFault::Taken));

@@ -1,6 +1,0 @@
--- The pass stays one of the bag.
-use Rattle.obim_bags.specs.Bags.{IsPassOf}
-use Rattle.obim_bags.proofs.tests.refusals.put_nine.Given as goal
-
-abbrev pub invariant-loop-serial : goal.invariant-loop-serial
-invariant-loop-serial g l = IsPassOf l.bag l.pass
