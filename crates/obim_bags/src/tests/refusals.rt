@@ -19,6 +19,9 @@ use std::sync::Wait;
 // More chunks than a block of a bag's queue has, so that one put takes memory for the next block.
 const CHUNKS: u64 = 40;
 
+// More metrics than a list or an index has room for at first.
+const METRICS: u64 = 12;
+
 fn opens<R: Wait>(rt: &R, alloc: Global) -> bool {
     Bag::open(rt, alloc, 3, 2).is_ok()
 }
@@ -55,9 +58,7 @@ fn hand_over<R: Wait + Abort>(
             assert!(rt; bag.finds_empty(second));
             return false;
         }
-        if !bags::is_right(rt, alloc, bag, second, Call::Get(serial, &[5])) {
-            return false;
-        }
+        assert!(rt; bags::is_right(rt, alloc, bag, second, Call::Get(serial, &[5])));
     }
     true
 }
@@ -145,58 +146,81 @@ fn of_bag_log_open(rt: HostRuntime) -> Result<(), Memory> {
     Ok(())
 }
 
-// Each call is made by the mirror of its number: where it doesn't give what it should, since memory is refused, it does
-// when it is made once more.
-fn call_again<R: Wait + Abort>(
+// Finds the bag of a metric, which is its place.
+fn find_again<R: Wait + Abort>(
     rt: &R,
     alloc: Global,
     log: &BagLog,
-    mirrors: &mut [Mirror],
-    calls: &[(usize, LogCall)],
+    mirror: &mut Mirror,
+    metric: u64,
 ) -> Result<(), Memory>
-    requires { All (IsMirrorOf log.now) mirrors.old }
+    requires { mirror.old.log ≡ log.now }
+    ensures { mirror.new.log ≡ log.now }
 {
-    for &(number, call) in calls {
-        assert!(rt; number < mirrors.len());
-        let mirror = &mut mirrors[number];
-        let right = refusable!(alloc, logs::is_right(rt, alloc, log, mirror, call));
-        assert!(rt; right || logs::is_right(rt, alloc, log, mirror, call));
+    let mut found = refusable!(alloc, log.find_or_append(rt, alloc, mirror, metric));
+    if found == Err(LogFault::Memory) {
+        found = log.find_or_append(rt, alloc, mirror, metric);
     }
+    assert!(rt; found == Ok(metric as usize), "metric {metric}");
     Ok(())
 }
 
-fn expect_again<R: Wait + Abort>(rt: &R, alloc: Global, calls: &[(usize, LogCall)]) {
-    let (log, mut mirrors) = open_log(rt, alloc, 2);
-    assert!(rt; call_again(rt, alloc, &log, &mut mirrors, calls).is_ok());
+// Each metric has one bag, whichever allocation was refused: the other mirror finds it at the same place.
+fn find_each<R: Wait + Abort>(rt: &R, alloc: Global, log: &BagLog, mirrors: &mut [Mirror])
+    requires { All (IsMirrorOf log.now) mirrors.old }
+{
+    assert!(rt; mirrors.len() == 2);
+    for turn in 0..2 * METRICS {
+        let mirror = &mut mirrors[(turn % 2) as usize];
+        assert!(rt; find_again(rt, alloc, log, mirror, turn / 2).is_ok());
+    }
+    assert!(rt; log.catch_up(rt, alloc, &mut mirrors[1]) == Ok(METRICS as usize));
 }
-
-// More metrics than a list or an index has room for at first. Each has one bag, whichever allocation was refused: the
-// other mirror finds it at the same place.
-const FOUND: &[(usize, LogCall)] = &[
-    (0, LogCall::FindAll(12)),
-    (1, LogCall::FindAll(12)),
-    (1, LogCall::CatchUp(Ok(12))),
-];
 
 #[test]
 fn of_bag_log_find_or_append(rt: HostRuntime) {
-    expect_again(&rt, rt.alloc(), FOUND);
+    let (log, mut mirrors) = open_log(&rt, rt.alloc(), 2);
+    find_each(&rt, rt.alloc(), &log, &mut mirrors);
+}
+
+// Catches up, to `count` bags.
+fn catch_up_again<R: Wait + Abort>(
+    rt: &R,
+    alloc: Global,
+    log: &BagLog,
+    mirror: &mut Mirror,
+    count: u64,
+) -> Result<(), Memory>
+    requires { mirror.old.log ≡ log.now }
+    ensures { mirror.new.log ≡ log.now }
+{
+    let mut caught = refusable!(alloc, log.catch_up(rt, alloc, mirror));
+    if caught == Err(LogFault::Memory) {
+        caught = log.catch_up(rt, alloc, mirror);
+    }
+    assert!(rt; caught == Ok(count as usize), "{count} bags");
+    Ok(())
 }
 
 // One mirror appends the bags, and at every fourth the other catches up.
-const CAUGHT_UP: &[(usize, LogCall)] = &[
-    (0, LogCall::FindAll(4)),
-    (1, LogCall::CatchUp(Ok(4))),
-    (0, LogCall::FindAll(8)),
-    (1, LogCall::CatchUp(Ok(8))),
-    (0, LogCall::FindAll(12)),
-    (1, LogCall::CatchUp(Ok(12))),
-    (1, LogCall::HasAll(12)),
-];
+fn append_each<R: Wait + Abort>(rt: &R, alloc: Global, log: &BagLog, mirrors: &mut [Mirror])
+    requires { All (IsMirrorOf log.now) mirrors.old }
+{
+    assert!(rt; mirrors.len() == 2);
+    for metric in 0..METRICS {
+        let place = log.find_or_append(rt, alloc, &mut mirrors[0], metric);
+        assert!(rt; place == Ok(metric as usize));
+        if metric % 4 == 3 {
+            assert!(rt; catch_up_again(rt, alloc, log, &mut mirrors[1], metric + 1).is_ok());
+            assert!(rt; mirrors[1].place_of(metric) == Some(metric as usize));
+        }
+    }
+}
 
 #[test]
 fn of_bag_log_catch_up(rt: HostRuntime) {
-    expect_again(&rt, rt.alloc(), CAUGHT_UP);
+    let (log, mut mirrors) = open_log(&rt, rt.alloc(), 2);
+    append_each(&rt, rt.alloc(), &log, &mut mirrors);
 }
 
 // Puts chunks into the second bag, and gets each. Where a put is refused the bag is empty.
@@ -217,9 +241,7 @@ fn put_each_at<R: Wait + Abort>(
             return false;
         }
         let get = LogCall::At(1, Call::Get(serial, &[5]));
-        if !logs::is_right(rt, alloc, log, mirror, get) {
-            return false;
-        }
+        assert!(rt; logs::is_right(rt, alloc, log, mirror, get));
     }
     true
 }
