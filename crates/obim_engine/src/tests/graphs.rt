@@ -3,77 +3,15 @@
 ghost use Rattle.std.specs.Prelude.{◌≡◌, ◌≤◌, length, IsTrue, IfOk};
 ghost use Rattle.route_walks.specs.Walk.{IsGraph};
 
+use crate::tests::draws::Draws;
 use csr_graph::{Csr, MAX_ARCS, MAX_VERTICES};
-use route_walks::{ArcRec, EXAMPLE_ARCS, Memory, arcs, is_graph};
+use route_walks::{ArcRec, EXAMPLE_ARCS, Memory, is_graph};
 use std::alloc::Global;
 use std::process::Abort;
 use std::test::Fail;
 
 /// The distances from vertex 0 in the example.
 pub(crate) const SIX_LABELS: [u64; 6] = [0, 10, 10, 12, 10, 15];
-
-const CIRCLE: [ArcRec; 3] = arcs![(2, 1, 5), (0, 1, 0), (1, 0, 0)];
-
-const HEAVY: [ArcRec; 2] = arcs![(0, 1, u32::MAX), (1, 2, u32::MAX)];
-
-const PARALLEL: [ArcRec; 3] = arcs![(0, 1, 7), (0, 1, 3), (0, 0, 0)];
-
-const AGAINST: [ArcRec; 1] = arcs![(1, 0, 5)];
-
-/// A graph of `n` vertices, and a source.
-pub(crate) struct Worked {
-    pub n: u32,
-    pub arcs: &'static [ArcRec],
-    pub source: u32,
-}
-
-pub(crate) const WORKED: [Worked; 9] = [
-    Worked {
-        n: 6,
-        arcs: &EXAMPLE_ARCS,
-        source: 0,
-    },
-    Worked {
-        n: 6,
-        arcs: &EXAMPLE_ARCS,
-        source: 2,
-    },
-    Worked {
-        n: 6,
-        arcs: &EXAMPLE_ARCS,
-        source: 4,
-    },
-    Worked {
-        n: 3,
-        arcs: &CIRCLE,
-        source: 2,
-    },
-    Worked {
-        n: 1,
-        arcs: &[],
-        source: 0,
-    },
-    Worked {
-        n: 3,
-        arcs: &HEAVY,
-        source: 0,
-    },
-    Worked {
-        n: 3,
-        arcs: &HEAVY,
-        source: 2,
-    },
-    Worked {
-        n: 2,
-        arcs: &PARALLEL,
-        source: 0,
-    },
-    Worked {
-        n: 3,
-        arcs: &AGAINST,
-        source: 1,
-    },
-];
 
 /// Whether rows of the arcs can be built.
 pub(crate) fn fit_rows(n: u32, arcs: &[ArcRec]) -> bool
@@ -100,20 +38,17 @@ pub(crate) fn six(alloc: Global) -> Result<Csr, Memory>
     Csr::build(alloc, 6, &EXAMPLE_ARCS)
 }
 
-pub(crate) fn same_labels(rt: &impl Abort, labels: &[u64], want: &[u64]) {
-    assert_eq!(rt; labels, want);
+/// Asserts that these are the labels of a row of a table.
+pub(crate) fn same_labels(rt: &impl Abort, row: usize, labels: &[u64], want: &[u64]) {
+    assert!(rt; labels == want, "row {row}");
 }
 
 /// `count` arcs among `n` vertices, the same ones at each call.
 pub(crate) fn random_arcs(alloc: Global, n: u32, count: usize) -> Result<Vec<ArcRec>, Memory> {
     let mut arcs = Vec::with_capacity(alloc, count)?;
-    let mut state = 88172645463325252_u64;
+    let mut draws = Draws::new();
     for _ in 0..count {
-        // Marsaglia's xorshift.
-        state ^= state << 13;
-        state ^= state >> 7;
-        state ^= state << 17;
-        let bits = state >> 8;
+        let bits = draws.bits();
         let tail = (bits & 0xfffff) as u32 % n.max(1);
         let head = (bits >> 20 & 0xfffff) as u32 % n.max(1);
         let weight = (bits >> 40 & 0x3ff) as u32;
@@ -122,13 +57,19 @@ pub(crate) fn random_arcs(alloc: Global, n: u32, count: usize) -> Result<Vec<Arc
     Ok(arcs)
 }
 
-/// A square of `side` by `side` vertices with streets both ways, as a road map has them. Lengths go from
-/// 200 to 3199.
-pub(crate) fn grid_arcs(alloc: Global, side: u32) -> Result<Vec<ArcRec>, Memory> {
-    street_arcs(alloc, side, side, 200, 3000)
+/// Arcs from vertex 0 to each other one of `n`, the last one first, with weights from 1 to `weights` in turn.
+pub(crate) fn star(rt: &impl Abort, alloc: Global, n: u32, weights: u32) -> Result<Csr, Fail>
+    ensures { IfOk result (λ csr. csr.n ≡ n) }
+{
+    let mut arcs = Vec::new(alloc);
+    for before in 1..n {
+        let v = n - before;
+        arcs.push(ArcRec::new(0, v, 1 + v % weights.max(1)))?;
+    }
+    rows_of(rt, alloc, n, &arcs)
 }
 
-/// The same of `width` by `height` vertices, with `lengths` lengths from the `least` on.
+/// Streets both ways between `width` by `height` vertices, of `lengths` lengths from the `least` on.
 pub(crate) fn street_arcs(
     alloc: Global,
     width: u32,

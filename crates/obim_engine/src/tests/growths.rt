@@ -1,21 +1,20 @@
-//! Graphs that get more arcs, and runs that go on in them.
+//! Runs with a budget, runs that go on from a pause, and graphs that get more arcs meanwhile.
 
-ghost use Rattle.std.specs.Prelude.{◌≡◌, ◌+◌, ◌≤◌, ◌++◌, length, All, IfOk, IfSome};
+ghost use Rattle.std.specs.Prelude.{◌≡◌, ◌+◌, ◌≤◌, ◌++◌, length, IfOk};
 ghost use Rattle.route_walks.specs.Label.{AreLeastLabels};
 ghost use Rattle.route_walks.specs.Walk.{AreSeeds, IsGraph, HaveSameArcs};
 ghost use Rattle.label_words.specs.Paused.{IsPause};
 
 use crate::tests::draws::Draws;
 use crate::tests::graphs::{SIX_LABELS, fit_rows, random_arcs, rows_of, same_labels, six};
-use crate::tests::pauses::{
-    ONE_VISIT, expect_pause, labels_in_pieces, resume_to_end, run_a_little,
-};
-use crate::tests::{plainly, settings};
-use crate::{Closed, Paused, Recorder, RunFault, Settings, grow, resume};
+use crate::tests::pieces::{Kind, Piece, Plan, go_on, pause_after, settle};
+use crate::tests::settings;
+use crate::{Closed, OpenGate, Paused, Recorder, RunFault, Settings, grow, least_labels_resumed};
 use csr_graph::{Csr, MAX_ARCS};
-use obim_pool::{ObimPool, WorkPool};
 use route_walks::laws::least_labels_follow_the_arcs;
-use route_walks::{ArcRec, EXAMPLE_SEEDS, Memory, Seed, arcs, are_seeds};
+use route_walks::{
+    ArcRec, EXAMPLE_SEEDS, INF, Memory, Seed, arcs, are_seeds, is_graph, plain_labels,
+};
 use std::alloc::Global;
 use std::process::Abort;
 use std::sync::Wait;
@@ -24,11 +23,7 @@ use std::thread::Threads;
 use std::time::Clock;
 
 /// The arc that is added to the six vertices, and their labels then.
-const SHORTER: [ArcRec; 1] = [ArcRec {
-    tail: 0,
-    head: 5,
-    weight: 4,
-}];
+const SHORTER: [ArcRec; 1] = arcs![(0, 5, 4)];
 
 const SHORTER_LABELS: [u64; 6] = [0, 10, 10, 12, 10, 4];
 
@@ -68,154 +63,207 @@ fn grown_pause(
     Ok((grown, grow(rest, added)))
 }
 
-/// The least labels of a graph with these arcs added, from its own least labels; nothing if the
-/// resumes weren't enough. That it gives them is proved from the contracts of the calls.
-fn grown_labels<H, P>(
+/// The least labels of a graph with these arcs added, from its own least labels. That it gives them is proved
+/// from the contracts of the calls.
+fn grown_labels<H: Threads + Wait + Clock + Abort + Sync>(
     rt: &H,
     alloc: Global,
     csr: &Csr,
     seeds: &[Seed],
     labels: Vec<u64>,
     added: &[ArcRec],
-    settings: &Settings,
-    pool: &P,
-    sides: &mut [P::Side],
-) -> Result<Option<Vec<u64>>, RunFault>
-where
-    H: Threads + Wait + Clock + Sync,
-    P: WorkPool + Sync,
-    P::Side: Send,
+    plan: &mut Plan,
+) -> Result<Vec<u64>, RunFault>
     requires seeds { AreSeeds csr.now.n seeds.now }
     requires labels { AreLeastLabels csr.now.n csr.now.arcs seeds.now labels.items }
     requires ends { IsGraph csr.now.n added.now }
     requires places { length csr.now.arcs + length added.now ≤ MAX_ARCS }
-    requires workers { length sides.old ≡ settings.now.workers }
-    requires sides { All (P.is_side pool.now) sides.old }
-    ensures { IfOk result (λ settled. IfSome settled
-        (λ labels. AreLeastLabels csr.now.n (csr.now.arcs ++ added.now) seeds.now labels.items)) }
+    ensures { IfOk result
+        (λ labels. AreLeastLabels csr.now.n (csr.now.arcs ++ added.now) seeds.now labels.items) }
 {
     let rest = settled_pause(alloc, csr, seeds, labels)?;
     let (grown, rest) = grown_pause(alloc, csr, seeds, rest, added)?;
     least_labels_follow_the_arcs();
-    let closed = Closed::Paused(rest);
-    resume_to_end(rt, alloc, &grown, seeds, closed, settings, pool, sides)
+    settle(rt, alloc, &grown, seeds, Some(rest), plan)
 }
 
-/// The labels from vertex 0, by one visit and then the rest.
-fn labels_by_visits<H: Threads + Wait + Clock + Abort + Sync>(
-    rt: &H,
-    alloc: Global,
-    csr: &Csr,
-    settings: &Settings,
-) -> Result<Vec<u64>, Fail>
-    requires { AreSeeds csr.now.n EXAMPLE_SEEDS }
-    ensures { IfOk result (λ labels. AreLeastLabels csr.now.n csr.now.arcs EXAMPLE_SEEDS labels.items) }
+/// Asserts the labels and the marked vertices of a pause of the six.
+pub(crate) fn expect_pause(
+    rt: &impl Abort,
+    row: usize,
+    rest: &Paused,
+    labels: &[u64],
+    marked: &[u32],
+)
+    requires { length rest.now.marks ≡ 6 }
 {
-    let seeds = EXAMPLE_SEEDS;
-    let (pool, mut sides) = ObimPool::open(alloc, settings.workers, 16)?;
-    let closed = run_a_little(rt, alloc, csr, &seeds, settings, 1)?;
-    let labels = resume_to_end(rt, alloc, csr, &seeds, closed, settings, &pool, &mut sides)?;
-    Ok(labels.expect(rt, "settled"))
+    same_labels(rt, row, rest.labels(), labels);
+    for v in 0..6_u32 {
+        assert!(rt;
+            rest.marked(v) == marked.contains(&v),
+            "row {row}: mark of {v}"
+        );
+    }
 }
 
-/// The labels with the shorter arc, from those without it.
-fn labels_with_an_arc<H: Threads + Wait + Clock + Abort + Sync>(
-    rt: &H,
-    alloc: Global,
-    csr: &Csr,
-    settings: &Settings,
-    labels: Vec<u64>,
-) -> Result<Vec<u64>, Fail>
-    requires vertices { csr.now.n ≡ 6 }
-    requires arcs { length csr.now.arcs ≡ 8 }
-    requires labels { AreLeastLabels csr.now.n csr.now.arcs EXAMPLE_SEEDS labels.items }
-{
-    let seeds = EXAMPLE_SEEDS;
-    let (pool, mut sides) = ObimPool::open(alloc, settings.workers, 16)?;
-    let labels = grown_labels(
-        rt, alloc, csr, &seeds, labels, &SHORTER, settings, &pool, &mut sides,
-    )?;
-    Ok(labels.expect(rt, "settled"))
-}
+/// The labels of the six vertices when no vertex was visited.
+const NO_VISIT: [u64; 6] = [0, INF, INF, INF, INF, INF];
 
-// Vertex by vertex to the end, then an arc more, and so to the end again.
+/// The labels when only vertex 0 was visited.
+pub(crate) const ONE_VISIT: [u64; 6] = [0, 17, 10, INF, INF, INF];
+
+/// A pool, how many workers, how many visits each makes, the labels and the marked vertices that this leaves, and the
+/// marked ones once the graph has the shorter arc. Visits of a sweep count: over a pool that keeps nothing there are no
+/// others.
+const PAUSES: &[(Kind, u32, u64, &[u64], &[u32], &[u32])] = &[
+    (Kind::Locked, 2, 0, &NO_VISIT, &[0], &[0]),
+    (Kind::Locked, 1, 1, &ONE_VISIT, &[1, 2], &[0, 1, 2]),
+    (
+        Kind::Useless(false, None),
+        1,
+        1,
+        &ONE_VISIT,
+        &[1, 2],
+        &[0, 1, 2],
+    ),
+];
+
+// A pause comes back from a run that may visit nothing, gets an arc, and is settled.
 #[test]
-fn six_vertices_get_an_arc(rt: HostRuntime) -> Result<(), Fail> {
-    let alloc = rt.alloc();
+fn pauses_of_a_budget(rt: HostRuntime) -> Result<(), Fail> {
+    let (alloc, seeds) = (rt.alloc(), EXAMPLE_SEEDS);
     let csr = six(alloc)?;
-    for workers in [1, 2] {
-        let settings = settings(&rt, workers, 4);
-        let labels = labels_by_visits(&rt, alloc, &csr, &settings)?;
-        same_labels(&rt, &labels, &SIX_LABELS);
-        let labels = labels_with_an_arc(&rt, alloc, &csr, &settings, labels)?;
-        same_labels(&rt, &labels, &SHORTER_LABELS);
+    for row in 0..PAUSES.len() {
+        let (kind, workers, budget, labels, marked, grown_marked) = PAUSES[row];
+        let settings = settings(&rt, workers, 4, false);
+        let mut piece = Piece {
+            settings,
+            kind,
+            budget,
+        };
+        let rest = pause_after(&rt, alloc, &csr, &seeds, None, &piece)?;
+        expect_pause(&rt, row, &rest, labels, marked);
+        piece.budget = 0;
+        let rest = pause_after(&rt, alloc, &csr, &seeds, Some(rest), &piece)?;
+        expect_pause(&rt, row, &rest, labels, marked);
+        let (grown, rest) = grown_pause(alloc, &csr, &seeds, rest, &SHORTER)?;
+        expect_pause(&rt, row, &rest, labels, grown_marked);
+        piece.budget = 1;
+        let mut plan = Plan::Same(piece);
+        let labels = settle(&rt, alloc, &grown, &seeds, Some(rest), &mut plan)?;
+        same_labels(&rt, row, &labels, &SHORTER_LABELS);
     }
     Ok(())
 }
 
-// In the middle of a run: the marks stay, and the tail of the added arc is marked again.
-#[test]
-fn a_pause_gets_an_arc(rt: HostRuntime) -> Result<(), Fail> {
-    let alloc = rt.alloc();
-    let csr = six(alloc)?;
+/// A pool, how many workers, how many visits each makes in a piece, and how often the run is made.
+const POOLS: &[(Kind, u32, u64, u32)] = &[
+    (Kind::Locked, 1, 1, 1),
+    (Kind::Locked, 2, 1, 1),
+    (Kind::Obim, 1, 1, 1),
+    (Kind::Obim, 2, 1, 1),
+    (Kind::Locked, 4, u64::MAX, 1),
+    (Kind::Obim, 4, u64::MAX, 1),
+    (Kind::Misleading, 1, u64::MAX, 50),
+    (Kind::Misleading, 2, u64::MAX, 50),
+    (Kind::Misleading, 8, u64::MAX, 50),
+    (Kind::Useless(true, None), 2, u64::MAX, 1),
+    (Kind::Useless(false, None), 2, u64::MAX, 1),
+    (Kind::Useless(true, Some(0)), 2, u64::MAX, 1),
+    (Kind::Useless(false, Some(6)), 2, u64::MAX, 1),
+];
+
+/// Asserts the labels of the six vertices, and those that they get from there by the shorter arc.
+fn expect_six<H: Threads + Wait + Clock + Abort + Sync>(
+    rt: &H,
+    alloc: Global,
+    row: usize,
+    plan: &mut Plan,
+) -> Result<(), Fail> {
     let seeds = EXAMPLE_SEEDS;
-    let one = settings(&rt, 1, 4);
-    let Closed::Paused(rest) = run_a_little(&rt, alloc, &csr, &seeds, &one, 1)? else {
-        assert!(rt; false, "settled");
-        return Ok(());
-    };
-    let (grown, rest) = grown_pause(alloc, &csr, &seeds, rest, &SHORTER)?;
-    let closed = Closed::Paused(rest);
-    expect_pause(&rt, alloc, &grown, &seeds, &closed, &ONE_VISIT, &[0, 1, 2])?;
-    let (pool, mut sides) = ObimPool::open(alloc, 1, 16)?;
-    let labels = resume_to_end(&rt, alloc, &grown, &seeds, closed, &one, &pool, &mut sides)?;
-    let labels = labels.expect(&rt, "settled");
-    same_labels(&rt, &labels, &SHORTER_LABELS);
+    let csr = six(alloc)?;
+    let labels = settle(rt, alloc, &csr, &seeds, None, plan)?;
+    same_labels(rt, row, &labels, &SIX_LABELS);
+    let labels = grown_labels(rt, alloc, &csr, &seeds, labels, &SHORTER, plan)?;
+    same_labels(rt, row, &labels, &SHORTER_LABELS);
     Ok(())
 }
 
-/// The labels of a graph that grows when a run has gone on for a while: paused or done, and in pieces from
-/// there to the end.
+#[test]
+fn labels_over_each_pool(rt: HostRuntime) -> Result<(), Fail> {
+    let alloc = rt.alloc();
+    for row in 0..POOLS.len() {
+        let (kind, workers, budget, rounds) = POOLS[row];
+        let settings = settings(&rt, workers, 4, false);
+        let mut plan = Plan::Same(Piece {
+            settings,
+            kind,
+            budget,
+        });
+        for _ in 0..rounds {
+            expect_six(&rt, alloc, row, &mut plan)?;
+        }
+    }
+    Ok(())
+}
+
+/// The labels of a graph that grows when a run has gone on for a piece, paused or done.
 fn labels_that_grow<H: Threads + Wait + Clock + Abort + Sync>(
     rt: &H,
     alloc: Global,
     csr: &Csr,
     seeds: &[Seed],
     added: &[ArcRec],
-    draws: &mut Draws,
+    plan: &mut Plan,
 ) -> Result<Vec<u64>, Fail>
     requires seeds { AreSeeds csr.now.n seeds.now }
     requires ends { IsGraph csr.now.n added.now }
     requires places { length csr.now.arcs + length added.now ≤ MAX_ARCS }
 {
-    let settings = draws.settings(rt);
-    let rest = match run_a_little(rt, alloc, csr, seeds, &settings, draws.budget())? {
+    let piece = plan.next(rt);
+    let rest = match go_on(rt, alloc, csr, seeds, None, &piece)? {
         Closed::Settled(labels) => settled_pause(alloc, csr, seeds, labels)?,
         Closed::Paused(rest) => rest,
     };
     let (grown, rest) = grown_pause(alloc, csr, seeds, rest, added)?;
-    labels_in_pieces(rt, alloc, &grown, seeds, Closed::Paused(rest), draws)
+    Ok(settle(rt, alloc, &grown, seeds, Some(rest), plan)?)
+}
+
+/// Asserts that a graph of 3,000 vertices gets the labels of its arcs, some of which are added in the midst of a run.
+fn expect_growth<H: Threads + Wait + Clock + Abort + Sync>(
+    rt: &H,
+    alloc: Global,
+    arcs: &[ArcRec],
+    added: usize,
+    plan: &mut Plan,
+) -> Result<(), Fail> {
+    let (n, seeds) = (3_000, [Seed::new(0, 5), Seed::new(7, 0)]);
+    assert!(rt; added <= arcs.len() && arcs.len() <= MAX_ARCS);
+    let (first, last) = arcs.split_at(arcs.len() - added);
+    let within = is_graph(n, arcs) && fit_rows(n, first) && fit_rows(n, last);
+    assert!(rt; within && are_seeds(n, &seeds));
+    let csr = Csr::build(alloc, n, first)?;
+    let labels = labels_that_grow(rt, alloc, &csr, &seeds, last, plan)?;
+    let plain = plain_labels(alloc, n, arcs, &seeds)?;
+    assert!(rt;
+        labels.as_slice() == plain.as_slice(),
+        "{} arcs, {added} added",
+        arcs.len()
+    );
+    Ok(())
 }
 
 #[test]
 fn growths_at_random(rt: HostRuntime) -> Result<(), Fail> {
     let alloc = rt.alloc();
-    let n = 300;
-    let seeds = [Seed::new(0, 5), Seed::new(7, 0)];
-    let whole = random_arcs(alloc, n, 1_000)?;
+    let arcs = random_arcs(alloc, 3_000, 12_000)?;
     let mut draws = Draws::new();
-    for round in 0..200_u32 {
-        let count = 500 + draws.below(400) as usize % 400;
-        let more = draws.below(60) as usize % 60;
-        assert!(rt; count + more <= whole.len());
-        let (arcs, added) = (&whole[..count], &whole[count..count + more]);
-        let within = fit_rows(n, arcs) && fit_rows(n, added) && are_seeds(n, &seeds);
-        assert!(rt; within);
-        let csr = Csr::build(alloc, n, arcs)?;
-        assert!(rt; csr.arc_count() + added.len() <= MAX_ARCS);
-        let labels = labels_that_grow(&rt, alloc, &csr, &seeds, added, &mut draws)?;
-        let plain = plainly(&rt, alloc, n, &whole[..count + more], &seeds)?;
-        assert!(rt; labels.as_slice() == plain.as_slice(), "round {round}");
+    for _ in 0..200_u32 {
+        let count = 6_000 + draws.below(6_000) as usize % 6_000;
+        let added = draws.below(60) as usize;
+        let mut plan = Plan::Drawn(draws.other());
+        assert!(rt; count <= arcs.len());
+        expect_growth(&rt, alloc, &arcs[..count], added, &mut plan)?;
     }
     Ok(())
 }
@@ -225,56 +273,47 @@ fn visited_after<H: Threads + Wait + Clock + Abort + Sync>(
     rt: &H,
     alloc: Global,
     csr: &Csr,
-    seeds: &[Seed],
     added: &[ArcRec],
     settings: &Settings,
 ) -> Result<Vec<u32>, Fail>
-    requires seeds { AreSeeds csr.now.n seeds.now }
+    requires seeds { AreSeeds csr.now.n EXAMPLE_SEEDS }
     requires ends { IsGraph csr.now.n added.now }
     requires places { length csr.now.arcs + length added.now ≤ MAX_ARCS }
 {
-    let closed = run_a_little(rt, alloc, csr, seeds, settings, u64::MAX)?;
-    let Closed::Settled(labels) = closed else {
-        panic!(rt; "paused");
-    };
-    let rest = settled_pause(alloc, csr, seeds, labels)?;
-    let (grown, rest) = grown_pause(alloc, csr, seeds, rest, added)?;
-    let gate = Recorder::new(alloc);
-    let (pool, mut sides) = ObimPool::open(alloc, settings.workers, settings.chunk)?;
-    let closed = resume(
-        rt,
-        alloc,
-        &grown,
-        seeds,
-        rest,
-        settings,
-        &pool,
-        &mut sides,
-        &gate,
-        u64::MAX,
-    )?;
-    assert!(rt; matches!(closed, Closed::Settled(_)));
+    let (seeds, gate) = (EXAMPLE_SEEDS, Recorder::new(alloc));
+    let mut plan = Plan::Same(Piece {
+        settings: *settings,
+        kind: Kind::Locked,
+        budget: u64::MAX,
+    });
+    let labels = settle(rt, alloc, csr, &seeds, None, &mut plan)?;
+    let rest = settled_pause(alloc, csr, &seeds, labels)?;
+    let (grown, rest) = grown_pause(alloc, csr, &seeds, rest, added)?;
+    least_labels_resumed(rt, alloc, &grown, rest, settings, &gate)?;
     Ok(gate.into_passed())
 }
 
-/// Looks which vertices that run visits, from vertex 0.
+/// Asserts which vertices that run visits.
 fn expect_visited<H: Threads + Wait + Clock + Abort + Sync>(
     rt: &H,
     alloc: Global,
     csr: &Csr,
     added: &[ArcRec],
-    settings: &Settings,
     want: &[u32],
 ) -> Result<(), Fail>
     requires { AreSeeds csr.now.n EXAMPLE_SEEDS }
 {
-    assert!(rt; fit_rows(csr.n(), added) && csr.arc_count() + added.len() <= MAX_ARCS);
-    let mut visited = visited_after(rt, alloc, csr, &EXAMPLE_SEEDS, added, settings)?;
-    // Which of several tails comes first depends on the workers.
-    if added.len() > 1 {
-        visited.sort()?;
+    let few = fit_rows(csr.n(), added) && csr.arc_count() + added.len() <= MAX_ARCS;
+    assert!(rt; few);
+    for workers in [1, 2] {
+        let settings = settings(rt, workers, 4, false);
+        let mut visited = visited_after(rt, alloc, csr, added, &settings)?;
+        // Which of several tails comes first depends on the workers.
+        if added.len() > 1 {
+            visited.sort()?;
+        }
+        assert!(rt; visited.as_slice() == want, "{want:?} by {workers}");
     }
-    assert_eq!(rt; visited.as_slice(), want);
     Ok(())
 }
 
@@ -288,13 +327,7 @@ fn only_what_changes_is_visited(rt: HostRuntime) -> Result<(), Fail> {
     let alloc = rt.alloc();
     let n = 20_000;
     let csr = rows_of(&rt, alloc, n, &random_arcs(alloc, n, 100_000)?)?;
-    assert!(rt; csr.arc_count() == 100_000);
-    let six = six(alloc)?;
-    for workers in [1, 2] {
-        let settings = settings(&rt, workers, 4);
-        expect_visited(&rt, alloc, &csr, &NO_SHORTER, &settings, &[9, 17])?;
-        expect_visited(&rt, alloc, &csr, &[], &settings, &[])?;
-        expect_visited(&rt, alloc, &six, &SHORTER, &settings, &[0, 5])?;
-    }
-    Ok(())
+    expect_visited(&rt, alloc, &csr, &NO_SHORTER, &[9, 17])?;
+    expect_visited(&rt, alloc, &csr, &[], &[])?;
+    expect_visited(&rt, alloc, &six(alloc)?, &SHORTER, &[0, 5])
 }

@@ -27,7 +27,7 @@ impl Hostile {
     pub fn open(
         alloc: Global,
         workers: u32,
-        draws: &mut Draws,
+        mut draws: Draws,
     ) -> Result<(Hostile, Vec<HostileSide>), Memory>
         ensures { IfOk result (λ opened. length opened.1.items ≡ workers) }
     {

@@ -137,7 +137,7 @@ impl WorkPool for Misleading {
 }
 
 /// Keeps nothing, whatever it says of it, and always draws the same.
-#[derive(Drop)]
+#[derive(Clone, Copy)]
 pub(crate) struct Useless {
     pub accepts: bool,
     pub gives: Option<u32>,

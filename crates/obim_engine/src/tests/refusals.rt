@@ -1,21 +1,20 @@
-//! Each call with one allocation of it refused, inside a worker's push too: `Memory` then, with the sides still sides
-//! of the pool, and made once more it gives the labels that were worked by hand. `tests/refusals` refuses each in
-//! turn; `tests/refusals.tsv` has the calls.
+//! Each call with one allocation of it refused, inside a worker's push too: `RunFault::Memory` then, and made once more
+//! it gives the labels that were worked by hand. `tests/refusals` refuses each in turn; `tests/refusals.tsv` has the
+//! calls.
 
-ghost use Rattle.std.specs.Prelude.{◌≡◌, length, All, IfOk};
+ghost use Rattle.std.specs.Prelude.{IfOk};
 ghost use Rattle.route_walks.specs.Walk.{AreSeeds};
 ghost use Rattle.label_words.specs.Paused.{IsPause};
 
 use crate::tests::graphs::{SIX_LABELS, same_labels, six};
-use crate::tests::pauses::{ONE_VISIT, expect_pause, resume_to_end, run_a_little};
+use crate::tests::growths::{ONE_VISIT, expect_pause};
+use crate::tests::operators::Ask::{self, Components, Distances, Least, Levels, Resumed, Run};
+use crate::tests::operators::labels_of;
+use crate::tests::pieces::{Kind, Piece, Plan, go_on, pause_after, settle};
 use crate::tests::settings;
-use crate::{
-    Closed, OpenGate, Paused, Recorder, RunFault, Settings, components, distances, least_labels,
-    least_labels_resumed, levels, resume, run, run_for,
-};
+use crate::{Closed, Paused, Recorder, RunFault, Settings};
 use csr_graph::Csr;
-use obim_pool::{LockedPool, ObimPool, WorkPool};
-use route_walks::{EXAMPLE_SEEDS, Seed, refusable, tried_again};
+use route_walks::{EXAMPLE_SEEDS, Seed, refusable};
 use std::alloc::Global;
 use std::process::Abort;
 use std::sync::Wait;
@@ -23,223 +22,163 @@ use std::test::Fail;
 use std::thread::Threads;
 use std::time::Clock;
 
-const FEWEST_ARCS: [u64; 6] = [0, 1, 1, 2, 2, 3];
+// So many workers, and whether buckets widen.
+const SETTINGS: &[(u32, bool)] = &[(1, false), (2, false), (1, true), (2, true)];
 
-// More than any worker visits here.
-const ENOUGH: u64 = 1000;
-
-// The labels that a call gives for the six vertices, by one worker and by two.
-macro_rules! expect_labels {
-    ($rt:expr, $want:expr, |$csr:ident, $settings:ident| $call:expr) => {{
-        let alloc = $rt.alloc();
-        let $csr = six(alloc)?;
-        for workers in [1, 2] {
-            let $settings = settings(&$rt, workers, 4);
-            let labels = tried_again!($rt, alloc, RunFault::Memory, $call);
-            same_labels(&$rt, &labels, &$want);
+// The labels of the six vertices, asked once more where memory was refused.
+fn asked_again<H: Threads + Wait + Clock + Abort + Sync>(
+    rt: &H,
+    alloc: Global,
+    csr: &Csr,
+    ask: Ask,
+    settings: &Settings,
+) -> Result<Vec<u64>, Fail> {
+    match refusable!(alloc, labels_of(rt, alloc, csr, ask, settings)) {
+        Ok(labels) => Ok(labels),
+        Err(fault) => {
+            assert!(rt; fault == RunFault::Memory);
+            Ok(labels_of(rt, alloc, csr, ask, settings)?)
         }
-    }};
+    }
 }
 
-// `run_again` by one worker and by two, over either pool that comes with the engine.
-macro_rules! over_either_pool {
-    ($rt:expr, $from_pause:expr) => {{
-        let alloc = $rt.alloc();
-        let csr = six(alloc)?;
-        let seeds = EXAMPLE_SEEDS;
-        for workers in [1, 2] {
-            let settings = settings(&$rt, workers, 4);
-            let (pool, mut sides) = LockedPool::open(alloc, workers)?;
-            run_again(
-                &$rt, alloc, &csr, &seeds, &settings, &pool, &mut sides, $from_pause,
-            )?;
-            let (pool, mut sides) = ObimPool::open(alloc, workers, 1)?;
-            run_again(
-                &$rt, alloc, &csr, &seeds, &settings, &pool, &mut sides, $from_pause,
-            )?;
-        }
-    }};
+fn expect_labels<H: Threads + Wait + Clock + Abort + Sync>(
+    rt: &H,
+    alloc: Global,
+    ask: Ask,
+    want: &[u64],
+) -> Result<(), Fail> {
+    let csr = six(alloc)?;
+    for (row, &(workers, widening)) in SETTINGS.iter().enumerate() {
+        let settings = settings(rt, workers, 4, widening);
+        let labels = asked_again(rt, alloc, &csr, ask, &settings)?;
+        same_labels(rt, row, &labels, want);
+    }
+    Ok(())
 }
 
 #[test]
 fn of_run(rt: HostRuntime) -> Result<(), Fail> {
-    let alloc = rt.alloc();
-    let csr = six(alloc)?;
-    for workers in [1, 2] {
-        let settings = settings(&rt, workers, 4);
-        let (pool, mut sides) = ObimPool::open(alloc, workers, 16)?;
-        let labels = tried_again!(
-            rt,
-            alloc,
-            RunFault::Memory,
-            run(
-                &rt,
-                alloc,
-                &csr,
-                &EXAMPLE_SEEDS,
-                &settings,
-                &pool,
-                &mut sides,
-                &OpenGate
-            )
-        );
-        same_labels(&rt, &labels, &SIX_LABELS);
-    }
-    Ok(())
-}
-
-// What a run leaves of which each worker visited one vertex at most.
-fn paused<H: Threads + Wait + Clock + Abort + Sync>(
-    rt: &H,
-    alloc: Global,
-    csr: &Csr,
-    seeds: &[Seed],
-    settings: &Settings,
-) -> Result<Paused, RunFault>
-    requires { AreSeeds csr.now.n seeds.now }
-    ensures { IfOk result (λ rest. IsPause csr.now seeds.now rest) }
-{
-    match run_a_little(rt, alloc, csr, seeds, settings, 1)? {
-        Closed::Paused(rest) => Ok(rest),
-        Closed::Settled(_) => panic!(rt; "settled"),
-    }
-}
-
-// Runs to the end over one pool: with a budget of one visit at first, or else from a pause. Made once more after a
-// refusal the run leaves what one worker's first visit leaves; a pause is gone then, and the run goes on from another.
-fn run_again<H, P>(
-    rt: &H,
-    alloc: Global,
-    csr: &Csr,
-    seeds: &[Seed],
-    settings: &Settings,
-    pool: &P,
-    sides: &mut [P::Side],
-    from_pause: bool,
-) -> Result<(), Fail>
-where
-    H: Threads + Wait + Clock + Abort + Sync,
-    P: WorkPool + Sync,
-    P::Side: Send,
-    requires seeds { AreSeeds csr.now.n seeds.now }
-    requires workers { length sides.old ≡ settings.now.workers }
-    requires sides { All (P.is_side pool.now) sides.old }
-{
-    let labels = if from_pause {
-        let rest = paused(rt, alloc, csr, seeds, settings)?;
-        let same = paused(rt, alloc, csr, seeds, settings)?;
-        let closed = tried_again!(
-            rt,
-            alloc,
-            RunFault::Memory,
-            resume(
-                rt, alloc, csr, seeds, rest, settings, pool, sides, &OpenGate, ENOUGH
-            ),
-            resume(
-                rt, alloc, csr, seeds, same, settings, pool, sides, &OpenGate, ENOUGH
-            )
-        );
-        settled(closed)
-    } else {
-        let closed = tried_again!(
-            rt,
-            alloc,
-            RunFault::Memory,
-            run_for(rt, alloc, csr, seeds, settings, pool, sides, &OpenGate, 1)
-        );
-        if settings.workers == 1 {
-            expect_pause(rt, alloc, csr, seeds, &closed, &ONE_VISIT, &[1, 2])?;
-        }
-        resume_to_end(rt, alloc, csr, seeds, closed, settings, pool, sides)?
-    };
-    assert_eq!(rt;
-        labels.expect(rt, "settled").as_slice(),
-        SIX_LABELS.as_slice()
-    );
-    Ok(())
-}
-
-// The labels of a run that is over.
-fn settled(closed: Closed) -> Option<Vec<u64>> {
-    match closed {
-        Closed::Settled(labels) => Some(labels),
-        Closed::Paused(_rest) => None,
-    }
+    expect_labels(&rt, rt.alloc(), Run(&EXAMPLE_SEEDS), &SIX_LABELS)
 }
 
 #[test]
+fn of_distances(rt: HostRuntime) -> Result<(), Fail> {
+    expect_labels(&rt, rt.alloc(), Distances(0), &SIX_LABELS)
+}
+
+#[test]
+fn of_levels(rt: HostRuntime) -> Result<(), Fail> {
+    expect_labels(&rt, rt.alloc(), Levels(0), &[0, 1, 1, 2, 2, 3])
+}
+
+#[test]
+fn of_components(rt: HostRuntime) -> Result<(), Fail> {
+    expect_labels(&rt, rt.alloc(), Components, &[0; 6])
+}
+
+#[test]
+fn of_least_labels(rt: HostRuntime) -> Result<(), Fail> {
+    expect_labels(&rt, rt.alloc(), Least(&EXAMPLE_SEEDS), &SIX_LABELS)
+}
+
+#[test]
+fn of_least_labels_resumed(rt: HostRuntime) -> Result<(), Fail> {
+    expect_labels(&rt, rt.alloc(), Resumed(&EXAMPLE_SEEDS), &SIX_LABELS)
+}
+
+// A pool that comes with the engine, and how many workers.
+const POOLS: &[(Kind, u32)] = &[
+    (Kind::Locked, 1),
+    (Kind::Locked, 2),
+    (Kind::Obim, 1),
+    (Kind::Obim, 2),
+];
+
+// The pause after a piece, which is made once more where memory was refused.
+fn begun_again<H: Threads + Wait + Clock + Abort + Sync>(
+    rt: &H,
+    alloc: Global,
+    csr: &Csr,
+    seeds: &[Seed],
+    piece: &Piece,
+) -> Result<Paused, Fail>
+    requires { AreSeeds csr.now.n seeds.now }
+    ensures { IfOk result (λ rest. IsPause csr.now seeds.now rest) }
+{
+    match refusable!(alloc, pause_after(rt, alloc, csr, seeds, None, piece)) {
+        Ok(rest) => Ok(rest),
+        Err(fault) => {
+            assert!(rt; fault == RunFault::Memory);
+            Ok(pause_after(rt, alloc, csr, seeds, None, piece)?)
+        }
+    }
+}
+
+// What a pause comes to. After a refusal it is gone, and the run goes on from the same one.
+fn gone_on_again<H: Threads + Wait + Clock + Abort + Sync>(
+    rt: &H,
+    alloc: Global,
+    csr: &Csr,
+    seeds: &[Seed],
+    rest: Paused,
+    same: Paused,
+    piece: &Piece,
+) -> Result<Closed, Fail>
+    requires seeds { AreSeeds csr.now.n seeds.now }
+    requires rest { IsPause csr.now seeds.now rest }
+    requires same { IsPause csr.now seeds.now same }
+{
+    match refusable!(alloc, go_on(rt, alloc, csr, seeds, Some(rest), piece)) {
+        Ok(closed) => Ok(closed),
+        Err(fault) => {
+            assert!(rt; fault == RunFault::Memory);
+            Ok(go_on(rt, alloc, csr, seeds, Some(same), piece)?)
+        }
+    }
+}
+
+// A run leaves what one worker's first visit leaves, and goes on to the end from there.
+#[test]
 fn of_run_for(rt: HostRuntime) -> Result<(), Fail> {
-    over_either_pool!(rt, false);
+    let (alloc, seeds) = (rt.alloc(), EXAMPLE_SEEDS);
+    let csr = six(alloc)?;
+    for (row, &(kind, workers)) in POOLS.iter().enumerate() {
+        let settings = settings(&rt, workers, 4, false);
+        let piece = Piece {
+            settings,
+            kind,
+            budget: 1,
+        };
+        let rest = begun_again(&rt, alloc, &csr, &seeds, &piece)?;
+        if workers == 1 {
+            expect_pause(&rt, row, &rest, &ONE_VISIT, &[1, 2]);
+        }
+        let mut plan = Plan::Same(piece);
+        let labels = settle(&rt, alloc, &csr, &seeds, Some(rest), &mut plan)?;
+        same_labels(&rt, row, &labels, &SIX_LABELS);
+    }
     Ok(())
 }
 
 #[test]
 fn of_resume(rt: HostRuntime) -> Result<(), Fail> {
-    over_either_pool!(rt, true);
-    Ok(())
-}
-
-#[test]
-fn of_distances(rt: HostRuntime) -> Result<(), Fail> {
-    expect_labels!(rt, SIX_LABELS, |csr, settings| {
-        distances(&rt, rt.alloc(), &csr, 0, &settings, &OpenGate)
-    });
-    Ok(())
-}
-
-#[test]
-fn of_levels(rt: HostRuntime) -> Result<(), Fail> {
-    expect_labels!(rt, FEWEST_ARCS, |csr, settings| {
-        levels(&rt, rt.alloc(), &csr, 0, &settings, &OpenGate)
-    });
-    Ok(())
-}
-
-#[test]
-fn of_components(rt: HostRuntime) -> Result<(), Fail> {
-    expect_labels!(rt, [0; 6], |csr, settings| {
-        components(&rt, rt.alloc(), &csr, &settings, &OpenGate)
-    });
-    Ok(())
-}
-
-// Over a pool whose buckets widen too.
-#[test]
-fn of_least_labels(rt: HostRuntime) -> Result<(), Fail> {
-    let alloc = rt.alloc();
+    let (alloc, seeds) = (rt.alloc(), EXAMPLE_SEEDS);
     let csr = six(alloc)?;
-    for workers in [1, 2] {
-        let settings = settings(&rt, workers, 4).with_widening_buckets();
-        let seeds = Vec::from_slice(alloc, &EXAMPLE_SEEDS)?;
-        let same = Vec::from_slice(alloc, &EXAMPLE_SEEDS)?;
-        let labels = tried_again!(
-            rt,
-            alloc,
-            RunFault::Memory,
-            least_labels(&rt, alloc, &csr, seeds, &settings, &OpenGate),
-            least_labels(&rt, alloc, &csr, same, &settings, &OpenGate)
-        );
-        same_labels(&rt, &labels, &SIX_LABELS);
-    }
-    Ok(())
-}
-
-#[test]
-fn of_least_labels_resumed(rt: HostRuntime) -> Result<(), Fail> {
-    let alloc = rt.alloc();
-    let csr = six(alloc)?;
-    for workers in [1, 2] {
-        let settings = settings(&rt, workers, 4).with_widening_buckets();
-        let rest = paused(&rt, alloc, &csr, &EXAMPLE_SEEDS, &settings)?;
-        let same = paused(&rt, alloc, &csr, &EXAMPLE_SEEDS, &settings)?;
-        let labels = tried_again!(
-            rt,
-            alloc,
-            RunFault::Memory,
-            least_labels_resumed(&rt, alloc, &csr, rest, &settings, &OpenGate),
-            least_labels_resumed(&rt, alloc, &csr, same, &settings, &OpenGate)
-        );
-        same_labels(&rt, &labels, &SIX_LABELS);
+    for (row, &(kind, workers)) in POOLS.iter().enumerate() {
+        let settings = settings(&rt, workers, 4, false);
+        let mut piece = Piece {
+            settings,
+            kind,
+            budget: 1,
+        };
+        let rest = pause_after(&rt, alloc, &csr, &seeds, None, &piece)?;
+        let same = pause_after(&rt, alloc, &csr, &seeds, None, &piece)?;
+        piece.budget = u64::MAX;
+        match gone_on_again(&rt, alloc, &csr, &seeds, rest, same, &piece)? {
+            Closed::Settled(labels) => same_labels(&rt, row, &labels, &SIX_LABELS),
+            Closed::Paused(_) => assert!(rt; false, "row {row}: paused"),
+        }
     }
     Ok(())
 }

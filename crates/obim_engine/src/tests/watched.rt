@@ -1,37 +1,18 @@
-//! What a gate and a pool see of workers: their numbers, their chunks, and marks before pushes.
+//! What a gate and a pool see of workers: their numbers, and marks before pushes; and workers that yield at random.
 
-ghost use Rattle.std.specs.Prelude.{◌≡◌, IfOk, ⊤};
+ghost use Rattle.std.specs.Prelude.{⊤};
 
-use crate::tests::gates::Holding;
-use crate::tests::graphs::{rows_of, same_labels};
+use crate::tests::gates::settings_of;
+use crate::tests::graphs::{random_arcs, rows_of, same_labels, star};
 use crate::tests::pools::{Unused, Useless};
-use crate::{Gate, Settings, distances, run};
-use csr_graph::Csr;
+use crate::tests::settings;
+use crate::{Gate, OpenGate, Yielding, distances, run};
 use obim_pool::WorkPool;
-use route_walks::{ArcRec, Seed};
-use std::alloc::Global;
-use std::process::Abort;
+use route_walks::EXAMPLE_SEEDS;
 use std::sync::Wait;
 use std::sync::atomic::{AtomicU64, Ordering};
 use std::test::Fail;
 use std::thread::yield_now;
-
-/// Arcs of weight 1 from vertex 0 to all others.
-fn star(rt: &impl Abort, alloc: Global, n: u32) -> Result<Csr, Fail>
-    ensures { IfOk result (λ csr. csr.n ≡ n) }
-{
-    let mut arcs = Vec::new(alloc);
-    for v in 1..n {
-        arcs.push(ArcRec::new(0, v, 1))?;
-    }
-    rows_of(rt, alloc, n, &arcs)
-}
-
-fn settings(rt: &impl Abort, workers: u32, chunk: usize) -> Settings
-    ensures { result.workers ≡ workers }
-{
-    Settings::new(workers, 0, chunk).expect(rt, "settings within their limits")
-}
 
 /// A worker waits this many turns at most.
 const TURNS: u32 = 10_000_000;
@@ -60,34 +41,21 @@ impl Gate for Numbers {
     }
 }
 
+/// So many workers, and a bit for each.
+const NUMBERS: &[(u32, u64)] = &[(1, 0b1), (2, 0b11), (4, 0b1111)];
+
 #[test]
 fn each_worker_has_its_number(rt: HostRuntime) -> Result<(), Fail> {
     let alloc = rt.alloc();
-    let csr = star(&rt, alloc, 65)?;
-    for (workers, all) in [(1, 0b1), (2, 0b11), (4, 0b1111)] {
+    let csr = star(&rt, alloc, 65, 1)?;
+    for &(workers, all) in NUMBERS {
         let came = AtomicU64::new(0);
         let gate = Numbers { came, all };
-        distances(&rt, alloc, &csr, 0, &settings(&rt, workers, 1), &gate)?;
-        assert_eq!(rt; gate.came.load(Ordering::SeqCst), all);
-    }
-    Ok(())
-}
-
-/// How many chunks of each size one worker opens on a star of 64 leaves: one for vertex 0, and those of the leaves,
-/// which share a bucket.
-const CHUNKS: [(usize, u64); 5] = [(1, 65), (3, 23), (16, 5), (64, 2), (256, 2)];
-
-#[test]
-fn chunks_are_of_the_size_asked(rt: HostRuntime) -> Result<(), Fail> {
-    let alloc = rt.alloc();
-    let csr = star(&rt, alloc, 65)?;
-    for (chunk, chunks) in CHUNKS {
-        let narrow = settings(&rt, 1, chunk);
-        for settings in [narrow, narrow.with_widening_buckets()] {
-            let gate = Holding::new(&rt, 1, 1);
-            distances(&rt, alloc, &csr, 0, &settings, &gate)?;
-            assert_eq!(rt; gate.chunks(), chunks, "chunks of {chunk}");
-        }
+        distances(&rt, alloc, &csr, 0, &settings_of(&rt, workers, 1), &gate)?;
+        assert!(rt;
+            gate.came.load(Ordering::SeqCst) == all,
+            "{workers} workers"
+        );
     }
     Ok(())
 }
@@ -141,20 +109,37 @@ impl Gate for Relay {
 // A vertex is marked before it is pushed: a worker that is given it at once visits it.
 #[test]
 fn a_vertex_is_marked_before_it_is_pushed(rt: HostRuntime) -> Result<(), Fail> {
-    let alloc = rt.alloc();
-    let csr = star(&rt, alloc, 2)?;
+    let (alloc, seeds) = (rt.alloc(), EXAMPLE_SEEDS);
+    let csr = star(&rt, alloc, 2, 1)?;
     let relay = Relay {
         waiting: AtomicU64::new(0),
         pops: AtomicU64::new(0),
         pops_at_visit: AtomicU64::new(0),
     };
     let mut sides = Useless::sides(alloc, 2)?;
-    let settings = settings(&rt, 2, 1);
-    let seeds = [Seed::new(0, 0)];
+    let settings = settings(&rt, 2, 0, false);
     let labels = run(
         &rt, alloc, &csr, &seeds, &settings, &relay, &mut sides, &relay,
     )?;
-    same_labels(&rt, &labels, &[0, 1]);
-    assert_eq!(rt; relay.pops_at_visit.load(Ordering::SeqCst), 1);
+    same_labels(&rt, 0, &labels, &[0, 1]);
+    assert!(rt; relay.pops_at_visit.load(Ordering::SeqCst) == 1);
+    Ok(())
+}
+
+// Workers that are held back at random, on a graph that has many bags: the same labels each time.
+#[test]
+fn workers_that_yield_at_random(rt: HostRuntime) -> Result<(), Fail> {
+    let (alloc, n) = (rt.alloc(), 100_000);
+    let csr = rows_of(&rt, alloc, n, &random_arcs(alloc, n, 400_000)?)?;
+    let one = distances(&rt, alloc, &csr, 0, &settings(&rt, 1, 7, false), &OpenGate)?;
+    for round in 0..40_u32 {
+        for workers in [2, 4, 8] {
+            let gate = Yielding::new(u64::from(round * 8 + workers));
+            let settings = settings(&rt, workers, 3 + round % 8, false);
+            let labels = distances(&rt, alloc, &csr, 0, &settings, &gate)?;
+            let same = labels.as_slice() == one.as_slice();
+            assert!(rt; same, "round {round}, workers {workers}");
+        }
+    }
     Ok(())
 }

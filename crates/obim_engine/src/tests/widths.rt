@@ -1,9 +1,7 @@
 //! Buckets for a graph: the widths that its arcs ask for.
 
-use crate::tests::gates::Holding;
-use crate::tests::graphs::{rows_of, street_arcs};
+use crate::tests::graphs::rows_of;
 use crate::widths::{Widths, widths_of};
-use crate::{Settings, distances};
 use csr_graph::Csr;
 use obim_pool::Scale;
 use route_walks::ArcRec;
@@ -30,49 +28,36 @@ fn loops(
     rows_of(rt, alloc, n, &arcs)
 }
 
-// From the light weights and the arcs of a vertex on; from the mean weight, and from the root of the vertices.
+/// How many vertices there are, the weights in turn, how many arcs, and the shift and the scale for them: no scale is
+/// one that only widens. From the light weights and the arcs of a vertex on; from the mean weight, and from the root of
+/// the vertices.
+const WIDTHS: &[(u32, &[u32], usize, u32, Option<(u32, u64)>)] = &[
+    (1, &[], 0, 0, None),
+    (1, &[0], 1, 0, None),
+    (1, &[1], 1, 3, Some((0, 2))),
+    (1, &[0, 1], 2, 0, None),
+    (3, &[1, 2], 2, 3, Some((0, 2))),
+    (4, &[2], 2, 4, Some((0, 4))),
+    (15, &[7], 3, 5, Some((0, 4))),
+    (2, &[8, 900], 16, 3, Some((7, 2))),
+    (63, &[1700], 5000, 7, Some((5, 8))),
+    (70_000, &[1023, 1025], 5000, 12, Some((0, 512))),
+    (70_000, &[0], 5000, 0, None),
+    (2, &[u32::MAX], 5000, 23, Some((10, 2))),
+    (2, &[0, u32::MAX], 1024, 0, Some((32, 2))),
+];
+
 #[test]
 fn widths_of_graphs(rt: HostRuntime) -> Result<(), Fail> {
     let alloc = rt.alloc();
-    let widening = Scale::widening();
-    let table: [(u32, &[u32], usize, u32, Scale); 13] = [
-        (1, &[], 0, 0, widening),
-        (1, &[0], 1, 0, widening),
-        (1, &[1], 1, 3, Scale::new(0, 2)),
-        (1, &[0, 1], 2, 0, widening),
-        (3, &[1, 2], 2, 3, Scale::new(0, 2)),
-        (4, &[2], 2, 4, Scale::new(0, 4)),
-        (15, &[7], 3, 5, Scale::new(0, 4)),
-        (2, &[8, 900], 16, 3, Scale::new(7, 2)),
-        (63, &[1700], 5000, 7, Scale::new(5, 8)),
-        (70_000, &[1023, 1025], 5000, 12, Scale::new(0, 512)),
-        (70_000, &[0], 5000, 0, widening),
-        (2, &[u32::MAX], 5000, 23, Scale::new(10, 2)),
-        (2, &[0, u32::MAX], 1024, 0, Scale::new(32, 2)),
-    ];
-    for (n, weights, count, shift, scale) in table {
+    for row in 0..WIDTHS.len() {
+        let (n, weights, count, shift, scale) = WIDTHS[row];
         let csr = loops(&rt, alloc, n, weights, count)?;
-        assert_eq!(rt; widths_of(&csr), Widths { shift, scale }, "{n} {count}");
+        let scale = match scale {
+            Some((wide, even)) => Scale::new(wide, even),
+            None => Scale::widening(),
+        };
+        assert!(rt; widths_of(&csr) == Widths { shift, scale }, "row {row}");
     }
-    Ok(())
-}
-
-// A long strip of streets, from a corner: buckets that only widen make 1.17 visits a vertex of it.
-#[test]
-fn few_visits_of_a_long_strip(rt: HostRuntime) -> Result<(), Fail> {
-    let alloc = rt.alloc();
-    let arcs = street_arcs(alloc, 2100, 128, 24, 1877)?;
-    let csr = rows_of(&rt, alloc, 268_800, &arcs)?;
-    let settings = Settings::new(1, 0, 256).expect(&rt, "settings within their limits");
-    let gate = Holding::new(&rt, 1, 1);
-    distances(
-        &rt,
-        alloc,
-        &csr,
-        0,
-        &settings.with_widening_buckets(),
-        &gate,
-    )?;
-    assert!(rt; gate.visits() <= 295_680, "{} visits", gate.visits());
     Ok(())
 }
