@@ -156,6 +156,23 @@ fn pauses_of_a_budget(rt: HostRuntime) -> Result<(), Fail> {
     Ok(())
 }
 
+// Where there is no vertex there is nothing left to do, whatever the budget.
+#[test]
+fn no_vertices_are_settled(rt: HostRuntime) -> Result<(), Fail> {
+    let alloc = rt.alloc();
+    let csr = Csr::build(alloc, 0, &[])?;
+    let piece = Piece {
+        settings: settings(&rt, 2, 4, false),
+        kind: Kind::Locked,
+        budget: 0,
+    };
+    match go_on(&rt, alloc, &csr, &[], None, &piece)? {
+        Closed::Settled(labels) => assert!(rt; labels.is_empty()),
+        Closed::Paused(_) => assert!(rt; false, "paused"),
+    }
+    Ok(())
+}
+
 /// A pool, how many workers, how many visits each makes in a piece, and how often the run is made.
 const POOLS: &[(Kind, u32, u64, u32)] = &[
     (Kind::Locked, 1, 1, 1),
