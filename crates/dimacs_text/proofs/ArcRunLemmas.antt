@@ -1,13 +1,12 @@
 -- Runs of arcs: the lines of arcs are read wherever they come next, and what is read one after the other.
-use Rattle.std.proofs.Common.{◌≡◌, ℕ, ◌+◌, ◌-◌, ◌<◌, ◌≤◌, List, [], ◌++◌, length, take, drop, get_or, sym, All}
+use Rattle.std.proofs.Common.{◌≡◌, ℕ, ◌+◌, ◌-◌, ◌<◌, ◌≤◌, List, [], ◌++◌, ◌∷◌, length, take, drop, get_or, sym, All}
 use Rattle.std.proofs.Common.{ap, subst, ◌∙◌, append_assoc, arith, take-append-drop, refl, length-append, append-nil}
+use Rattle.std.proofs.Common.{Result, Ok, Err, is_ok, cond}
 use Rattle.std.proofs.Math.Seq.{take-append_seam}
 use Rattle.std.proofs.lemmas.List.{drop-take, length-drop, length-take-le, take-append-le}
-use Rattle.std.proofs.lemmas.List.Elements.{All-get_or}
+use Rattle.std.proofs.lemmas.List.Elements.{All-get_or, All-push}
 use Rattle.route_walks.specs.declared.graph.ArcRec.{ArcRec}
-use Rattle.dimacs_text.specs.declared.arc_runs.ArcRun.{ArcRun}
 use Rattle.dimacs_text.specs.reader.Drafts.{Progress, arcs_progress, IsReadTo, ReadsTo, AreArcLines, ReadsArcs}
-use Rattle.dimacs_text.specs.reader.ArcRuns.{IsArcRun}
 
 -- lines are read wherever they come next
 pub reads_before : (old new : Progress) (line next : ℕ) (text rest after : List ℕ)
@@ -64,9 +63,14 @@ text_between bytes text start after end order before_end inside joined =
     ))
     ∙ take-append_seam text (drop after (take end bytes))
 
--- each of the runs is one
-pub run_among : (bytes : List ℕ) (runs : List ArcRun) (i : ℕ) (run : ArcRun)
-    → i < length runs → All (IsArcRun bytes) runs → run ≡ get_or runs i run
-    → IsArcRun bytes run
-run_among bytes runs i run inside all is =
-    subst (λ r. IsArcRun bytes r) (sym is) (All-get_or (IsArcRun bytes) runs i run inside all)
+-- what holds of all elements holds of this one
+pub holds_of_item : {X : Type 0} (P : X → Type 0) (xs : List X) (i : ℕ) (x : X)
+    → i < length xs → All P xs → x ≡ get_or xs i x → P x
+holds_of_item P xs i x inside all is = subst P (sym is) (All-get_or P xs i x inside all)
+
+-- a vector to which one more was pushed, or to which it was not
+pub all_pushed : {X T E : Type 0} (P : X → Type 0) (r : Result T E) (old new : List X) (x : X)
+    → new ≡ cond (is_ok r) (old ++ x ∷ []) old → All P old → P x → All P new
+all_pushed P (Ok done) old new x is before one =
+    subst (λ l. All P l) (sym is) (All-push P old x before one)
+all_pushed P (Err kind) old new x is before one = subst (λ l. All P l) (sym is) before

@@ -1,6 +1,7 @@
 -- What a reader of jobs has read, of a text that came in pieces.
 use Rattle.std.specs.Prelude.{◌≡◌, ℕ, ◌+◌, ◌^◌, ◌≤◌, List, ◌++◌, length, Option, Some, None, All}
-use Rattle.dimacs_text.specs.declared.arc_runs.ArcRun.{ArcRun}
+use Rattle.dimacs_text.specs.declared.arc_runs.ArcRuns.{ArcRuns}
+use Rattle.dimacs_text.specs.declared.arc_runs.ReadAhead.{ReadAhead}
 use Rattle.dimacs_text.specs.declared.fault.LineKind.{LineKind}
 use Rattle.dimacs_text.specs.declared.draft.Draft.{Draft}
 use Rattle.dimacs_text.specs.declared.reader.LineReader.{LineReader}
@@ -41,6 +42,12 @@ abbrev pub Reads : JobReader → JobReader → List ℕ → Type 0
 Reads old new bytes =
     (text : List ℕ) → HasRead old text → length text + length bytes ≤ 2 ^ 36 → HasRead new (text ++ bytes)
 
--- these runs of arcs were read in the bytes
-abbrev pub AreRunsOf : List ℕ → List ArcRun → Type 0
-AreRunsOf bytes runs = All (IsArcRun bytes) runs
+-- a thread read these runs of arcs in the bytes
+abbrev pub AreRunsOf : List ℕ → ArcRuns → Type 0
+AreRunsOf bytes list = All (IsArcRun bytes) list.runs.items
+
+-- threads read these runs of arcs in the bytes
+pub record IsReadAhead (bytes : List ℕ) (ahead : ReadAhead) : Type 0 where
+  pub one : AreRunsOf bytes ahead.one
+  pub another : AreRunsOf bytes ahead.another
+  pub others : All (AreRunsOf bytes) ahead.others.items

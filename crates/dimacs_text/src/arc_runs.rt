@@ -3,24 +3,24 @@
 //! A run is a hint: it says which arcs come next where it begins, and whoever has no run there reads the
 //! lines one by one. So it may end early, for any reason, and nothing is said of what stands after it.
 
-ghost use Rattle.std.specs.Prelude.{◌≡◌, ◌≤◌, List, [], ℕ, length, take};
-ghost use Rattle.dimacs_text.specs.Reading.{AreRunsOf};
+ghost use Rattle.std.specs.Prelude.{◌≡◌, ◌≤◌, List, [], ℕ, length, take, All, IfSome};
+ghost use Rattle.std.specs.Thread.{IsSync};
+ghost use Rattle.dimacs_text.specs.Reading.{AreRunsOf, IsReadAhead};
 ghost use Rattle.dimacs_text.specs.reader.FastArc.{EndsWithFeed};
-ghost use Rattle.dimacs_text.specs.reader.ArcRuns.{IsArcRun};
+ghost use Rattle.dimacs_text.specs.reader.ArcRuns.{IsArcRun, IsRunFrom};
 
 use crate::fast_arc::read_run;
 use crate::line::{after_last_feed, line_end};
-use route_walks::{ArcRec, Memory};
+use route_walks::ArcRec;
 use std::alloc::Global;
-use std::marker::Model;
-use std::mem::replace;
-use std::thread::{Threads, for_each_mut};
+use std::sync::atomic::{AtomicUsize, Ordering};
+use std::thread::{Threads, for_each_mut, join_mut};
 
 /// The shortest line of an arc has this many bytes, its line feed among them.
 const SHORTEST_ARC: usize = 8;
 
-/// Bytes of a part. To read fewer takes no longer than to start a thread for them.
-const LEAST_PART: usize = 1 << 14;
+/// Bytes of a part: few, so that at the end of a piece no thread is waited for long.
+const PART: usize = 1 << 15;
 
 /// Arcs whose lines come one after the other in a piece of a text, from one place to another.
 #[derive(Debug, Drop)]
@@ -69,26 +69,54 @@ impl ArcRun {
     }
 }
 
-/// What threads have read ahead in a piece of a text: a hint for `JobReader::feed_with`. The memory that it
-/// takes is kept from piece to piece.
+/// A piece of a text in parts, for threads that read ahead in it: each part goes to the thread that asks first. The
+/// piece is cut behind line feeds.
+#[derive(Debug, Drop)]
+pub struct Parts<'a> {
+    /// The piece.
+    pub bytes: &'a [u8],
+    vertices: u32,
+    count: usize,
+    /// A thread reads at most as many: twice its share. So the memory that runs take is in proportion to the piece,
+    /// whichever threads have read the pieces before.
+    most: usize,
+    next: AtomicUsize,
+}
+
+impl<'a> Parts<'a> {
+    /// All parts of a piece, for this many threads, where vertices count to this number.
+    pub fn new(bytes: &'a [u8], vertices: u32, threads: usize) -> Parts<'a>
+        ensures { result.bytes.now ≡ bytes.now }
+    {
+        let count = bytes.len() / PART;
+        let share = count / threads.max(1);
+        Parts {
+            bytes,
+            vertices,
+            count,
+            most: share.saturating_mul(2).saturating_add(1),
+            next: AtomicUsize::new(0),
+        }
+    }
+
+    /// The number of a part that no thread has.
+    fn take(&self) -> Option<usize> {
+        let part = self.next.fetch_add(1, Ordering::Relaxed);
+        (part < self.count).then_some(part)
+    }
+}
+
+/// The runs of arcs that one thread has read ahead in a piece. The memory that they take is kept from piece to
+/// piece.
 #[derive(Debug, Drop)]
 pub struct ArcRuns {
     alloc: Global,
     runs: Vec<ArcRun>,
 }
 
-impl Model for ArcRuns {
-    ghost use Rattle.std.specs.Prelude.{List};
-    ghost use Rattle.dimacs_text.specs.declared.arc_runs.ArcRun.{ArcRun};
-
-    ghost Value = { List ArcRun };
-
-    ghost view = { λ r. r.runs.items };
-}
-
 impl ArcRuns {
     /// Nothing is read ahead, of whatever piece.
-    pub fn new(alloc: Global) -> ArcRuns
+    fn new(alloc: Global) -> ArcRuns
         ensures { (bytes : List ℕ) → AreRunsOf bytes result }
     {
         ArcRuns {
@@ -98,63 +126,176 @@ impl ArcRuns {
     }
 
     /// Nothing is read ahead any more, of whatever piece.
-    pub fn clear(&mut self)
+    fn clear(&mut self)
         ensures { (bytes : List ℕ) → AreRunsOf bytes self.new }
     {
         empty_all(&mut self.runs);
     }
 
-    /// Reads the arcs of a piece ahead, where vertices count to this number, by `threads` threads side by side.
-    /// The piece is cut behind line feeds into as many parts, or fewer where they would be short. What is no
-    /// plain line of an arc ends what is read of its part. Where memory is refused nothing is read.
-    pub fn read<H: Threads + Sync>(&mut self, rt: &H, bytes: &[u8], vertices: u32, threads: usize)
-        ensures { AreRunsOf bytes.now self.new }
+    /// Reads parts of a piece ahead until all are given out, or twice this thread's share is read. What is no plain
+    /// line of an arc ends what is read of its part, and where memory is refused no more is read.
+    pub fn read(&mut self, parts: &Parts)
+        ensures { AreRunsOf parts.now.bytes.now self.new }
     {
-        let parts = threads.min(bytes.len() / LEAST_PART);
-        let made = self.make_runs(parts);
         self.clear();
-        if parts == 0 || made.is_err() {
-            return;
+        for place in 0..parts.most {
+            let Some(part) = parts.take() else {
+                return;
+            };
+            if place == self.runs.len() && self.runs.push(ArcRun::new(self.alloc)).is_err() {
+                return;
+            }
+            self.runs[place].read_part(parts.bytes, parts.vertices, part, parts.count);
         }
-        let alloc = self.alloc;
-        for_each_mut(
+    }
+
+    /// Of the runs that begin at a place or after it, and of one more, the one that begins first.
+    fn first_from<'a>(&'a self, from: usize, other: Option<&'a ArcRun>) -> Option<&'a ArcRun>
+        ensures { (bytes : List ℕ) → AreRunsOf bytes self.now
+            → IfSome other.entry (λ run. IsRunFrom bytes from run.now)
+            → IfSome result (λ run. IsRunFrom bytes from run.now) }
+    {
+        let mut first = other;
+        for run in &self.runs {
+            if from <= run.start && !run.arcs.is_empty() {
+                first = earlier(run, first);
+            }
+        }
+        first
+    }
+}
+
+/// The run that begins first.
+fn earlier<'a>(run: &'a ArcRun, other: Option<&'a ArcRun>) -> Option<&'a ArcRun>
+    ensures { (bytes : List ℕ) (from : ℕ) → IsRunFrom bytes from run.now
+        → IfSome other.entry (λ run. IsRunFrom bytes from run.now)
+        → IfSome result (λ run. IsRunFrom bytes from run.now) }
+{
+    match other {
+        Some(other) if other.start <= run.start => Some(other),
+        _ => Some(run),
+    }
+}
+
+/// What threads have read ahead in a piece of a text: a hint for `JobReader::feed_with`. Each thread has a list of
+/// its own, and those of two threads, which have other work to do first, have names.
+#[derive(Debug, Drop)]
+pub struct ReadAhead {
+    pub one: ArcRuns,
+    pub another: ArcRuns,
+    pub others: Vec<ArcRuns>,
+    alloc: Global,
+}
+
+impl ReadAhead {
+    /// Nothing is read ahead, of whatever piece.
+    pub fn new(alloc: Global) -> ReadAhead
+        ensures { (bytes : List ℕ) → IsReadAhead bytes result }
+    {
+        ReadAhead {
+            one: ArcRuns::new(alloc),
+            another: ArcRuns::new(alloc),
+            others: Vec::new(alloc),
+            alloc,
+        }
+    }
+
+    /// Nothing is read ahead any more, of whatever piece.
+    pub fn clear(&mut self)
+        ensures { (bytes : List ℕ) → IsReadAhead bytes self.new }
+    {
+        self.one.clear();
+        self.another.clear();
+        clear_all(&mut self.others);
+    }
+
+    /// Makes lists for as many threads, or fewer where memory is refused.
+    pub fn open(&mut self, threads: usize)
+        ensures { (bytes : List ℕ) → IsReadAhead bytes self.old → IsReadAhead bytes self.new }
+    {
+        for _ in self.others.len()..threads.saturating_sub(2) {
+            if self.others.push(ArcRuns::new(self.alloc)).is_err() {
+                return;
+            }
+        }
+    }
+
+    /// How many threads have lists.
+    pub fn threads(&self) -> usize {
+        self.others.len() + 2
+    }
+
+    /// Reads parts of a piece ahead by as many threads as have lists, until all are given out.
+    pub fn read<H: Threads + Sync>(&mut self, rt: &H, parts: &Parts)
+        ensures { IsReadAhead parts.now.bytes.now self.new }
+    {
+        let ReadAhead {
+            one,
+            another,
+            others,
+            ..
+        } = self;
+        join_mut(
             rt,
-            &mut self.runs,
-            parts,
-            &|part: usize, run: &mut ArcRun|
-                ensures { IsArcRun bytes.entry.now run.exit.now }
+            &mut ||
+                requires sync { IsSync H.row }
+                ensures { All (AreRunsOf parts.entry.now.bytes.now) others.exit.now.items }
+            { read_side_by_side(rt, others, parts) },
+            &mut ||
+                ensures one { AreRunsOf parts.entry.now.bytes.now one.exit.now }
+                ensures another { AreRunsOf parts.entry.now.bytes.now another.exit.now }
             {
-                // In a place of its own: in the list it would share a line of the cache with the next one,
-                // and each arc changes its length.
-                let mut own = replace(run, ArcRun::new(alloc));
-                own.read_part(bytes, vertices, part, parts);
-                *run = own;
+                one.read(parts);
+                another.read(parts)
             },
         );
     }
 
-    /// Makes room for the runs of `parts` parts, if there is less. What was read ahead is no use after it.
-    fn make_runs(&mut self, parts: usize) -> Result<(), Memory> {
-        for _ in self.runs.len()..parts {
-            self.runs.push(ArcRun::new(self.alloc))?;
-        }
-        Ok(())
-    }
-
-    /// The runs, in the order of their parts.
-    pub(crate) fn list(&self) -> &[ArcRun]
-        ensures { result.now ≡ self.now }
+    /// The run that begins first of those that begin at a place or after it.
+    pub(crate) fn first_from(&self, from: usize) -> Option<&ArcRun>
+        ensures { (bytes : List ℕ) → IsReadAhead bytes self.now
+            → IfSome result (λ run. IsRunFrom bytes from run.now) }
     {
-        &self.runs
+        let mut first = self
+            .another
+            .first_from(from, self.one.first_from(from, None));
+        for list in &self.others {
+            first = list.first_from(from, first);
+        }
+        first
     }
+}
+
+/// Has parts of a piece read ahead by a thread for each of these lists, until all are given out.
+pub fn read_side_by_side<H: Threads + Sync>(rt: &H, lists: &mut [ArcRuns], parts: &Parts)
+    ensures { All (AreRunsOf parts.now.bytes.now) lists.new }
+{
+    let threads = lists.len().max(1);
+    for_each_mut(
+        rt,
+        lists,
+        threads,
+        &|_, list: &mut ArcRuns|
+            ensures { AreRunsOf parts.entry.now.bytes.now list.exit.now }
+        { list.read(parts) },
+    );
 }
 
 /// Takes the arcs out of each run.
 fn empty_all(runs: &mut [ArcRun])
-    ensures { (bytes : List ℕ) → AreRunsOf bytes runs.new }
+    ensures { (bytes : List ℕ) → All (IsArcRun bytes) runs.new }
 {
     for run in runs.iter_mut() {
         run.begin(0, 0);
+    }
+}
+
+/// Takes the arcs out of each run of each list.
+fn clear_all(lists: &mut [ArcRuns])
+    ensures { (bytes : List ℕ) → All (AreRunsOf bytes) lists.new }
+{
+    for list in lists.iter_mut() {
+        list.clear();
     }
 }
 

@@ -26,7 +26,7 @@ mod stage;
 pub use answer::{
     put_components, put_distances, put_grown, put_label, put_labels, put_pair, put_source, put_walk,
 };
-pub use arc_runs::ArcRuns;
+pub use arc_runs::{ArcRuns, Parts, ReadAhead, read_side_by_side};
 pub use fault::{LineKind, TextFault};
 pub use form::{MAX_ADDED, MAX_QUERIES, MAX_TEXT_ARCS};
 pub use job::{Ask, Job};

@@ -10,10 +10,10 @@ ghost use Rattle.dimacs_text.specs.Faults.{IsFaultOf};
 ghost use Rattle.std.specs.Bool.{OnFalse, OnTrue};
 ghost use Rattle.dimacs_text.specs.reader.FastArc.{EndsWithFeed, HasNoFeed};
 ghost use Rattle.dimacs_text.specs.reader.Drafts.{AreArcLines};
-ghost use Rattle.dimacs_text.specs.Reading.{AreRunsOf, Reads};
+ghost use Rattle.dimacs_text.specs.Reading.{IsReadAhead, Reads};
 ghost use Rattle.dimacs_text.specs.Reading.{HasRead, HasReadLines, HasReadText};
 
-use crate::arc_runs::{ArcRun, ArcRuns};
+use crate::arc_runs::{ArcRun, ReadAhead};
 use crate::draft::Draft;
 use crate::fault::{LineKind, TextFault};
 use crate::job::Job;
@@ -131,15 +131,13 @@ impl JobReader {
     }
 
     /// Reads the next bytes as `feed` does, of which some arcs are read ahead.
-    pub fn feed_with(&mut self, bytes: &[u8], ahead: &ArcRuns) -> Result<(), Memory>
-        requires ahead { AreRunsOf bytes.now ahead.now }
+    pub fn feed_with(&mut self, bytes: &[u8], ahead: &ReadAhead) -> Result<(), Memory>
+        requires ahead { IsReadAhead bytes.now ahead.now }
         ensures reads { OnOk result (Reads self.old self.new bytes.now) }
     {
         let mut at = 0;
-        for run in ahead.list() {
-            if run.start < at {
-                continue;
-            }
+        let mut from = 0;
+        while let Some(run) = ahead.first_from(from) {
             // What comes before the run is odd somewhere, and is read line by line.
             self.feed(&bytes[at..run.start])?;
             at = if self.take_run(run) {
@@ -147,6 +145,7 @@ impl JobReader {
             } else {
                 run.start
             };
+            from = at.max(run.start + 1);
         }
         self.feed(&bytes[at..])
     }
@@ -207,7 +206,7 @@ impl JobReader {
         }
     }
 
-    /// To which number vertices count, where an arc of the graph may come next: what `ArcRuns::read` asks for.
+    /// To which number vertices count, where an arc of the graph may come next: what `Parts::new` asks for.
     pub fn arcs_ahead(&self) -> Option<u32> {
         self.lines.draft.arcs_ahead()
     }

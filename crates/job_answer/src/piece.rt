@@ -2,35 +2,36 @@
 
 ghost use Rattle.std.specs.Prelude.{◌≡◌, ◌<◌, ◌≤◌, ◌-◌, [], List, ℕ, true, false, length, IfOk, IfErr, OnOk, take};
 ghost use Rattle.std.specs.Io.KnownBytes.{Consumes, IsAtEnd, ReadConsumes};
-ghost use Rattle.dimacs_text.specs.Reading.{Reads};
+ghost use Rattle.dimacs_text.specs.Reading.{IsReadAhead, Reads};
 ghost use Rattle.job_answer.specs.Bytes.{TakesAtMost};
 
 use crate::fault::Fault;
-use dimacs_text::{ArcRuns, JobReader};
+use dimacs_text::{JobReader, ReadAhead};
 use route_walks::Memory;
 use std::alloc::Global;
 use std::io::Read;
 use std::marker::Model;
-use std::thread::Threads;
+use std::mem::replace;
 
 /// Bytes that come next in a text.
 #[derive(Drop)]
 pub struct Piece {
     buffer: Vec<u8>,
     count: usize,
-    ahead: ArcRuns,
+    ahead: ReadAhead,
+    alloc: Global,
 }
 
 impl Model for Piece {
     ghost use Rattle.std.specs.Prelude.{◌<◌, ◌≤◌, List, ℕ, length, take};
-    ghost use Rattle.dimacs_text.specs.Reading.{AreRunsOf};
+    ghost use Rattle.dimacs_text.specs.Reading.{IsReadAhead};
 
     ghost Value = { List ℕ };
 
     ghost view = { λ p. take p.count p.buffer.items };
 
     ghost invariant = { λ p. (0 < length p.buffer.items) × (p.count ≤ length p.buffer.items)
-        × AreRunsOf (take p.count p.buffer.items) p.ahead };
+        × IsReadAhead (take p.count p.buffer.items) p.ahead };
 }
 
 impl Piece {
@@ -42,7 +43,8 @@ impl Piece {
         Ok(Piece {
             buffer: vec![in alloc; 0; room]?,
             count: 0,
-            ahead: ArcRuns::new(alloc),
+            ahead: ReadAhead::new(alloc),
+            alloc,
         })
     }
 
@@ -67,21 +69,33 @@ impl Piece {
     {
         self.ahead.clear();
         self.count = 0;
-        if self.buffer.len() < limit {
-            // Where it is refused the piece stays as large as it was.
-            let _ = self.buffer.resize(limit, 0);
-        }
+        make_room(&mut self.buffer, limit);
         let room = self.buffer.len().min(limit);
         self.count = read_block(reader, &mut self.buffer, room)?;
         Ok(self.count < room)
     }
 
-    /// Reads its arcs ahead by `threads` threads, where vertices count to this number.
-    pub fn read_ahead<H: Threads + Sync>(&mut self, rt: &H, vertices: u32, threads: usize)
+    /// The bytes.
+    pub fn bytes(&self) -> &[u8]
+        ensures { result.now ≡ self.now }
+    {
+        &self.buffer[..self.count]
+    }
+
+    /// Takes out what is read ahead in it.
+    pub fn take_ahead(&mut self) -> ReadAhead
+        ensures ahead { IsReadAhead self.old result }
+        ensures same { self.new ≡ self.old }
+    {
+        replace(&mut self.ahead, ReadAhead::new(self.alloc))
+    }
+
+    /// Puts in what is read ahead in it.
+    pub fn put_ahead(&mut self, ahead: ReadAhead)
+        requires { IsReadAhead self.old ahead }
         ensures { self.new ≡ self.old }
     {
-        self.ahead
-            .read(rt, &self.buffer[..self.count], vertices, threads);
+        self.ahead = ahead;
     }
 
     /// Hands it to the reader of a job.
@@ -89,6 +103,15 @@ impl Piece {
         ensures { OnOk result (Reads job.old job.new self.now) }
     {
         job.feed_with(&self.buffer[..self.count], &self.ahead)
+    }
+}
+
+/// Makes a buffer as long as the limit, if it is shorter. Where memory is refused it stays as long as it was.
+fn make_room(buffer: &mut Vec<u8>, limit: usize)
+    ensures { length buffer.old.items ≤ length buffer.new.items }
+{
+    if buffer.len() < limit {
+        let _ = buffer.resize(limit, 0);
     }
 }
 

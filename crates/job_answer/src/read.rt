@@ -1,10 +1,10 @@
 //! From what a reader gives to the job in it: what is read, and up to where?
 
-ghost use Rattle.std.specs.Prelude.{◌≡◌, ◌^◌, ◌≤◌, ◌<◌, ◌+◌, ◌-◌, [], length, true, false, IfOk, IfErr, OnOk};
+ghost use Rattle.std.specs.Prelude.{◌≡◌, ◌^◌, ◌≤◌, ◌<◌, ◌+◌, ◌-◌, [], length, true, false, IfOk, IfErr, OnOk, All};
 ghost use Rattle.std.specs.Thread.{IsSync};
 ghost use Rattle.dimacs_text.specs.Jobs.{content_of};
 ghost use Rattle.std.specs.Io.KnownBytes.{Consumes, IsAtEnd};
-ghost use Rattle.dimacs_text.specs.Reading.{Reads};
+ghost use Rattle.dimacs_text.specs.Reading.{AreRunsOf, IsReadAhead, Reads};
 ghost use Rattle.job_answer.specs.Pieces.{StepsOn, StopsShort};
 ghost use Rattle.job_answer.specs.Outcome.{HasTaken, IsRequest, IsRequestFault};
 
@@ -12,7 +12,7 @@ use crate::fault::Fault;
 use crate::piece::Piece;
 use crate::readers::{BLOCK, Readers};
 use crate::watch::Watch;
-use dimacs_text::{Job, JobReader};
+use dimacs_text::{ArcRuns, Job, JobReader, Parts, ReadAhead, read_side_by_side};
 use route_walks::Memory;
 use std::alloc::Global;
 use std::io::Read;
@@ -21,8 +21,7 @@ use std::thread::{Threads, join_mut};
 use std::time::{Clock, Duration};
 
 /// Reads the job in all that the reader gives, up to its end, and one byte past the limit at most. After
-/// a fault of the text the rest is read all the same. The lines of arcs are read by at most `threads` threads,
-/// beside which one more takes the arcs, and this one reads on.
+/// a fault of the text the rest is read all the same. At most `threads` threads work at that.
 pub fn read_request<H: Threads + Clock + Sync, R: Read>(
     rt: &H,
     alloc: Global,
@@ -119,9 +118,13 @@ fn read_ahead<H: Threads + Sync>(rt: &H, job: &JobReader, piece: &mut Piece, thr
     if threads < 2 {
         return;
     }
-    if let Some(vertices) = job.arcs_ahead() {
-        piece.read_ahead(rt, vertices, threads);
-    }
+    let Some(vertices) = job.arcs_ahead() else {
+        return;
+    };
+    let mut ahead = piece.take_ahead();
+    ahead.open(threads);
+    ahead.read(rt, &Parts::new(piece.bytes(), vertices, threads));
+    piece.put_ahead(ahead);
 }
 
 /// Feeds the front piece and takes the next bytes of the reader into the spare one, up to the limit. Meanwhile
@@ -160,16 +163,14 @@ fn step<H: Threads + Clock + Sync, R: Read>(
     Ok(ended)
 }
 
-/// The same side by side: a thread feeds the front piece, this one takes the next bytes, and `others` other
-/// threads read ahead in the back piece. That takes each of them longer than feeding or a read takes, so they
-/// may be as many as there are processors.
+/// The same side by side, by `threads` threads in all, which read ahead in the back piece.
 fn step_beside<H: Threads + Sync, R: Read>(
     rt: &H,
     reader: &mut R,
     job: &mut JobReader,
     pieces: &mut Pieces,
     vertices: u32,
-    others: usize,
+    threads: usize,
     limit: usize,
 ) -> Result<bool, Fault>
     ensures on { IfOk result (StepsOn limit job.old job.new pieces.old.front pieces.new.spare
@@ -178,24 +179,63 @@ fn step_beside<H: Threads + Sync, R: Read>(
     ensures back { pieces.new.back ≡ pieces.old.back }
 {
     let Pieces { front, back, spare } = pieces;
+    let mut ahead = back.take_ahead();
+    ahead.open(threads);
+    let ended = feed_fill_and_read(
+        rt, reader, job, front, back, spare, limit, &mut ahead, vertices,
+    );
+    back.put_ahead(ahead);
+    ended
+}
+
+/// Feeds the front piece, takes the next bytes of the reader into the spare one, up to the limit, and reads ahead
+/// in the back one, all at the same time. True where the reader has ended.
+fn feed_fill_and_read<H: Threads + Sync, R: Read>(
+    rt: &H,
+    reader: &mut R,
+    job: &mut JobReader,
+    front: &Piece,
+    back: &Piece,
+    spare: &mut Piece,
+    limit: usize,
+    ahead: &mut ReadAhead,
+    vertices: u32,
+) -> Result<bool, Fault>
+    ensures on { IfOk result (StepsOn limit job.old job.new front.now spare.new
+        (R.remaining reader.old) (R.remaining reader.new)) }
+    ensures short { IfErr result (StopsShort limit (R.remaining reader.old) (R.remaining reader.new)) }
+    ensures ahead { IsReadAhead back.now ahead.new }
+{
+    let parts = &Parts::new(back.bytes(), vertices, ahead.threads());
+    let ReadAhead {
+        one,
+        another,
+        others,
+        ..
+    } = ahead;
+    if others.is_empty() {
+        return feed_beside_fill(rt, reader, job, front, spare, limit, one, another, parts);
+    }
     let ((), ended) = join_mut(
         rt,
         &mut ||
             requires sync { IsSync H.row }
-            ensures { back.exit.now ≡ back.entry.now }
-        { back.read_ahead(rt, vertices, others) },
+            ensures { All (AreRunsOf parts.entry.now.bytes.now) others.exit.now.items }
+        { read_side_by_side(rt, others, parts) },
         &mut || -> Result<bool, Fault>
             ensures on { IfOk result (StepsOn limit job.entry.now job.exit.now front.entry.now
                 spare.exit.now (R.remaining reader.entry.now) (R.remaining reader.exit.now)) }
             ensures short { IfErr result (StopsShort limit
                 (R.remaining reader.entry.now) (R.remaining reader.exit.now)) }
-        { feed_beside_fill(rt, reader, job, front, spare, limit) },
+            ensures one { AreRunsOf parts.entry.now.bytes.now one.exit.now }
+            ensures another { AreRunsOf parts.entry.now.bytes.now another.exit.now }
+        { feed_beside_fill(rt, reader, job, front, spare, limit, one, another, parts) },
     );
     ended
 }
 
 /// Has another thread feed the front piece, and meanwhile takes the next bytes of the reader into the spare
-/// one, up to the limit. True where the reader has ended.
+/// one, up to the limit. Whichever has done so reads ahead. True where the reader has ended.
 fn feed_beside_fill<H: Threads + Sync, R: Read>(
     rt: &H,
     reader: &mut R,
@@ -203,16 +243,26 @@ fn feed_beside_fill<H: Threads + Sync, R: Read>(
     front: &Piece,
     spare: &mut Piece,
     limit: usize,
+    one: &mut ArcRuns,
+    another: &mut ArcRuns,
+    parts: &Parts,
 ) -> Result<bool, Fault>
     ensures on { IfOk result (StepsOn limit job.old job.new front.now spare.new
         (R.remaining reader.old) (R.remaining reader.new)) }
     ensures short { IfErr result (StopsShort limit (R.remaining reader.old) (R.remaining reader.new)) }
+    ensures one { AreRunsOf parts.now.bytes.now one.new }
+    ensures another { AreRunsOf parts.now.bytes.now another.new }
 {
     let (fed, filled) = join_mut(
         rt,
         &mut || -> Result<(), Memory>
-            ensures { OnOk result (Reads job.entry.now job.exit.now front.entry.now) }
-        { front.feed_to(job) },
+            ensures fed { OnOk result (Reads job.entry.now job.exit.now front.entry.now) }
+            ensures ahead { AreRunsOf parts.entry.now.bytes.now one.exit.now }
+        {
+            let fed = front.feed_to(job);
+            one.read(parts);
+            fed
+        },
         &mut || -> Result<bool, Fault>
             ensures bytes { OnOk result (Consumes
                 (R.remaining reader.entry.now) (R.remaining reader.exit.now) spare.exit.now) }
@@ -221,7 +271,12 @@ fn feed_beside_fill<H: Threads + Sync, R: Read>(
             ensures more { IfOk result (λ ended. ended ≡ false → 0 < limit → 0 < length spare.exit.now) }
             ensures short { IfErr result (StopsShort limit
                 (R.remaining reader.entry.now) (R.remaining reader.exit.now)) }
-        { spare.fill(reader, limit) },
+            ensures ahead { AreRunsOf parts.entry.now.bytes.now another.exit.now }
+        {
+            let filled = spare.fill(reader, limit);
+            another.read(parts);
+            filled
+        },
     );
     fed?;
     let ended = filled?;

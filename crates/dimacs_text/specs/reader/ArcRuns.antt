@@ -8,3 +8,8 @@ pub record IsArcRun (bytes : List ℕ) (run : ArcRun) : Type 0 where
   pub inside : run.start + length run.arcs.items ≤ run.after
   pub ends : run.after ≤ length bytes
   pub lines : AreArcLines run.vertices (take (run.after - run.start) (drop run.start bytes)) run.arcs.items
+
+-- such a run, which begins at a place or after it
+pub record IsRunFrom (bytes : List ℕ) (from : ℕ) (run : ArcRun) : Type 0 where
+  pub is_run : IsArcRun bytes run
+  pub begins : from ≤ run.start

@@ -2,16 +2,19 @@
 //! once more it gives the job, the fault or the bytes that were worked by hand. `tests/refusals` refuses each in
 //! turn; `tests/refusals.tsv` has the calls.
 
+ghost use Rattle.dimacs_text.specs.Reading.{IsReadAhead};
+
 use crate::tests::several::large;
 use crate::tests::{GRAPH, SHORT, assert_added, assert_job, joined};
 use crate::{
-    ArcRuns, JobReader, LineKind, TextFault, put_components, put_distances, put_grown, put_label,
-    put_labels, put_pair, put_source, put_walk, read_job,
+    JobReader, LineKind, Parts, ReadAhead, TextFault, put_components, put_distances, put_grown,
+    put_label, put_labels, put_pair, put_source, put_walk, read_job,
 };
 use route_walks::{ArcRec, INF, Memory, refusable, tried_again};
 use std::alloc::Global;
 use std::process::Abort;
 use std::test::Fail;
+use std::thread::Threads;
 
 // What stands in a vector before a call puts its lines there.
 const FRONT: &[u8] = b"c\n";
@@ -75,13 +78,21 @@ fn expect_large(rt: &impl Abort, reader: JobReader) -> Result<(), Fail> {
     Ok(())
 }
 
+// Reads ahead in the text by three threads.
+fn read_ahead(rt: &(impl Threads + Sync), ahead: &mut ReadAhead, text: &[u8])
+    ensures { IsReadAhead text.now ahead.new }
+{
+    ahead.open(3);
+    ahead.read(rt, &Parts::new(text, 5000, 3));
+}
+
 // Where reading ahead is refused memory, one thread reads all lines.
 #[test]
-fn of_arc_runs_read(rt: HostRuntime) -> Result<(), Fail> {
+fn of_read_ahead_read(rt: HostRuntime) -> Result<(), Fail> {
     let alloc = rt.alloc();
     let text = large(alloc, 3000, b"c\n")?;
-    let mut ahead = ArcRuns::new(alloc);
-    refusable!(alloc, ahead.read(&rt, &text, 5000, 3));
+    let mut ahead = ReadAhead::new(alloc);
+    refusable!(alloc, read_ahead(&rt, &mut ahead, &text));
     let mut reader = JobReader::new(alloc);
     reader.feed_with(&text, &ahead)?;
     expect_large(&rt, reader)
@@ -92,8 +103,8 @@ fn of_arc_runs_read(rt: HostRuntime) -> Result<(), Fail> {
 fn of_job_reader_feed_with(rt: HostRuntime) -> Result<(), Fail> {
     let alloc = rt.alloc();
     let text = large(alloc, 3000, b"c\n")?;
-    let mut ahead = ArcRuns::new(alloc);
-    ahead.read(&rt, &text, 5000, 3);
+    let mut ahead = ReadAhead::new(alloc);
+    read_ahead(&rt, &mut ahead, &text);
     let mut reader = JobReader::new(alloc);
     if let Err(Memory) = refusable!(alloc, reader.feed_with(&text, &ahead)) {
         reader = JobReader::new(alloc);
@@ -103,9 +114,9 @@ fn of_job_reader_feed_with(rt: HostRuntime) -> Result<(), Fail> {
 }
 
 #[test]
-fn of_arc_runs_new(rt: HostRuntime) -> Result<(), Fail> {
+fn of_read_ahead_new(rt: HostRuntime) -> Result<(), Fail> {
     let alloc = rt.alloc();
-    let mut ahead = refusable!(alloc, ArcRuns::new(alloc));
+    let mut ahead = refusable!(alloc, ReadAhead::new(alloc));
     refusable!(alloc, ahead.clear());
     let mut reader = JobReader::new(alloc);
     reader.feed_with(b"p sp 1 0\n", &ahead)?;

@@ -2,8 +2,7 @@ use Rattle.std.proofs.Common.{◌-◌, ◌≤◌, length, take, drop, arith, sub
 use Rattle.std.proofs.lemmas.List.{length-drop, length-take-le, take_all}
 use Rattle.std.proofs.lemmas.Result.{on_ok_weaker}
 use Rattle.dimacs_text.specs.Reading.{Reads}
-use Rattle.dimacs_text.specs.reader.ArcRuns.{IsArcRun}
-use Rattle.dimacs_text.proofs.ArcRunLemmas.{run_among}
+use Rattle.dimacs_text.specs.reader.ArcRuns.{IsRunFrom}
 use Rattle.dimacs_text.proofs.ReaderLemmas.{reads_both, reads_to}
 use Rattle.dimacs_text.proofs.reader.JobReader.feed_with.Goals as goal
 use Rattle.dimacs_text.proofs.reader.JobReader.feed_with.Goals.{then-take_run, else-take_run}
@@ -13,11 +12,10 @@ loop-run-preserved c =
     let bytes = c.args.bytes.now in
     let old = c.args.self.now in
     let at = c.loop-run.at in
-    let run = c.run-item.result in
+    let run = c.in-Some.run'.now in
+    let found : IsRunFrom bytes c.loop-run.from run = c.in-Some.ensures bytes c.requires.ahead in
+    let is_run = found.is_run in
     let new = c.take_run.new.self in
-    let is_run : IsArcRun bytes run =
-    run_among bytes c.list-run-items.result.now c.loop-run.run-index run c.loop-run-test.true
-    (rw c.list-run-items.ensures c.requires.ahead) c.run-item.is in
     let part = take (run.after - run.start) (drop run.start bytes) in
     let few : length run.arcs.items ≤ length part =
     omega (
@@ -29,12 +27,14 @@ loop-run-preserved c =
           (drop run.start bytes) (omega (arith, is_run.ends, length-drop run.start bytes)),
     ) in
     let up_to : Reads old c.feed.new.self (take run.start bytes) =
-    reads_to old c.loop-run.self c.feed.new.self bytes at run.start c.if-run-at.false c.loop-run.invariant.reads
+    reads_to old c.loop-run.self c.feed.new.self bytes at run.start
+    (omega (arith, c.loop-run.invariant.before, found.begins)) c.loop-run.invariant.reads
     c.in_ok-feed.ensures.reads in
     elim c.if-take_run.branch [
       | then-take_run w ↦
           record {
             inside = omega (arith, w.at-is, is_run.ends);
+            before = omega (arith, c.max-from.ensures);
             reads =
                 rw w.at-is
                 (reads_to old c.feed.new.self new bytes run.start run.after (omega (arith, is_run.inside)) up_to
@@ -43,6 +43,7 @@ loop-run-preserved c =
       | else-take_run w ↦
           record {
             inside = omega (arith, w.at-is, is_run.inside, is_run.ends);
+            before = omega (arith, c.max-from.ensures);
             reads =
                 rw w.at-is
                 (subst (λ b. Reads old new b) (append-nil (take run.start bytes))
