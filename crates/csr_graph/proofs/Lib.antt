@@ -8,4 +8,5 @@ mod Layouts
 mod Parts
 mod Raising
 mod Halves
+mod InOrder
 mod Rows

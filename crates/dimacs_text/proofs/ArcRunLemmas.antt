@@ -1,10 +1,15 @@
 -- Runs of arcs: the lines of arcs are read wherever they come next, and what is read one after the other.
 use Rattle.std.proofs.Common.{◌≡◌, ℕ, ◌+◌, ◌-◌, ◌<◌, ◌≤◌, List, [], ◌++◌, ◌∷◌, length, take, drop, get_or, sym, All}
 use Rattle.std.proofs.Common.{ap, subst, ◌∙◌, append_assoc, arith, take-append-drop, refl, length-append, append-nil}
-use Rattle.std.proofs.Common.{Result, Ok, Err, is_ok, cond}
+use Rattle.std.proofs.Common.{Result, Ok, Err, is_ok, cond, set, get_or-set_same, length-set}
 use Rattle.std.proofs.Math.Seq.{take-append_seam}
-use Rattle.std.proofs.lemmas.List.{drop-take, length-drop, length-take-le, take-append-le}
-use Rattle.std.proofs.lemmas.List.Elements.{All-get_or, All-push}
+use Rattle.std.proofs.lemmas.List.{drop-take, length-drop, length-take-le, take-append-le, take-set-le}
+use Rattle.std.proofs.lemmas.List.Elements.{All-get_or, All-more, All-push}
+use Rattle.std.specs.declared.vec.Vec.{Vec}
+use Rattle.std.specs.declared.alloc.Global.{Global}
+use Rattle.dimacs_text.specs.declared.arc_runs.ArcRuns.{ArcRuns}
+use Rattle.dimacs_text.specs.declared.arc_runs.ReadAhead.{ReadAhead}
+use Rattle.dimacs_text.specs.Reading.{AreRunsOf, IsReadAhead}
 use Rattle.route_walks.specs.declared.graph.ArcRec.{ArcRec}
 use Rattle.dimacs_text.specs.reader.Drafts.{Progress, arcs_progress, IsReadTo, ReadsTo, AreArcLines, ReadsArcs}
 
@@ -74,3 +79,22 @@ pub all_pushed : {X T E : Type 0} (P : X → Type 0) (r : Result T E) (old new :
 all_pushed P (Ok done) old new x is before one =
     subst (λ l. All P l) (sym is) (All-push P old x before one)
 all_pushed P (Err kind) old new x is before one = subst (λ l. All P l) (sym is) before
+
+-- what holds of the elements before a place holds of one more, where one that has it is put there
+pub all_set : {X : Type 0} (P : X → Type 0) (xs : List X) (i : ℕ) (x : X)
+    → i < length xs → All P (take i xs) → P x → All P (take (i + 1) (set xs i x))
+all_set P xs i x lt before one =
+    All-more P (set xs i x) i x (rw length-set lt) (rw (take-set-le i xs i x (omega arith)) before)
+    (rw (get_or-set_same xs i x x lt) one)
+
+-- one list more, or none, in which nothing is read ahead
+pub one_list_more : {T E : Type 0} (bytes : List ℕ) (ahead : ReadAhead) (r : Result T E)
+    (others : Vec ArcRuns Global) (list : ArcRuns)
+    → others.items ≡ cond (is_ok r) (ahead.others.items ++ list ∷ []) ahead.others.items
+    → IsReadAhead bytes ahead → AreRunsOf bytes list
+    → IsReadAhead bytes (record { one = ahead.one; another = ahead.another; others = others; alloc = ahead.alloc })
+one_list_more bytes ahead r others list is before new = record {
+  one = before.one;
+  another = before.another;
+  others = all_pushed (AreRunsOf bytes) r ahead.others.items others.items list is before.others new;
+}

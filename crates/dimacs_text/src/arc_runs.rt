@@ -3,8 +3,8 @@
 //! A run is a hint: it says which arcs come next where it begins, and whoever has no run there reads the
 //! lines one by one. So it may end early, for any reason, and nothing is said of what stands after it.
 
-ghost use Rattle.std.specs.Prelude.{◌≡◌, ◌≤◌, List, [], ℕ, length, take, All, IfSome};
-ghost use Rattle.std.specs.Thread.{IsSync};
+ghost use Rattle.std.specs.Prelude.{◌≡◌, ◌≤◌, ◌+◌, List, [], ℕ, length, take, All, IfSome, vec_len, vec_capacity};
+ghost use Rattle.std.specs.Bool.{OnTrue};
 ghost use Rattle.dimacs_text.specs.Reading.{AreRunsOf, IsReadAhead};
 ghost use Rattle.dimacs_text.specs.reader.FastArc.{EndsWithFeed};
 ghost use Rattle.dimacs_text.specs.reader.ArcRuns.{IsArcRun, IsRunFrom};
@@ -14,13 +14,16 @@ use crate::line::{after_last_feed, line_end};
 use route_walks::ArcRec;
 use std::alloc::Global;
 use std::sync::atomic::{AtomicUsize, Ordering};
-use std::thread::{Threads, for_each_mut, join_mut};
+use std::thread::{Threads, for_each_mut};
 
 /// The shortest line of an arc has this many bytes, its line feed among them.
 const SHORTEST_ARC: usize = 8;
 
 /// Bytes of a part: few, so that at the end of a piece no thread is waited for long.
 const PART: usize = 1 << 15;
+
+/// Arcs for which a run has room beyond those that its part can have.
+const SPARE: usize = 64;
 
 /// Arcs whose lines come one after the other in a piece of a text, from one place to another.
 #[derive(Debug, Drop)]
@@ -63,10 +66,19 @@ impl ArcRun {
         let start = cut_at(bytes, part, parts).min(end);
         self.begin(start, vertices);
         let room = ((end - start) / SHORTEST_ARC).min(u32::MAX as usize);
-        if self.arcs.reserve(room).is_ok() {
+        if has_room(&mut self.arcs, room) {
             self.after = read_run(&bytes[..end], start, vertices, room as u32, &mut self.arcs).1;
         }
     }
+}
+
+/// Whether there is room for this many arcs more. Where there is none it is made, and some beyond, since the next
+/// part may be a few bytes longer: a list that grows by a little would take twice the memory, and be copied.
+fn has_room(arcs: &mut Vec<ArcRec>, count: usize) -> bool
+    ensures items { arcs.new.items ≡ arcs.old.items }
+    ensures room { OnTrue result (vec_len arcs.new + count ≤ vec_capacity arcs.new) }
+{
+    count <= arcs.capacity() - arcs.len() || arcs.reserve_exact(count.saturating_add(SPARE)).is_ok()
 }
 
 /// A piece of a text in parts, for threads that read ahead in it: each part goes to the thread that asks first. The
@@ -223,32 +235,6 @@ impl ReadAhead {
     /// How many threads have lists.
     pub fn threads(&self) -> usize {
         self.others.len() + 2
-    }
-
-    /// Reads parts of a piece ahead by as many threads as have lists, until all are given out.
-    pub fn read<H: Threads + Sync>(&mut self, rt: &H, parts: &Parts)
-        ensures { IsReadAhead parts.now.bytes.now self.new }
-    {
-        let ReadAhead {
-            one,
-            another,
-            others,
-            ..
-        } = self;
-        join_mut(
-            rt,
-            &mut ||
-                requires sync { IsSync H.row }
-                ensures { All (AreRunsOf parts.entry.now.bytes.now) others.exit.now.items }
-            { read_side_by_side(rt, others, parts) },
-            &mut ||
-                ensures one { AreRunsOf parts.entry.now.bytes.now one.exit.now }
-                ensures another { AreRunsOf parts.entry.now.bytes.now another.exit.now }
-            {
-                one.read(parts);
-                another.read(parts)
-            },
-        );
     }
 
     /// The run that begins first of those that begin at a place or after it.

@@ -15,7 +15,7 @@ use crate::watch::Watch;
 use dimacs_text::{ArcRuns, Job, JobReader, Parts, ReadAhead, read_side_by_side};
 use route_walks::Memory;
 use std::alloc::Global;
-use std::io::Read;
+use std::io::{Read, empty};
 use std::mem::swap;
 use std::thread::{Threads, join_mut};
 use std::time::{Clock, Duration};
@@ -103,28 +103,12 @@ fn read_pieces<H: Threads + Clock + Sync, R: Read>(
         }
         pieces.turn();
     }
-    pieces.front.feed_to(&mut job)?;
-    read_ahead(rt, &job, &mut pieces.back, readers.threads());
+    // The reader has ended, so this feeds the front piece and reads ahead in the last one, and takes nothing.
+    step(rt, &mut empty(), &mut job, &mut readers, pieces, 0, 0)?;
     pieces.back.feed_to(&mut job)?;
     let fed = pieces.front.len().saturating_add(pieces.back.len());
     watch.see_text(fed, job.arcs_so_far());
     Ok(job.finish()?)
-}
-
-/// Has `threads` threads read ahead in the last piece, if arcs come there.
-fn read_ahead<H: Threads + Sync>(rt: &H, job: &JobReader, piece: &mut Piece, threads: usize)
-    ensures { piece.new ≡ piece.old }
-{
-    if threads < 2 {
-        return;
-    }
-    let Some(vertices) = job.arcs_ahead() else {
-        return;
-    };
-    let mut ahead = piece.take_ahead();
-    ahead.open(threads);
-    ahead.read(rt, &Parts::new(piece.bytes(), vertices, threads));
-    piece.put_ahead(ahead);
 }
 
 /// Feeds the front piece and takes the next bytes of the reader into the spare one, up to the limit. Meanwhile
@@ -179,7 +163,8 @@ fn step_beside<H: Threads + Sync, R: Read>(
     ensures back { pieces.new.back ≡ pieces.old.back }
 {
     let Pieces { front, back, spare } = pieces;
-    let mut ahead = back.take_ahead();
+    // That of the spare piece was fed.
+    let mut ahead = spare.take_ahead();
     ahead.open(threads);
     let ended = feed_fill_and_read(
         rt, reader, job, front, back, spare, limit, &mut ahead, vertices,

@@ -8,7 +8,7 @@ use crate::tests::several::large;
 use crate::tests::{GRAPH, SHORT, assert_added, assert_job, joined};
 use crate::{
     JobReader, LineKind, Parts, ReadAhead, TextFault, put_components, put_distances, put_grown,
-    put_label, put_labels, put_pair, put_source, put_walk, read_job,
+    put_label, put_labels, put_pair, put_source, put_walk, read_job, read_side_by_side,
 };
 use route_walks::{ArcRec, INF, Memory, refusable, tried_again};
 use std::alloc::Global;
@@ -78,17 +78,20 @@ fn expect_large(rt: &impl Abort, reader: JobReader) -> Result<(), Fail> {
     Ok(())
 }
 
-// Reads ahead in the text by three threads.
+// Reads ahead in the text: two threads, and what they leave this one.
 fn read_ahead(rt: &(impl Threads + Sync), ahead: &mut ReadAhead, text: &[u8])
     ensures { IsReadAhead text.now ahead.new }
 {
-    ahead.open(3);
-    ahead.read(rt, &Parts::new(text, 5000, 3));
+    ahead.open(4);
+    let parts = &Parts::new(text, 5000, ahead.threads());
+    read_side_by_side(rt, &mut ahead.others, parts);
+    ahead.one.read(parts);
+    ahead.another.read(parts);
 }
 
 // Where reading ahead is refused memory, one thread reads all lines.
 #[test]
-fn of_read_ahead_read(rt: HostRuntime) -> Result<(), Fail> {
+fn of_read_side_by_side(rt: HostRuntime) -> Result<(), Fail> {
     let alloc = rt.alloc();
     let text = large(alloc, 3000, b"c\n")?;
     let mut ahead = ReadAhead::new(alloc);

@@ -36,25 +36,25 @@ loop-ended-preserved g c =
 pub returns-in_err-finish-clause-says : goal.returns-in_err-finish-clause-says
 returns-in_err-finish-clause-says g c =
     let fed =
-    fed-both c.loop-ended.job c.feed_to.new.job c.feed_to-2.new.job c.args.limit c.loop-ended.left _ _
+    fed-both c.loop-ended.job c.step-2.new.job c.feed_to.new.job c.args.limit c.loop-ended.left _ _
     c.loop-ended.pieces.front
-    c.loop-ended.pieces.back c.requires.limit c.loop-ended.invariant.fed c.in_ok-feed_to.ensures
-    (subst (λ b. Reads c.feed_to.new.job c.feed_to-2.new.job b) c.read_ahead.ensures c.in_ok-feed_to-2.ensures) in
+    c.loop-ended.pieces.back c.requires.limit c.loop-ended.invariant.fed c.in_ok-step.ensures.on.reads
+    (subst (λ b. Reads c.step-2.new.job c.feed_to.new.job b) c.step-2.ensures.back c.in_ok-feed_to.ensures) in
     let ended = c.loop-ended.invariant.end c.loop-ended-test.false in
     let p = err_from_is_err_and c.from_residual-in_err-finish.result c.from_residual-in_err-finish.ensures.1 in
     rw (p.1, p.2)
     (text-says _ _ (fed.text ++ []) c.in_err-finish.field-0.0 (record { taken = fed.taken; ended = ended })
     (c.in_err-finish.ensures.fault (fed.text ++ [])
-    (subst (λ t. HasRead c.feed_to-2.new.job t) (sym (append-nil fed.text)) fed.read)))
+    (subst (λ t. HasRead c.feed_to.new.job t) (sym (append-nil fed.text)) fed.read)))
 
 pub returns-clause-job : goal.returns-clause-job
 returns-clause-job g c =
     let fed =
-    fed-both c.loop-ended.job c.feed_to.new.job c.feed_to-2.new.job c.args.limit c.loop-ended.left _ _
+    fed-both c.loop-ended.job c.step-2.new.job c.feed_to.new.job c.args.limit c.loop-ended.left _ _
     c.loop-ended.pieces.front
-    c.loop-ended.pieces.back c.requires.limit c.loop-ended.invariant.fed c.in_ok-feed_to.ensures
-    (subst (λ b. Reads c.feed_to.new.job c.feed_to-2.new.job b) c.read_ahead.ensures c.in_ok-feed_to-2.ensures) in
-    let read = subst (λ t. HasRead c.feed_to-2.new.job t) (sym (append-nil fed.text)) fed.read in
+    c.loop-ended.pieces.back c.requires.limit c.loop-ended.invariant.fed c.in_ok-step.ensures.on.reads
+    (subst (λ b. Reads c.step-2.new.job c.feed_to.new.job b) c.step-2.ensures.back c.in_ok-feed_to.ensures) in
+    let read = subst (λ t. HasRead c.feed_to.new.job t) (sym (append-nil fed.text)) fed.read in
     record {
       text = fed.text ++ [];
       whole = record { taken = fed.taken; ended = c.loop-ended.invariant.end c.loop-ended-test.false };

@@ -4,8 +4,8 @@ use Rattle.dimacs_text.specs.reader.Drafts.{AreArcLines}
 use Rattle.dimacs_text.proofs.ArcRunLemmas.{text_between}
 use Rattle.dimacs_text.proofs.arc_runs.ArcRun.read_part.Goals as goal
 
-pub returns-then-is_ok : goal.returns-then-is_ok
-returns-then-is_ok c =
+pub returns-then-has_room : goal.returns-then-has_room
+returns-then-has_room c =
     let bytes = c.args.bytes.now in
     let end = c.cut_at-end.result in
     let start = c.min-start.result in
@@ -14,7 +14,7 @@ returns-then-is_ok c =
     let reads = c.read_run.ensures.reads in
     let place = c.read_run.ensures.place in
     let arcs : c.read_run.new.arcs.items ≡ reads.arcs =
-    reads.appended ∙ ap (λ l. l ++ reads.arcs) (c.reserve.ensures.items ∙ c.begin.ensures.arcs) in
+    reads.appended ∙ ap (λ l. l ++ reads.arcs) (c.if-has_room.ensures.items ∙ c.begin.ensures.arcs) in
     rw (c.begin.ensures.start, c.begin.ensures.vertices)
     (record {
       inside = omega (arith, place.0, reads.number, ap (λ l. length l) arcs);
