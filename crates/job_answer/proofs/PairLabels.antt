@@ -1,20 +1,22 @@
 -- How the labels of pairs are filled in, and which lines they make.
 use Rattle.std.proofs.Common.{◌≡◌, ℕ, ◌+◌, ◌<◌, ◌≤◌, List, [], ◌∷◌, ◌++◌, length, get_or, set, take}
-use Rattle.std.proofs.Common.{Option, Some, None, refl, sym, subst, ◌∙◌, inl, inr, arith}
+use Rattle.std.proofs.Common.{Option, Some, None, refl, ap, sym, subst, ◌∙◌, inl, inr, arith}
 use Rattle.std.specs.List.{All, Contains}
 use Rattle.std.specs.List.Sorted.{IsPermutation}
 use Rattle.std.proofs.lemmas.List.{get_or-set_same, get_or-set_other, get_or_append_left, get_or_push}
 use Rattle.std.proofs.lemmas.List.{length-set, length_push, take_all, take_more}
 use Rattle.std.proofs.lemmas.List.Elements.{All-append, All-cons, All-contains, All-get_or, All-nil, All-weaker}
 use Rattle.std.proofs.lemmas.List.Elements.{Contains-append_left, Contains-push}
-use Rattle.std.proofs.lemmas.List.Sorted.{All-permutation, Contains-permutation}
+use Rattle.std.proofs.lemmas.List.Sorted.{All-permutation, Contains-permutation, length_permutation}
 use Rattle.std.proofs.lemmas.Bool.{cases_eq, cases_lt}
 use Rattle.route_walks.specs.declared.graph.ArcRec.{ArcRec}
 use Rattle.route_walks.specs.Label.{AreLeastLabels}
 use Rattle.route_walks.specs.Operators.{seeds_from}
 use Rattle.job_answer.specs.declared.solves.Solve.{Solve}
 use Rattle.job_answer.specs.Solved.{AreLabelsAt}
+use Rattle.dimacs_text.specs.Jobs.{IsPairWithin}
 use Rattle.job_answer.specs.Solves.{pair_at, AreBySource, AreFilled, ArePairLabels, IsForQueries, IsPairLabel}
+use Rattle.job_answer.specs.Solves.{IsStartWithin}
 use Rattle.job_answer.specs.Solves.{AreFilledAfter, AreLabelsAfter, HasLabelAfter}
 use Rattle.job_answer.specs.declared.graphs.Grown.{Grown}
 
@@ -22,6 +24,7 @@ use Rattle.job_answer.specs.declared.graphs.Grown.{Grown}
 pub record ArePlaced (pairs : List (ℕ × ℕ)) (count : ℕ) (order : List (ℕ × ℕ)) : Type 0 where
   pub each : All (λ entry. (entry.1 < count) × (entry.0 ≡ (pair_at pairs entry.1).0)) order
   pub all : (k : ℕ) → k < count → Contains order ((pair_at pairs k).0, k)
+  pub once : length order ≡ count
 
 pub placed_more : (pairs : List (ℕ × ℕ)) (i : ℕ) (order : List (ℕ × ℕ))
     → ArePlaced pairs i order
@@ -42,13 +45,17 @@ placed_more pairs i order placed =
                 Contains-append_left order (((pair_at pairs i).0, i) ∷ []) ((pair_at pairs k).0, k)
                 (placed.all k (omega (arith, other)))
           ];
+      once = length_push order ((pair_at pairs i).0, i) ∙ ap (λ k. k + 1) placed.once;
     }
 
 -- they are in it however it is sorted
 pub all_placed : (pairs : List (ℕ × ℕ)) (i : ℕ) (order sorted : List (ℕ × ℕ))
     → i ≡ length pairs → ArePlaced pairs i order → IsPermutation order sorted
+    → ((k : ℕ) → k + 1 < length sorted → (pair_at sorted k).0 ≤ (pair_at sorted (k + 1)).0)
     → AreBySource pairs sorted
-all_placed pairs i order sorted all placed moved = record {
+all_placed pairs i order sorted all placed moved rise = record {
+  rise = rise;
+  once = length_permutation order sorted moved ∙ placed.once ∙ all;
   each =
       subst (λ (k : ℕ). All (λ (entry : ℕ × ℕ). (entry.1 < k) × (entry.0 ≡ (pair_at pairs entry.1).0)) sorted) all
       (All-permutation (λ entry. (entry.1 < i) × (entry.0 ≡ (pair_at pairs entry.1).0)) order sorted moved placed.each);
@@ -149,3 +156,15 @@ pub one_source : (queries : List (ℕ × ℕ)) (solve : Solve) (k : ℕ)
 one_source queries solve k is from below =
     let first = is.alike solve.first (omega arith) is.some in
     let here = is.alike k from below in cc
+
+-- a solve for some of the pairs, in this order, starts at a vertex
+pub starts_within : (n : ℕ) (pairs order : List (ℕ × ℕ)) (solve : Solve) → AreBySource pairs order
+    → All (IsPairWithin n) pairs → IsForQueries order solve → IsStartWithin n solve.start
+starts_within n pairs order solve by within is =
+    let first = solve.first in
+    let entry =
+    All-get_or (λ e. (e.1 < length pairs) × (e.0 ≡ (pair_at pairs e.1).0)) order first (0, 0)
+    (omega (arith, is.some, is.within)) by.each in
+    let pair = All-get_or (IsPairWithin n) pairs (pair_at order first).1 (0, 0) entry.0 within in
+    subst (IsStartWithin n) (sym (is.alike first (omega arith) is.some))
+    (subst (λ (source : ℕ). source < n) (sym entry.1) pair.0)

@@ -10,3 +10,4 @@ pub mod Parts
 pub mod Existence
 pub mod Sent
 pub mod Solves
+pub mod Teams

@@ -1,5 +1,5 @@
 -- What a solve works out, and what the labels of pairs are.
-use Rattle.std.specs.Prelude.{◌≡◌, ℕ, ◌<◌, ◌≤◌, Bool, List, [], ◌++◌, All, Contains, length}
+use Rattle.std.specs.Prelude.{◌≡◌, ◌≢◌, ℕ, ◌+◌, ◌<◌, ◌≤◌, Bool, List, [], ◌++◌, All, Contains, length}
 use Rattle.std.specs.Prelude.{Option, Some, None, slice_index, slice_index_or, take, ⊤}
 use Rattle.dimacs_text.specs.AnswerLines.{grown_text}
 use Rattle.route_walks.specs.declared.graph.ArcRec.{ArcRec}
@@ -54,8 +54,14 @@ pub record IsForQueries (queries : List (ℕ × ℕ)) (solve : Solve) : Type 0 w
   pub within : solve.end ≤ length queries
   pub alike : (k : ℕ) → solve.first ≤ k → k < solve.end → solve.start ≡ start.At (pair_at queries k).0
 
--- the sources of the pairs, each with the place of its pair
+-- the query after those of a solve, if there is one, has another source
+abbrev pub EndsWithSource : List (ℕ × ℕ) → Solve → Type 0
+EndsWithSource queries solve = solve.end < length queries → solve.start ≢ start.At (pair_at queries solve.end).0
+
+-- the sources of the pairs, each with the place of its pair, by rising source
 pub record AreBySource (pairs order : List (ℕ × ℕ)) : Type 0 where
+  pub rise : (k : ℕ) → k + 1 < length order → (pair_at order k).0 ≤ (pair_at order (k + 1)).0
+  pub once : length order ≡ length pairs
   pub each : All (λ entry. (entry.1 < length pairs) × (entry.0 ≡ (pair_at pairs entry.1).0)) order
   pub all : (k : ℕ) → k < length pairs → Contains order ((pair_at pairs k).0, k)
 

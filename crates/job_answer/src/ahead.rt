@@ -1,9 +1,10 @@
 //! Which solves are made before their turn, side by side?
 
-ghost use Rattle.std.specs.Prelude.{◌≡◌, [], All, IfOk, IfSome};
+ghost use Rattle.std.specs.Prelude.{◌≡◌, ◌+◌, ◌<◌, ◌≤◌, [], All, IfOk, IfSome};
 ghost use Rattle.std.specs.Thread.{IsSync};
 ghost use Rattle.job_answer.specs.declared.solved.Solved.TheVariants.{Labels, Text};
 ghost use Rattle.job_answer.specs.Solved.{AreMade, AreSolves, IsSolved};
+ghost use Rattle.obim_engine.specs.declared.settings.TheConstants.{MAX_WORKERS};
 
 use crate::figures::Figures;
 use crate::solved::{PairLabels, Queries, Solved, SolvedText, Solves};
@@ -31,7 +32,9 @@ struct Cursor {
 }
 
 impl Cursor {
-    fn take(&mut self, queries: &Queries<'_>) -> Option<usize> {
+    fn take(&mut self, queries: &Queries<'_>) -> Option<usize>
+        ensures counts { IfSome result (λ _. self.new.left + 1 ≡ self.old.left) }
+    {
         if self.left == 0 {
             return None;
         }
@@ -48,7 +51,7 @@ struct TeamMade {
     made: Vec<Made>,
     /// Whether it made all that it took.
     whole: bool,
-    runs: usize,
+    solves: usize,
 }
 
 /// Makes what solves give as long as there are places to take, of which other teams take some. It ends
@@ -81,7 +84,7 @@ fn make_solves<H: Threads + Wait + Clock + Sync, G: Gate + Sync>(
     TeamMade {
         made,
         whole,
-        runs: figures.runs,
+        solves: figures.solves,
     }
 }
 
@@ -93,7 +96,8 @@ fn make_by_teams<H: Threads + Wait + Clock + Sync, G: Gate + Sync>(
     cursor: &Mutex<Cursor>,
     teams: usize,
 ) -> Result<Vec<TeamMade>, AllocError>
-    requires { AreSolves solves.now.graphs.now solves.now.queries }
+    requires ready { AreSolves solves.now.graphs.now solves.now.queries }
+    requires teams { teams ≤ solves.now.asked.now.settings.workers }
     ensures { IfOk result (λ all. All (λ team. AreMade solves.now.asked.now.walks solves.now.graphs.now
         solves.now.queries team.made.items) all.items) }
 {
@@ -105,6 +109,9 @@ fn make_by_teams<H: Threads + Wait + Clock + Sync, G: Gate + Sync>(
         &|place| -> TeamMade
             requires sync { IsSync H.row × IsSync G.row }
             requires ready { AreSolves solves.now.graphs.now solves.now.queries }
+            requires place { place < teams }
+            requires teams { teams ≤ workers }
+            requires few { workers ≤ MAX_WORKERS }
             ensures { AreMade solves.entry.now.asked.now.walks solves.entry.now.graphs.now
                 solves.entry.now.queries result.made.items }
         { make_solves(rt, alloc, solves, cursor, Team::at(place, teams, workers)) },
@@ -225,7 +232,8 @@ impl Ahead {
         let left = solves
             .queries
             .count_from(place, self.teams.saturating_mul(2));
-        let teams = self.teams.min(left);
+        let workers = solves.asked.settings.workers as usize;
+        let teams = self.teams.min(left).min(workers);
         if teams < 2 {
             return;
         }
@@ -241,7 +249,7 @@ impl Ahead {
             let mut made = team.made;
             let kept = self.made.append(&mut made).is_ok();
             whole = whole && kept && team.whole;
-            watch.see_runs(team.runs);
+            watch.see_solves(team.solves);
         }
         self.end = cursor.into_inner().next;
         if !whole {
@@ -253,7 +261,9 @@ impl Ahead {
 
 /// How many solves the teams make before the first of them is used: two each where there are enough, so
 /// that a team that is done early takes another.
-fn count_ahead(teams: usize, left: usize) -> usize {
+fn count_ahead(teams: usize, left: usize) -> usize
+    ensures few { result ≤ teams + teams }
+{
     if left / 2 >= teams {
         teams.saturating_mul(2)
     } else {

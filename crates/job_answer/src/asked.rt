@@ -57,6 +57,7 @@ impl Asked {
         ensures settings { IfSome result (λ asked. asked.settings ≡ settings) }
         ensures walks { IfSome result (λ asked. asked.walks ≡ walks) }
         ensures limit { IfSome result (λ asked. asked.limit ≡ limit) }
+        ensures at_once { IfSome result (λ asked. asked.at_once ≡ AtOnce.Auto) }
     {
         if limit > MAX_BYTES {
             return None;

@@ -1,6 +1,6 @@
 //! Which lines make the blocks of an answer?
 
-ghost use Rattle.std.specs.Prelude.{◌≡◌, ◌<◌, ◌≤◌, ◌++◌, ◌↔◌, length, slice_index};
+ghost use Rattle.std.specs.Prelude.{◌≡◌, ◌≢◌, ◌<◌, ◌≤◌, ◌++◌, ◌↔◌, [], length, slice_index};
 ghost use Rattle.std.specs.Prelude.{All, IfErr, IfOk, OnErr, OnOk, Some};
 ghost use Rattle.dimacs_text.specs.AnswerLines.{distances_text, components_text};
 ghost use Rattle.route_walks.specs.Label.{AreLeastLabels};
@@ -11,6 +11,7 @@ ghost use Rattle.job_answer.specs.AnswerText.{AreReached, vertex_text, walk_line
 ghost use Rattle.job_answer.specs.Bytes.{GivesPrefix, Puts, PutsPrefix, Waits, Writes, WritesPrefix};
 ghost use Rattle.job_answer.specs.Graphs.{AreGraphs, GrowsTo, growth_of};
 ghost use Rattle.job_answer.specs.Outcome.{IsWritingFault};
+ghost use Rattle.job_answer.specs.declared.output_buffer.TheConstants.{PIECE};
 ghost use Rattle.job_answer.specs.Solves.{IsGrownStart, IsRest, IsStartBlock, IsStartWithin, seeds_at};
 
 use crate::ahead::Ahead;
@@ -21,7 +22,7 @@ use crate::laws::blocks_are_unique;
 use crate::output_buffer::{Held, OutputBuffer};
 use crate::solved::{Queries, SolvedText, Solves, most_bytes};
 use crate::solves::{Solve, Start};
-use crate::teams::teams_for;
+use crate::teams::{TeamGate, teams_for};
 use crate::watch::{Phase, Watch};
 use csr_graph::Csr;
 use dimacs_text::{put_grown, put_label, put_source, put_walk};
@@ -34,7 +35,7 @@ use std::thread::Threads;
 use std::time::Clock;
 use walk_report::{NONE, hops, parents, walk_to};
 
-/// Lines between two looks whether a piece is full.
+/// Lines put between two checks of the buffer's size.
 const LINES: usize = 512;
 
 /// Writes the block of each source in turn: the least labels from it along the rows, with their walks
@@ -129,18 +130,19 @@ pub fn write_start<H: Threads + Wait + Clock + Sync, W: Write, G: Gate + Sync>(
     waiting.finish(writer)
 }
 
-/// The block of a source, in memory. Fails where it is long, too.
+/// The block of a source, in memory, by the workers of a team. Fails where it is long, too.
 pub fn held_block<H: Threads + Wait + Clock + Sync, G: Gate + Sync>(
     rt: &H,
     alloc: Global,
     graphs: &Graphs,
     source: u32,
     asked: &Asked,
-    gate: &G,
+    gate: &TeamGate<'_, G>,
     watch: &mut impl Watch,
 ) -> Result<SolvedText, Fault>
     requires graphs { AreGraphs graphs.now }
     requires source { source < graphs.now.rows.n }
+    requires team { asked.now.settings.workers ≡ gate.now.team.workers }
     ensures { IfOk result (λ text. IsGrownBlock asked.now.walks graphs.now.rows.n graphs.now.rows.arcs
         (growth_of graphs.now.grown) source text.bytes.items) }
 {
@@ -149,7 +151,7 @@ pub fn held_block<H: Threads + Wait + Clock + Sync, G: Gate + Sync>(
     write_start(rt, alloc, &mut held, graphs, start, asked, gate, watch)?;
     Ok(SolvedText {
         count: 1,
-        bytes: held.bytes,
+        bytes: held.into_bytes(),
     })
 }
 
@@ -274,6 +276,7 @@ fn put_components<W: Write>(
         waiting.new.bytes.items (waiting.old.bytes.items ++ components_text labels.now)) }
     ensures prefix { OnErr result (GivesPrefix (W.contents writer.old) (W.contents writer.new)
         (waiting.old.bytes.items ++ components_text labels.now)) }
+    ensures few { labels.now ≢ [] → OnOk result (length waiting.new.bytes.items < PIECE) }
     ensures kinds { IfErr result IsWritingFault }
 {
     let mut v = 0;
@@ -298,6 +301,7 @@ fn put_labels<W: Write>(
         waiting.new.bytes.items (waiting.old.bytes.items ++ distances_text source labels.now)) }
     ensures prefix { OnErr result (GivesPrefix (W.contents writer.old) (W.contents writer.new)
         (waiting.old.bytes.items ++ distances_text source labels.now)) }
+    ensures few { labels.now ≢ [] → OnOk result (length waiting.new.bytes.items < PIECE) }
     ensures kinds { IfErr result IsWritingFault }
 {
     put_source(&mut waiting.bytes, source)?;
@@ -331,6 +335,7 @@ fn put_walks<W: Write>(
     ensures prefix { OnErr result (GivesPrefix (W.contents writer.old) (W.contents writer.new)
         (waiting.old.bytes.items
         ++ walks_text source (slice_index hops.now) (slice_index parents.now) labels.now)) }
+    ensures few { labels.now ≢ [] → OnOk result (length waiting.new.bytes.items < PIECE) }
     ensures kinds { IfErr result IsWritingFault }
 {
     put_source(&mut waiting.bytes, source)?;

@@ -10,7 +10,7 @@ pub struct Figures {
     /// Of the rows: components take each arc both ways.
     pub arcs: usize,
     /// How often labels were worked out: once for each source, and once for components.
-    pub runs: usize,
+    pub solves: usize,
     /// How many sources were solved at the same time at most.
     pub at_once: usize,
     pub reading: Duration,
@@ -27,7 +27,7 @@ impl Figures {
         Figures {
             vertices: 0,
             arcs: 0,
-            runs: 0,
+            solves: 0,
             at_once: 1,
             reading: Duration::ZERO,
             rows: Duration::ZERO,
@@ -44,8 +44,8 @@ impl Watch for Figures {
         self.arcs = arcs;
     }
 
-    fn see_runs(&mut self, count: usize) {
-        self.runs = self.runs.saturating_add(count);
+    fn see_solves(&mut self, count: usize) {
+        self.solves = self.solves.saturating_add(count);
     }
 
     fn see_teams(&mut self, teams: usize) {

@@ -3,13 +3,15 @@
 ghost use Rattle.std.specs.Prelude.{◌≡◌, ◌<◌, ◌≤◌, ◌++◌, [], Some, length, IfOk, IfErr, OnOk, OnErr};
 ghost use Rattle.std.specs.Io.KnownBytes.{Appends, WriteAppends};
 ghost use Rattle.job_answer.specs.Bytes.{GivesPrefix, Waits};
+ghost use Rattle.job_answer.specs.declared.output_buffer.TheConstants.{PIECE};
 
 use crate::fault::Fault;
 use std::alloc::Global;
 use std::io::{self, ErrorKind, Write};
+use std::marker::Model;
 
 /// Bytes of a piece, which are written at once.
-const PIECE: usize = 1 << 16;
+pub const PIECE: usize = 1 << 16;
 
 /// The bytes of an answer that wait to be written. They go out in pieces of 64 KiB as the answer grows.
 #[derive(Drop)]
@@ -34,6 +36,7 @@ impl OutputBuffer {
             self.new.bytes.items self.old.bytes.items) }
         ensures prefix { OnErr result (GivesPrefix
             (W.contents writer.old) (W.contents writer.new) self.old.bytes.items) }
+        ensures few { OnOk result (length self.new.bytes.items < PIECE) }
         ensures only { IfErr result (λ fault. fault ≡ Fault.Write) }
     {
         if self.bytes.len() >= PIECE {
@@ -75,24 +78,41 @@ impl OutputBuffer {
 /// A writer into memory that takes bytes up to a limit, and fails past it.
 #[derive(Drop)]
 pub struct Held {
-    pub bytes: Vec<u8>,
+    bytes: Vec<u8>,
     limit: usize,
+}
+
+impl Model for Held {
+    ghost use Rattle.std.specs.Prelude.{ℕ, List, length, ◌≤◌};
+
+    ghost Value = { List ℕ };
+
+    ghost view = { λ held. held.bytes.items };
+
+    ghost invariant = { λ held. length held.bytes.items ≤ held.limit };
 }
 
 impl Held {
     /// Nothing is taken yet.
     pub fn new(alloc: Global, limit: usize) -> Held
-        ensures { result.bytes.items ≡ [] }
+        ensures { result ≡ [] }
     {
         Held {
             bytes: Vec::new(alloc),
             limit,
         }
     }
+
+    /// What was taken.
+    pub fn into_bytes(self) -> Vec<u8>
+        ensures { result.items ≡ self }
+    {
+        self.bytes
+    }
 }
 
 impl Write for Held {
-    ghost contents = { λ held. Some held.bytes.items };
+    ghost contents = { λ held. Some held };
 
     fn write(&mut self, bytes: &[u8]) -> io::Result<usize> {
         if bytes.len() > self.limit.saturating_sub(self.bytes.len()) {

@@ -1,10 +1,11 @@
 //! By how many threads is the next piece of a text read?
 
-ghost use Rattle.std.specs.Prelude.{◌<◌, ◌≤◌};
+ghost use Rattle.std.specs.Prelude.{◌<◌, ◌≤◌, ◌^◌};
+ghost use Rattle.job_answer.specs.declared.readers.TheConstants.{MOST_THREADS};
 
 use std::time::Duration;
 
-/// Bytes of a piece that one thread reads: it stays in the cache from the read to the parse.
+/// Bytes of a piece that one thread reads. Three pieces go round, and all three fit into a second-level cache.
 pub const BLOCK: usize = 1 << 16;
 
 /// Bytes of a piece for each of several threads, so that starting them costs little beside it.
@@ -38,6 +39,7 @@ pub struct Readers {
     spent_alone: u128,
     /// Whether several were slower at the last piece. One such piece may be chance.
     were_slower: bool,
+    ghost within: { threads ≤ MOST_THREADS },
 }
 
 impl Readers {
@@ -55,7 +57,8 @@ impl Readers {
 
     /// How many threads read the next piece.
     pub fn threads(&self) -> usize
-        ensures { 1 ≤ result }
+        ensures some { 1 ≤ result }
+        ensures few { result ≤ MOST_THREADS }
     {
         if self.alone > 0 {
             1
@@ -66,11 +69,12 @@ impl Readers {
 
     /// How many bytes the piece after that should have.
     pub fn piece(&self) -> usize
-        ensures { 0 < result }
+        ensures some { 0 < result }
+        ensures few { result ≤ 2 ^ 24 }
     {
         match self.threads() {
             1 => BLOCK,
-            threads => PART.saturating_mul(threads),
+            threads => PART * threads,
         }
     }
 

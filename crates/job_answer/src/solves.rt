@@ -6,7 +6,7 @@ ghost use Rattle.route_walks.specs.Operators.{seeds_all};
 ghost use Rattle.route_walks.specs.Walk.{IsGraph};
 ghost use Rattle.obim_engine.specs.Grown.{IsGrown};
 ghost use Rattle.job_answer.specs.Outcome.{IsWritingFault};
-ghost use Rattle.job_answer.specs.Solves.{AreBySource, IsForQueries};
+ghost use Rattle.job_answer.specs.Solves.{AreBySource, EndsWithSource, IsForQueries};
 
 use crate::fault::Fault;
 use crate::graphs::Grown;
@@ -52,7 +52,7 @@ impl Start {
             Start::At(source) => distances(rt, alloc, csr, source, settings, gate)?,
             Start::Everywhere => component_labels(rt, alloc, csr, settings, gate)?,
         };
-        watch.see_runs(1);
+        watch.see_solves(1);
         watch.end(rt, Phase::Solving);
         Ok(labels)
     }
@@ -82,7 +82,7 @@ impl Start {
         let _ = csr.n();
         let rest = grow(Paused::settled(alloc, labels)?, &grown.added);
         let labels = least_labels_resumed(rt, alloc, &grown.rows, rest, settings, gate)?;
-        watch.see_runs(1);
+        watch.see_solves(1);
         watch.end(rt, Phase::Solving);
         Ok(labels)
     }
@@ -118,6 +118,7 @@ impl Solve {
         requires { first < length queries.now }
         ensures queries { IsForQueries queries.now result }
         ensures first { result.first ≡ first }
+        ensures all { EndsWithSource queries.now result }
     {
         let source = queries[first].0;
         let mut end = first + 1;

@@ -1,5 +1,9 @@
 //! Which workers solve a source, where several sources are solved at the same time?
 
+ghost use Rattle.std.specs.Prelude.{◌≡◌, ◌<◌, ◌≤◌};
+ghost use Rattle.obim_engine.specs.declared.settings.TheConstants.{MAX_WORKERS};
+ghost use Rattle.job_answer.specs.Teams.{IsAtMost, team_size, workers_before};
+
 use crate::asked::{Asked, AtOnce};
 use csr_graph::Csr;
 use obim_engine::{Gate, MAX_WORKERS, Settings, Worklist};
@@ -9,7 +13,10 @@ use std::sync::Wait;
 const FEW_ARCS: usize = 20;
 
 /// How many teams the workers make, each of which solves a source.
-pub fn teams_for(asked: &Asked, rows: &Csr) -> usize {
+pub fn teams_for(asked: &Asked, rows: &Csr) -> usize
+    ensures workers { result ≤ asked.now.settings.workers }
+    ensures most { IsAtMost asked.now.at_once result }
+{
     let most = match asked.at_once {
         AtOnce::Most(count) => count,
         AtOnce::Auto if rows.arc_count() / FEW_ARCS < rows.n() as usize => asked.settings.workers,
@@ -23,25 +30,36 @@ pub fn teams_for(asked: &Asked, rows: &Csr) -> usize {
 pub struct Team {
     pub first: u32,
     pub workers: u32,
+    ghost within: { (1 ≤ workers) × (workers ≤ MAX_WORKERS) },
 }
 
 impl Team {
-    /// The team at a place, of the teams that share these workers. Each has a worker at least.
-    pub fn at(place: usize, teams: usize, workers: u32) -> Team {
-        let (place, teams) = (at_most(place), at_most(teams).max(1));
+    /// The team at a place, of the teams that share these workers.
+    pub fn at(place: usize, teams: usize, workers: u32) -> Team
+        requires place { place < teams }
+        requires teams { teams ≤ workers }
+        requires few { workers ≤ MAX_WORKERS }
+        ensures first { result.first ≡ workers_before workers teams place }
+        ensures workers { result.workers ≡ team_size workers teams place }
+    {
+        let (place, teams) = (place as u32, teams as u32);
         let (each, more) = (workers / teams, workers % teams);
         Team {
-            first: place.saturating_mul(each).saturating_add(place.min(more)),
-            workers: if place < more { each + 1 } else { each.max(1) },
+            first: place * each + place.min(more),
+            workers: if place < more { each + 1 } else { each },
         }
     }
 
-    /// The same settings for the workers of the team.
-    pub fn settings(self, settings: &Settings) -> Settings {
+    /// These settings for the workers of the team.
+    pub fn settings(self, settings: &Settings) -> Settings
+        ensures workers { result.workers ≡ self.workers }
+        ensures chunk { result.chunk ≡ settings.now.chunk }
+        ensures widening { result.widening ≡ settings.now.widening }
+    {
         match Settings::new(self.workers, settings.shift, settings.chunk) {
             Some(own) if settings.widening => own.with_widening_buckets(),
             Some(own) => own,
-            None => *settings,
+            None => unreachable!(),
         }
     }
 }
@@ -62,11 +80,4 @@ impl<G: Gate> Gate for TeamGate<'_, G> {
     fn end<H: Wait>(&self, rt: &H, worklist: Worklist) {
         self.gate.end(rt, worklist);
     }
-}
-
-/// The number, or the most workers where it is more.
-fn at_most(number: usize) -> u32 {
-    u32::try_from(number)
-        .unwrap_or(MAX_WORKERS)
-        .min(MAX_WORKERS)
 }

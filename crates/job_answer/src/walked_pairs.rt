@@ -10,6 +10,7 @@ ghost use Rattle.job_answer.specs.AnswerText.{ArePairBlocks, AreReached};
 ghost use Rattle.job_answer.specs.Bytes.{Writes, WritesPrefix};
 ghost use Rattle.job_answer.specs.Graphs.{AreGraphs, growth_of};
 ghost use Rattle.job_answer.specs.Outcome.{IsWritingFault};
+ghost use Rattle.job_answer.specs.declared.output_buffer.TheConstants.{PIECE};
 ghost use Rattle.job_answer.specs.Sent.{IsWalkedPair, SendsOn, SendsPrefix};
 ghost use Rattle.job_answer.specs.Solved.{IsLinesText};
 ghost use Rattle.job_answer.specs.Solves.{pair_at, IsForQueries, IsWalked, IsWalkedAfter};
@@ -24,7 +25,7 @@ use crate::laws::blocks_are_unique;
 use crate::output_buffer::{Held, OutputBuffer};
 use crate::solved::{Queries, SolvedText, Solves, most_bytes};
 use crate::solves::{Solve, Start};
-use crate::teams::teams_for;
+use crate::teams::{TeamGate, teams_for};
 use crate::watch::{Phase, Watch};
 use csr_graph::Csr;
 use dimacs_text::{put_grown, put_pair};
@@ -93,7 +94,8 @@ pub fn write_walked<H: Threads + Wait + Clock + Sync, W: Write, G: Gate + Sync>(
     waiting.finish(writer)
 }
 
-/// The lines of the pairs from a place on that have one source, in memory. Fails where they are long, too.
+/// The lines of the pairs from a place on that have one source, in memory, by the workers of a team. Fails where
+/// they are long, too.
 pub fn held_lines<H: Threads + Wait + Clock + Sync, G: Gate + Sync>(
     rt: &H,
     alloc: Global,
@@ -101,12 +103,13 @@ pub fn held_lines<H: Threads + Wait + Clock + Sync, G: Gate + Sync>(
     pairs: &[(u32, u32)],
     first: usize,
     settings: &Settings,
-    gate: &G,
+    gate: &TeamGate<'_, G>,
     watch: &mut impl Watch,
 ) -> Result<SolvedText, Fault>
     requires graphs { AreGraphs graphs.now }
     requires pairs { All (IsPairWithin graphs.now.rows.n) pairs.now }
     requires place { first < length pairs.now }
+    requires team { settings.now.workers ≡ gate.now.team.workers }
     ensures { IfOk result (IsLinesText graphs.now pairs.now first) }
 {
     let rest = &pairs[first..];
@@ -128,7 +131,7 @@ pub fn held_lines<H: Threads + Wait + Clock + Sync, G: Gate + Sync>(
     waiting.finish(&mut held)?;
     Ok(SolvedText {
         count: solve.end,
-        bytes: held.bytes,
+        bytes: held.into_bytes(),
     })
 }
 
@@ -249,6 +252,7 @@ fn put_walked<W: Write>(
         (W.contents writer.old) (W.contents writer.new) waiting.old.bytes.items waiting.new.bytes.items) }
     ensures prefix { OnErr result (SendsPrefix (IsWalkedPair graphs.now) pairs.now solve.first
         (W.contents writer.old) (W.contents writer.new) waiting.old.bytes.items) }
+    ensures few { OnOk result (length waiting.new.bytes.items < PIECE) }
     ensures kinds { IfErr result IsWritingFault }
 {
     blocks_are_unique();

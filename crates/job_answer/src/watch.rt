@@ -22,7 +22,7 @@ pub trait Watch {
     fn see_rows(&mut self, vertices: u32, arcs: usize);
 
     /// Labels were worked out `count` times more.
-    fn see_runs(&mut self, count: usize);
+    fn see_solves(&mut self, count: usize);
 
     /// The number of sources that are solved at the same time.
     fn see_teams(&mut self, teams: usize);

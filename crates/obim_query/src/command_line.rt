@@ -1,5 +1,11 @@
 //! What does the command line ask for?
 
+ghost use Rattle.std.specs.Prelude.{◌≡◌, codes, map, false, IfOk};
+ghost use Rattle.clap.specs.Words.{app_of, first_value, found_of, rows_of, rule_of, with_rule};
+ghost use Rattle.obim_query.specs.CommandLine.{AsksAtOnce, AsksFor, AsksNumber, AsksSettings, IsFlag, NamesKind, WordsAskFor};
+ghost use Rattle.obim_query.specs.CommandLine.{answer_rule, at_once_rule, chunk_rule, operand_rule, shift_rule};
+ghost use Rattle.obim_query.specs.CommandLine.{bare_program, flag, program, usual_chunk, valued, workers_rule};
+
 use clap::error::ErrorKind;
 use clap::{Arg, ArgAction, ArgMatches, Command, Error};
 use job_answer::{Answer, Asked, AtOnce, MAX_AT_ONCE, MAX_BYTES};
@@ -13,7 +19,6 @@ const KINDS: &str = "distances, levels or components";
 
 const WORKERS: Numbers = Numbers {
     option: "workers",
-    short: Some('w'),
     least: 1,
     most: MAX_WORKERS,
     has_auto: false,
@@ -21,7 +26,6 @@ const WORKERS: Numbers = Numbers {
 
 const AT_ONCE: Numbers = Numbers {
     option: "at-once",
-    short: None,
     least: 1,
     most: MAX_AT_ONCE,
     has_auto: true,
@@ -29,7 +33,6 @@ const AT_ONCE: Numbers = Numbers {
 
 const SHIFT: Numbers = Numbers {
     option: "shift",
-    short: Some('s'),
     least: 0,
     most: MAX_SHIFT,
     has_auto: true,
@@ -37,7 +40,6 @@ const SHIFT: Numbers = Numbers {
 
 const CHUNK: Numbers = Numbers {
     option: "chunk",
-    short: Some('c'),
     least: 1,
     most: MAX_CHUNK as u32,
     has_auto: false,
@@ -129,44 +131,93 @@ impl From<AllocError> for Refusal {
 pub(crate) fn parse_options<'a, S: AsStr>(
     alloc: Global,
     arguments: &'a [S],
-) -> Result<Options, Refusal> {
+) -> Result<Options, Refusal>
+    ensures { IfOk result (WordsAskFor (map S.text arguments.entry.now)) }
+{
     let limits = Limits::new(alloc)?;
-    let matches = match command(alloc, &limits)?.try_get_matches_from(arguments) {
-        Ok(matches) => matches,
-        Err(error) => return Err(refused_by(alloc, error)),
-    };
-    let typed = has_hyphen(alloc, &matches)?;
-    let answer = answer_in(alloc, &matches)?;
-    let settings = settings_in(alloc, &matches)?;
-    let at_once = match AT_ONCE.asked_in(alloc, &matches)? {
-        Some(count) => AtOnce::Most(count),
-        None => AtOnce::Auto,
-    };
-    let walks = matches.get_flag("walks");
+    match command(alloc, &limits)?.try_get_matches_from(arguments) {
+        Ok(matches) => options_in(alloc, &matches),
+        Err(error) => Err(refused_by(alloc, error, arguments)),
+    }
+}
+
+/// What the values ask for that clap found.
+fn options_in(alloc: Global, matches: &ArgMatches) -> Result<Options, Refusal>
+    ensures { IfOk result (AsksFor (rows_of (found_of matches.now))) }
+{
+    let typed = has_hyphen(alloc, matches)?;
+    let answer = answer_in(alloc, matches)?;
+    let settings = settings_in(alloc, matches)?;
+    let at_once = at_once_in(alloc, matches)?;
+    let walks = has_flag(matches, "walks");
     let Some(asked) = Asked::new(answer, settings, walks, MAX_BYTES) else {
-        return Err(Refusal::Line(format!(in alloc;
-            "invalid value 'components' for '--answer' with '--walks': distances or levels"
-        )?));
+        return Err(Refusal::Line(format!(in alloc; "--walks needs distances or levels")?));
     };
     Ok(Options {
         asked: asked.with_at_once(at_once),
-        stats: matches.get_flag("stats"),
-        progress: matches.get_flag("progress"),
+        stats: has_flag(matches, "stats"),
+        progress: has_flag(matches, "progress"),
         typed,
     })
 }
 
+/// Whether a flag is there.
+fn has_flag(matches: &ArgMatches, flag: &str) -> bool
+    ensures { IsFlag (first_value (found_of matches.now) flag.now) result }
+{
+    matches.get_str(flag) == Some("true")
+}
+
 /// Why clap gave no matches: a text is asked for, or its words in a sentence of ours.
-fn refused_by(alloc: Global, error: Error) -> Refusal {
+fn refused_by<S: AsStr>(alloc: Global, error: Error, arguments: &[S]) -> Refusal {
     if error.kind() == ErrorKind::OutOfMemory {
         return Refusal::Memory;
     }
     if !error.use_stderr() {
         return Refusal::Text(error);
     }
-    match sentence_of(alloc, &error) {
+    let line = match negative_in(arguments) {
+        Some((numbers, text)) if error.kind() == ErrorKind::UnknownArgument => {
+            numbers.refuse(alloc, text)
+        }
+        _ => sentence_of(alloc, &error),
+    };
+    match line {
         Ok(line) => Refusal::Line(line),
         Err(_) => Refusal::Memory,
+    }
+}
+
+/// The first negative number that stands where an option's number should, and the option. clap takes such a
+/// word for an option of its own.
+fn negative_in<S: AsStr>(arguments: &[S]) -> Option<(Numbers, &str)> {
+    let mut before: Option<Numbers> = None;
+    for argument in arguments {
+        let text = argument.as_str();
+        match before {
+            Some(numbers) if is_negative(text) => return Some((numbers, text)),
+            _ => before = numbers_of(text),
+        }
+    }
+    None
+}
+
+/// Whether the text is a minus sign and digits.
+fn is_negative(text: &str) -> bool {
+    match text.strip_prefix("-") {
+        Some(digits) => !digits.is_empty() && digits.bytes().all(|byte| byte.is_ascii_digit()),
+        None => false,
+    }
+}
+
+/// The option of numbers that a word names.
+fn numbers_of(text: &str) -> Option<Numbers> {
+    match text {
+        "--workers" | "-w" => Some(WORKERS),
+        "--at-once" => Some(AT_ONCE),
+        "--shift" | "-s" => Some(SHIFT),
+        "--chunk" | "-c" => Some(CHUNK),
+        _ => None,
     }
 }
 
@@ -223,7 +274,6 @@ fn has_hyphen(alloc: Global, matches: &ArgMatches) -> Result<bool, Refusal> {
 #[derive(Clone, Copy, Debug, PartialEq, Eq)]
 struct Numbers {
     option: &'static str,
-    short: Option<char>,
     least: u32,
     most: u32,
     has_auto: bool,
@@ -231,7 +281,9 @@ struct Numbers {
 
 impl Numbers {
     /// The number that the option asks for. There is none where it is left out or `auto`.
-    fn asked_in(self, alloc: Global, matches: &ArgMatches) -> Result<Option<u32>, Refusal> {
+    fn asked_in(self, alloc: Global, matches: &ArgMatches) -> Result<Option<u32>, Refusal>
+        ensures { IfOk result (AsksNumber (first_value (found_of matches.now) self.option.now)) }
+    {
         let Some(text) = matches.get_str(self.option) else {
             return Ok(None);
         };
@@ -240,13 +292,14 @@ impl Numbers {
         }
         match text.parse::<u32>() {
             Ok(number) if self.least <= number && number <= self.most => Ok(Some(number)),
-            _ => {
-                let option = self.option;
-                Err(Refusal::Line(format!(in alloc;
-                    "invalid value '{text}' for '--{option}': a number from {self}"
-                )?))
-            }
+            _ => Err(Refusal::Line(self.refuse(alloc, text)?)),
         }
+    }
+
+    /// Why the text is none of these numbers.
+    fn refuse(self, alloc: Global, text: &str) -> Result<String, AllocError> {
+        let option = self.option;
+        format!(in alloc; "invalid value '{text}' for '--{option}': a number from {self}")
     }
 }
 
@@ -277,19 +330,27 @@ impl Limits {
     }
 }
 
-fn command<'a>(alloc: Global, limits: &'a Limits) -> Result<Command<'a>, AllocError> {
-    let answer = option(alloc, "answer", "KIND", KINDS)?
-        .short('a')
-        .default_value("distances");
-    let walks = flag(alloc, "walks", "Print a walk of fewest arcs for each cost")?.short('W');
-    let command = Command::new(alloc, "obim_query")
+/// The command. None of its settings changes how clap reads the words, so that clap's contract says which words are
+/// whose values.
+fn command<'a>(alloc: Global, limits: &'a Limits) -> Result<Command<'a>, AllocError>
+    ensures { IfOk result (λ command. app_of command ≡ program) }
+{
+    let help = "Print a shortest path for each cost, of fewest arcs";
+    let walks = flag(alloc, "walks", help).short('W');
+    let command = texts(alloc).arg(answer_option(alloc))?.arg(walks)?;
+    with_flags(alloc, with_settings(alloc, command, limits)?)
+}
+
+/// The command with its texts, before it has an argument. Of an option the last one counts.
+fn texts<'a>(alloc: Global) -> Command<'a>
+    ensures { app_of result ≡ bare_program }
+{
+    Command::new(alloc, "obim_query")
         .version(VERSION)
         .override_usage(USAGE)
         .about(ABOUT)
         .after_help(AFTER)
-        .arg(answer)?
-        .arg(walks)?;
-    with_flags(alloc, with_settings(alloc, command, limits)?)
+        .args_override_self(true)
 }
 
 /// The options of the settings.
@@ -297,76 +358,115 @@ fn with_settings<'a>(
     alloc: Global,
     command: Command<'a>,
     limits: &'a Limits,
-) -> Result<Command<'a>, AllocError> {
-    let workers = number(alloc, WORKERS, "COUNT", &limits.workers)?.default_value("2");
-    let at_once = number(alloc, AT_ONCE, "COUNT", &limits.at_once)?.default_value("auto");
-    let shift = number(alloc, SHIFT, "BITS", &limits.shift)?.default_value("auto");
-    let chunk = number(alloc, CHUNK, "SIZE", &limits.chunk)?;
-    let command = command.arg(workers)?.arg(at_once)?.arg(shift)?.arg(chunk)?;
+) -> Result<Command<'a>, AllocError>
+    ensures { IfOk result (λ with. app_of with ≡ with_rule (with_rule (with_rule (with_rule
+        (app_of command.entry) workers_rule) at_once_rule) shift_rule) chunk_rule) }
+{
+    let command = command
+        .arg(workers_option(alloc, &limits.workers))?
+        .arg(at_once_option(alloc, &limits.at_once))?
+        .arg(shift_option(alloc, &limits.shift))?
+        .arg(chunk_option(alloc, &limits.chunk))?;
     Ok(command)
 }
 
 /// The flags of what is printed besides, and `-`, which the help says in its text.
-fn with_flags<'a>(alloc: Global, command: Command<'a>) -> Result<Command<'a>, AllocError> {
+fn with_flags<'a>(alloc: Global, command: Command<'a>) -> Result<Command<'a>, AllocError>
+    ensures { IfOk result (λ with. app_of with ≡ with_rule (with_rule (with_rule
+        (app_of command.entry) (flag (codes "progress"))) (flag (codes "stats"))) operand_rule) }
+{
     let progress = flag(
         alloc,
         "progress",
         "Print on standard error how far the answer is",
-    )?;
+    );
     let stats = flag(
         alloc,
         "stats",
         "Print figures on standard error after the answer",
-    )?;
-    let operand = Arg::new(alloc, "operand")
-        .action(ArgAction::Append)
-        .num_args(0..)
-        .hide(true);
-    let command = command.arg(progress)?.arg(stats)?.arg(operand)?;
+    );
+    let command = command.arg(progress)?.arg(stats)?.arg(operand(alloc))?;
     Ok(command)
 }
 
-/// An option with a value, of which the last counts.
-fn option<'a>(
-    alloc: Global,
-    name: &'a str,
-    value: &'a str,
-    help: &'a str,
-) -> Result<Arg<'a>, AllocError> {
-    let option = Arg::new(alloc, name)
+fn answer_option<'a>(alloc: Global) -> Arg<'a>
+    ensures rule { rule_of result ≡ answer_rule }
+    ensures local { result.global ≡ false }
+{
+    option(alloc, "answer", "KIND", KINDS)
+        .short('a')
+        .default_value("distances")
+}
+
+fn workers_option<'a>(alloc: Global, help: &'a str) -> Arg<'a>
+    ensures rule { rule_of result ≡ workers_rule }
+    ensures local { result.global ≡ false }
+{
+    option(alloc, "workers", "COUNT", help)
+        .short('w')
+        .default_value("2")
+}
+
+fn at_once_option<'a>(alloc: Global, help: &'a str) -> Arg<'a>
+    ensures rule { rule_of result ≡ at_once_rule }
+    ensures local { result.global ≡ false }
+{
+    option(alloc, "at-once", "COUNT", help).default_value("auto")
+}
+
+fn shift_option<'a>(alloc: Global, help: &'a str) -> Arg<'a>
+    ensures rule { rule_of result ≡ shift_rule }
+    ensures local { result.global ≡ false }
+{
+    option(alloc, "shift", "BITS", help)
+        .short('s')
+        .default_value("auto")
+}
+
+fn chunk_option<'a>(alloc: Global, help: &'a str) -> Arg<'a>
+    ensures rule { rule_of result ≡ chunk_rule }
+    ensures local { result.global ≡ false }
+{
+    option(alloc, "chunk", "SIZE", help).short('c')
+}
+
+/// The words that are no options.
+fn operand<'a>(alloc: Global) -> Arg<'a>
+    ensures rule { rule_of result ≡ operand_rule }
+    ensures local { result.global ≡ false }
+{
+    Arg::new(alloc, "operand")
+        .action(ArgAction::Append)
+        .num_args(0..)
+        .hide(true)
+}
+
+/// An option with a value.
+fn option<'a>(alloc: Global, name: &'a str, value: &'a str, help: &'a str) -> Arg<'a>
+    ensures rule { rule_of result ≡ valued name.entry.now }
+    ensures local { result.global ≡ false }
+{
+    Arg::new(alloc, name)
         .long(name)
-        .overrides_with(name)?
         .value_name(value)
-        .help(help);
-    Ok(option)
+        .help(help)
 }
 
-/// An option that takes one of these numbers. What looks like an option but is a number is its value.
-fn number<'a>(
-    alloc: Global,
-    numbers: Numbers,
-    value: &'a str,
-    help: &'a str,
-) -> Result<Arg<'a>, AllocError> {
-    let option = option(alloc, numbers.option, value, help)?.allow_negative_numbers(true);
-    match numbers.short {
-        Some(short) => Ok(option.short(short)),
-        None => Ok(option),
-    }
+/// An option without a value.
+fn flag<'a>(alloc: Global, name: &'a str, help: &'a str) -> Arg<'a>
+    ensures rule { rule_of result ≡ flag name.entry.now }
+    ensures local { result.global ≡ false }
+{
+    Arg::new(alloc, name)
+        .long(name)
+        .action(ArgAction::SetTrue)
+        .help(help)
 }
 
-/// An option without a value, which may be given more than once.
-fn flag<'a>(alloc: Global, name: &'a str, help: &'a str) -> Result<Arg<'a>, AllocError> {
-    Ok(
-        Arg::new(alloc, name)
-            .long(name)
-            .overrides_with(name)?
-            .action(ArgAction::SetTrue)
-            .help(help),
-    )
-}
-
-fn settings_in(alloc: Global, matches: &ArgMatches) -> Result<Settings, Refusal> {
+fn settings_in(alloc: Global, matches: &ArgMatches) -> Result<Settings, Refusal>
+    ensures { IfOk result (AsksSettings (first_value (found_of matches.now) (codes "workers"))
+        (first_value (found_of matches.now) (codes "shift")) (first_value (found_of matches.now) (codes "chunk"))) }
+{
     let workers = WORKERS.asked_in(alloc, matches)?.unwrap_or(2);
     let chunk = match CHUNK.asked_in(alloc, matches)? {
         Some(chunk) => chunk as usize,
@@ -382,9 +482,20 @@ fn settings_in(alloc: Global, matches: &ArgMatches) -> Result<Settings, Refusal>
     }
 }
 
+fn at_once_in(alloc: Global, matches: &ArgMatches) -> Result<AtOnce, Refusal>
+    ensures { IfOk result (AsksAtOnce (first_value (found_of matches.now) (codes "at-once"))) }
+{
+    Ok(match AT_ONCE.asked_in(alloc, matches)? {
+        Some(count) => AtOnce::Most(count),
+        None => AtOnce::Auto,
+    })
+}
+
 /// The chunk size where none is given. One worker shares nothing, so its chunks are as large as they can
 /// be: they take the same room whatever their size is.
-fn usual_chunk(workers: u32) -> usize {
+fn usual_chunk(workers: u32) -> usize
+    ensures { result ≡ usual_chunk workers }
+{
     if workers == 1 {
         MAX_CHUNK
     } else {
@@ -392,7 +503,9 @@ fn usual_chunk(workers: u32) -> usize {
     }
 }
 
-fn answer_in(alloc: Global, matches: &ArgMatches) -> Result<Answer, Refusal> {
+fn answer_in(alloc: Global, matches: &ArgMatches) -> Result<Answer, Refusal>
+    ensures { IfOk result (NamesKind (first_value (found_of matches.now) (codes "answer"))) }
+{
     match matches.get_str("answer") {
         None | Some("distances") => Ok(Answer::Distances),
         Some("levels") => Ok(Answer::Levels),

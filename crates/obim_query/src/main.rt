@@ -8,6 +8,11 @@
 //! command line.
 #![tactic(auto)]
 
+ghost use Rattle.std.specs.Prelude.{◌≡◌, map};
+ghost use Rattle.job_answer.specs.Choices.{status_of};
+ghost use Rattle.job_answer.specs.Outcome.{IsReply};
+ghost use Rattle.obim_query.specs.Replied.{HasReplied, HasRun, IsRefusalStatus};
+
 mod command_line;
 mod output;
 mod progress;
@@ -21,6 +26,7 @@ use obim_engine::OpenGate;
 use output::Output;
 use progress::{Progress, Shown};
 use stats::print_stats;
+use std::convert::AsStr;
 use std::env::Env;
 use std::io::{ErrorKind, IsTerminal, Read, Write};
 use std::process::ExitCode;
@@ -35,41 +41,83 @@ const USAGE: u8 = 1;
 /// Why there is no answer where standard input is a terminal, which nobody types a job at by chance.
 const NO_JOB: &str = "no job: obim_query [OPTIONS] < JOB, or - to type it (see obim_query --help)";
 
+/// Which streams are a terminal.
+#[derive(Clone, Copy)]
+struct Terminals {
+    input: bool,
+    error: bool,
+}
+
 fn main(rt: HostRuntime) -> ExitCode {
-    let code = match parse_arguments(&rt) {
-        Ok(options) if !options.typed && rt.stdin().is_terminal() => print_error(
-            &rt, NO_JOB, USAGE,
+    let terminals = Terminals {
+        input: rt.stdin().is_terminal(),
+        error: rt.stderr().is_terminal(),
+    };
+    let code = match arguments(&rt) {
+        Ok(words) => run(
+            &rt,
+            &words,
+            &mut rt.stdin(),
+            &mut Output::new(rt.stdout()),
+            terminals,
         ),
-        Ok(options) => {
-            let shown = shown_at(&options, rt.stderr().is_terminal());
-            answer_job(&rt, &mut rt.stdin(), &mut rt.stdout(), &options, shown)
-        }
         Err(status) => status,
     };
     ExitCode::from(code)
 }
 
-/// What the command line asks for; or the status to end with, after the text that says why is printed.
-fn parse_arguments<H: AllocGlobal + Env + Print + Eprint>(rt: &H) -> Result<Options, u8> {
-    let arguments: Vec<String> = match env::args(rt) {
-        Ok(arguments) => arguments
-            .collect(rt.alloc())
-            .map_err(|_| print_fault(rt, Fault::Memory))?,
-        Err(error) if error.kind() == ErrorKind::InvalidData => {
-            return Err(print_error(rt, "the command line is not UTF-8 text", USAGE));
+/// The words of the command line; or the status to end with, after the text that says why is printed.
+fn arguments<H: AllocGlobal + Env + Eprint>(rt: &H) -> Result<Vec<String>, u8> {
+    match env::args(rt) {
+        Ok(arguments) => match arguments.collect(rt.alloc()) {
+            Ok(words) => Ok(words),
+            Err(_) => Err(print_fault(rt, Fault::Memory)),
+        },
+        Err(error) if error.kind() == ErrorKind::InvalidData => Err(print_error(
+            rt,
+            "the command line is not UTF-8 text",
+            USAGE,
+        )),
+        Err(_) => Err(print_fault(rt, Fault::Memory)),
+    }
+}
+
+/// Runs the program on these words: answers the job that the reader gives to the writer, and gives the status to end
+/// with. This is what people run: `main` only hands it the process's own words and streams.
+fn run<
+    H: AllocGlobal + Print + Eprint + Threads + Wait + Clock + Sync,
+    S: AsStr,
+    R: Read,
+    W: Write,
+>(rt: &H, words: &[S], reader: &mut R, output: &mut Output<W>, terminals: Terminals) -> u8
+    ensures { HasRun (map S.text words.now) (R.remaining reader.old) (R.remaining reader.new)
+        (W.contents output.old.inner) (W.contents output.new.inner) result }
+{
+    match parse_options(rt.alloc(), words) {
+        Ok(options) if !options.typed && terminals.input => print_error(rt, NO_JOB, USAGE),
+        Ok(options) => {
+            let shown = shown_at(&options, terminals.error);
+            answer_job(rt, reader, output, &options, shown)
         }
-        Err(_) => return Err(print_fault(rt, Fault::Memory)),
-    };
-    match parse_options(rt.alloc(), &arguments) {
-        Ok(options) => Ok(options),
-        Err(Refusal::Text(text)) => Err(print_clap(rt, &text)),
-        Err(Refusal::Line(line)) => Err(print_error(rt, line, USAGE)),
-        Err(Refusal::Memory) => Err(print_fault(rt, Fault::Memory)),
+        Err(refusal) => print_refusal(rt, refusal),
+    }
+}
+
+/// Prints why the command line asks for no answer, and gives the status to end with.
+fn print_refusal<H: Print + Eprint>(rt: &H, refusal: Refusal) -> u8
+    ensures { IsRefusalStatus result }
+{
+    match refusal {
+        Refusal::Text(text) => print_clap(rt, &text),
+        Refusal::Line(line) => print_error(rt, line, USAGE),
+        Refusal::Memory => print_fault(rt, Fault::Memory),
     }
 }
 
 /// Prints the text that the command line asks for, and gives the status to end with.
-fn print_clap<H: Print + Eprint>(rt: &H, text: &clap::Error) -> u8 {
+fn print_clap<H: Print + Eprint>(rt: &H, text: &clap::Error) -> u8
+    ensures { IsRefusalStatus result }
+{
     match text.print(rt) {
         Ok(()) => 0,
         Err(_) => print_fault(rt, Fault::Write),
@@ -87,26 +135,21 @@ fn shown_at(options: &Options, is_terminal: bool) -> Shown {
     }
 }
 
-/// Answers, and gives the status to end with. Where whoever read the answer has gone, that is all.
+/// Answers, and gives the status to end with. If the reader of the answer closed the pipe, nothing is printed.
 fn answer_job<H: AllocGlobal + Eprint + Threads + Wait + Clock + Sync, R: Read, W: Write>(
     rt: &H,
     reader: &mut R,
-    writer: &mut W,
+    output: &mut Output<W>,
     options: &Options,
     shown: Shown,
-) -> u8 {
-    let mut output = Output::new(writer);
+) -> u8
+    ensures { HasReplied options.now.asked (R.remaining reader.old) (R.remaining reader.new)
+        (W.contents output.old.inner) (W.contents output.new.inner) result }
+{
     let replied = if options.stats || options.progress {
-        answer_with_figures(rt, reader, &mut output, options, shown)
+        answer_with_figures(rt, reader, output, options, shown)
     } else {
-        answer(
-            rt,
-            rt.alloc(),
-            reader,
-            &mut output,
-            &options.asked,
-            &OpenGate,
-        )
+        answer(rt, rt.alloc(), reader, output, &options.asked, &OpenGate)
     };
     match replied {
         Ok(()) => 0,
@@ -122,7 +165,11 @@ fn answer_with_figures<H: AllocGlobal + Eprint + Threads + Wait + Clock + Sync, 
     writer: &mut W,
     options: &Options,
     shown: Shown,
-) -> Result<(), Fault> {
+) -> Result<(), Fault>
+    ensures { IsReply options.now.asked.limit options.now.asked.answer options.now.asked.walks
+        (R.remaining reader.old) (R.remaining reader.new)
+        (W.contents writer.old) (W.contents writer.new) result }
+{
     let asked = &options.asked;
     let counter = Counter::open(rt.alloc(), asked.settings.workers)?;
     let mut progress = Progress::new(rt, shown);
@@ -145,12 +192,16 @@ fn answer_with_figures<H: AllocGlobal + Eprint + Threads + Wait + Clock + Sync, 
 }
 
 /// Prints the fault's text, and gives its status.
-fn print_fault<H: Eprint>(rt: &H, fault: Fault) -> u8 {
+fn print_fault<H: Eprint>(rt: &H, fault: Fault) -> u8
+    ensures { result ≡ status_of fault }
+{
     print_error(rt, fault, status(&fault))
 }
 
 /// Prints the text on standard error, after the program's name, and gives the status back.
-fn print_error<H: Eprint, T: fmt::Display + Drop>(rt: &H, text: T, status: u8) -> u8 {
+fn print_error<H: Eprint, T: fmt::Display + Drop>(rt: &H, text: T, status: u8) -> u8
+    ensures { result ≡ status }
+{
     // Where standard error is closed too, the status has to say it.
     let _ = eprintln!(rt; "obim_query: {text}");
     status

@@ -4,14 +4,14 @@ use std::io::{self, ErrorKind, Write};
 
 /// A writer that notes whether whoever read its bytes has gone.
 #[derive(Drop)]
-pub(crate) struct Output<'a, W> {
-    inner: &'a mut W,
+pub(crate) struct Output<W> {
+    pub(crate) inner: W,
     /// A write failed since the other end of the pipe is closed, as `head` closes it.
     pub(crate) has_no_reader: bool,
 }
 
-impl<'a, W> Output<'a, W> {
-    pub(crate) fn new(inner: &'a mut W) -> Output<'a, W> {
+impl<W> Output<W> {
+    pub(crate) fn new(inner: W) -> Output<W> {
         Output {
             inner,
             has_no_reader: false,
@@ -19,8 +19,8 @@ impl<'a, W> Output<'a, W> {
     }
 }
 
-impl<W: Write> Write for Output<'_, W> {
-    ghost contents = { λ output. W.contents output.inner.now };
+impl<W: Write> Write for Output<W> {
+    ghost contents = { λ output. W.contents output.inner };
 
     fn write(&mut self, bytes: &[u8]) -> io::Result<usize> {
         let written = self.inner.write(bytes);

@@ -110,8 +110,8 @@ impl<H: Eprint + Clock> Watch for Progress<'_, H> {
         self.figures.see_rows(vertices, arcs);
     }
 
-    fn see_runs(&mut self, count: usize) {
-        self.figures.see_runs(count);
+    fn see_solves(&mut self, count: usize) {
+        self.figures.see_solves(count);
     }
 
     fn see_teams(&mut self, teams: usize) {

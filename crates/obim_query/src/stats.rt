@@ -17,7 +17,7 @@ pub(crate) fn print_stats<H: Eprint>(rt: &H, asked: &Asked, figures: &Figures, c
     // Where standard error is closed, nobody reads them.
     let _ = eprintln!(rt; "vertices: {}", figures.vertices);
     let _ = eprintln!(rt; "arcs: {}", figures.arcs);
-    let _ = eprintln!(rt; "sources: {}", figures.runs);
+    let _ = eprintln!(rt; "solves: {}", figures.solves);
     let _ = eprintln!(rt; "sources at once: {}", figures.at_once);
     let _ = eprintln!(rt; "reading: {} ms", figures.reading.as_millis());
     let _ = eprintln!(rt; "rows: {} ms", figures.rows.as_millis());
@@ -52,7 +52,7 @@ fn print_worklist<H: Eprint>(rt: &H, settings: &Settings, figures: &Figures, cou
 
 /// Visits a vertex and source, in hundredths.
 fn hundredths(visits: u64, figures: &Figures) -> u64 {
-    let each = u64::from(figures.vertices).saturating_mul(figures.runs as u64);
+    let each = u64::from(figures.vertices).saturating_mul(figures.solves as u64);
     visits.saturating_mul(100) / each.max(1)
 }
 

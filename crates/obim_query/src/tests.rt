@@ -131,7 +131,7 @@ fn figures_of_jobs(rt: HostRuntime) -> Result<(), Fail> {
         let counter = Counter::open(rt.alloc(), 2)?;
         let asked = asked(&rt, answer, 1000);
         let (_, figures) = answer_with_figures(&rt, rt.alloc(), text, &asked, &counter)?;
-        assert_eq!(rt; (figures.vertices, figures.arcs, figures.runs), sizes);
+        assert_eq!(rt; (figures.vertices, figures.arcs, figures.solves), sizes);
         assert_eq!(rt; counter.worklist().buckets, buckets);
     }
     Ok(())

@@ -73,7 +73,7 @@ fn runs_with_added_arcs(rt: HostRuntime) -> Result<(), Fail> {
         let text = six_with(rt.alloc(), sections)?;
         let asked = asked(&rt, kind, walks, (1, 4, 16));
         let (_, figures) = answer_with_figures(&rt, rt.alloc(), &text, &asked, &OpenGate)?;
-        assert_eq!(rt; figures.runs, runs);
+        assert_eq!(rt; figures.solves, runs);
     }
     Ok(())
 }

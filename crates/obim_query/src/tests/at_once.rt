@@ -51,7 +51,9 @@ fn sources_meet(rt: HostRuntime) -> Result<(), Fail> {
 }
 
 // Of each row the workers, the sources at once that are asked for, and how many were solved at once.
-const AT_ONCE: [(u32, AtOnce, usize); 4] = [
+const AT_ONCE: [(u32, AtOnce, usize); 6] = [
+    (5, AtOnce::Most(2), 2),
+    (8, AtOnce::Most(3), 3),
     (3, AtOnce::Most(3), 3),
     (3, AtOnce::Most(64), 3),
     (64, AtOnce::Auto, 5),
@@ -67,7 +69,7 @@ fn figures_of_sources_at_once(rt: HostRuntime) -> Result<(), Fail> {
         let asked = asked_at_once(&rt, workers, at_once);
         let (bytes, figures) = answer_with_figures(&rt, alloc, SIX_SOURCES, &asked, &counter)?;
         assert_eq!(rt; bytes.as_slice(), SIX_SOURCES_ANSWER);
-        assert_eq!(rt; (figures.runs, figures.at_once), (5, most));
+        assert_eq!(rt; (figures.solves, figures.at_once), (5, most));
         assert!(rt; all_visits(&counter, workers) >= 23);
     }
     Ok(())
@@ -127,6 +129,6 @@ fn answer_by<H: Abort + Threads + Wait + Clock + Sync>(
 ) -> Result<Vec<u8>, Fail> {
     let asked = asked_for(rt, true, 2, AtOnce::Most(at_once));
     let (bytes, figures) = answer_with_figures(rt, alloc, text, &asked, &OpenGate)?;
-    assert_eq!(rt; figures.runs, runs);
+    assert_eq!(rt; figures.solves, runs);
     Ok(bytes)
 }

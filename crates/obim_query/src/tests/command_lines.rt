@@ -226,7 +226,7 @@ fn lines_beside_their_refusals(rt: HostRuntime) {
         ),
         (
             "it --answer components --walks",
-            "invalid value 'components' for '--answer' with '--walks': distances or levels",
+            "--walks needs distances or levels",
         ),
         (
             "it --shift",

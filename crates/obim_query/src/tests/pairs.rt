@@ -40,7 +40,7 @@ fn runs_of_pairs(rt: HostRuntime) -> Result<(), Fail> {
         for (workers, at_once) in [(1, 1), (3, runs.max(1))] {
             let asked = asked(&rt, Answer::Distances, walks, (workers, 4, 16));
             let (_, figures) = answer_with_figures(&rt, rt.alloc(), &text, &asked, &OpenGate)?;
-            assert_eq!(rt; (figures.runs, figures.at_once), (runs, at_once));
+            assert_eq!(rt; (figures.solves, figures.at_once), (runs, at_once));
         }
     }
     Ok(())

@@ -18,6 +18,7 @@ loop-group-preserved g c =
     record {
       can_next = omega (arith, steps.0, inv.can_next);
       is_finite = tt;
+      few = λ _. c.in_ok-send_if_full.ensures.few;
       count = omega (arith, inv.count, ap length steps.1.0, length-append group rest);
       finite = All-rest (λ label. label < INF) group rest steps.1.0 inv.finite;
       put =

@@ -1,5 +1,6 @@
 use Rattle.std.proofs.Common.{◌≡◌, ◌+◌, ◌<◌, ◌++◌, length}
 use Rattle.std.specs.Slice.Iter.{chunks_rest}
+use Rattle.job_answer.specs.declared.output_buffer.TheConstants.{PIECE}
 use Rattle.std.specs.Prelude.{All}
 use Rattle.route_walks.specs.declared.graph.TheConstants.{INF}
 use Rattle.dimacs_text.specs.AnswerLines.{component_lines, components_text}
@@ -10,6 +11,7 @@ abbrev pub invariant-loop-group : goal.invariant-loop-group
 invariant-loop-group g l = record {
   can_next : (goal.iterator-loop-group g).can_next l.group-iterator;
   is_finite : (goal.iterator-loop-group g).is_finite l.group-iterator;
+  few : 0 < l.v → length l.waiting.bytes.items < PIECE;
   count : l.v + length (chunks_rest l.group-iterator) ≡ length l.labels;
   finite : All (λ label. label < INF) (chunks_rest l.group-iterator);
   put : IsPut (g.W.Write.contents l.fn.writer) (g.W.Write.contents l.writer) l.waiting.bytes.items

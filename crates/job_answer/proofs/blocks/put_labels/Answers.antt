@@ -16,6 +16,7 @@ loop-group-init g c =
     record {
       can_next = search rules;
       is_finite = tt;
+      few = λ none. absurd (omega arith);
       count = omega (arith, ap length all);
       put =
           record {
@@ -43,6 +44,7 @@ loop-group-preserved g c =
     record {
       can_next = omega (arith, steps.0, inv.can_next);
       is_finite = tt;
+      few = λ _. c.in_ok-send_if_full.ensures.few;
       count = omega (arith, inv.count, ap length steps.1.0, length-append group rest);
       put =
           put-more _ (g.W.Write.contents c.loop-group.writer) _ c.loop-group.waiting.bytes.items (label_lines v group)

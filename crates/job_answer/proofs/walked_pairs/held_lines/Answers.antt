@@ -15,12 +15,12 @@ returns g c =
     let is = c.of_queries-solve.ensures.queries in
     let at_start = c.of_queries-solve.ensures.first in
     let is_block = IsGrownPair true graphs.rows.n graphs.rows.arcs (growth_of graphs.grown) in
-    let bytes = c.finish.new.writer.bytes.items in
+    let bytes = c.into_bytes.result.items in
     let sent =
     rw c.new-held.ensures at rw c.new-waiting.ensures at rw at_start at c.in_ok-put_solved_pairs.ensures.sent (Some [])
     in
     let lines = sent-whole is_block rest solve.end _ _ bytes
-    (sent (sent-nothing is_block rest)) c.in_ok-finish.ensures.sent
+    (sent (sent-nothing is_block rest)) (rw c.into_bytes.ensures c.in_ok-finish.ensures.sent)
     in
     record {
       some = omega (arith, is.some, at_start);

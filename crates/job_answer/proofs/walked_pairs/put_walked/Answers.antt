@@ -25,7 +25,7 @@ put_walked_lines-requires-clause-after g c =
     rw same at c.requires.after
 
 pub loop-at-preserved : goal.loop-at-preserved
-loop-at-preserved g c before sent =
+loop-at-preserved g c =
     let graphs = c.args.graphs.now in
     let growth = growth_of graphs.grown in
     let k = c.loop-at.at in
@@ -34,19 +34,24 @@ loop-at-preserved g c before sent =
     let solve = c.requires.solve in
     let here = c.loop-at-test.true in
     let same = one_source pairs c.args.solve k solve (omega (arith, c.loop-at.auto.at)) here in
-    sent-more (IsGrownPair true graphs.rows.n graphs.rows.arcs growth) pairs k (0, 0) before
-    (g.W.Write.contents c.loop-at.writer) _ c.loop-at.waiting.bytes.items c.send_if_full.new.self.bytes.items
-    (omega (arith, here, solve.within)) (c.loop-at.invariant before sent)
-    (record {
-      text = with_growth growth (walked_text (pair_at pairs k) walked)
-          (walked_after_text (pair_at pairs k) c.args.after.now);
-      is_text =
-          walked-blocks graphs.rows graphs.grown (pair_at pairs k) walked c.args.after.now c.requires.graphs.grows
-          (rw same at c.requires.walked) (rw same at c.requires.after);
-      waits =
-          subst (Waits (g.W.Write.contents c.loop-at.writer) (g.W.Write.contents c.send_if_full.new.writer)
-          c.send_if_full.new.self.bytes.items) c.in_ok-put_walked_lines.ensures.put c.in_ok-send_if_full.ensures.sent;
-    })
+    record {
+      few = λ _. c.in_ok-send_if_full.ensures.few;
+      sent =
+          λ before sent. sent-more (IsGrownPair true graphs.rows.n graphs.rows.arcs growth) pairs k (0, 0) before
+          (g.W.Write.contents c.loop-at.writer) _ c.loop-at.waiting.bytes.items c.send_if_full.new.self.bytes.items
+          (omega (arith, here, solve.within)) (c.loop-at.invariant.sent before sent)
+          (record {
+            text = with_growth growth (walked_text (pair_at pairs k) walked)
+                (walked_after_text (pair_at pairs k) c.args.after.now);
+            is_text =
+                walked-blocks graphs.rows graphs.grown (pair_at pairs k) walked c.args.after.now c.requires.graphs.grows
+                (rw same at c.requires.walked) (rw same at c.requires.after);
+            waits =
+                subst (Waits (g.W.Write.contents c.loop-at.writer) (g.W.Write.contents c.send_if_full.new.writer)
+                c.send_if_full.new.self.bytes.items) c.in_ok-put_walked_lines.ensures.put
+                c.in_ok-send_if_full.ensures.sent;
+          });
+    }
 
 pub returns-clause-sent : goal.returns-clause-sent
 returns-clause-sent g c before sent =
@@ -56,7 +61,7 @@ returns-clause-sent g c before sent =
     subst
     (λ k.
     AreSent (IsGrownPair true graphs.rows.n graphs.rows.arcs (growth_of graphs.grown)) c.args.pairs.now k before
-    (g.W.Write.contents c.loop-at.writer) c.loop-at.waiting.bytes.items) ended (c.loop-at.invariant before sent)
+    (g.W.Write.contents c.loop-at.writer) c.loop-at.waiting.bytes.items) ended (c.loop-at.invariant.sent before sent)
 
 pub returns-in_err-put_walked_lines-clause-prefix : goal.returns-in_err-put_walked_lines-clause-prefix
 returns-in_err-put_walked_lines-clause-prefix g c =
@@ -72,7 +77,7 @@ returns-in_err-put_walked_lines-clause-prefix g c =
     (c.blocks_are_unique.ensures true graphs.rows.n graphs.rows.arcs growth).1 c.args.pairs.now c.loop-at.at
     (0, 0) before
     (g.W.Write.contents c.loop-at.writer) _ c.loop-at.waiting.bytes.items
-    (omega (arith, c.loop-at-test.true, c.requires.solve.within)) (c.loop-at.invariant before sent)
+    (omega (arith, c.loop-at-test.true, c.requires.solve.within)) (c.loop-at.invariant.sent before sent)
     (puts-nothing _ _ _) in
     at-err _ cut
 
@@ -99,7 +104,7 @@ returns-in_err-send_if_full-clause-prefix g c =
     λ before sent.
     block-cut (IsGrownPair true graphs.rows.n graphs.rows.arcs growth) only pairs k (0, 0) before
     (g.W.Write.contents c.loop-at.writer) _ c.loop-at.waiting.bytes.items
-    (omega (arith, c.loop-at-test.true, c.requires.solve.within)) (c.loop-at.invariant before sent)
+    (omega (arith, c.loop-at-test.true, c.requires.solve.within)) (c.loop-at.invariant.sent before sent)
     (only-text (IsGrownPair true graphs.rows.n graphs.rows.arcs growth (pair_at pairs k)) _ _
     c.loop-at.waiting.bytes.items text (λ other. only (pair_at pairs k) text other is_block)
     (subst (GivesPrefix (g.W.Write.contents c.loop-at.writer) (g.W.Write.contents c.send_if_full.new.writer))

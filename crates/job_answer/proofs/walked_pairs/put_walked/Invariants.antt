@@ -1,13 +1,16 @@
-use Rattle.std.proofs.Common.{ℕ, List, Option, true}
+use Rattle.std.proofs.Common.{ℕ, ◌<◌, List, Option, length, true}
 use Rattle.job_answer.specs.AnswerText.{IsGrownPair}
 use Rattle.job_answer.specs.Graphs.{growth_of}
 use Rattle.job_answer.specs.Sent.{AreSent}
+use Rattle.job_answer.specs.declared.output_buffer.TheConstants.{PIECE}
 use Rattle.job_answer.proofs.walked_pairs.put_walked.Given as goal
 
 abbrev pub invariant-loop-at : goal.invariant-loop-at
-invariant-loop-at g l =
-    (before : Option (List ℕ))
-    → AreSent (IsGrownPair true l.graphs.rows.n l.graphs.rows.arcs (growth_of l.graphs.grown)) l.pairs l.fn.solve.first
-    before (g.W.Write.contents l.fn.writer) l.fn.waiting.bytes.items
-    → AreSent (IsGrownPair true l.graphs.rows.n l.graphs.rows.arcs (growth_of l.graphs.grown)) l.pairs l.at before
-    (g.W.Write.contents l.writer) l.waiting.bytes.items
+invariant-loop-at g l = record {
+  few : l.fn.solve.first < l.at → length l.waiting.bytes.items < PIECE;
+  sent : (before : Option (List ℕ))
+      → AreSent (IsGrownPair true l.graphs.rows.n l.graphs.rows.arcs (growth_of l.graphs.grown)) l.pairs
+      l.fn.solve.first before (g.W.Write.contents l.fn.writer) l.fn.waiting.bytes.items
+      → AreSent (IsGrownPair true l.graphs.rows.n l.graphs.rows.arcs (growth_of l.graphs.grown)) l.pairs l.at before
+      (g.W.Write.contents l.writer) l.waiting.bytes.items;
+}

@@ -1,0 +1,135 @@
+-- What the words of a command line ask for.
+--
+-- Which words are values of which option is a matter of clap, whose `matches_of` says it of a command with these
+-- arguments: long and short options, bundles of short ones, `=`, `--`, and the last use of an option counts.
+use Rattle.std.specs.Prelude.{◌≡◌, ℕ, Bool, true, false, List, [], ◌∷◌, codes, Option, Some, None, is_some}
+use Rattle.std.specs.Prelude.{not, unwrap_or, ◌==◌, if◌then◌else◌}
+use Rattle.std.specs.Str.Parse.{IsNumeral, digits_value, without_leading_plus}
+use Rattle.clap.specs.Lexer.{usize_max}
+use Rattle.clap.specs.Simple.{new_shape}
+use Rattle.clap.specs.Words.{App, Row, Rule, Text, all_of, first_of, matches_of, new_rule}
+use Rattle.clap.specs.declared.builder.action.ArgAction.TheVariants.{Append, SetTrue}
+use Rattle.obim_engine.specs.declared.settings.TheConstants.{MAX_CHUNK}
+use Rattle.obim_engine.specs.declared.settings.Settings.{Settings}
+use Rattle.job_answer.specs.declared.asked.TheConstants.{MAX_BYTES}
+use Rattle.job_answer.specs.declared.asked.Answer.{Answer}
+use Rattle.job_answer.specs.declared.asked.Answer.TheVariants.{Distances, Levels, Components}
+use Rattle.job_answer.specs.declared.asked.AtOnce.{AtOnce}
+use Rattle.job_answer.specs.declared.asked.AtOnce.TheVariants as at_once
+use Rattle.obim_query.specs.declared.command_line.Options.{Options}
+use Rattle.obim_query.specs.declared.command_line.TheConstants.{SHARED_CHUNK}
+
+-- ---- the arguments of the command
+
+-- an option with a value, which is written `--name VALUE`
+abbrev pub valued : Text → Rule
+valued name = record (new_rule name) { long = Some name; value_names = 1 }
+
+-- an option without a value
+abbrev pub flag : Text → Rule
+flag name = record (new_rule name) { long = Some name; action = Some SetTrue }
+
+abbrev pub answer_rule : Rule
+answer_rule = record (valued (codes "answer")) { short = Some 97; defaults = codes "distances" ∷ [] }
+
+abbrev pub walks_rule : Rule
+walks_rule = record (flag (codes "walks")) { short = Some 87 }
+
+abbrev pub workers_rule : Rule
+workers_rule = record (valued (codes "workers")) { short = Some 119; defaults = codes "2" ∷ [] }
+
+abbrev pub at_once_rule : Rule
+at_once_rule = record (valued (codes "at-once")) { defaults = codes "auto" ∷ [] }
+
+abbrev pub shift_rule : Rule
+shift_rule = record (valued (codes "shift")) { short = Some 115; defaults = codes "auto" ∷ [] }
+
+abbrev pub chunk_rule : Rule
+chunk_rule = record (valued (codes "chunk")) { short = Some 99 }
+
+-- the words that are no options
+abbrev pub operand_rule : Rule
+operand_rule = record (new_rule (codes "operand")) {
+  action = Some Append;
+  range = Some (record { start_inclusive = 0; end_inclusive = usize_max });
+}
+
+abbrev pub program_rules : List Rule
+program_rules = answer_rule ∷ walks_rule ∷ workers_rule ∷ at_once_rule ∷ shift_rule ∷ chunk_rule
+    ∷ flag (codes "progress") ∷ flag (codes "stats") ∷ operand_rule ∷ []
+
+-- a command with a version, and of an option that is given twice the last one counts
+abbrev pub bare_program : App
+bare_program = record {
+  top = record (new_shape (codes "obim_query")) { has_version = true; args_override_self = true };
+  subs = [];
+}
+
+-- the command: it has these arguments
+abbrev pub program : App
+program = record bare_program { top = record bare_program.top { rules = program_rules } }
+
+-- ---- what their values ask for
+
+-- the name of a kind of answer; without a name it is distances
+abbrev pub name_of : Answer → Text
+name_of Distances = codes "distances"
+name_of Levels = codes "levels"
+name_of Components = codes "components"
+
+abbrev pub NamesKind : Option Text → Answer → Type 0
+NamesKind None kind = kind ≡ Distances
+NamesKind (Some text) kind = text ≡ name_of kind
+
+-- decimal digits, perhaps after a plus sign, that write this number
+abbrev pub IsNumeralOf : Text → ℕ → Type 0
+IsNumeralOf text number =
+    IsNumeral 10 (without_leading_plus text) × (number ≡ digits_value 10 (without_leading_plus text))
+
+-- the value is a number; there is none without a value, or where the value is `auto`
+abbrev pub AsksNumber : Option Text → Option ℕ → Type 0
+AsksNumber None number = number ≡ None
+AsksNumber (Some text) None = text ≡ codes "auto"
+AsksNumber (Some text) (Some number) = IsNumeralOf text number
+
+-- the flag is there
+abbrev pub IsFlag : Option Text → Bool → Type 0
+IsFlag None is_there = is_there ≡ false
+IsFlag (Some text) is_there = (text ≡ codes "true" → is_there ≡ true) × (is_there ≡ true → text ≡ codes "true")
+
+-- how many sources at once: a number, or as many as fit
+abbrev pub AsksAtOnce : Option Text → AtOnce → Type 0
+AsksAtOnce text at_once.Auto = AsksNumber text None
+AsksAtOnce text (at_once.Most number) = AsksNumber text (Some number)
+
+-- vertices of a chunk where none are asked for: one worker shares nothing, so its chunks are as large as they can be
+abbrev pub usual_chunk : ℕ → ℕ
+usual_chunk workers = if workers == 1 then MAX_CHUNK else SHARED_CHUNK
+
+-- The settings: of the values of `--workers`, `--shift` and `--chunk`.
+pub record AsksSettings (workers shift chunk : Option Text) (settings : Settings) : Type 0 where
+  pub worker_count : Option ℕ
+  pub asks_workers : AsksNumber workers worker_count
+  pub workers_are : settings.workers ≡ unwrap_or worker_count 2
+  pub shift_bits : Option ℕ
+  pub asks_shift : AsksNumber shift shift_bits
+  pub shift_is : settings.shift ≡ unwrap_or shift_bits 0
+  pub widening_is : settings.widening ≡ not (is_some shift_bits)
+  pub chunk_size : Option ℕ
+  pub asks_chunk : AsksNumber chunk chunk_size
+  pub chunk_is : settings.chunk ≡ unwrap_or chunk_size (usual_chunk settings.workers)
+
+-- The options, of the values that each argument was given: `first_of` is its first value.
+pub record AsksFor (rows : List Row) (options : Options) : Type 0 where
+  pub answer : NamesKind (first_of (codes "answer") rows) options.asked.answer
+  pub walks : IsFlag (first_of (codes "walks") rows) options.asked.walks
+  pub settings : AsksSettings (first_of (codes "workers") rows) (first_of (codes "shift") rows)
+      (first_of (codes "chunk") rows) options.asked.settings
+  pub at_once : AsksAtOnce (first_of (codes "at-once") rows) options.asked.at_once
+  pub limit : options.asked.limit ≡ MAX_BYTES
+  pub stats : IsFlag (first_of (codes "stats") rows) options.stats
+  pub progress : IsFlag (first_of (codes "progress") rows) options.progress
+
+-- the words, of which the first is the program's name, ask for these options
+abbrev pub WordsAskFor : List Text → Options → Type 0
+WordsAskFor words options = AsksFor (matches_of program words) options

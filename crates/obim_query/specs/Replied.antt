@@ -1,0 +1,65 @@
+-- What the status of the program says of the bytes that it took and wrote.
+use Rattle.std.specs.Prelude.{◌≡◌, ◌⊎◌, ℕ, Bool, List, Option, Result, Ok, Err}
+use Rattle.std.specs.Io.KnownBytes.{Keeps}
+use Rattle.clap.specs.Words.{Text}
+use Rattle.job_answer.specs.declared.asked.Answer.{Answer}
+use Rattle.job_answer.specs.declared.asked.Asked.{Asked}
+use Rattle.job_answer.specs.declared.fault.Fault.{Fault}
+use Rattle.job_answer.specs.Choices.{status_of}
+use Rattle.job_answer.specs.Outcome.{IsAnswered, IsBegun, IsReply}
+use Rattle.obim_query.specs.declared.command_line.Options.{Options}
+use Rattle.obim_query.specs.CommandLine.{WordsAskFor}
+
+-- 0 after an answer, and else the status of the fault
+abbrev pub status_after : Result (Unit {0}) Fault → ℕ
+status_after (Ok done) = 0
+status_after (Err fault) = status_of fault
+
+-- memory is refused, a read or a write failed, or a thread is refused
+abbrev pub IsSystemStatus : ℕ → Type 0
+IsSystemStatus status = (status ≡ 3) ⊎ (status ≡ 4) ⊎ (status ≡ 5)
+
+-- The status of a reply to a job, of which these bytes were taken and to which these were given.
+pub record StatusSays (asked : Asked) (taken_from taken_to given_from given_to : Option (List ℕ)) (status : ℕ)
+    : Type 0 where
+  -- at 0 the whole text was taken, and exactly its answer was written
+  pub answered : status ≡ 0
+      → IsAnswered asked.limit asked.answer asked.walks taken_from taken_to given_from given_to
+  -- at 2, where the text is refused, nothing was written
+  pub refused : status ≡ 2 → Keeps given_from given_to
+  -- where the system failed, nothing was written, or a prefix of the answer to the whole text
+  pub cut : IsSystemStatus status → Keeps given_from given_to
+      ⊎ IsBegun asked.limit asked.answer asked.walks taken_from taken_to given_from given_to
+  -- and there is no other status: 1 is the command line's
+  pub only : (status ≡ 0) ⊎ (status ≡ 2) ⊎ IsSystemStatus status
+
+-- The reply, of which the status tells: which fault it was, and what that one says.
+pub record HasReplied (asked : Asked) (taken_from taken_to given_from given_to : Option (List ℕ)) (status : ℕ)
+    : Type 0 where
+  pub result : Result (Unit {0}) Fault
+  pub reply : IsReply asked.limit asked.answer asked.walks taken_from taken_to given_from given_to result
+  pub status_is : status ≡ status_after result
+  pub says : StatusSays asked taken_from taken_to given_from given_to status
+
+-- The words ask for an answer, and the status is that of the reply.
+pub record HasAnswered (words : List Text) (taken_from taken_to given_from given_to : Option (List ℕ)) (status : ℕ)
+    : Type 0 where
+  pub options : Options
+  pub asked : WordsAskFor words options
+  pub replied : HasReplied options.asked taken_from taken_to given_from given_to status
+
+-- the status where the command line is refused, asks for a text, or that can't be printed
+abbrev pub IsRefusalStatus : ℕ → Type 0
+IsRefusalStatus status = (status ≡ 0) ⊎ (status ≡ 1) ⊎ (status ≡ 3) ⊎ (status ≡ 4)
+
+-- No answer is begun: the command line is refused, asks for a text, or there is no job. Nothing is taken or written.
+pub record HasNotBegun (taken_from taken_to given_from given_to : Option (List ℕ)) (status : ℕ) : Type 0 where
+  pub taken : Keeps taken_from taken_to
+  pub written : Keeps given_from given_to
+  pub status_is : IsRefusalStatus status
+
+-- What a run of the program comes to, on these words.
+abbrev pub HasRun : List Text → Option (List ℕ) → Option (List ℕ) → Option (List ℕ) → Option (List ℕ) → ℕ → Type 0
+HasRun words taken_from taken_to given_from given_to status =
+    HasNotBegun taken_from taken_to given_from given_to status
+    ⊎ HasAnswered words taken_from taken_to given_from given_to status
