@@ -7,7 +7,7 @@ ghost use mathlib.Core.List.{IsPrefix};
 ghost use Rattle.obim_bags.specs.declared.fault.SettleFault.TheVariants.{Memory, Missing};
 ghost use Rattle.obim_bags.specs.Bags.{AreSettled, BagSeen, IsPassOf};
 ghost use Rattle.obim_bags.specs.Indexes.{AreDistinct};
-ghost use Rattle.obim_bags.specs.Logs.{IsLogSettled, IsMirrorOf, AccessSeen, WantsMirrors};
+ghost use Rattle.obim_bags.specs.Logs.{IsLogSettled, IsMirrorOf, AccessSeen};
 ghost use Rattle.obim_bags.specs.Logs.{all_of, bags_in, metrics_of, pass_in};
 ghost use Rattle.obim_bags.specs.Entries.{AreAllOf, EntrySeen, IsEntry, bags_of};
 ghost use Rattle.obim_bags.specs.Settling.{AreDrainedFrom, AreOf, AreWholeFrom, KnowsAllOf, LackSome};
@@ -37,7 +37,6 @@ impl BagLog {
         requires { All (IsMirrorOf self.now) mirrors.items }
         ensures handed { OnOk result (mirrors.items ≢ []) }
         ensures settled { IfOk result (λ left. IsLogSettled mirrors.items left.items) }
-        ensures missing { IfErr result (λ fault. fault ≡ Missing → WantsMirrors mirrors.items) }
     {
         let (mut seat, held) = self.join(alloc, mirrors)?;
         let mut entries = self.take(rt, &mut seat);

@@ -1,11 +1,10 @@
 //! A pool of bags, which are drawn from by rising metric.
 
 ghost use Rattle.std.specs.Prelude.{◌≡◌, ◌≢◌, ◌≤◌, [], replicate, All};
-ghost use Rattle.std.specs.Prelude.{IfErr, IfNone, IfOk, IfSome, OnOk};
+ghost use Rattle.std.specs.Prelude.{IfNone, IfOk, IfSome, OnOk};
 ghost use Rattle.std.specs.Bool.{OnFalse, OnTrue};
 ghost use Rattle.obim_bags.specs.declared.chunk.TheConstants.{MAX_SIZE};
-ghost use Rattle.obim_bags.specs.declared.fault.SettleFault.TheVariants.{Missing};
-ghost use Rattle.obim_bags.specs.Logs.{IsLogSettled, WantsMirrors};
+ghost use Rattle.obim_bags.specs.Logs.{IsLogSettled};
 ghost use Rattle.obim_pool.specs.Sides.{IsSideOf, Keeps, PushesTo, PushesNone, Pops, PopsNone, HasLowered};
 ghost use Rattle.obim_pool.specs.Sides.{HasLookedBelow};
 ghost use Rattle.obim_pool.specs.Sides.{mirrors_of, new_side};
@@ -114,7 +113,6 @@ impl ObimPool {
         requires { All (IsSideOf self) sides.items }
         ensures handed { OnOk result (sides.items ≢ []) }
         ensures settled { IfOk result (λ left. IsLogSettled (mirrors_of sides.items) left.items) }
-        ensures missing { IfErr result (λ fault. fault ≡ Missing → WantsMirrors (mirrors_of sides.items)) }
     {
         let mut mirrors = Vec::with_capacity(alloc, sides.len())?;
         for side in sides {
