@@ -27,7 +27,7 @@ use std::sync::Wait;
 impl BagLog {
     /// What is left in each bag of the log, by place and then in the order of its queue. Passes that no
     /// mirror has claimed are joined in. `Missing` where no mirror is handed in or the passes of some bag
-    /// aren't all. The mirrors are gone after a fault.
+    /// aren't all: tests show that, and no clause says it. The mirrors are gone after a fault.
     pub fn drain<R: Wait>(
         &self,
         rt: &R,

@@ -61,7 +61,7 @@ impl ObimPool {
         for mirror in mirrors {
             let maker = ChunkMaker::new(alloc, worker, chunk);
             sides.push(ObimSide::new(alloc, mirror, maker))?;
-            worker = worker.wrapping_add(1);
+            worker += 1;
         }
         Ok((ObimPool { log, alloc }, sides))
     }
@@ -103,7 +103,8 @@ impl ObimPool {
     }
 
     /// Ends the pool: the chunks left in its bags, by their place in the log and then in the order of the
-    /// bag. `Missing` where the sides aren't all. What sides still held in chunks of their own is dropped.
+    /// bag. `Missing` where sides that know a bag are withheld: tests show that, and no clause says it. What
+    /// sides still held in chunks of their own is dropped.
     pub fn settle<R: Wait>(
         self,
         rt: &R,
@@ -129,22 +130,42 @@ impl WorkPool for ObimPool {
 
     // Out of the way of `push_now` and `pop_now`, which serve most calls.
     #[inline(never)]
-    fn push<R: Wait>(&self, rt: &R, side: &mut ObimSide, v: u32, metric: u64) -> bool {
+    fn push<R: Wait>(&self, rt: &R, side: &mut ObimSide, v: u32, metric: u64) -> bool
+        requires { IsSideOf self.now side.old }
+        ensures side { IsSideOf self.now side.new }
+        ensures pushed { OnTrue result (PushesTo metric v side.old side.new) }
+        ensures refused { OnFalse result (PushesNone side.old side.new) }
+    {
         ObimPool::push(self, rt, side, v, metric)
     }
 
     #[inline(never)]
-    fn pop<R: Wait>(&self, rt: &R, side: &mut ObimSide) -> Option<u32> {
+    fn pop<R: Wait>(&self, rt: &R, side: &mut ObimSide) -> Option<u32>
+        requires { IsSideOf self.now side.old }
+        ensures side { IsSideOf self.now side.new }
+        ensures popped { IfSome result (λ v. Pops v side.old side.new) }
+        ensures none { IfNone result (PopsNone side.old side.new) }
+    {
         ObimPool::pop(self, rt, side)
     }
 
     #[inline(always)]
-    fn push_now(&self, side: &mut ObimSide, v: u32, metric: u64) -> bool {
+    fn push_now(&self, side: &mut ObimSide, v: u32, metric: u64) -> bool
+        requires { IsSideOf self.now side.old }
+        ensures side { IsSideOf self.now side.new }
+        ensures pushed { OnTrue result (PushesTo metric v side.old side.new) }
+        ensures unchanged { OnFalse result (side.new ≡ side.old) }
+    {
         side.push_near(v, metric)
     }
 
     #[inline(always)]
-    fn pop_now(&self, side: &mut ObimSide) -> Option<u32> {
+    fn pop_now(&self, side: &mut ObimSide) -> Option<u32>
+        requires { IsSideOf self.now side.old }
+        ensures side { IsSideOf self.now side.new }
+        ensures popped { IfSome result (λ v. Pops v side.old side.new) }
+        ensures unchanged { IfNone result (side.new ≡ side.old) }
+    {
         side.pop_near()
     }
 
