@@ -1,5 +1,5 @@
 -- What the words leave when they are closed.
-use Rattle.std.proofs.Common.{◌≡◌, ◌∙◌, sym, ap, subst, ℕ, zero, suc, ◌-◌, ◌/◌, ◌<◌}
+use Rattle.std.proofs.Common.{◌≡◌, ◌∙◌, sym, ap, subst, ℕ, zero, suc, ◌<◌}
 use Rattle.std.proofs.Common.{List, [], ◌∷◌, Bool, true, false, inl, inr, length, get_or, arith}
 use Rattle.std.specs.Prelude.{slice_index, slice_get, Any, Some}
 use Rattle.std.proofs.lemmas.Bool.{cases_eq}
@@ -20,7 +20,7 @@ use Rattle.relax_core.specs.Lawful.{Covers}
 use Rattle.relax_core.specs.State.{State, IsLawful, mark_of as is_marked}
 use Rattle.relax_core.proofs.Facts.{saw_at, all_at, two_shares, zero_is_least}
 use Rattle.label_words.specs.declared.known.Known.{Known}
-use Rattle.label_words.specs.Layout.{word_count}
+use Rattle.label_words.specs.Layout.{vertex_count, word_count}
 use Rattle.label_words.specs.Rule.{AreLawful}
 use Rattle.label_words.specs.Seats.{IsReady}
 use Rattle.label_words.specs.Laws.{WordsHold, LawfulWordsHoldACore, UnmarkedPauseIsLeast}
@@ -110,8 +110,8 @@ pause_closed {me} labels marks end all are all' are' idle share =
       met = was.covers.met;
     }
 
-pub half_of : (w n : ℕ) → w ≡ word_count n → (w - 8) / 2 ≡ n
-half_of w n e = omega arith
+pub half_of : (words n : ℕ) → words ≡ word_count n → vertex_count words ≡ n
+half_of words n e = omega arith
 
 -- what the rule keeps is a lawful core, and no other state is in the words
 pub lawful_hold_a_core : LawfulWordsHoldACore

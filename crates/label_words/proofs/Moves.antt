@@ -1,15 +1,15 @@
 -- The rule of the words allows each call, and that a seat is split or joined with another.
 use Rattle.std.proofs.Common.{inl, inr, ◌≡◌, ◌∙◌, ap, subst, refl, ℕ, ◌+◌, ◌-◌, ◌%◌, ◌<◌, ◌≤◌, min, List, ◌∷◌}
-use Rattle.std.proofs.Common.{Bool, true, false, cond, set, arith, get_or-set_same, sym, []}
+use Rattle.std.proofs.Common.{Bool, true, false, cond, set, arith, get_or-set_same, sym, [], zero, suc, length}
 use Rattle.std.proofs.Common.{◌++◌}
 use Rattle.std.specs.Prelude.{All, nat_lt, ◌==◌}
 use Rattle.std.proofs.Math.Nat.{mod-eq_of_lt, add-mod_left}
 use Rattle.std.proofs.lemmas.List.{set-get_or, map-set, map-append}
 use Rattle.std.proofs.lemmas.List.Elements.{All-weaker, All-cons, All-append}
-use mathlib.Core.Option.{some}
+use mathlib.Core.Option.{some, some-ne-none}
 use lib.ListN.{get_elem?}
 use Rattle.atomic_table.specs.Table.{State as TableState, Splits, Joins}
-use Rattle.atomic_table.proofs.Lists.{at_set, at_snoc}
+use Rattle.atomic_table.proofs.Lists.{at_set, at_snoc, set_here}
 use Rattle.route_walks.specs.declared.graph.Seed.{Seed}
 use Rattle.csr_graph.specs.Graph.{Graph}
 use Rattle.relax_core.specs.declared.events.Event.TheVariants.{Take, Read, Relax, Raise, SetMark}
@@ -22,7 +22,7 @@ use Rattle.relax_core.proofs.Facts.{total_above, head_in, lowering_attains, tota
 use Rattle.relax_core.proofs.Facts.{event_keeps_lawful}
 use Rattle.label_words.specs.declared.known.Known.{Known}
 use Rattle.label_words.specs.Layout.{label_word, mark_word, label_of, total_of}
-use Rattle.label_words.specs.Rule.{AreLawful}
+use Rattle.label_words.specs.Rule.{AreLawful, SeesLawful}
 use Rattle.label_words.specs.Seats.{IsReady, FitsGraph}
 use Rattle.label_words.specs.Known.{IsFound, OfferAttains, after_take, after_read, after_relax}
 use Rattle.label_words.specs.Known.{after_raise, after_set_mark, after_finish, after_see, left_half}
@@ -137,12 +137,41 @@ finish_allowed c me ready held end credits =
     rw (lessened x c (omega (arith, total_above was.lawful.account holds.has, was.laid.total)) below, ← is, ← credits)
     (finishing was.state words s me.0 holds held end))
 
+-- a seat that is there has a place among all
+at_within : (seats : List Known) (s : ℕ) (seat : Known) → get_elem? seats s ≡ some seat → s < length seats
+at_within [] s seat at = absurd (some-ne-none seat (sym at))
+at_within (x ∷ seats) zero seat at = omega arith
+at_within (x ∷ seats) (suc s) seat at = omega (arith, at_within seats s seat at)
+
+-- a load leaves the words as they were, so the seat stands in lawful words with the total that it found
+seen_lawful : {graph : Graph} {seeds : List Seed} {words : List ℕ} {seats : List Known} {me : Known} (id : ℕ) (w : Known)
+    → AreLawful graph seeds words seats → IsReady me → get_elem? seats id ≡ some me
+    → w.graph ≡ me.graph → w.seeds ≡ me.seeds
+    → AreLawful graph seeds (set words 0 (total_of words)) (set seats id w) → SeesLawful (total_of words == 0) w
+seen_lawful {words} {seats} {me} id w was ready at graph_is seeds_are now =
+    let mine = knows_at id was ready at in
+    record {
+      words = words;
+      seats = set seats id w;
+      lawful =
+          rw (set-get_or words 0 0) at (renamed (sym (graph_is ∙ mine.graph_is)) (sym (seeds_are ∙ mine.seeds_are)) now);
+      place = id;
+      here = set_here seats id w (at_within seats id me at);
+      total = refl;
+    }
+
 pub see_allowed : (me : Mine) → IsReady me.0 → me.0.view.hand ≡ Idle
-    → Allowed me 0 (λ n. n) (λ found new. (new ≡ (after_see (found == 0) me.0, me.1)) × IsReady new.0)
-see_allowed me ready idle =
-    allows_quiet (λ n. n) See (λ found. looked (found == 0) me.0.view) ready (omega arith) (λ v e. absurd (omega arith))
-    (λ x. refl)
+    → Allowed me 0 (λ n. n)
+    (λ found new. (new ≡ (after_see (found == 0) me.0, me.1)) × IsReady new.0 × SeesLawful (found == 0) new.0)
+see_allowed me ready idle graph seeds slots id state holds count at below =
+    let call = allows_quiet (λ n. n) See (λ found. looked (found == 0) me.0.view) ready (omega arith)
+    (λ v e. absurd (omega arith)) (λ x. refl)
     (λ words seats s x was holds is below. rw (← is) (seeing was.state words s me.0 holds idle))
+    graph seeds slots id state holds count at below in
+    let is = ap (λ (new : Mine). new.0) call.4.0 in
+    let seen = seen_lawful id call.0 holds ready at
+    (ap (λ (k : Known). k.graph) is) (ap (λ (k : Known). k.seeds) is) call.3 in
+    (call.0, call.1, call.2, call.3, (call.4.0, call.4.1, seen))
 
 pub splits : (graph : Graph) (seeds : List Seed) (id : ℕ) (seat : Known)
     → IsReady seat → seat.view.hand ≡ Idle → 2 ≤ seat.view.share

@@ -1,6 +1,6 @@
 -- Where the words of a run lie, and what they say. The total has a line of the cache of its own, and the
 -- label and the mark of a vertex lie in one.
-use Rattle.std.specs.Prelude.{ℕ, ◌+◌, ◌*◌, nat_lt, Bool, List, slice_index}
+use Rattle.std.specs.Prelude.{ℕ, ◌+◌, ◌-◌, ◌*◌, ◌/◌, nat_lt, Bool, List, slice_index}
 
 -- the label of v is in this word, and its mark in the next; the total is in word 0
 abbrev pub label_word : ℕ → ℕ
@@ -12,6 +12,10 @@ mark_word v = 2 * v + 9
 -- the number of words for n vertices
 abbrev pub word_count : ℕ → ℕ
 word_count n = 2 * n + 8
+
+-- the number of vertices of so many words
+abbrev pub vertex_count : ℕ → ℕ
+vertex_count words = (words - 8) / 2
 
 abbrev pub total_of : List ℕ → ℕ
 total_of words = slice_index words 0

@@ -1,6 +1,6 @@
 -- The rule of the words: between any two steps they hold a lawful core with the views of all seats, and
 -- no label is above what any seat knows of it.
-use Rattle.std.specs.Prelude.{◌≡◌, ◌≢◌, ℕ, ◌<◌, ◌≤◌, List, ◌++◌, length, map, slice_index, All}
+use Rattle.std.specs.Prelude.{◌≡◌, ◌≢◌, ◌==◌, ℕ, ◌<◌, ◌≤◌, Bool, List, ◌++◌, length, map, slice_index, All}
 use mathlib.Core.Option.{some}
 use lib.ListN.{get_elem?}
 use Rattle.route_walks.specs.declared.graph.Seed.{Seed}
@@ -43,3 +43,13 @@ pub record AreLawful (graph : Graph) (seeds : List Seed) (words : List ℕ) (sea
   pub laid : IsLaid state graph.n words
   pub views_are : state.views ≡ views_of seats
   pub knows : AllKnow graph seeds (label_of words) seats
+
+-- At one moment the words and all seats were lawful, this seat was one of them, and the flag said whether the total
+-- was 0.
+pub record SeesLawful (zero : Bool) (seat : Known) : Type 0 where
+  pub words : List ℕ
+  pub seats : List Known
+  pub lawful : AreLawful seat.graph seat.seeds words seats
+  pub place : ℕ
+  pub here : get_elem? seats place ≡ some seat
+  pub total : zero ≡ (total_of words == 0)

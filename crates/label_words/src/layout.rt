@@ -2,32 +2,73 @@
 //!
 //! Word 0 is the pending total, which every worker steps on; its line of the cache has no other word in
 //! use. From word 8 on, 64 bytes later, each vertex has two words: its label and then its mark, which
-//! begin at a multiple of 16 bytes from there and so lie in one line.
+//! begin at a multiple of 16 bytes from there and so lie in one line. Nothing outside this file reckons
+//! with that.
 
-ghost use Rattle.std.specs.Prelude.{◌≡◌, ◌≤◌};
+ghost use Rattle.std.specs.Prelude.{◌≡◌, ◌≤◌, [], replicate, IfOk};
 ghost use Rattle.route_walks.specs.declared.graph.TheConstants.{MAX_VERTICES};
-ghost use Rattle.label_words.specs.Layout.{label_word as label_at, mark_word as mark_at, word_count as count};
+ghost use Rattle.label_words.specs.Layout.{label_word as label_at, mark_word as mark_at};
+ghost use Rattle.label_words.specs.Layout.{vertex_count as vertices_of, word_count as count};
+ghost use Rattle.label_words.specs.Sown.{IsSown};
+
+use route_walks::{INF, Memory};
+use std::alloc::Global;
 
 /// The word of the pending total.
 pub(crate) const TOTAL: usize = 0;
+
+/// The number of words before those of the first vertex.
+const FIRST: usize = 8;
 
 /// The word of the label of `v`.
 pub(crate) const fn label_word(v: u32) -> usize
     ensures { result ≡ label_at v }
 {
-    2 * v as usize + 8
+    2 * v as usize + FIRST
 }
 
 /// The word of the mark of `v`.
 pub(crate) const fn mark_word(v: u32) -> usize
     ensures { result ≡ mark_at v }
 {
-    2 * v as usize + 9
+    2 * v as usize + FIRST + 1
 }
 
 /// The number of words for `n` vertices.
 pub(crate) const fn word_count(n: u32) -> usize
     ensures { result ≡ count n }
 {
-    2 * n as usize + 8
+    2 * n as usize + FIRST
+}
+
+/// The number of vertices of so many words.
+pub(crate) const fn vertex_count(words: usize) -> usize
+    requires { 8 ≤ words }
+    ensures { result ≡ vertices_of words }
+{
+    (words - FIRST) / 2
+}
+
+/// The words of `n` vertices without a seed: the label `INF` and no mark, and a total of 0.
+pub(crate) fn cleared(alloc: Global, n: u32) -> Result<Vec<u64>, Memory>
+    requires { n ≤ MAX_VERTICES }
+    ensures { IfOk result (λ words. IsSown n [] words.items) }
+{
+    let mut words = Vec::with_capacity(alloc, word_count(n))?;
+    words.extend_from_slice(&[0; FIRST])?;
+    put_cleared(&mut words, n);
+    Ok(words)
+}
+
+/// Puts after the first words those of `n` vertices without a seed.
+fn put_cleared(words: &mut Vec<u64>, n: u32)
+    requires vertices { n ≤ MAX_VERTICES }
+    requires first { words.old.items ≡ replicate 8 0 }
+    requires room { count n ≤ words.old.cap }
+    ensures { IsSown n [] words.new.items }
+{
+    for _ in 0..n {
+        words.push_reserved(INF);
+        words.push_reserved(0);
+    }
 }

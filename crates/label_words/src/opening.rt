@@ -1,7 +1,7 @@
 //! The words that a run begins with, laid straight from the seeds, and those that a paused run goes on
 //! with.
 
-ghost use Rattle.std.specs.Prelude.{◌≡◌, ℕ, ◌<◌, ◌≤◌, ◌++◌, ◌∷◌, [], List, length, replicate, IfOk};
+ghost use Rattle.std.specs.Prelude.{◌≡◌, ℕ, ◌<◌, ◌≤◌, ◌++◌, ◌∷◌, [], List, length, IfOk};
 ghost use Rattle.route_walks.specs.declared.graph.TheConstants.{MAX_VERTICES};
 ghost use Rattle.route_walks.specs.declared.graph.Seed.{Seed};
 ghost use Rattle.route_walks.specs.Walk.{AreSeeds};
@@ -9,8 +9,8 @@ ghost use Rattle.label_words.specs.Layout.{word_count as count};
 ghost use Rattle.label_words.specs.Rule.{IsLaid};
 ghost use Rattle.label_words.specs.Sown.{IsSown, state_of};
 
-use crate::layout::{TOTAL, label_word, mark_word, word_count};
-use route_walks::{INF, Memory, Seed};
+use crate::layout::{TOTAL, cleared, label_word, mark_word, word_count};
+use route_walks::{Memory, Seed};
 use std::alloc::Global;
 
 /// The words of `n` vertices: seeded ones have their least start as label and are marked, the others
@@ -20,24 +20,9 @@ pub(crate) fn lay(alloc: Global, n: u32, seeds: &[Seed]) -> Result<Vec<u64>, Mem
     requires seeds { AreSeeds n seeds.now }
     ensures { IfOk result (λ words. IsSown n seeds.now words.items) }
 {
-    let mut words = Vec::with_capacity(alloc, word_count(n))?;
-    words.extend_from_slice(&[0; 8])?;
-    put_cleared(&mut words, n);
+    let mut words = cleared(alloc, n)?;
     sow_all(&mut words, n, seeds);
     Ok(words)
-}
-
-/// Puts after the first words those of `n` vertices without a seed: the label `INF` and no mark.
-fn put_cleared(words: &mut Vec<u64>, n: u32)
-    requires vertices { n ≤ MAX_VERTICES }
-    requires first { words.old.items ≡ replicate 8 0 }
-    requires room { count n ≤ words.old.cap }
-    ensures { IsSown n [] words.new.items }
-{
-    for _ in 0..n {
-        words.push_reserved(INF);
-        words.push_reserved(0);
-    }
 }
 
 /// Sows the seeds into words without any.

@@ -77,10 +77,11 @@ pub(crate) struct Sees;
 impl Play<(), Known> for Sees {
     ghost use Rattle.std.specs.Prelude.{◌≡◌, ◌==◌};
     ghost use Rattle.label_words.specs.Known.{after_see};
+    ghost use Rattle.label_words.specs.Rule.{SeesLawful};
     ghost use Rattle.label_words.specs.Seats.{IsReady};
 
     ghost then = { λ step old found new.
-        (new ≡ (after_see (found == 0) old.0, old.1)) × IsReady new.0 };
+        (new ≡ (after_see (found == 0) old.0, old.1)) × IsReady new.0 × SeesLawful (found == 0) new.0 };
 }
 
 pub(crate) struct SplitsOrJoins;

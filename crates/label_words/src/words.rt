@@ -12,11 +12,11 @@ ghost use Rattle.label_words.specs.Known.{after_set_mark, after_finish, after_se
 ghost use Rattle.label_words.specs.Known.{left_half, right_half, both_known};
 ghost use Rattle.label_words.specs.Closed.{IsClosed, IsBelowKnown};
 ghost use Rattle.label_words.specs.Paused.{CanGoOn};
-ghost use Rattle.label_words.specs.Rule.{AreLawful, seeds_told};
+ghost use Rattle.label_words.specs.Rule.{AreLawful, SeesLawful, seeds_told};
 
 use crate::closed::{Closed, read_labels, read_marks};
 use crate::known::{Key, WordTable};
-use crate::layout::{TOTAL, label_word, mark_word};
+use crate::layout::{TOTAL, label_word, mark_word, vertex_count};
 use crate::opening::{lay, lay_rest};
 use crate::pause::Paused;
 use crate::plays::{Finishes, Raises, Reads, Relaxes, Sees, SetsMark, SplitsOrJoins, Takes};
@@ -126,7 +126,7 @@ impl Words {
         requires words { seat.now.words ≡ self.now }
         requires vertex { v < seat.now.known.graph.n }
     {
-        // Only the contract asks for the seat: what is read of it brings in how many vertices it knows.
+        // Reading a field of the seat tells the proof its invariant, which bounds `v`. It costs nothing.
         let _share = seat.view.share;
         if self.table.shared.peek(mark_word(v)) == 0 {
             return None;
@@ -188,7 +188,7 @@ impl Words {
         requires words { seat.now.words ≡ self.now }
         requires vertex { v < seat.now.known.graph.n }
     {
-        // Only the contract asks for the seat: what is read of it brings in how many vertices it knows.
+        // Reading a field of the seat tells the proof its invariant, which bounds `v`. It costs nothing.
         let _share = seat.view.share;
         let _label = self.table.shared.peek(label_word(v));
     }
@@ -288,7 +288,8 @@ impl Words {
     pub fn see(&self, seat: &mut WorkSeat) -> bool
         requires words { seat.old.words ≡ self.now }
         requires idle { IsIdle seat.old }
-        ensures { seat.new ≡ record seat.old { known = after_see result seat.old.known } }
+        ensures seat { seat.new ≡ record seat.old { known = after_see result seat.old.known } }
+        ensures lawful { SeesLawful result seat.new.known }
     {
         let zero = self.table.shared.load::<Sees>(&mut seat.table_seat, TOTAL) == 0;
         seat.view.rest();
@@ -335,7 +336,7 @@ impl Words {
         ensures closed { IfOk result (λ closed. IsClosed seat.known closed) }
         ensures known { IfOk result (λ closed. IsBelowKnown seat.known closed) }
     {
-        let n = (self.table.word_count() - 8) / 2;
+        let n = vertex_count(self.table.word_count());
         let mut labels = Vec::with_capacity(alloc, n)?;
         // Where the seat saw 0 there are no marks to read.
         let mut marks = vec![in alloc; false; if seat.view.saw { 0 } else { n }]?;

@@ -17,13 +17,6 @@ pub at_map : {A B : Type 0} (f : A → B) (xs : List A) (i : ℕ) (x : A) → sl
     → slice_get (map f xs) i ≡ Some (f x)
 at_map f xs i x at = slice_get-map f xs i ∙ ap (option_map f) at
 
--- what stands at a place of the mapped list comes of what stands there
-pub mapped_at : {A B : Type 0} (f : A → B) (xs : List A) (i : ℕ) (y : B) → slice_get (map f xs) i ≡ Some y
-    → (x : A) × (slice_get xs i ≡ Some x) × (f x ≡ y)
-mapped_at f [] i y at = absurd cc
-mapped_at f (x ∷ xs) zero y at = (x, refl, cc at)
-mapped_at f (x ∷ xs) (suc i) y at = mapped_at f xs i y at
-
 -- an element is replaced by one that f can't tell from it
 pub map_kept : {A B : Type 0} (f : A → B) (xs : List A) (i : ℕ) (x y : A) → slice_get xs i ≡ Some x → f y ≡ f x
     → map f (set xs i y) ≡ map f xs

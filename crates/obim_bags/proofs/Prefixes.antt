@@ -36,7 +36,7 @@ prefix_whole (x ∷ xs) [] p le = absurd (cc (p.1))
 prefix_whole (x ∷ xs) (y ∷ ys) p le =
     let rest = prefix_whole xs ys (p.0, cc (p.1)) (omega arith) in cc (p.1, rest)
 
--- a beginning adds_worker by what comes next
+-- a beginning grows by what comes next
 pub prefix_next : {A : Type 0} (xs ys : List A) (y : A) → IsPrefix xs ys → slice_get ys (length xs) ≡ Some y
     → IsPrefix (xs ++ y ∷ []) ys
 prefix_next [] [] y p at = absurd cc

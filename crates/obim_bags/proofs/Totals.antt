@@ -115,17 +115,3 @@ shares_moved passes new accesses rest place is put =
       total_append share_of (pass_in place) [],
     ) in
     same
-
--- the order of the lists doesn't count, whatever else there is
-pub shares_reverse : (place : ℕ) (held : List (List AccessSeen)) (more : List PassSeen)
-    → shares_of (tallies_of (passes_in place (reverse held) ++ more))
-    ≡ shares_of (tallies_of (passes_in place held ++ more))
-shares_reverse place held more =
-    let same : total share_of (passes_in place (reverse held) ++ more) ≡ total share_of (passes_in place held ++ more) =
-    omega (
-      arith,
-      total_append share_of (passes_in place (reverse held)) more,
-      total_append share_of (passes_in place held) more,
-      total_reverse share_of place held,
-    ) in
-    same

@@ -1,11 +1,11 @@
 -- The log of bags and its mirrors, as contracts see them.
-use Rattle.std.specs.Prelude.{◌≡◌, ◌⊎◌, ℕ, List, [], ◌∷◌, ◌++◌, map, length, drop, slice_set, Option, Some, None}
+use Rattle.std.specs.Prelude.{◌≡◌, ℕ, List, [], ◌∷◌, ◌++◌, map, length, drop, slice_set, Option, Some, None}
 use Rattle.std.specs.Prelude.{slice_get, All}
 use mathlib.Core.List.{IsPrefix}
 use Rattle.atomic_table.specs.Seated.{TableId}
 use Rattle.obim_bags.specs.Chunks.{ChunkSeen}
 use Rattle.obim_bags.specs.BagRule.{WasEmptyIfAlone}
-use Rattle.obim_bags.specs.Bags.{AreAdded, AreAllPasses, BagSeen, PassSeen, AreSettled, after_put, after_get}
+use Rattle.obim_bags.specs.Bags.{BagSeen, PassSeen, AreSettled, after_put, after_get}
 use Rattle.obim_bags.specs.Bags.{after_empty_find, new_pass}
 use Rattle.obim_bags.specs.Indexes.{AreDistinct}
 
@@ -96,15 +96,9 @@ abbrev pub all_of : List (List ChunkSeen) → List ChunkSeen
 all_of [] = []
 all_of (part ∷ parts) = part ++ all_of parts
 
--- with some that no mirror has claimed, which put and got nothing, these passes have all shares of the bag
-pub record AreAllWithNew (bag : BagSeen) (passes : List PassSeen) : Type 0 where
-  pub whole : List PassSeen
-  pub added : AreAdded bag passes whole
-  pub are_all : AreAllPasses bag whole
-
 -- There is one list of bags with distinct metrics, of which each mirror has a prefix. What is left is the
--- chunks of each of them in the order of their places; and in each bag the chunks put are those got and
--- those left, each as often. The passes are all: those of the mirrors, and those that no mirror has claimed.
+-- chunks of each of them in the order of their places; and in each bag the chunks that the mirrors put are those that
+-- they got and those left, each as often.
 pub record IsLogSettled (mirrors : List MirrorSeen) (left : List ChunkSeen) : Type 0 where
   pub bags : List BagSeen
   pub distinct : AreDistinct (metrics_of bags)
@@ -114,20 +108,3 @@ pub record IsLogSettled (mirrors : List MirrorSeen) (left : List ChunkSeen) : Ty
   pub whole : length parts ≡ length bags
   pub settled : (place : ℕ) (part : List ChunkSeen) → slice_get parts place ≡ Some part
       → AreSettled (passes_at place mirrors) part
-  pub all : (place : ℕ) (bag : BagSeen) → slice_get bags place ≡ Some bag → AreAllWithNew bag (passes_at place mirrors)
-
--- There is one list of bags, of which each mirror has a prefix, and of one of them the passes of these mirrors, and
--- those that no mirror has claimed, aren't all.
-pub record LackPasses (mirrors : List MirrorSeen) : Type 0 where
-  pub bags : List BagSeen
-  pub prefixes : All (λ (mirror : MirrorSeen). IsPrefix (bags_in mirror.accesses) bags) mirrors
-  pub place : ℕ
-  pub bag : BagSeen
-  pub there : slice_get bags place ≡ Some bag
-  pub passes : List PassSeen
-  pub added : AreAdded bag (passes_at place mirrors) passes
-  pub missing : AreAllPasses bag passes → ⊥
-
--- no mirror was handed in, or passes are missing
-abbrev pub WantsMirrors : List MirrorSeen → Type 0
-WantsMirrors mirrors = (mirrors ≡ []) ⊎ LackPasses mirrors

@@ -129,6 +129,7 @@ impl Chunk {
     /// of memory ahead of time.
     #[inline(always)]
     pub fn ahead(&self, by: usize) -> Option<u32> {
-        self.vertices.get(self.len().wrapping_sub(by)).copied()
+        let place = self.len().checked_sub(by)?;
+        self.vertices.get(place).copied()
     }
 }

@@ -2,7 +2,7 @@
 //!
 //! What waits for workers lies in chunks of vertices, the chunks in bags, and there is one bag for each metric.
 //! A `Bag` is a queue without a lock, of which each worker has a `BagPass`. A `BagLog` is the list of all bags,
-//! which only adds_worker; each worker has a `Mirror` of it with a pass of each bag, so it takes the log's slot only
+//! which only grows; each worker has a `Mirror` of it with a pass of each bag, so it takes the log's slot only
 //! where it asks for a metric that its mirror doesn't have, or catches up.
 //!
 //! Between any two steps of any threads the chunks that all passes of a bag put are those that they got and

@@ -1,4 +1,4 @@
-//! The log of bags: one list, which only adds_worker, and a mirror of it for each worker.
+//! The log of bags: one list, which only grows, and a mirror of it for each worker.
 
 ghost use Rattle.std.specs.Prelude.{◌≡◌, ◌≢◌, ◌≤◌, ◌<◌, [], ◌∷◌, Some, length, replicate, slice_get};
 ghost use Rattle.std.specs.Prelude.{IfErr, IfNone, IfOk, IfSome, OnErr, OnOk};

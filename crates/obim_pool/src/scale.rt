@@ -1,10 +1,11 @@
 //! How wide are buckets, for labels of a graph of this size?
 
-ghost use Rattle.std.specs.Prelude.{◌≡◌, ◌<◌};
-ghost use Rattle.obim_pool.specs.Scales.{AreWidths};
+ghost use Rattle.std.specs.Prelude.{◌≡◌, ◌<◌, min};
+ghost use Rattle.obim_pool.specs.Scales.{scale_bucket};
 ghost use Rattle.obim_pool.specs.declared.scale.TheConstants.{MOST_BUCKETS};
 
 use crate::widening::bucket_of;
+use std::marker::Model;
 
 /// No scale makes more buckets of labels of 64 bits.
 pub const MOST_BUCKETS: u64 = 15_616;
@@ -27,13 +28,26 @@ const WIDEST: u32 = 51;
 pub struct Scale {
     shift: u32,
     even: u64,
-    ghost within: { AreWidths shift even },
+}
+
+impl Model for Scale {
+    ghost use Rattle.obim_pool.specs.Scales.{AreWidths, Widths};
+
+    ghost Value = { Widths };
+
+    ghost view = { λ s. record { shift = s.shift; even = s.even } };
+
+    ghost inverse = { λ w. record { shift = w.shift; even = w.even } };
+
+    ghost invariant = { λ s. AreWidths s.shift s.even };
 }
 
 impl Scale {
     /// Buckets of at most 2^`shift` labels below `even` times that. A larger shift than 51 counts as 51,
     /// and a larger number than 8192 as 8192.
-    pub fn new(shift: u32, even: u64) -> Scale {
+    pub fn new(shift: u32, even: u64) -> Scale
+        ensures { result ≡ record { shift = min shift 51; even = min even 8192 } }
+    {
         Scale {
             shift: shift.min(WIDEST),
             even: even.min(MOST_EVEN),
@@ -41,13 +55,16 @@ impl Scale {
     }
 
     /// The buckets of `bucket_of`, all of them.
-    pub fn widening() -> Scale {
+    pub fn widening() -> Scale
+        ensures { result ≡ record { shift = 51; even = 0 } }
+    {
         Scale::new(WIDEST, 0)
     }
 
     /// The bucket of a label: of a larger label the same or a larger one.
     #[inline(always)]
     pub fn bucket_of(self, label: u64) -> u64
+        ensures exact { result ≡ scale_bucket self label }
         ensures narrow { label < 256 → result ≡ label }
         ensures few { result < MOST_BUCKETS }
     {

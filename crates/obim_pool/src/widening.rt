@@ -1,8 +1,10 @@
 //! A pool whose buckets widen with the label, by a scale.
 
-ghost use Rattle.std.specs.Prelude.{◌≡◌, ◌≤◌, ◌<◌, replicate, IfOk};
+ghost use Rattle.std.specs.Prelude.{◌≡◌, ◌≤◌, ◌<◌, replicate, IfNone, IfOk, IfSome};
+ghost use Rattle.std.specs.Bool.{OnFalse, OnTrue};
 ghost use Rattle.obim_bags.specs.declared.chunk.TheConstants.{MAX_SIZE};
-ghost use Rattle.obim_pool.specs.Sides.{IsSideOf, new_side};
+ghost use Rattle.obim_pool.specs.Scales.{scale_bucket, widening_bucket};
+ghost use Rattle.obim_pool.specs.Sides.{IsSideOf, Pops, PopsNone, PushesTo, PushesNone, new_side};
 ghost use Rattle.obim_pool.specs.declared.widening.TheConstants.{BUCKETS};
 
 use crate::obim::ObimPool;
@@ -29,6 +31,7 @@ pub const BUCKETS: u64 = 7424;
 /// It is the rounding of a floating-point number with seven bits of fraction, and of the buckets of
 /// [HdrHistogram](http://hdrhistogram.org).
 pub fn bucket_of(label: u64) -> u64
+    ensures exact { result ≡ widening_bucket label }
     ensures narrow { label < 256 → result ≡ label }
     ensures few { result < BUCKETS }
 {
@@ -48,11 +51,11 @@ pub struct WideningPool {
 }
 
 impl Model for WideningPool {
-    ghost use Rattle.atomic_table.specs.Seated.{TableId};
+    ghost use Rattle.obim_pool.specs.Scales.{ScaledPool};
 
-    ghost Value = { TableId };
+    ghost Value = { ScaledPool };
 
-    ghost view = { λ p. p.pool };
+    ghost view = { λ p. record { log = p.pool; scale = p.scale } };
 }
 
 impl fmt::Debug for WideningPool {
@@ -71,7 +74,8 @@ impl WideningPool {
         scale: Scale,
     ) -> Result<(WideningPool, Vec<ObimSide>), Memory>
         requires { (1 ≤ workers) × (1 ≤ chunk) × (chunk ≤ MAX_SIZE) }
-        ensures { IfOk result (λ opened. opened.1.items ≡ replicate workers (new_side opened.0)) }
+        ensures sides { IfOk result (λ opened. opened.1.items ≡ replicate workers (new_side opened.0.log)) }
+        ensures scale { IfOk result (λ opened. opened.0.scale ≡ scale) }
     {
         let (pool, sides) = ObimPool::open(alloc, workers, chunk)?;
         Ok((WideningPool { pool, scale }, sides))
@@ -81,26 +85,46 @@ impl WideningPool {
 impl WorkPool for WideningPool {
     type Side = ObimSide;
 
-    ghost is_side = { IsSideOf };
+    ghost is_side = { λ pool. IsSideOf pool.log };
 
     // Out of the way of `push_now` and `pop_now`, which serve most calls.
     #[inline(never)]
-    fn push<R: Wait>(&self, rt: &R, side: &mut ObimSide, v: u32, metric: u64) -> bool {
+    fn push<R: Wait>(&self, rt: &R, side: &mut ObimSide, v: u32, metric: u64) -> bool
+        requires { IsSideOf self.now.log side.old }
+        ensures side { IsSideOf self.now.log side.new }
+        ensures pushed { OnTrue result (PushesTo (scale_bucket self.now.scale metric) v side.old side.new) }
+        ensures refused { OnFalse result (PushesNone side.old side.new) }
+    {
         self.pool.push(rt, side, v, self.scale.bucket_of(metric))
     }
 
     #[inline(never)]
-    fn pop<R: Wait>(&self, rt: &R, side: &mut ObimSide) -> Option<u32> {
+    fn pop<R: Wait>(&self, rt: &R, side: &mut ObimSide) -> Option<u32>
+        requires { IsSideOf self.now.log side.old }
+        ensures side { IsSideOf self.now.log side.new }
+        ensures popped { IfSome result (λ v. Pops v side.old side.new) }
+        ensures none { IfNone result (PopsNone side.old side.new) }
+    {
         self.pool.pop(rt, side)
     }
 
     #[inline(always)]
-    fn push_now(&self, side: &mut ObimSide, v: u32, metric: u64) -> bool {
+    fn push_now(&self, side: &mut ObimSide, v: u32, metric: u64) -> bool
+        requires { IsSideOf self.now.log side.old }
+        ensures side { IsSideOf self.now.log side.new }
+        ensures pushed { OnTrue result (PushesTo (scale_bucket self.now.scale metric) v side.old side.new) }
+        ensures unchanged { OnFalse result (side.new ≡ side.old) }
+    {
         side.push_near(v, self.scale.bucket_of(metric))
     }
 
     #[inline(always)]
-    fn pop_now(&self, side: &mut ObimSide) -> Option<u32> {
+    fn pop_now(&self, side: &mut ObimSide) -> Option<u32>
+        requires { IsSideOf self.now.log side.old }
+        ensures side { IsSideOf self.now.log side.new }
+        ensures popped { IfSome result (λ v. Pops v side.old side.new) }
+        ensures unchanged { IfNone result (side.new ≡ side.old) }
+    {
         side.pop_near()
     }
 

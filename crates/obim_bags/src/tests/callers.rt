@@ -1,7 +1,7 @@
 //! What does a caller learn of what it put? Each clause is proved from the contracts of bags and logs alone.
 
-ghost use Rattle.std.specs.Prelude.{◌≡◌, ◌≢◌, ◌+◌, ◌<◌, ◌≤◌, ℕ, [], ◌∷◌, Some, length, slice_get};
-ghost use Rattle.std.specs.Prelude.{All, IfErr, IfNone, IfOk, IfSome, OnErr, OnOk};
+ghost use Rattle.std.specs.Prelude.{◌≡◌, ◌≢◌, ◌+◌, ◌<◌, ℕ, [], ◌∷◌, Some, length, slice_get};
+ghost use Rattle.std.specs.Prelude.{All, IfErr, IfNone, IfOk, IfSome, OnErr};
 ghost use Rattle.obim_bags.specs.declared.fault.SettleFault.TheVariants.{Memory};
 ghost use Rattle.obim_bags.specs.Chunks.{ChunkSeen};
 ghost use Rattle.obim_bags.specs.BagRule.{weight_of};
@@ -191,26 +191,6 @@ fn drain_unused<R: Wait + Abort>(
     Ok(left)
 }
 
-// Two mirrors that each have a pass of a bag can be drained only if its workers are two at least.
-fn drain_two<R: Wait + Abort>(
-    rt: &R,
-    alloc: Global,
-    log: &BagLog,
-    first: Mirror,
-    second: Mirror,
-    place: usize,
-) -> Result<Vec<Chunk>, SettleFault>
-    requires first { first.log ≡ log.now }
-    requires second { second.log ≡ log.now }
-    ensures { OnOk result ((one two : AccessSeen) → slice_get first.accesses place ≡ Some one
-        → slice_get second.accesses place ≡ Some two
-        → IsNew one → IsNew two → 2 ≤ one.bag.workers) }
-{
-    let _place = place;
-    let left = drain_by(rt, alloc, log, first, second)?;
-    Ok(left)
-}
-
 // The chunk that is put at the place of metric 9 is got there.
 fn expect_back<R: Wait + Abort>(
     rt: &R,
@@ -244,6 +224,4 @@ fn what_is_left_of_nothing(rt: HostRuntime) {
     let alloc = rt.alloc();
     let (log, first, second) = open_new(&rt, alloc);
     expect_none(&rt, drain_unused(&rt, alloc, &log, first, second, 9));
-    let (log, first, second) = open_new(&rt, alloc);
-    expect_none(&rt, drain_two(&rt, alloc, &log, first, second, 0));
 }

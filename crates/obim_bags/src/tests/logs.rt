@@ -212,6 +212,13 @@ const GOES_ON: &[(usize, LogCall)] = &[
     (0, LogCall::Find(9, Err(LogFault::Taken))),
 ];
 
+// A chunk lies in a bag of which no mirror that is handed in knows.
+const UNKNOWN: &[(usize, LogCall)] = &[
+    (0, LogCall::Find(5, Ok(0))),
+    (0, LogCall::At(0, Call::Put(0, &[5]))),
+    (1, LogCall::Has(&[])),
+];
+
 const MANY_BAGS: &[(usize, LogCall)] = &[
     (0, LogCall::FindAll(BAGS)),
     (1, LogCall::CatchUp(Ok(BAGS))),
@@ -231,7 +238,7 @@ type Row = (
     &'static [(usize, LogCall)],
 );
 
-const ROWS: [Row; 7] = [
+const ROWS: [Row; 8] = [
     (2, HANDED_ON, &[(2, Ok(&[]))], &[]),
     (
         2,
@@ -243,6 +250,7 @@ const ROWS: [Row; 7] = [
     (1, FIVE_CHUNKS, &[(1, Ok(FIVE_LEFT))], &[]),
     (3, UNCLAIMED, &[(1, Ok(&[7]))], TAKEN),
     (3, TWO_CLAIMED, &[(1, Err(SettleFault::Missing))], GOES_ON),
+    (2, UNKNOWN, &[(1, Err(SettleFault::Missing))], &[]),
     (2, MANY_BAGS, &[(2, Ok(&[]))], &[]),
 ];
 

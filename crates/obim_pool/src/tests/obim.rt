@@ -41,6 +41,9 @@ const HANDED_OVER: &[(usize, Call)] = &[
     (0, NONE),
 ];
 
+// A vertex lies in a bag of which no side that is handed in knows.
+const UNKNOWN: &[(usize, Call)] = &[(1, Call::Push(&[(7, 0)]))];
+
 const A_LOWER_METRIC_COMES_NEXT: &[(usize, Call)] = &[
     (0, Call::Push(&[(50, 5), (20, 2), (21, 2)])),
     (0, Call::Pop(&[Some(21)])),
@@ -132,7 +135,7 @@ pub(crate) enum Left {
 pub(crate) const LEFT: Left = Left::Chunks(&[(0, 0, &[10, 12]), (0, 1, &[11, 13])]);
 
 // The workers of a pool, the size of its chunks, what is called and what is left.
-const ROWS: [(u32, usize, &[(usize, Call)], Left); 15] = [
+const ROWS: [(u32, usize, &[(usize, Call)], Left); 16] = [
     (1, 2, IN_ORDER, Left::Count(0)),
     (1, 3, AHEAD, Left::Count(0)),
     (1, 2, &[(0, PUSHES)], LEFT),
@@ -140,6 +143,7 @@ const ROWS: [(u32, usize, &[(usize, Call)], Left); 15] = [
     (1, 256, &[(0, PUSHES)], Left::Count(0)),
     (2, 1, HANDED_OVER, Left::Count(0)),
     (2, 1, HANDED_OVER, Left::Missing),
+    (2, 1, UNKNOWN, Left::Missing),
     (1, 16, A_LOWER_METRIC_COMES_NEXT, Left::Count(0)),
     (2, 1, AFTER_AN_EMPTY_BAG_COMES_THE_LOWEST, Left::Count(0)),
     (1, 16, RISING, Left::Count(0)),

@@ -1,7 +1,7 @@
 //! Buckets that widen: which labels share one, and in which order a pool of them gives vertices.
 
 use crate::tests::calls::{Call, expect_calls};
-use crate::{BUCKETS, MOST_BUCKETS, Scale, WideningPool, Worklist, bucket_of};
+use crate::{BUCKETS, MOST_BUCKETS, ObimSide, Scale, WideningPool, Worklist, bucket_of};
 use std::process::Abort;
 
 // The leading eight bits of a label: worked by hand.
@@ -58,17 +58,14 @@ fn buckets_of_labels(rt: HostRuntime) {
     }
 }
 
-// The next label has the same bucket or a later one: the next one, where buckets widen; and of a scale no bucket has
-// labels of two of those.
+// The next label has the same bucket or the next one, where buckets widen; and of a scale no bucket has labels of two
+// of those.
 fn expect_next(rt: &impl Abort, scale: Scale, label: u64) {
     let next = label.saturating_add(1);
     let widened = bucket_of(next).wrapping_sub(bucket_of(label));
     assert!(rt; widened <= 1, "{label}");
-    let risen = scale.bucket_of(next).checked_sub(scale.bucket_of(label));
-    assert!(rt;
-        risen.is_some_and(|step| step > 0 || widened == 0),
-        "{label}"
-    );
+    let is_new = scale.bucket_of(next) != scale.bucket_of(label);
+    assert!(rt; is_new || widened == 0, "{label}");
 }
 
 fn expect_nexts(rt: &impl Abort, scale: Scale, middle: u64) {
@@ -79,7 +76,7 @@ fn expect_nexts(rt: &impl Abort, scale: Scale, middle: u64) {
 
 // Around each power of two.
 #[test]
-fn buckets_rise(rt: HostRuntime) {
+fn buckets_leave_no_number_out(rt: HostRuntime) {
     let scales = [
         (0, 0),
         (0, 8192),
@@ -105,18 +102,22 @@ const LOWEST_FIRST: &[(usize, Call)] = &[
     (0, Call::Pop(&[Some(1), Some(2), None])),
 ];
 
+fn has_figures(sides: &[ObimSide], looks: u64) -> bool {
+    let three = Worklist {
+        buckets: 3,
+        looks,
+        chunks: 3,
+    };
+    Worklist::of(sides) == three
+}
+
 #[test]
 fn near_metrics_share_a_bag(rt: HostRuntime) {
     let opened = WideningPool::open(rt.alloc(), 1, 256, Scale::widening());
     let (pool, mut sides) = opened.expect(&rt, "memory for a pool");
     expect_calls(&rt, &pool, &mut sides, 0, PUSHES);
-    assert!(rt;
-        Worklist::of(&sides)
-            == Worklist {
-                buckets: 3,
-                looks: 0,
-                chunks: 3
-            }
-    );
+    assert!(rt; has_figures(&sides, 0));
     expect_calls(&rt, &pool, &mut sides, 1, LOWEST_FIRST);
+    // Worked by hand: the bag of 999 was found empty 5 times, that of 1000 4 times and that of 2000 3 times.
+    assert!(rt; has_figures(&sides, 12));
 }

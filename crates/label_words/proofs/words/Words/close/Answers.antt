@@ -1,5 +1,5 @@
 -- What the seat that closed the words says of what was read.
-use Rattle.std.proofs.Common.{◌≡◌, ◌∙◌, sym, ap, arith, ◌-◌, ◌/◌, inl, inr, length}
+use Rattle.std.proofs.Common.{◌≡◌, ◌∙◌, sym, ap, arith, inl, inr, length}
 use Rattle.std.proofs.lemmas.List.{with_items_is}
 use Rattle.label_words.proofs.Ends.{ended, half_of, least_closed, pause_closed}
 use Rattle.label_words.proofs.words.Words.close.Goals as goal
@@ -10,7 +10,7 @@ returns-then-view-clause-closed c =
     let tie = c.seat.invariant.0 in
     let me = c.seat.inside.table_seat.me.0 in
     let same = rw (← c.seat.view_is, ← c.self.view_is) at c.requires.words in
-    let n = half_of c.word_count.result me.graph.n (omega (arith, ap (λ t. t.words) same)) in
+    let n = c.vertex_count-n.ensures ∙ half_of c.word_count.result me.graph.n (omega (arith, ap (λ t. t.words) same)) in
     let final = c.close_with-last.ensures.values.2 in
     let end = ended _ final.1.0 final.1.1 final.2 tie.ready in
     let labels = c.read_labels.new.labels.items in
@@ -23,12 +23,12 @@ returns-else-view-clause-closed c =
     let tie = c.seat.invariant.0 in
     let me = c.seat.inside.table_seat.me.0 in
     let same = rw (← c.seat.view_is, ← c.self.view_is) at c.requires.words in
-    let n = half_of c.word_count.result me.graph.n (omega (arith, ap (λ t. t.words) same)) in
+    let n = c.vertex_count-n.ensures ∙ half_of c.word_count.result me.graph.n (omega (arith, ap (λ t. t.words) same)) in
     let final = c.close_with-last.ensures.values.2 in
     let labels = c.read_labels.new.labels.items in
     let end = ended _ final.1.0 final.1.1 final.2 tie.ready in
     let all : length labels ≡ me.graph.n = omega (arith, c.read_labels.ensures.count) in
-    let room : c.if-seat.vec ≡ (c.word_count.result - 8) / 2 =
+    let room : c.if-seat.vec ≡ c.vertex_count-n.result =
     elim c.if-seat.branch [
       | then-seat w ↦ cc
       | else-seat w ↦ w.vec-is

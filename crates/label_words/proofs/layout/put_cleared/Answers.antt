@@ -1,7 +1,7 @@
 -- Each turn puts the words of a vertex more.
 use Rattle.std.proofs.Common.{ℕ, arith, subst}
 use Rattle.label_words.proofs.Sowing.{AreCleared, cleared_more, cleared_none, cleared_sown}
-use Rattle.label_words.proofs.opening.put_cleared.Goals as goal
+use Rattle.label_words.proofs.layout.put_cleared.Goals as goal
 
 pub loop-init : goal.loop-init
 loop-init c = (rw c.requires.first cleared_none, c.requires.room)
