@@ -24,7 +24,7 @@ const GIVEN: [ArcRec; 8] = arcs![
     (3, 5, 3),
 ];
 
-/// The same turned round, by tail.
+/// These arcs turned round, by tail.
 const ENTERING: [ArcRec; 8] = arcs![
     (1, 0, 17),
     (1, 4, 0),

@@ -1,5 +1,5 @@
 -- What the line of an arc says, from the pieces that the fast way reads.
-use Rattle.std.proofs.Common.{◌≡◌, ℕ, suc, ◌+◌, ◌-◌, ◌*◌, ◌^◌, ◌%◌, ◌<◌, ◌≤◌, Bool, true, false, ◌&&◌, eqb, List, []}
+use Rattle.std.proofs.Common.{◌≡◌, ℕ, suc, ◌+◌, ◌-◌, ◌*◌, ◌<◌, ◌≤◌, Bool, true, false, ◌&&◌, eqb, List, []}
 use Rattle.std.proofs.Common.{◌∷◌, ◌++◌, length, take, get_or, ◌⊎◌, inl, inr, Some, Ok, refl, sym, ap, subst, ◌∙◌}
 use Rattle.std.proofs.Common.{append_assoc, arith, length-append, ap₂, leb, cond, eq-or-lt_of_le}
 use native.Mathlib.Numerals.{unary_clauses}
@@ -29,18 +29,15 @@ digits-push [] c e d = rw d refl
 digits-push (x ∷ xs) c e d =
     let both = and_parts (is_ascii_digit x) (all_ascii_digits xs) e in rw both.0 (digits-push xs c both.1 d)
 
--- one byte more, which is a digit; so few don't wrap
-pub digits_more : (bytes : List ℕ) (start end value digit : ℕ)
-    → end < length bytes → end + 1 ≤ start + 12 → AreDigits bytes start end value
-    → digit + 48 ≡ get_or bytes end 0 → digit < 10
-    → AreDigits bytes start (end + 1) ((value * 10 % 2 ^ 64 + digit) % 2 ^ 64)
-digits_more bytes start end value digit inside few old is small =
+-- one byte more, which is a digit
+pub digits_more : (bytes : List ℕ) (start end value : ℕ)
+    → end < length bytes → AreDigits bytes start end value → is_ascii_digit (get_or bytes end 0) ≡ true
+    → AreDigits bytes start (end + 1) (value * 10 + (get_or bytes end 0 - 48))
+digits_more bytes start end value inside old is_digit =
     let b = get_or bytes end 0 in
-    let is_digit = byte_of_digit b digit small is in
     let before = old.small in
     let count = old.count in
-    let most = pow-le-pow_right {n = 10} (omega arith) {i = length old.digits} {j = 11} (omega arith) in
-    let exact : (value * 10 % 2 ^ 64 + digit) % 2 ^ 64 ≡ value * 10 + digit = omega arith in
+    let small : b - 48 < 10 = grind (arith, nat_tests, is_digit) in
     let longer : length (old.digits ++ b ∷ []) ≡ length old.digits + 1 = length-append old.digits (b ∷ []) in
     record {
       digits = old.digits ++ b ∷ [];
@@ -49,13 +46,17 @@ digits_more bytes start end value digit inside few old is small =
       all = digits-push old.digits b old.all is_digit;
       worth =
           digits_value_push 10 old.digits b
-          ∙ ap₂ (λ v d. v * 10 + d) old.worth (digit-value b is_digit ∙ omega arith)
-          ∙ sym exact;
-      small = rw (exact, longer, pow_more) (omega arith);
+          ∙ ap₂ (λ v d. v * 10 + d) old.worth (digit-value b is_digit);
+      small = rw (longer, pow_more) (omega arith);
     }
-  where
-    byte_of_digit : (b digit : ℕ) → digit < 10 → digit + 48 ≡ b → is_ascii_digit b ≡ true
-    byte_of_digit b digit small is = grind (arith, nat_tests)
+
+-- so few digits are a number that has room for one more
+pub few_digits : (bytes : List ℕ) (start end value : ℕ)
+    → end < start + 12 → AreDigits bytes start end value → value < 100000000000
+few_digits bytes start end value few are =
+    let small = are.small in
+    let count = are.count in
+    let most = pow-le-pow_right {n = 10} (omega arith) {i = length are.digits} {j = 11} (omega arith) in omega arith
 
 -- a byte that is no line feed is not the last
 pub not_last : (bytes : List ℕ) (at : ℕ)

@@ -1,6 +1,7 @@
 -- What a reader of jobs has read, of a text that came in pieces.
 use Rattle.std.specs.Prelude.{◌≡◌, ℕ, ◌+◌, ◌^◌, ◌≤◌, List, ◌++◌, length, Option, Some, None, All}
 use Rattle.dimacs_text.specs.declared.arc_runs.ArcRuns.{ArcRuns}
+use Rattle.dimacs_text.specs.declared.arc_runs.Parts.{Parts}
 use Rattle.dimacs_text.specs.declared.arc_runs.ReadAhead.{ReadAhead}
 use Rattle.dimacs_text.specs.declared.fault.LineKind.{LineKind}
 use Rattle.dimacs_text.specs.declared.draft.Draft.{Draft}
@@ -45,6 +46,14 @@ Reads old new bytes =
 -- a thread read these runs of arcs in the bytes
 abbrev pub AreRunsOf : List ℕ → ArcRuns → Type 0
 AreRunsOf bytes list = All (IsArcRun bytes) list.runs.items
+
+-- how many runs of arcs a thread has room for
+abbrev pub run_count : ArcRuns → ℕ
+run_count list = length list.runs.items
+
+-- how many parts of a piece a thread reads at most
+abbrev pub most_parts : Parts → ℕ
+most_parts parts = parts.most
 
 -- threads read these runs of arcs in the bytes
 pub record IsReadAhead (bytes : List ℕ) (ahead : ReadAhead) : Type 0 where

@@ -67,7 +67,7 @@ fn put_number(line: &mut [u8], end: usize, number: u64) -> usize
 fn put_start(line: &mut [u8], end: usize, letter: u8, number: u64) -> usize
     requires { (22 ≤ end) × (end ≤ length line.old) }
     ensures place { (end ≤ result + 22) × (result ≤ end) }
-    ensures put { drop result line.new ≡ letter ∷ 32 ∷ (decimal number ++ drop end line.old) }
+    ensures put { drop result line.new ≡ letter ∷ codes " " ++ decimal number ++ drop end line.old }
 {
     let end = put_number(line, end, number);
     let end = put_byte(line, end, b' ');
@@ -121,7 +121,7 @@ fn head_of(letter: u8, number: u32) -> Head
     requires short { number < 1000000000 }
     ensures place { result.start ≤ HEAD }
     ensures base { result.base ≡ number / 100 * 100 }
-    ensures head { drop result.start result.bytes ≡ letter ∷ 32 ∷ front_digits (number / 100) }
+    ensures head { drop result.start result.bytes ≡ letter ∷ codes " " ++ front_digits (number / 100) }
 {
     let hundreds = number / 100;
     let mut bytes = [0u8; HEAD];
@@ -180,7 +180,7 @@ fn put_label_line(lines: &mut [u8], end: usize, head: &Head, v: u32, label: u64)
     requires vertex { v < MAX_VERTICES }
     requires place { head.now.start ≤ HEAD }
     requires base { head.now.base ≡ (v + 1) / 100 * 100 }
-    requires head { drop head.now.start head.now.bytes ≡ 100 ∷ 32 ∷ front_digits ((v + 1) / 100) }
+    requires head { drop head.now.start head.now.bytes ≡ codes "d " ++ front_digits ((v + 1) / 100) }
     ensures place { (end ≤ result + LINE) × (result ≤ end) }
     ensures put { drop result lines.new ≡ label_text v label ++ drop end lines.old }
 {
@@ -199,7 +199,7 @@ fn put_component_line(lines: &mut [u8], end: usize, head: &Head, v: u32, label: 
     requires finite { label < INF }
     requires place { head.now.start ≤ HEAD }
     requires base { head.now.base ≡ (v + 1) / 100 * 100 }
-    requires head { drop head.now.start head.now.bytes ≡ 107 ∷ 32 ∷ front_digits ((v + 1) / 100) }
+    requires head { drop head.now.start head.now.bytes ≡ codes "k " ++ front_digits ((v + 1) / 100) }
     ensures place { (end ≤ result + LINE) × (result ≤ end) }
     ensures put { drop result lines.new ≡ component_text v label ++ drop end lines.old }
 {

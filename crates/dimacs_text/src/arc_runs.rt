@@ -3,9 +3,10 @@
 //! A run is a hint: it says which arcs come next where it begins, and whoever has no run there reads the
 //! lines one by one. So it may end early, for any reason, and nothing is said of what stands after it.
 
-ghost use Rattle.std.specs.Prelude.{◌≡◌, ◌≤◌, ◌+◌, List, [], ℕ, length, take, All, IfSome, vec_len, vec_capacity};
+ghost use Rattle.std.specs.Prelude.{◌≡◌, ◌≤◌, ◌+◌, ◌-◌, ◌*◌, ◌/◌, max, List, [], ℕ, length, take, All, IfSome};
+ghost use Rattle.std.specs.Prelude.{vec_len, vec_capacity};
 ghost use Rattle.std.specs.Bool.{OnTrue};
-ghost use Rattle.dimacs_text.specs.Reading.{AreRunsOf, IsReadAhead};
+ghost use Rattle.dimacs_text.specs.Reading.{AreRunsOf, IsReadAhead, most_parts, run_count};
 ghost use Rattle.dimacs_text.specs.reader.FastArc.{EndsWithFeed};
 ghost use Rattle.dimacs_text.specs.reader.ArcRuns.{IsArcRun, IsRunFrom};
 
@@ -77,6 +78,7 @@ impl ArcRun {
 fn has_room(arcs: &mut Vec<ArcRec>, count: usize) -> bool
     ensures items { arcs.new.items ≡ arcs.old.items }
     ensures room { OnTrue result (vec_len arcs.new + count ≤ vec_capacity arcs.new) }
+    ensures few { vec_capacity arcs.new ≤ max (vec_capacity arcs.old) (vec_len arcs.old + count + SPARE) }
 {
     count <= arcs.capacity() - arcs.len() || arcs.reserve_exact(count.saturating_add(SPARE)).is_ok()
 }
@@ -98,7 +100,8 @@ pub struct Parts<'a> {
 impl<'a> Parts<'a> {
     /// All parts of a piece, for this many threads, where vertices count to this number.
     pub fn new(bytes: &'a [u8], vertices: u32, threads: usize) -> Parts<'a>
-        ensures { result.bytes.now ≡ bytes.now }
+        ensures bytes { result.bytes.now ≡ bytes.now }
+        ensures share { most_parts result ≤ 2 * (length bytes.now / PART / max threads 1) + 1 }
     {
         let count = bytes.len() / PART;
         let share = count / threads.max(1);
@@ -139,7 +142,8 @@ impl ArcRuns {
 
     /// Nothing is read ahead any more, of whatever piece.
     fn clear(&mut self)
-        ensures { (bytes : List ℕ) → AreRunsOf bytes self.new }
+        ensures runs { (bytes : List ℕ) → AreRunsOf bytes self.new }
+        ensures count { run_count self.new ≡ run_count self.old }
     {
         empty_all(&mut self.runs);
     }
@@ -147,7 +151,8 @@ impl ArcRuns {
     /// Reads parts of a piece ahead until all are given out, or twice this thread's share is read. What is no plain
     /// line of an arc ends what is read of its part, and where memory is refused no more is read.
     pub fn read(&mut self, parts: &Parts)
-        ensures { AreRunsOf parts.now.bytes.now self.new }
+        ensures runs { AreRunsOf parts.now.bytes.now self.new }
+        ensures few { run_count self.new ≤ max (run_count self.old) (most_parts parts.now) }
     {
         self.clear();
         for place in 0..parts.most {
@@ -223,9 +228,10 @@ impl ReadAhead {
 
     /// Makes lists for as many threads, or fewer where memory is refused.
     pub fn open(&mut self, threads: usize)
-        ensures { (bytes : List ℕ) → IsReadAhead bytes self.old → IsReadAhead bytes self.new }
+        ensures ahead { (bytes : List ℕ) → IsReadAhead bytes self.old → IsReadAhead bytes self.new }
+        ensures few { length self.new.others.items ≤ max (length self.old.others.items) (threads - 2) }
     {
-        for _ in self.others.len()..threads.saturating_sub(2) {
+        while self.others.len() < threads.saturating_sub(2) {
             if self.others.push(ArcRuns::new(self.alloc)).is_err() {
                 return;
             }

@@ -1,6 +1,6 @@
 //! The job as far as it is read.
 
-ghost use Rattle.std.specs.Prelude.{◌≡◌, ◌+◌, ◌≤◌, ◌<◌, ◌^◌, [], length, drop, vec_len, vec_capacity, ℕ, IfErr, IfOk};
+ghost use Rattle.std.specs.Prelude.{◌≡◌, ◌+◌, ◌*◌, max, ◌≤◌, ◌<◌, ◌^◌, [], length, drop, vec_len, vec_capacity, ℕ, IfErr, IfOk};
 ghost use Rattle.std.specs.Prelude.{OnOk};
 ghost use Rattle.std.specs.Prelude.{None, List, All, true, false};
 ghost use Rattle.dimacs_text.specs.reader.Machine.{misfit_at};
@@ -23,8 +23,8 @@ use std::alloc::{AllocError, Global};
 /// Arcs for which room is made at first.
 const FIRST_ARCS: usize = 1 << 15;
 
-/// Then room is made for this many times as many as there are: what is not written takes no memory, and moving
-/// a long list is slow.
+/// When that room is full, room is made for this many times the arcs that are there. To move a long list is slow,
+/// and room that isn't written takes no memory.
 const GROWTH: usize = 1 << 10;
 
 /// What the lines so far have said. Vertices count to `vertices`.
@@ -61,7 +61,10 @@ fn ask_at(stage: Stage, sources: Vec<u32>, pairs: Vec<(u32, u32)>) -> Ask
 /// Makes room for `count` arcs, and where there wasn't, for more of those that are to come, of which there are
 /// `missing`. Where memory is refused there is as much room as before.
 fn make_room(arcs: &mut Vec<ArcRec>, count: usize, missing: u32)
-    ensures { arcs.new.items ≡ arcs.old.items }
+    ensures items { arcs.new.items ≡ arcs.old.items }
+    ensures missing { vec_capacity arcs.new ≤ max (vec_capacity arcs.old) (vec_len arcs.old + missing) }
+    ensures few { vec_capacity arcs.new
+        ≤ max (vec_capacity arcs.old) (vec_len arcs.old * GROWTH + FIRST_ARCS + count) }
 {
     let length = arcs.len();
     if arcs.capacity() - length < count {
@@ -94,7 +97,7 @@ impl Draft {
         }
     }
 
-    /// To which number vertices count, where an arc of the graph may come next.
+    /// The number of vertices, if arcs of the graph may come next.
     pub fn arcs_ahead(&self) -> Option<u32> {
         self.stage.missing_arcs().map(|_| self.vertices)
     }

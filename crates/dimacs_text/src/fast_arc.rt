@@ -17,29 +17,28 @@ use crate::form::Limit;
 use crate::line::is_blank_byte;
 use route_walks::ArcRec;
 
-/// A number of more digits is left to the reader of all lines.
+/// A number of more digits is left to the reader of all lines: so no number wraps.
 const MANY_DIGITS: usize = 12;
 
-/// The number whose digits begin at a place, and the place after them.
+/// The number whose digits begin at a place, and the place after them. Digits past the first `MANY_DIGITS` are left
+/// where they are.
 // Apart, since inlined it takes half as many instructions again for each digit.
 #[inline(never)]
 fn digits_at(bytes: &[u8], start: usize) -> (u64, usize)
     requires ended { EndsWithFeed bytes.now }
     requires inside { start < length bytes.now }
     ensures place { (start ≤ result.1) × (result.1 < length bytes.now) }
-    ensures led { result.1 ≤ start + MANY_DIGITS
-        → AreDigits bytes.now start result.1 result.0 }
+    ensures led { AreDigits bytes.now start result.1 result.0 }
 {
     let mut value: u64 = 0;
-    let mut end = start;
-    // Of a byte that is no digit this is more than 9.
-    let mut digit = u64::from(bytes[start]).wrapping_sub(48);
-    while digit < 10 {
-        value = value.wrapping_mul(10).wrapping_add(digit);
-        end += 1;
-        digit = u64::from(bytes[end]).wrapping_sub(48);
+    for count in 0..MANY_DIGITS {
+        let byte = bytes[start + count];
+        if !byte.is_ascii_digit() {
+            return (value, start + count);
+        }
+        value = value * 10 + u64::from(byte - b'0');
     }
-    (value, end)
+    (value, start + MANY_DIGITS)
 }
 
 /// The number after one blank, and the place after it.
@@ -55,8 +54,7 @@ fn spaced_at(bytes: &[u8], start: usize) -> Option<(u64, usize)>
         return None;
     }
     let (value, end) = digits_at(bytes, start + 1);
-    let count = end - (start + 1);
-    if count == 0 || count > MANY_DIGITS {
+    if end == start + 1 {
         return None;
     }
     Some((value, end))

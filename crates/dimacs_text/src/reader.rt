@@ -206,7 +206,7 @@ impl JobReader {
         }
     }
 
-    /// To which number vertices count, where an arc of the graph may come next: what `Parts::new` asks for.
+    /// The number of vertices, if arcs of the graph may come next: what `Parts::new` asks for.
     pub fn arcs_ahead(&self) -> Option<u32> {
         self.lines.draft.arcs_ahead()
     }

@@ -1,6 +1,6 @@
 //! How many visits has a worker left?
 
-ghost use Rattle.std.specs.Prelude.{◌≡◌, None, true, false};
+ghost use Rattle.std.specs.Prelude.{◌≡◌, ◌<◌, ◌+◌, None, IfSome, true, false};
 
 /// The visits that a worker has left, if there is a limit.
 #[derive(Clone, Copy, Debug, PartialEq, Eq)]
@@ -12,7 +12,8 @@ pub(crate) struct Budget {
 impl Budget {
     /// As many visits as these; without a number there is no limit.
     pub(crate) fn new(visits: Option<u64>) -> Budget
-        ensures { visits ≡ None → result.has_limit ≡ false }
+        ensures limit { visits ≡ None → result.has_limit ≡ false }
+        ensures left { IfSome visits (λ count. result.left ≡ count) }
     {
         Budget {
             left: visits.unwrap_or(u64::MAX),
@@ -30,7 +31,9 @@ impl Budget {
     pub(crate) fn is_spent(&mut self) -> bool
         ensures limit { self.new.has_limit ≡ self.old.has_limit }
         ensures spent { result ≡ true → self.old.has_limit ≡ true }
-        ensures stays { result ≡ true → self.new ≡ self.old }
+        ensures none { result ≡ true → self.old.left ≡ 0 }
+        ensures some { result ≡ false → 0 < self.new.left }
+        ensures stays { self.old.has_limit ≡ true → self.new ≡ self.old }
     {
         if self.left > 0 {
             return false;
@@ -43,7 +46,8 @@ impl Budget {
     fn ends(&mut self) -> bool
         ensures limit { self.new.has_limit ≡ self.old.has_limit }
         ensures spent { result ≡ self.old.has_limit }
-        ensures stays { result ≡ true → self.new ≡ self.old }
+        ensures some { result ≡ false → 0 < self.new.left }
+        ensures stays { self.old.has_limit ≡ true → self.new ≡ self.old }
     {
         if !self.has_limit {
             self.left = u64::MAX;
@@ -54,8 +58,10 @@ impl Budget {
     /// A visit is made, of those that are left.
     #[inline(always)]
     pub(crate) fn spend(&mut self)
-        ensures { self.new.has_limit ≡ self.old.has_limit }
+        requires { 0 < self.old.left }
+        ensures limit { self.new.has_limit ≡ self.old.has_limit }
+        ensures spends { self.new.left + 1 ≡ self.old.left }
     {
-        self.left = self.left.wrapping_sub(1);
+        self.left -= 1;
     }
 }

@@ -1,6 +1,6 @@
 //! The operators: which arcs and which seeds give distances, hop levels and components.
 
-ghost use Rattle.std.specs.Prelude.{◌≡◌, ◌<◌, ◌≤◌, ◌^◌, List, length, IfOk};
+ghost use Rattle.std.specs.Prelude.{◌≡◌, ◌<◌, ◌≤◌, ◌^◌, List, length, All, IfOk, IfSome};
 ghost use Rattle.route_walks.specs.Label.{AreLeastLabels};
 ghost use Rattle.route_walks.specs.Operators.{seeds_from, seeds_all, unit_weights, both_ways};
 ghost use Rattle.route_walks.specs.declared.graph.Seed.{Seed};
@@ -82,6 +82,7 @@ fn solve_alone<H: Threads + Wait + Clock + Sync, G: Gate + Sync>(
     requires words { seat.words ≡ words }
     requires seat { CanLead csr.now MAX_WORKERS seat }
     requires shares { seat.known.view.share ≡ SHARES }
+    requires only { IfSome only (λ v. All (λ seed. seed.vertex ≡ v) seat.known.seeds) }
     ensures { IfOk result
         (λ labels. AreLeastLabels csr.now.n csr.now.arcs seat.known.seeds labels.items) }
 {

@@ -5,6 +5,8 @@
 //! come. So each worker shows the bucket of the metric that it visits, and one that is far ahead of another
 //! sleeps a little now and then. No label depends on it.
 
+ghost use Rattle.std.specs.Prelude.{◌<◌};
+
 use crossbeam_utils::CachePadded;
 use obim_pool::bucket_of;
 use route_walks::{INF, Memory};
@@ -113,7 +115,9 @@ pub(crate) struct Watch {
 }
 
 impl Watch {
-    pub(crate) fn new(worker: u32) -> Watch {
+    pub(crate) fn new(worker: u32) -> Watch
+        ensures { 0 < result.left }
+    {
         Watch {
             worker,
             left: VISITS,
@@ -123,8 +127,11 @@ impl Watch {
 
     /// After a visit: every so often a look at the others.
     #[inline(always)]
-    pub(crate) fn visited<C: Clock>(&mut self, clock: &C, pace: &Pace) {
-        self.left = self.left.wrapping_sub(1);
+    pub(crate) fn visited<C: Clock>(&mut self, clock: &C, pace: &Pace)
+        requires { 0 < self.old.left }
+        ensures { 0 < self.new.left }
+    {
+        self.left -= 1;
         if self.left == 0 {
             self.look(clock, pace);
         }
@@ -132,13 +139,15 @@ impl Watch {
 
     /// A look at the others, and naps while the worker is far ahead.
     #[inline(never)]
-    fn look<C: Clock>(&mut self, clock: &C, pace: &Pace) {
+    fn look<C: Clock>(&mut self, clock: &C, pace: &Pace)
+        ensures { 0 < self.new.left }
+    {
         if self.nap(clock, pace) {
             self.naps = self.naps.saturating_mul(2).min(NAPS);
             self.left = VISITS;
         } else {
             self.naps = 1;
-            self.left = VISITS.saturating_mul(pace.workers);
+            self.left = VISITS.saturating_mul(pace.workers.max(1));
         }
     }
 

@@ -1,6 +1,6 @@
 //! A run: open the words, hand the marked vertices to the pool, let the workers go, close.
 
-ghost use Rattle.std.specs.Prelude.{◌≡◌, length, None, All, IfOk};
+ghost use Rattle.std.specs.Prelude.{◌≡◌, length, None, All, IfOk, IfSome};
 ghost use Rattle.route_walks.specs.Label.{AreLeastLabels};
 ghost use Rattle.route_walks.specs.Walk.{AreSeeds};
 ghost use Rattle.relax_core.specs.declared.views.TheConstants.{SHARES};
@@ -91,14 +91,16 @@ where
 }
 
 /// The one vertex that is seeded, where there are no others.
-pub(crate) fn only_seeded(seeds: &[Seed]) -> Option<u32> {
+pub(crate) fn only_seeded(seeds: &[Seed]) -> Option<u32>
+    ensures { IfSome result (λ v. All (λ seed. seed.vertex ≡ v) seeds.now) }
+{
     match seeds {
         [seed] => Some(seed.vertex),
         _ => None,
     }
 }
 
-/// The same as `run` until each worker has visited `budget` vertices or all is settled: then labels are
+/// A `run` until each worker has visited `budget` vertices or all is settled: then labels are
 /// least, or what is left is a pause, from which `resume` goes on. Which vertices are visited depends on
 /// the pool and on the order in which workers step. Visits of a sweep count.
 pub fn run_for<H: Threads + Wait + Clock + Sync, P: WorkPool + Sync, G: Gate + Sync>(
@@ -172,8 +174,8 @@ where
     )
 }
 
-/// The same as `run` on words that are open, with the seat that they were opened with. `only` is the one
-/// vertex that is marked, where that is known: then the others aren't looked at.
+/// A `run` on words that are open, with the seat that they were opened with. `only` is the one vertex that is
+/// marked, where that is known: then the others aren't looked at.
 pub(crate) fn solve<H: Threads + Wait + Clock + Sync, P: WorkPool + Sync, G: Gate + Sync>(
     rt: &H,
     alloc: Global,
@@ -191,6 +193,7 @@ where
     requires words { seat.words ≡ words }
     requires seat { CanLead csr.now MAX_WORKERS seat }
     requires shares { seat.known.view.share ≡ SHARES }
+    requires only { IfSome only (λ v. All (λ seed. seed.vertex ≡ v) seat.known.seeds) }
     requires workers { length sides.old ≡ settings.now.workers }
     requires sides { All (P.is_side pool.now) sides.old }
     ensures labels { IfOk result
@@ -225,6 +228,7 @@ where
     requires words { seat.words ≡ words }
     requires seat { CanLead csr.now MAX_WORKERS seat }
     requires shares { seat.known.view.share ≡ SHARES }
+    requires only { IfSome only (λ v. All (λ seed. seed.vertex ≡ v) seat.known.seeds) }
     requires workers { length sides.old ≡ settings.now.workers }
     requires sides { All (P.is_side pool.now) sides.old }
     ensures end { IfOk result (λ closed. IsEnd csr.now seat.known.seeds closed) }
@@ -256,6 +260,7 @@ fn push_marked<H: Wait, P: WorkPool, G>(
 )
     requires words { seat.now.words ≡ shared.now.words.now }
     requires graph { shared.now.csr.now ≡ seat.now.known.graph }
+    requires only { IfSome only (λ v. All (λ seed. seed.vertex ≡ v) seat.now.known.seeds) }
     requires side { P.is_side shared.now.pool.now side.old }
     ensures { P.is_side shared.now.pool.now side.new }
 {

@@ -49,7 +49,7 @@ impl Settings {
         })
     }
 
-    /// The same with buckets that widen with the label in place of the shift, which is 0 then: they fit
+    /// These settings with buckets that widen with the label in place of the shift, which is 0 then: they fit
     /// every graph that was tried.
     pub fn with_widening_buckets(self) -> Settings
         ensures workers { result.workers ≡ self.workers }
@@ -65,7 +65,7 @@ impl Settings {
         }
     }
 
-    /// The same with this shift, or the greatest one.
+    /// These settings with this shift, or the greatest one.
     pub(crate) fn with_shift(&self, shift: u32) -> Settings
         ensures workers { result.workers ≡ self.now.workers }
     {

@@ -36,7 +36,7 @@ pub(crate) struct Shared<'a, P, G> {
 }
 
 impl<'a, P, G> Shared<'a, P, G> {
-    /// The same. A worker has one of its own, whose parts lie in registers.
+    /// A copy, so that its fields can lie in registers.
     #[inline(always)]
     fn again(&self) -> Shared<'a, P, G>
         ensures { result ≡ self.now }

@@ -1,6 +1,6 @@
 //! A gate that holds a worker back, and counts; and what is asked of these numbers.
 
-use crate::tests::graphs::{rows_of, star, street_arcs};
+use crate::tests::graphs::{random_arcs, rows_of, star, street_arcs};
 use crate::{Gate, Settings, Worklist, distances};
 use csr_graph::Csr;
 use std::alloc::Global;
@@ -14,14 +14,28 @@ use std::time::{Clock, Duration};
 /// Holds one worker at one of its visits, as a busy machine does that has taken its processor, and counts
 /// all visits and chunks.
 #[derive(Drop)]
-struct Holding<'a, C> {
+pub(crate) struct Holding<'a, C> {
     clock: &'a C,
     held: u32,
     /// Counted from 1; none is visit 0.
     at: u64,
     visits_of_held: AtomicU64,
     visits: AtomicU64,
-    chunks: AtomicU64,
+    pub chunks: AtomicU64,
+}
+
+impl<'a, C> Holding<'a, C> {
+    /// Holds the worker `held` at its visit `at`.
+    pub fn new(clock: &'a C, (held, at): (u32, u64)) -> Holding<'a, C> {
+        Holding {
+            clock,
+            held,
+            at,
+            visits_of_held: AtomicU64::new(0),
+            visits: AtomicU64::new(0),
+            chunks: AtomicU64::new(0),
+        }
+    }
 }
 
 impl<'a, C: Clock> Gate for Holding<'a, C> {
@@ -56,16 +70,9 @@ fn count<H: Threads + Wait + Clock + Abort + Sync>(
     csr: &Csr,
     source: u32,
     settings: &Settings,
-    (held, at): (u32, u64),
+    held: (u32, u64),
 ) -> Result<Counted, Fail> {
-    let gate = Holding {
-        clock: rt,
-        held,
-        at,
-        visits_of_held: AtomicU64::new(0),
-        visits: AtomicU64::new(0),
-        chunks: AtomicU64::new(0),
-    };
+    let gate = Holding::new(rt, held);
     let within = source < csr.n();
     assert!(rt; within);
     let labels = distances(rt, alloc, csr, source, settings, &gate)?;
@@ -99,6 +106,30 @@ fn chunks_are_of_the_size_asked(rt: HostRuntime) -> Result<(), Fail> {
             in_narrow == chunks && in_wide == chunks,
             "chunks of {chunk}"
         );
+    }
+    Ok(())
+}
+
+/// A shift, where buckets don't widen, and how many visits one worker makes at most of 3,000 vertices: a tenth more
+/// than it makes.
+const VISITS: &[(Option<u32>, u64)] = &[(None, 3_300), (Some(4), 3_300), (Some(10), 3_900)];
+
+// A random graph of which nearly all vertices are reached. A vertex that the pool loses is found by a sweep, which
+// comes too early for its label.
+#[test]
+fn few_visits_of_random_arcs(rt: HostRuntime) -> Result<(), Fail> {
+    let alloc = rt.alloc();
+    let csr = rows_of(&rt, alloc, 3_000, &random_arcs(alloc, 3_000, 15_000)?)?;
+    for &(shift, most) in VISITS {
+        let narrow = Settings::new(1, shift.unwrap_or(0), 256);
+        let narrow = narrow.expect(&rt, "settings within their limits");
+        let settings = if shift.is_some() {
+            narrow
+        } else {
+            narrow.with_widening_buckets()
+        };
+        let visits = count(&rt, alloc, &csr, 0, &settings, (0, 0))?.visits;
+        assert!(rt; visits <= most, "{visits} visits at {shift:?}");
     }
     Ok(())
 }

@@ -6,10 +6,13 @@ ghost use Rattle.route_walks.specs.Walk.{AreSeeds, IsGraph, HaveSameArcs};
 ghost use Rattle.label_words.specs.Paused.{IsPause};
 
 use crate::tests::draws::Draws;
-use crate::tests::graphs::{SIX_LABELS, fit_rows, random_arcs, rows_of, same_labels, six};
+use crate::tests::gates::{Holding, settings_of};
+use crate::tests::graphs::{SIX_LABELS, fit_rows, random_arcs, rows_of, same_labels, six, star};
 use crate::tests::pieces::{Kind, Piece, Plan, go_on, pause_after, settle};
 use crate::tests::settings;
-use crate::{Closed, OpenGate, Paused, Recorder, RunFault, Settings, grow, least_labels_resumed};
+use crate::{
+    Closed, Gate, OpenGate, Paused, Recorder, RunFault, Settings, grow, least_labels_resumed,
+};
 use csr_graph::{Csr, MAX_ARCS};
 use route_walks::laws::least_labels_follow_the_arcs;
 use route_walks::{
@@ -18,6 +21,7 @@ use route_walks::{
 use std::alloc::Global;
 use std::process::Abort;
 use std::sync::Wait;
+use std::sync::atomic::Ordering;
 use std::test::Fail;
 use std::thread::Threads;
 use std::time::Clock;
@@ -176,6 +180,7 @@ fn no_vertices_are_settled(rt: HostRuntime) -> Result<(), Fail> {
 /// A pool, how many workers, how many visits each makes in a piece, and how often the run is made.
 const POOLS: &[(Kind, u32, u64, u32)] = &[
     (Kind::Locked, 1, 1, 1),
+    (Kind::Locked, 1, 1 << 32, 1),
     (Kind::Locked, 2, 1, 1),
     (Kind::Obim, 1, 1, 1),
     (Kind::Obim, 2, 1, 1),
@@ -285,19 +290,20 @@ fn growths_at_random(rt: HostRuntime) -> Result<(), Fail> {
     Ok(())
 }
 
-/// The vertices that a run visits, in order, which goes on after settled labels got these arcs.
-fn visited_after<H: Threads + Wait + Clock + Abort + Sync>(
+/// Goes on after settled labels got these arcs. The gate sees that run alone.
+fn go_on_grown<H: Threads + Wait + Clock + Abort + Sync, G: Gate + Sync>(
     rt: &H,
     alloc: Global,
     csr: &Csr,
     added: &[ArcRec],
     settings: &Settings,
-) -> Result<Vec<u32>, Fail>
+    gate: &G,
+) -> Result<(), Fail>
     requires seeds { AreSeeds csr.now.n EXAMPLE_SEEDS }
     requires ends { IsGraph csr.now.n added.now }
     requires places { length csr.now.arcs + length added.now ≤ MAX_ARCS }
 {
-    let (seeds, gate) = (EXAMPLE_SEEDS, Recorder::new(alloc));
+    let seeds = EXAMPLE_SEEDS;
     let mut plan = Plan::Same(Piece {
         settings: *settings,
         kind: Kind::Locked,
@@ -306,8 +312,8 @@ fn visited_after<H: Threads + Wait + Clock + Abort + Sync>(
     let labels = settle(rt, alloc, csr, &seeds, None, &mut plan)?;
     let rest = settled_pause(alloc, csr, &seeds, labels)?;
     let (grown, rest) = grown_pause(alloc, csr, &seeds, rest, added)?;
-    least_labels_resumed(rt, alloc, &grown, rest, settings, &gate)?;
-    Ok(gate.into_passed())
+    least_labels_resumed(rt, alloc, &grown, rest, settings, gate)?;
+    Ok(())
 }
 
 /// Asserts which vertices that run visits.
@@ -324,7 +330,9 @@ fn expect_visited<H: Threads + Wait + Clock + Abort + Sync>(
     assert!(rt; few);
     for workers in [1, 2] {
         let settings = settings(rt, workers, 4, false);
-        let mut visited = visited_after(rt, alloc, csr, added, &settings)?;
+        let gate = Recorder::new(alloc);
+        go_on_grown(rt, alloc, csr, added, &settings, &gate)?;
+        let mut visited = gate.into_passed();
         // Which of several tails comes first depends on the workers.
         if added.len() > 1 {
             visited.sort()?;
@@ -347,4 +355,20 @@ fn only_what_changes_is_visited(rt: HostRuntime) -> Result<(), Fail> {
     expect_visited(&rt, alloc, &csr, &NO_SHORTER, &[9, 17])?;
     expect_visited(&rt, alloc, &csr, &[], &[])?;
     expect_visited(&rt, alloc, &six(alloc)?, &SHORTER, &[0, 5])
+}
+
+// Where no label falls, nothing is pushed but the tails that are marked: each into a chunk of its own.
+#[test]
+fn tails_of_added_arcs_are_handed_over(rt: HostRuntime) -> Result<(), Fail> {
+    let alloc = rt.alloc();
+    let csr = star(&rt, alloc, 65, 1)?;
+    let fits = fit_rows(csr.n(), &NO_SHORTER) && csr.arc_count() + NO_SHORTER.len() <= MAX_ARCS;
+    assert!(rt; fits);
+    let narrow = settings_of(&rt, 1, 1);
+    for settings in [narrow, narrow.with_widening_buckets()] {
+        let gate = Holding::new(&rt, (0, 0));
+        go_on_grown(&rt, alloc, &csr, &NO_SHORTER, &settings, &gate)?;
+        assert_eq!(rt; gate.chunks.load(Ordering::Relaxed), 2);
+    }
+    Ok(())
 }

@@ -1,13 +1,14 @@
 //! In which order workers visit: what is pushed and what passes the gate.
 
-ghost use Rattle.std.specs.Prelude.{◌≡◌, length};
+ghost use Rattle.std.specs.Prelude.{◌≡◌, length, IfOk};
 
-use crate::tests::graphs::{rows_of, same_labels, star};
+use crate::tests::graphs::{rows_of, same_labels, six, star};
 use crate::tests::pieces::{Kind, Piece, Plan, settle};
 use crate::tests::pools::{FirstIn, Queue, Repeating};
 use crate::tests::settings;
-use crate::{Recorder, run};
-use route_walks::{ArcRec, EXAMPLE_ARCS, EXAMPLE_SEEDS, Seed, arcs, are_seeds};
+use crate::{Closed, OpenGate, Recorder, resume, run, run_for};
+use csr_graph::Csr;
+use route_walks::{ArcRec, EXAMPLE_ARCS, EXAMPLE_SEEDS, INF, Seed, arcs, are_seeds};
 use std::alloc::Global;
 use std::process::Abort;
 use std::sync::Wait;
@@ -15,23 +16,48 @@ use std::test::Fail;
 use std::thread::Threads;
 use std::time::Clock;
 
-/// What one worker does over a pool that gives the first pushed first, on the arcs of `n` vertices, from a
-/// seed at vertex 0: what it pushes, at which metrics, what the gate sees, and the labels.
+/// What one worker does over a pool that gives the first pushed first, on the arcs of `n` vertices: what it is
+/// handed and pushes, at which metrics, what the gate sees, and the labels.
 struct Order {
     n: u32,
     arcs: &'static [ArcRec],
-    start: u64,
+    seeds: &'static [Seed],
     shift: u32,
     pushes: &'static [(u32, u64)],
     visits: &'static [u32],
     labels: &'static [u64],
 }
 
+const LATER: [Seed; 1] = [Seed {
+    vertex: 0,
+    start: 9,
+}];
+
+/// In no order, two of them at one vertex, and one at the last vertex.
+const SEVERAL: [Seed; 4] = [
+    Seed {
+        vertex: 5,
+        start: 0,
+    },
+    Seed {
+        vertex: 4,
+        start: 3,
+    },
+    Seed {
+        vertex: 2,
+        start: 9,
+    },
+    Seed {
+        vertex: 2,
+        start: 1,
+    },
+];
+
 const ORDERS: &[Order] = &[
     Order {
         n: 6,
         arcs: &EXAMPLE_ARCS,
-        start: 0,
+        seeds: &EXAMPLE_SEEDS,
         shift: 0,
         pushes: &[
             (0, 0),
@@ -50,7 +76,7 @@ const ORDERS: &[Order] = &[
     Order {
         n: 6,
         arcs: &EXAMPLE_ARCS,
-        start: 0,
+        seeds: &EXAMPLE_SEEDS,
         shift: 2,
         pushes: &[
             (0, 0),
@@ -69,7 +95,7 @@ const ORDERS: &[Order] = &[
     Order {
         n: 6,
         arcs: &EXAMPLE_ARCS,
-        start: 9,
+        seeds: &LATER,
         shift: 2,
         pushes: &[
             (0, 2),
@@ -89,11 +115,21 @@ const ORDERS: &[Order] = &[
     Order {
         n: 3,
         arcs: &arcs![(0, 1, 9), (0, 1, 4), (1, 2, 1)],
-        start: 0,
+        seeds: &EXAMPLE_SEEDS,
         shift: 0,
         pushes: &[(0, 0), (1, 9), (1, 4), (2, 5)],
         visits: &[0, 1, 2],
         labels: &[0, 4, 5],
+    },
+    // The seeded vertices come first, in the order of their numbers.
+    Order {
+        n: 6,
+        arcs: &EXAMPLE_ARCS,
+        seeds: &SEVERAL,
+        shift: 0,
+        pushes: &[(2, 1), (4, 3), (5, 0), (4, 1), (1, 1), (3, 3)],
+        visits: &[2, 4, 5, 1, 3],
+        labels: &[INF, 1, 1, 3, 1, 0],
     },
 ];
 
@@ -107,12 +143,20 @@ fn labels_of<H: Threads + Wait + Clock + Abort + Sync>(
 ) -> Result<Vec<u64>, Fail>
     requires { length sides.old ≡ 1 }
 {
-    let seeds = [Seed::new(0, order.start)];
     let csr = rows_of(rt, alloc, order.n, order.arcs)?;
-    let within = are_seeds(csr.n(), &seeds);
+    let within = are_seeds(csr.n(), order.seeds);
     assert!(rt; within);
     let settings = settings(rt, 1, order.shift, false);
-    Ok(run(rt, alloc, &csr, &seeds, &settings, &FirstIn, sides, gate)?)
+    Ok(run(
+        rt,
+        alloc,
+        &csr,
+        order.seeds,
+        &settings,
+        &FirstIn,
+        sides,
+        gate,
+    )?)
 }
 
 #[test]
@@ -125,6 +169,49 @@ fn visits_and_pushes_of_one_worker(rt: HostRuntime) -> Result<(), Fail> {
         let pushed = sides[0].pushes.as_slice() == order.pushes;
         let visited = gate.into_passed().as_slice() == order.visits;
         assert!(rt; pushed && visited, "row {row}");
+    }
+    Ok(())
+}
+
+/// After so many visits of the first order a run is paused, and these are handed to the pool as it goes on.
+const HANDED: &[(u64, &[(u32, u64)])] = &[
+    (0, &[(0, 0)]),
+    (1, &[(1, 17), (2, 10)]),
+    (4, &[(4, 10), (5, 22)]),
+];
+
+/// What is handed to a new pool by a run that goes on, but whose worker visits nothing.
+fn handed_after<H: Threads + Wait + Clock + Abort + Sync>(
+    rt: &H,
+    alloc: Global,
+    csr: &Csr,
+    visits: u64,
+) -> Result<Vec<Queue>, Fail>
+    requires { csr.now.n ≡ 6 }
+    ensures { IfOk result (λ sides. length sides.items ≡ 1) }
+{
+    let (seeds, settings) = (EXAMPLE_SEEDS, settings(rt, 1, 0, false));
+    let mut sides = FirstIn::sides(alloc)?;
+    let closed = run_for(
+        rt, alloc, csr, &seeds, &settings, &FirstIn, &mut sides, &OpenGate, visits,
+    )?;
+    let Closed::Paused(rest) = closed else {
+        panic!(rt; "settled");
+    };
+    let mut sides = FirstIn::sides(alloc)?;
+    resume(
+        rt, alloc, csr, &seeds, rest, &settings, &FirstIn, &mut sides, &OpenGate, 0,
+    )?;
+    Ok(sides)
+}
+
+#[test]
+fn marked_vertices_are_handed_over(rt: HostRuntime) -> Result<(), Fail> {
+    let alloc = rt.alloc();
+    let csr = six(alloc)?;
+    for (row, &(visits, handed)) in HANDED.iter().enumerate() {
+        let sides = handed_after(&rt, alloc, &csr, visits)?;
+        assert!(rt; sides[0].pushes.as_slice() == handed, "row {row}");
     }
     Ok(())
 }
@@ -153,7 +240,7 @@ fn a_pool_that_repeats_is_borne(rt: HostRuntime) -> Result<(), Fail> {
 #[test]
 fn a_sweep_of_a_large_star(rt: HostRuntime) -> Result<(), Fail> {
     let alloc = rt.alloc();
-    let csr = star(&rt, alloc, 70_001, 100)?;
+    let csr = star(&rt, alloc, (1 << 20) + 1, 100)?;
     let mut plan = Plan::Same(Piece {
         settings: settings(&rt, 2, 4, false),
         kind: Kind::Useless(false, None),

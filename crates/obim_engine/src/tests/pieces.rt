@@ -92,7 +92,7 @@ where
     }
 }
 
-/// The same over a new pool of the piece's kind.
+/// Goes on from a pause for a while, or begins where there is none, over a new pool of the piece's kind.
 pub(crate) fn go_on<H: Threads + Wait + Clock + Sync>(
     rt: &H,
     alloc: Global,

@@ -8,7 +8,7 @@ pub loop-list-preserved : goal.loop-list-preserved
 loop-list-preserved c bytes =
     all_set (AreRunsOf bytes) c.loop-list.lists c.loop-list.list-index c.clear.new.self
     (omega (arith, c.loop-list-test.true, c.loop-list.auto.lists)) (c.loop-list.invariant bytes)
-    (c.clear.ensures bytes)
+    (c.clear.ensures.runs bytes)
 
 pub returns : goal.returns
 returns c bytes =

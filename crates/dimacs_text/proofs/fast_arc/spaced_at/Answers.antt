@@ -8,9 +8,8 @@ returns-clause-number c =
     let bytes = c.args.bytes.now in
     let start = c.args.start in
     let place = c.digits_at-value.ensures.place in
-    let some = c.if-count-eq0.false in
-    let few = c.if-count-gt-MANY_DIGITS.false in
-    let number = c.digits_at-value.ensures.led (omega arith) in
+    let some = c.if-end-start.false in
+    let number = c.digits_at-value.ensures.led in
     let count = number.count in
     record {
       blank = get_or bytes start 0;

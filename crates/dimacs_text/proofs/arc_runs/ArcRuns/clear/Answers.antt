@@ -3,8 +3,8 @@ use Rattle.std.proofs.lemmas.Grind.{common_steps}
 use Rattle.dimacs_text.specs.reader.ArcRuns.{IsArcRun}
 use Rattle.dimacs_text.proofs.arc_runs.ArcRuns.clear.Goals as goal
 
-pub returns : goal.returns
-returns c bytes =
+pub returns-clause-runs : goal.returns-clause-runs
+returns-clause-runs c bytes =
     let new = c.empty_all.new.runs in
     let runs = c.args.self.now.runs in
     let same : take runs.len (new ++ drop (length new) runs.items) ≡ new =

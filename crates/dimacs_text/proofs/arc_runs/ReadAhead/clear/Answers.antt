@@ -10,7 +10,7 @@ returns c bytes =
     let same : take lists.len (new ++ drop (length new) lists.items) ≡ new =
     grind (arith, common_steps, c.clear_all.auto.lists, c.deref_mut.ensures.len, c.deref_mut.ensures.value) in
     record {
-      one = c.clear.ensures bytes;
-      another = c.clear-2.ensures bytes;
+      one = c.clear.ensures.runs bytes;
+      another = c.clear-2.ensures.runs bytes;
       others = subst (λ l. All (AreRunsOf bytes) l) (sym same) (c.clear_all.ensures bytes);
     }
