@@ -53,7 +53,7 @@ after_relax fell known = record known {
 abbrev pub after_raise : Known → Known
 after_raise known = record known { view = raised known.view }
 
--- set_mark: the flag says whether the mark was set before
+-- `set_mark`: the flag says whether the mark was set before
 abbrev pub after_set_mark : Bool → Known → Known
 after_set_mark was_marked known = record known { view = marked was_marked known.view }
 

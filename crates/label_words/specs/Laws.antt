@@ -61,7 +61,7 @@ ReadIsItsEvent =
     → IsTheEvent (Read s) state words s seat (label_word u) (label_of words u)
     (after_read (label_of words u) seat)
 
--- relax: a fetch_min of the head's label with what the arc offers
+-- relax: a `fetch_min` of the head's label with what the arc offers
 abbrev pub RelaxIsItsEvent : Type 0
 RelaxIsItsEvent =
     (state : State) (words : List ℕ) (s head : ℕ) (seat : Known)
@@ -73,7 +73,7 @@ RelaxIsItsEvent =
     (label_word head) (min (label_of words head) (next_offer seat.graph seat.view.hand))
     (after_relax (nat_lt (next_offer seat.graph seat.view.hand) (label_of words head)) seat)
 
--- raise: a fetch_add of 1 to the total
+-- raise: a `fetch_add` of 1 to the total
 abbrev pub RaiseIsItsEvent : Type 0
 RaiseIsItsEvent =
     (state : State) (words : List ℕ) (s : ℕ) (seat : Known)
@@ -82,7 +82,7 @@ RaiseIsItsEvent =
     → seat.view.credits ≡ 1
     → IsTheEvent (Raise s) state words s seat 0 (total_of words + 1) (after_raise seat)
 
--- set_mark: a swap of the owed mark to 1
+-- `set_mark`: a swap of the owed mark to 1
 abbrev pub SetMarkIsItsEvent : Type 0
 SetMarkIsItsEvent =
     (state : State) (words : List ℕ) (s head : ℕ) (seat : Known)
@@ -93,7 +93,7 @@ SetMarkIsItsEvent =
     → IsTheEvent (SetMark s) state words s seat (mark_word head) 1
     (after_set_mark (nat_lt 0 (slice_index words (mark_word head))) seat)
 
--- finish: a fetch_sub of the credits from the total
+-- finish: a `fetch_sub` of the credits from the total
 abbrev pub FinishIsItsEvent : Type 0
 FinishIsItsEvent =
     (state : State) (words : List ℕ) (s : ℕ) (seat : Known)

@@ -46,7 +46,7 @@ pub record Gains (old new : MirrorSeen) : Type 0 where
   pub gained : All IsNew (drop (length old.accesses) new.accesses)
   pub distinct : AreDistinct (metrics_in new.accesses)
 
--- ---- what put_at and get_at make of a place
+-- ---- what `put_at` and `get_at` make of a place
 
 abbrev pub access_after_put : ChunkSeen → AccessSeen → AccessSeen
 access_after_put chunk place = record place { pass = after_put chunk place.pass }
