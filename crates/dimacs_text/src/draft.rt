@@ -1,7 +1,7 @@
 //! The job as far as it is read.
 
-ghost use Rattle.std.specs.Prelude.{◌≡◌, ◌+◌, ◌*◌, max, ◌≤◌, ◌<◌, ◌^◌, [], length, drop, vec_len, vec_capacity, ℕ, IfErr, IfOk};
-ghost use Rattle.std.specs.Prelude.{OnOk};
+ghost use Rattle.std.specs.Prelude.{◌≡◌, ◌+◌, ◌*◌, max, ◌≤◌, ◌<◌, ◌^◌, [], length, drop, vec_len, vec_capacity, ℕ};
+ghost use Rattle.std.specs.Prelude.{IfErr, IfOk, OnOk};
 ghost use Rattle.std.specs.Prelude.{None, List, All, true, false};
 ghost use Rattle.dimacs_text.specs.reader.Machine.{misfit_at};
 ghost use Rattle.dimacs_text.specs.reader.Entries.{record_of};

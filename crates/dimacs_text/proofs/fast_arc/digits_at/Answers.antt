@@ -27,7 +27,8 @@ loop-count-preserved c =
     let is_digit : is_ascii_digit (get_or bytes at 0) ≡ true =
     sym c.is_ascii_digit.ensures.value ∙ c.if-not-is_ascii_digit.false in
     let large : 47 < get_or bytes at 0 = grind (arith, nat_tests, is_digit) in
-    let next : at + 1 < length bytes = not_last bytes at c.requires.ended here.inside (λ feed. omega (arith, large, feed)) in
+    let next : at + 1 < length bytes =
+    not_last bytes at c.requires.ended here.inside (λ feed. omega (arith, large, feed)) in
     record {
       inside = omega (arith, next);
       led =
