@@ -144,7 +144,8 @@ at_within (x ∷ seats) zero seat at = omega arith
 at_within (x ∷ seats) (suc s) seat at = omega (arith, at_within seats s seat at)
 
 -- a load leaves the words as they were, so the seat stands in lawful words with the total that it found
-seen_lawful : {graph : Graph} {seeds : List Seed} {words : List ℕ} {seats : List Known} {me : Known} (id : ℕ) (w : Known)
+seen_lawful : {graph : Graph} {seeds : List Seed} {words : List ℕ} {seats : List Known} {me : Known} (id : ℕ)
+    (w : Known)
     → AreLawful graph seeds words seats → IsReady me → get_elem? seats id ≡ some me
     → w.graph ≡ me.graph → w.seeds ≡ me.seeds
     → AreLawful graph seeds (set words 0 (total_of words)) (set seats id w) → SeesLawful (total_of words == 0) w
@@ -154,7 +155,8 @@ seen_lawful {words} {seats} {me} id w was ready at graph_is seeds_are now =
       words = words;
       seats = set seats id w;
       lawful =
-          rw (set-get_or words 0 0) at (renamed (sym (graph_is ∙ mine.graph_is)) (sym (seeds_are ∙ mine.seeds_are)) now);
+          let told = renamed (sym (graph_is ∙ mine.graph_is)) (sym (seeds_are ∙ mine.seeds_are)) now in
+          rw (set-get_or words 0 0) at told;
       place = id;
       here = set_here seats id w (at_within seats id me at);
       total = refl;

@@ -193,7 +193,7 @@ fn of_obim_pool_settle(rt: HostRuntime) -> Result<(), Memory> {
 
 fn open_widening(alloc: Global, workers: u32) -> Result<(WideningPool, Vec<ObimSide>), Memory>
     requires { 1 ≤ workers }
-    ensures { IfOk result (λ opened. All (IsSideOf opened.0) opened.1.items) }
+    ensures { IfOk result (λ opened. All (IsSideOf opened.0.log) opened.1.items) }
 {
     WideningPool::open(alloc, workers, 1, Scale::widening())
 }
