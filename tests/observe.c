@@ -1,5 +1,6 @@
-/* Loaded before the C library. As the program ends it writes into the file OBSERVE_LOG the most threads that there were
-   at a time, the first one included, and the bytes of the largest write to standard output. */
+/* Loaded before the C library. Into the file OBSERVE_LOG it writes the most threads that there were at a time, the first
+   one included, and the bytes of the largest write to standard output: anew each time that one of them rises, since the
+   program may end without a word. */
 #define _GNU_SOURCE
 #include <dlfcn.h>
 #include <pthread.h>
@@ -7,15 +8,38 @@
 #include <stdlib.h>
 #include <unistd.h>
 
-static _Atomic long threads = 1;
-static _Atomic long most_threads = 1;
-static _Atomic long largest_write = 0;
+static pthread_mutex_t lock = PTHREAD_MUTEX_INITIALIZER;
+static long threads = 1;
+static long most_threads = 1;
+static long largest_write = 0;
 
-/* Makes the most at least this number. */
-static void raise_to(_Atomic long *most, long number) {
-    long seen = *most;
-    while (seen < number && !__atomic_compare_exchange_n(most, &seen, number, 0, __ATOMIC_SEQ_CST, __ATOMIC_SEQ_CST)) {
+/* Writes the log. The lock is held. */
+static void report(void) {
+    const char *name = getenv("OBSERVE_LOG");
+    FILE *log = name ? fopen(name, "w") : NULL;
+    if (!log) return;
+    fprintf(log, "threads %ld\nlargest write %ld\n", most_threads, largest_write);
+    fclose(log);
+}
+
+/* This many threads more, or fewer. */
+static void count_threads(long more) {
+    pthread_mutex_lock(&lock);
+    threads += more;
+    if (threads > most_threads) {
+        most_threads = threads;
+        report();
     }
+    pthread_mutex_unlock(&lock);
+}
+
+static void count_write(long size) {
+    pthread_mutex_lock(&lock);
+    if (size > largest_write) {
+        largest_write = size;
+        report();
+    }
+    pthread_mutex_unlock(&lock);
 }
 
 struct call {
@@ -27,7 +51,7 @@ static void *counted(void *own) {
     struct call call = *(struct call *)own;
     free(own);
     void *result = call.start(call.argument);
-    --threads;
+    count_threads(-1);
     return result;
 }
 
@@ -38,10 +62,10 @@ int pthread_create(pthread_t *thread, const pthread_attr_t *attr, void *(*start)
     if (!call) abort();
     call->start = start;
     call->argument = argument;
-    raise_to(&most_threads, ++threads);
+    count_threads(1);
     int refused = next(thread, attr, counted, call);
     if (refused) {
-        --threads;
+        count_threads(-1);
         free(call);
     }
     return refused;
@@ -50,14 +74,6 @@ int pthread_create(pthread_t *thread, const pthread_attr_t *attr, void *(*start)
 ssize_t write(int file, const void *bytes, size_t count) {
     static ssize_t (*next)(int, const void *, size_t);
     if (!next) next = dlsym(RTLD_NEXT, "write");
-    if (file == STDOUT_FILENO) raise_to(&largest_write, (long)count);
+    if (file == STDOUT_FILENO) count_write((long)count);
     return next(file, bytes, count);
-}
-
-__attribute__((destructor)) static void report(void) {
-    const char *name = getenv("OBSERVE_LOG");
-    FILE *log = name ? fopen(name, "w") : NULL;
-    if (!log) return;
-    fprintf(log, "threads %ld\nlargest write %ld\n", most_threads, largest_write);
-    fclose(log);
 }
