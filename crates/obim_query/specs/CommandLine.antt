@@ -2,12 +2,14 @@
 --
 -- Which words are values of which option is a matter of clap, whose `matches_of` says it of a command with these
 -- arguments: long and short options, bundles of short ones, `=`, `--`, and the last use of an option counts.
-use Rattle.std.specs.Prelude.{◌≡◌, ℕ, Bool, true, false, List, [], ◌∷◌, codes, Option, Some, None, is_some}
+use Rattle.std.specs.Prelude.{◌≡◌, ◌⊎◌, ℕ, ⊤, Bool, true, false, List, [], ◌∷◌, codes, Option, Some, None, is_some}
 use Rattle.std.specs.Prelude.{not, unwrap_or, ◌==◌, if◌then◌else◌}
 use Rattle.std.specs.Str.Parse.{IsNumeral, digits_value, without_leading_plus}
 use Rattle.clap.specs.Lexer.{usize_max}
 use Rattle.clap.specs.Simple.{new_shape}
-use Rattle.clap.specs.Words.{App, Row, Rule, Text, all_of, first_of, matches_of, new_rule}
+use Rattle.clap.specs.Words.{App, IsAmong, Row, Rule, Text, fault_of, first_of, matches_of, new_rule}
+use Rattle.clap.specs.declared.error.kind.ErrorKind.{ErrorKind}
+use Rattle.clap.specs.declared.error.kind.ErrorKind.TheVariants.{DisplayHelp, DisplayVersion}
 use Rattle.clap.specs.declared.builder.action.ArgAction.TheVariants.{Append, SetTrue}
 use Rattle.obim_engine.specs.declared.settings.TheConstants.{MAX_CHUNK}
 use Rattle.obim_engine.specs.declared.settings.Settings.{Settings}
@@ -17,6 +19,8 @@ use Rattle.job_answer.specs.declared.asked.Answer.TheVariants.{Distances, Levels
 use Rattle.job_answer.specs.declared.asked.AtOnce.{AtOnce}
 use Rattle.job_answer.specs.declared.asked.AtOnce.TheVariants as at_once
 use Rattle.obim_query.specs.declared.command_line.Options.{Options}
+use Rattle.obim_query.specs.declared.command_line.Refusal.{Refusal}
+use Rattle.obim_query.specs.declared.command_line.Refusal.TheVariants as refusal
 use Rattle.obim_query.specs.declared.command_line.TheConstants.{SHARED_CHUNK}
 
 -- ---- the arguments of the command
@@ -130,6 +134,26 @@ pub record AsksFor (rows : List Row) (options : Options) : Type 0 where
   pub stats : IsFlag (first_of (codes "stats") rows) options.stats
   pub progress : IsFlag (first_of (codes "progress") rows) options.progress
 
--- the words, of which the first is the program's name, ask for these options
-abbrev pub WordsAskFor : List Text → Options → Type 0
-WordsAskFor words options = AsksFor (matches_of program words) options
+-- The words, of which the first is the program's name, ask for these options.
+pub record WordsAskFor (words : List Text) (options : Options) : Type 0 where
+  -- clap finds no fault with them
+  pub fit : fault_of program words ≡ []
+  pub ask : AsksFor (matches_of program words) options
+
+-- ---- the words that ask for a text
+
+-- what clap answers in place of an error: the help or the version
+abbrev pub IsTextKind : ErrorKind → Type 0
+IsTextKind kind = (kind ≡ DisplayHelp) ⊎ (kind ≡ DisplayVersion)
+
+-- The words ask for the help or the version.
+pub record AskForText (words : List Text) : Type 0 where
+  pub kind : ErrorKind
+  pub is_text : IsTextKind kind
+  pub found : IsAmong kind (fault_of program words)
+
+-- no answer is asked for, but a text
+abbrev pub IsText : Refusal → Type 0
+IsText (refusal.Text text) = ⊤
+IsText (refusal.Line line) = ⊥
+IsText refusal.Memory = ⊥

@@ -8,7 +8,7 @@ use Rattle.job_answer.specs.declared.fault.Fault.{Fault}
 use Rattle.job_answer.specs.Choices.{status_of}
 use Rattle.job_answer.specs.Outcome.{IsAnswered, IsBegun, IsReply}
 use Rattle.obim_query.specs.declared.command_line.Options.{Options}
-use Rattle.obim_query.specs.CommandLine.{WordsAskFor}
+use Rattle.obim_query.specs.CommandLine.{AskForText, WordsAskFor}
 
 -- 0 after an answer, and else the status of the fault
 abbrev pub status_after : Result (Unit {0}) Fault → ℕ
@@ -48,18 +48,25 @@ pub record HasAnswered (words : List Text) (taken_from taken_to given_from given
   pub asked : WordsAskFor words options
   pub replied : HasReplied options.asked taken_from taken_to given_from given_to status
 
--- the status where the command line is refused, asks for a text, or that can't be printed
+-- the status of a text that is asked for: 0, or 4 if it can't be printed
+abbrev pub IsTextStatus : ℕ → Type 0
+IsTextStatus status = (status ≡ 0) ⊎ (status ≡ 4)
+
+-- the status where the command line is refused or memory for it is, and of a text that is asked for, printed or not
 abbrev pub IsRefusalStatus : ℕ → Type 0
-IsRefusalStatus status = (status ≡ 0) ⊎ (status ≡ 1) ⊎ (status ≡ 3) ⊎ (status ≡ 4)
+IsRefusalStatus status = (status ≡ 1) ⊎ (status ≡ 3) ⊎ IsTextStatus status
 
 -- No answer is begun: the command line is refused, asks for a text, or there is no job. Nothing is taken or written.
-pub record HasNotBegun (taken_from taken_to given_from given_to : Option (List ℕ)) (status : ℕ) : Type 0 where
+pub record HasNotBegun (words : List Text) (taken_from taken_to given_from given_to : Option (List ℕ)) (status : ℕ)
+    : Type 0 where
   pub taken : Keeps taken_from taken_to
   pub written : Keeps given_from given_to
   pub status_is : IsRefusalStatus status
+  -- the status is 0 only where the words ask for the help or the version
+  pub text : IsTextStatus status → AskForText words
 
 -- What a run of the program comes to, on these words.
 abbrev pub HasRun : List Text → Option (List ℕ) → Option (List ℕ) → Option (List ℕ) → Option (List ℕ) → ℕ → Type 0
 HasRun words taken_from taken_to given_from given_to status =
-    HasNotBegun taken_from taken_to given_from given_to status
+    HasNotBegun words taken_from taken_to given_from given_to status
     ⊎ HasAnswered words taken_from taken_to given_from given_to status

@@ -1,8 +1,9 @@
 //! What does the command line ask for?
 
-ghost use Rattle.std.specs.Prelude.{◌≡◌, codes, map, false, IfOk};
-ghost use Rattle.clap.specs.Words.{app_of, first_value, found_of, rows_of, rule_of, with_rule};
-ghost use Rattle.obim_query.specs.CommandLine.{AsksAtOnce, AsksFor, AsksNumber, AsksSettings, IsFlag, NamesKind, WordsAskFor};
+ghost use Rattle.std.specs.Prelude.{◌≡◌, codes, map, false, IfErr, IfOk};
+ghost use Rattle.clap.specs.Words.{app_of, first_value, found_of, kind_of, rows_of, rule_of, with_rule};
+ghost use Rattle.obim_query.specs.CommandLine.{AskForText, AsksAtOnce, AsksFor, AsksNumber, AsksSettings, IsFlag};
+ghost use Rattle.obim_query.specs.CommandLine.{IsText, IsTextKind, NamesKind, WordsAskFor};
 ghost use Rattle.obim_query.specs.CommandLine.{answer_rule, at_once_rule, chunk_rule, operand_rule, shift_rule};
 ghost use Rattle.obim_query.specs.CommandLine.{bare_program, flag, program, usual_chunk, valued, workers_rule};
 
@@ -121,8 +122,36 @@ pub(crate) enum Refusal {
 }
 
 impl From<AllocError> for Refusal {
+    ghost from_gives = { λ _ given. IsText given → ⊥ };
+
     fn from(_refused: AllocError) -> Refusal {
         Refusal::Memory
+    }
+}
+
+/// Why the values of the options ask for no answer.
+#[derive(Drop)]
+enum Misuse {
+    /// What is wrong with them, in a sentence.
+    Line(String),
+    /// The system refused memory.
+    Memory,
+}
+
+impl From<AllocError> for Misuse {
+    fn from(_refused: AllocError) -> Misuse {
+        Misuse::Memory
+    }
+}
+
+impl From<Misuse> for Refusal {
+    ghost from_gives = { λ _ given. IsText given → ⊥ };
+
+    fn from(misuse: Misuse) -> Refusal {
+        match misuse {
+            Misuse::Line(line) => Refusal::Line(line),
+            Misuse::Memory => Refusal::Memory,
+        }
     }
 }
 
@@ -132,17 +161,18 @@ pub(crate) fn parse_options<'a, S: AsStr>(
     alloc: Global,
     arguments: &'a [S],
 ) -> Result<Options, Refusal>
-    ensures { IfOk result (WordsAskFor (map S.text arguments.entry.now)) }
+    ensures asked { IfOk result (WordsAskFor (map S.text arguments.entry.now)) }
+    ensures text { IfErr result (λ refusal. IsText refusal → AskForText (map S.text arguments.entry.now)) }
 {
     let limits = Limits::new(alloc)?;
     match command(alloc, &limits)?.try_get_matches_from(arguments) {
-        Ok(matches) => options_in(alloc, &matches),
+        Ok(matches) => Ok(options_in(alloc, &matches)?),
         Err(error) => Err(refused_by(alloc, error, arguments)),
     }
 }
 
 /// What the values ask for that clap found.
-fn options_in(alloc: Global, matches: &ArgMatches) -> Result<Options, Refusal>
+fn options_in(alloc: Global, matches: &ArgMatches) -> Result<Options, Misuse>
     ensures { IfOk result (AsksFor (rows_of (found_of matches.now))) }
 {
     let typed = has_hyphen(alloc, matches)?;
@@ -151,7 +181,7 @@ fn options_in(alloc: Global, matches: &ArgMatches) -> Result<Options, Refusal>
     let at_once = at_once_in(alloc, matches)?;
     let walks = has_flag(matches, "walks");
     let Some(asked) = Asked::new(answer, settings, walks, MAX_BYTES) else {
-        return Err(Refusal::Line(format!(in alloc; "--walks needs distances or levels")?));
+        return Err(Misuse::Line(format!(in alloc; "--walks needs distances or levels")?));
     };
     Ok(Options {
         asked: asked.with_at_once(at_once),
@@ -169,12 +199,13 @@ fn has_flag(matches: &ArgMatches, flag: &str) -> bool
 }
 
 /// Why clap gave no matches: a text is asked for, or its words in a sentence of ours.
-fn refused_by<S: AsStr>(alloc: Global, error: Error, arguments: &[S]) -> Refusal {
-    if error.kind() == ErrorKind::OutOfMemory {
-        return Refusal::Memory;
-    }
-    if !error.use_stderr() {
-        return Refusal::Text(error);
+fn refused_by<S: AsStr>(alloc: Global, error: Error, arguments: &[S]) -> Refusal
+    ensures { IsText result → IsTextKind (kind_of error) }
+{
+    match error.kind() {
+        ErrorKind::OutOfMemory => return Refusal::Memory,
+        ErrorKind::DisplayHelp | ErrorKind::DisplayVersion => return Refusal::Text(error),
+        _ => {}
     }
     let line = match negative_in(arguments) {
         Some((numbers, text)) if error.kind() == ErrorKind::UnknownArgument => {
@@ -257,11 +288,11 @@ fn similar_in(text: &str) -> Option<&str> {
 }
 
 /// Whether the operand `-`, which is standard input, is there. Each other operand is refused.
-fn has_hyphen(alloc: Global, matches: &ArgMatches) -> Result<bool, Refusal> {
+fn has_hyphen(alloc: Global, matches: &ArgMatches) -> Result<bool, Misuse> {
     let operands = matches.get_strs("operand").unwrap_or(&[]);
     for operand in operands {
         if *operand != "-" {
-            return Err(Refusal::Line(format!(in alloc;
+            return Err(Misuse::Line(format!(in alloc;
                 "unexpected argument '{operand}': \
                  the job comes on standard input: obim_query [OPTIONS] < {operand}"
             )?));
@@ -281,7 +312,7 @@ struct Numbers {
 
 impl Numbers {
     /// The number that the option asks for. There is none where it is left out or `auto`.
-    fn asked_in(self, alloc: Global, matches: &ArgMatches) -> Result<Option<u32>, Refusal>
+    fn asked_in(self, alloc: Global, matches: &ArgMatches) -> Result<Option<u32>, Misuse>
         ensures { IfOk result (AsksNumber (first_value (found_of matches.now) self.option.now)) }
     {
         let Some(text) = matches.get_str(self.option) else {
@@ -292,7 +323,7 @@ impl Numbers {
         }
         match text.parse::<u32>() {
             Ok(number) if self.least <= number && number <= self.most => Ok(Some(number)),
-            _ => Err(Refusal::Line(self.refuse(alloc, text)?)),
+            _ => Err(Misuse::Line(self.refuse(alloc, text)?)),
         }
     }
 
@@ -463,7 +494,7 @@ fn flag<'a>(alloc: Global, name: &'a str, help: &'a str) -> Arg<'a>
         .help(help)
 }
 
-fn settings_in(alloc: Global, matches: &ArgMatches) -> Result<Settings, Refusal>
+fn settings_in(alloc: Global, matches: &ArgMatches) -> Result<Settings, Misuse>
     ensures { IfOk result (AsksSettings (first_value (found_of matches.now) (codes "workers"))
         (first_value (found_of matches.now) (codes "shift")) (first_value (found_of matches.now) (codes "chunk"))) }
 {
@@ -474,7 +505,7 @@ fn settings_in(alloc: Global, matches: &ArgMatches) -> Result<Settings, Refusal>
     };
     let shift = SHIFT.asked_in(alloc, matches)?;
     let Some(settings) = Settings::new(workers, shift.unwrap_or(0), chunk) else {
-        return Err(Refusal::Line(format!(in alloc; "a setting is outside its limits")?));
+        return Err(Misuse::Line(format!(in alloc; "a setting is outside its limits")?));
     };
     match shift {
         Some(_) => Ok(settings),
@@ -482,7 +513,7 @@ fn settings_in(alloc: Global, matches: &ArgMatches) -> Result<Settings, Refusal>
     }
 }
 
-fn at_once_in(alloc: Global, matches: &ArgMatches) -> Result<AtOnce, Refusal>
+fn at_once_in(alloc: Global, matches: &ArgMatches) -> Result<AtOnce, Misuse>
     ensures { IfOk result (AsksAtOnce (first_value (found_of matches.now) (codes "at-once"))) }
 {
     Ok(match AT_ONCE.asked_in(alloc, matches)? {
@@ -503,14 +534,14 @@ fn usual_chunk(workers: u32) -> usize
     }
 }
 
-fn answer_in(alloc: Global, matches: &ArgMatches) -> Result<Answer, Refusal>
+fn answer_in(alloc: Global, matches: &ArgMatches) -> Result<Answer, Misuse>
     ensures { IfOk result (NamesKind (first_value (found_of matches.now) (codes "answer"))) }
 {
     match matches.get_str("answer") {
         None | Some("distances") => Ok(Answer::Distances),
         Some("levels") => Ok(Answer::Levels),
         Some("components") => Ok(Answer::Components),
-        Some(text) => Err(Refusal::Line(format!(in alloc;
+        Some(text) => Err(Misuse::Line(format!(in alloc;
             "invalid value '{text}' for '--answer': {KINDS}"
         )?)),
     }

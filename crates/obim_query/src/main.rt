@@ -11,7 +11,8 @@
 ghost use Rattle.std.specs.Prelude.{◌≡◌, map};
 ghost use Rattle.job_answer.specs.Choices.{status_of};
 ghost use Rattle.job_answer.specs.Outcome.{IsReply};
-ghost use Rattle.obim_query.specs.Replied.{HasReplied, HasRun, IsRefusalStatus};
+ghost use Rattle.obim_query.specs.CommandLine.{IsText};
+ghost use Rattle.obim_query.specs.Replied.{HasReplied, HasRun, IsRefusalStatus, IsTextStatus};
 
 mod command_line;
 mod output;
@@ -105,7 +106,8 @@ fn run<
 
 /// Prints why the command line asks for no answer, and gives the status to end with.
 fn print_refusal<H: Print + Eprint>(rt: &H, refusal: Refusal) -> u8
-    ensures { IsRefusalStatus result }
+    ensures status { IsRefusalStatus result }
+    ensures text { IsTextStatus result → IsText refusal }
 {
     match refusal {
         Refusal::Text(text) => print_clap(rt, &text),
@@ -116,7 +118,7 @@ fn print_refusal<H: Print + Eprint>(rt: &H, refusal: Refusal) -> u8
 
 /// Prints the text that the command line asks for, and gives the status to end with.
 fn print_clap<H: Print + Eprint>(rt: &H, text: &clap::Error) -> u8
-    ensures { IsRefusalStatus result }
+    ensures { IsTextStatus result }
 {
     match text.print(rt) {
         Ok(()) => 0,
