@@ -187,6 +187,7 @@ fn answer_with_figures<H: AllocGlobal + Eprint + Threads + Wait + Clock + Sync, 
     progress.clear();
     replied?;
     progress.end(rt, Phase::Writing);
+    progress.tell_end();
     if options.stats {
         print_stats(rt, asked, &progress.figures, &counter);
     }

@@ -31,7 +31,10 @@ pub(crate) struct Progress<'a, H> {
     shown: Shown,
     bytes: u64,
     lines: u32,
-    /// When the next line is due, by the clock.
+    /// When the job began, and its first query was solved, by the clock.
+    began: Duration,
+    began_queries: Option<Duration>,
+    /// When the next line is due.
     next: Duration,
 }
 
@@ -44,10 +47,11 @@ impl<'a, H: Eprint + Clock> Progress<'a, H> {
             shown,
             bytes: 0,
             lines: 0,
+            began: rt.monotonic().unwrap_or(Duration::ZERO),
+            began_queries: None,
             next: Duration::ZERO,
         };
-        let now = rt.monotonic().unwrap_or(Duration::ZERO);
-        progress.next = now.saturating_add(progress.pace());
+        progress.next = progress.began.saturating_add(progress.pace());
         progress
     }
 
@@ -59,34 +63,50 @@ impl<'a, H: Eprint + Clock> Progress<'a, H> {
         Duration::from_secs(1_u64 << (self.lines.min(MOST_LINES) / LINES_AT_A_PACE))
     }
 
-    /// Whether a line is due. A clock that fails makes none due.
-    fn is_due(&mut self) -> bool {
+    /// The time by the clock, if a line is due. A clock that fails makes none due.
+    fn due(&mut self) -> Option<Duration> {
         if self.shown == Shown::Nowhere || self.lines >= MOST_LINES {
-            return false;
+            return None;
         }
         let Ok(now) = self.rt.monotonic() else {
-            return false;
+            return None;
         };
         if now < self.next {
-            return false;
+            return None;
         }
         if self.shown == Shown::Lines {
             self.lines += 1;
         }
         self.next = now.saturating_add(self.pace());
-        true
+        Some(now)
     }
 
     /// Prints a line, if one is due. Where standard error is closed, nobody reads it.
     fn tell(&mut self, step: Step) {
-        if !self.is_due() {
+        let Some(now) = self.due() else {
+            return;
+        };
+        let line = Line {
+            step,
+            spent: now.saturating_sub(self.began),
+            left: step.left(now.saturating_sub(self.began_queries.unwrap_or(self.began))),
+        };
+        if self.shown == Shown::Terminal {
+            let _ = eprint!(self.rt; "\r\u{1b}[Kobim_query: {line}");
+        } else {
+            let _ = eprintln!(self.rt; "obim_query: {line}");
+        }
+    }
+
+    /// Prints that the answer is whole, if a line was printed before: so a log tells a job that ended from one that
+    /// hangs.
+    pub(crate) fn tell_end(&self) {
+        if self.lines == 0 {
             return;
         }
-        if self.shown == Shown::Terminal {
-            let _ = eprint!(self.rt; "\r\u{1b}[Kobim_query: {step}");
-        } else {
-            let _ = eprintln!(self.rt; "obim_query: {step}");
-        }
+        let now = self.rt.monotonic().unwrap_or(self.began);
+        let spent = now.saturating_sub(self.began).as_secs();
+        let _ = eprintln!(self.rt; "obim_query: answered, {spent} s");
     }
 
     /// Takes the line at a terminal away.
@@ -119,6 +139,9 @@ impl<H: Eprint + Clock> Watch for Progress<'_, H> {
     }
 
     fn see_answered(&mut self, done: usize, all: usize) {
+        if self.began_queries.is_none() {
+            self.began_queries = self.rt.monotonic().ok();
+        }
         self.tell(Step::Answered(done, all));
     }
 
@@ -138,12 +161,46 @@ enum Step {
     Answered(usize, usize),
 }
 
+impl Step {
+    /// How much longer this step may take, if it goes on as it did since it began.
+    fn left(self, spent: Duration) -> Option<Duration> {
+        let (done, all) = match self {
+            Step::Bytes(_) => return None,
+            Step::Arcs(read, all) => (read as u128, all as u128),
+            Step::Answered(done, all) => (done as u128, all as u128),
+        };
+        if done == 0 || done >= all {
+            return None;
+        }
+        let left = spent.as_millis().saturating_mul(all - done) / done;
+        Some(Duration::from_millis(u64::try_from(left).unwrap_or(u64::MAX)))
+    }
+}
+
 impl fmt::Display for Step {
     fn fmt<W: fmt::Write>(&self, f: &mut fmt::Formatter<W>) -> fmt::Result {
         match self {
             Step::Bytes(bytes) => write!(f, "{} MiB read", bytes >> 20),
             Step::Arcs(read, all) => write!(f, "{read} of {all} arcs read"),
             Step::Answered(done, all) => write!(f, "{done} of {all} queries answered"),
+        }
+    }
+}
+
+/// A line: how far the job is, how long it took so far, and how much longer this step may take.
+#[derive(Clone, Copy, Debug)]
+struct Line {
+    step: Step,
+    spent: Duration,
+    left: Option<Duration>,
+}
+
+impl fmt::Display for Line {
+    fn fmt<W: fmt::Write>(&self, f: &mut fmt::Formatter<W>) -> fmt::Result {
+        write!(f, "{}, {} s", self.step, self.spent.as_secs())?;
+        match self.left {
+            Some(left) => write!(f, ", some {} s left", left.as_secs()),
+            None => Ok(()),
         }
     }
 }
