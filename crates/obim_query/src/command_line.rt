@@ -84,10 +84,10 @@ For each source the answer has the line `s V`, and for each vertex a line
 `d V COST`: the least cost of a walk there, or the fewest arcs for levels, or
 `inf` if there is no walk. For each pair it has the line `q S T COST`. With
 --walks a line `w V COST U .. V` follows if there is a walk: its vertices in
-order. For components, the weak ones, the answer has for each vertex `k V LABEL`:
-the least vertex that arcs join to V, whichever way they point. With added arcs
-the line `g K` follows the lines of each source, each pair or the components,
-and then the same lines for the graph with these arcs.
+order. For components, which are the weak ones, the answer has for each vertex
+`k V LABEL`: the least vertex that arcs join to V, whichever way they point.
+With added arcs the line `g K` follows the lines of each source, each pair or
+the components, and then the same lines for the graph with these arcs.
 
 Example:
   $ printf 'p sp 2 1\\na 1 2 7\\np aux sp ss 1\\ns 1\\n' | obim_query
