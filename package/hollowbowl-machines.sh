@@ -22,4 +22,6 @@ END_OF_USAGE
 esac
 script=$folder/$1
 shift
+# Python is needed for this one alone, so it is no command by itself.
+case $script in *.py) exec python3 "$script" "$@" ;; esac
 exec "$script" "$@"
