@@ -36,6 +36,16 @@ function with_links(line, out, all, at) {
     return out line
 }
 
+# with_commands(LINE): the line with the scripts of examples/machines called as they are installed.
+function with_commands(line, out, letter) {
+    while (match(line, /examples\/machines\/[a-z]/)) {
+        letter = substr(line, RSTART + RLENGTH - 1, 1)
+        out = out substr(line, 1, RSTART - 1) "hollowbowl-machines " letter
+        line = substr(line, RSTART + RLENGTH)
+    }
+    return out line
+}
+
 # installed_sentences(LINE): the line without the sentences that hold of the source alone.
 function installed_sentences(line, out, parts, many, i) {
     many = split(line, parts, /[.] /)
@@ -53,13 +63,7 @@ left_out { if (/^<!-- end -->$/) left_out = 0; next }
 !fenced { $0 = with_links($0) }
 {
     gsub(/\.\/obim_query/, "obim_query")
-    line = ""
-    while (match($0, /examples\/machines\/[a-z]/)) {
-        before = substr($0, 1, RSTART - 1)
-        line = line before (before ~ /\/$/ ? substr($0, RSTART, RLENGTH) : "hollowbowl-machines " substr($0, RSTART + RLENGTH - 1, 1))
-        $0 = substr($0, RSTART + RLENGTH)
-    }
-    print line $0
+    print with_commands($0)
 }
 NR == 1 && uses_examples {
     print "\nInstalled. Commands use the folder `examples`. Copy it into a folder of your own, and run them there:"

@@ -1,7 +1,7 @@
 # Checks a list of sources or pairs and prints it: name=SCRIPT [header=yes] awk -f queries.awk <LIST
-# Its lines are `s V` or `q S T`, all of one kind. Comments, blank lines and headers `p aux sp ss K` and `p aux sp p2p K`
-# are dropped. With header=yes a header that counts the lines comes first. If there is any other line, or none, one line
-# on standard error says so, the status is 1, and nothing is printed.
+# Its lines are `s V` or `q S T`, all of one kind. Comments, blank lines and headers `p aux sp ss K` and
+# `p aux sp p2p K` are dropped. With header=yes a header that counts the lines comes first. If there is any other line,
+# or none, one line on standard error says so, the status is 1, and nothing is printed.
 function refuse(text) { print ENVIRON["name"] ": " text >"/dev/stderr"; refused = 1; exit 1 }
 { sub(/\r$/, "") }
 NF == 0 || $1 ~ /^c/ || /^[ \t]*p[ \t]+aux[ \t]+sp[ \t]+(ss|p2p)[ \t]+[0-9]+[ \t]*$/ { next }
