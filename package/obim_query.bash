@@ -1,11 +1,20 @@
-# Completions of obim_query for bash.
+# Completions of obim_query for bash. What is no option and no value is completed as a file name.
 _obim_query() {
-    local word=${COMP_WORDS[COMP_CWORD]}
-    case ${COMP_WORDS[COMP_CWORD - 1]} in
-        --answer | -a) mapfile -t COMPREPLY < <(compgen -W "distances levels components" -- "$word") ;;
-        --at-once | --shift | -s) mapfile -t COMPREPLY < <(compgen -W "auto" -- "$word") ;;
-        --workers | -w | --chunk | -c) COMPREPLY=() ;;
-        *) mapfile -t COMPREPLY < <(compgen -W "--answer --walks --workers --at-once --shift --chunk --progress --stats --help --version" -- "$word") ;;
+    local word=${COMP_WORDS[COMP_CWORD]} before=${COMP_WORDS[COMP_CWORD - 1]} choices=
+    # Bash takes `=` for a word of its own: `--answer=l` is three words.
+    if [[ $word == = ]]; then
+        word=
+    elif [[ $before == = ]]; then
+        before=${COMP_WORDS[COMP_CWORD - 2]}
+    fi
+    case $before in
+        --answer | -a) choices="distances levels components" ;;
+        --at-once | --shift | -s) choices=auto ;;
+        --workers | -w | --chunk | -c) compopt +o bashdefault +o default; return ;;
+        *[\<\>]) return ;;
+        *) choices="-a --answer -W --walks -w --workers --at-once -s --shift -c --chunk --progress --stats
+            -h --help -V --version" ;;
     esac
+    mapfile -t COMPREPLY < <(compgen -W "$choices" -- "$word")
 }
-complete -F _obim_query obim_query
+complete -o bashdefault -o default -F _obim_query obim_query

@@ -1,13 +1,13 @@
 #compdef obim_query
 # Completions of obim_query for zsh.
-_arguments \
-    '(-a --answer)'{-a,--answer}'[what is answered]:kind:(distances levels components)' \
-    '(-W --walks)'{-W,--walks}'[print a walk of fewest arcs for each cost]' \
-    '(-w --workers)'{-w,--workers}'[how many workers, 1 to 64]:count:' \
-    '--at-once[sources solved at the same time, 1 to 64]:count:(auto)' \
-    '(-s --shift)'{-s,--shift}'[bucket width 2^BITS, 0 to 63]:bits:(auto)' \
-    '(-c --chunk)'{-c,--chunk}'[vertices in a chunk, the unit of shared work, 1 to 256]:size:' \
+_arguments -s -S \
+    '(-a --answer)'{-a+,--answer=}'[what is answered]:kind:(distances levels components)' \
+    '(-W --walks)'{-W,--walks}'[print a shortest path for each cost, of fewest arcs]' \
+    '(-w --workers)'{-w+,--workers=}'[how many workers, 1 to 64]:count:' \
+    '--at-once=[sources solved at the same time, 1 to 64]:count:(auto)' \
+    '(-s --shift)'{-s+,--shift=}'[bucket width 2^BITS, 0 to 63]:bits:(auto)' \
+    '(-c --chunk)'{-c+,--chunk=}'[vertices in a chunk, the unit of shared work, 1 to 256]:size:' \
     '--progress[print on standard error how far the answer is]' \
     '--stats[print figures on standard error after the answer]' \
-    '(- *)--help[print help]' \
-    '(- *)--version[print the version]'
+    '(- *)'{-h,--help}'[print help]' \
+    '(- *)'{-V,--version}'[print the version]'

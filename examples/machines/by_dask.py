@@ -3,7 +3,7 @@
 
 SCHEDULER is the address of one that runs, as tcp://host:8786; without it workers are started on this machine. The
 machines have FOLDER, the graph, the program and this folder under the same paths. Called again it makes only what is
-missing.
+missing. A part whose options or text the program refuses is tried once.
 
 AT_ONCE: how many parts this machine makes at the same time where workers are started on it, 1 where it isn't given.
 """
@@ -23,9 +23,11 @@ def missing(folder):
 
 
 def make(script, folder, number):
-    """Runs `part` in a worker. Another worker tries it again where it fails."""
-    subprocess.run([script, folder, str(number)], check=True)
-    return number
+    """Runs `part` in a worker. Where it fails another worker tries again, but with status 1 and 2 it always would."""
+    made = subprocess.run([script, folder, str(number)])
+    if made.returncode > 2 or made.returncode < 0:
+        made.check_returncode()
+    return number, made.returncode == 0
 
 
 def main():
@@ -49,6 +51,8 @@ def main():
         for task in as_completed(tasks):
             if task.status != "finished":
                 print(f"by_dask.py: {task.exception()}", file=sys.stderr)
+            elif not task.result()[1]:
+                print(f"by_dask.py: no other try would make part {task.result()[0]}", file=sys.stderr)
     left = missing(folder)
     if left:
         sys.exit(f"by_dask.py: {len(left)} parts are missing; call it again")
