@@ -248,7 +248,7 @@ def report(found, lacking):
     if found.speeds_not_read:
         say(f"{sum(found.speeds_not_read.values())} maxspeed not read: {most(found.speeds_not_read)}")
     if lacking:
-        say(f"{lacking} of {len(found.numbers)} nodes of roads are not in the map")
+        say(f"nodes of roads that the map lacks: {lacking} of {len(found.numbers)}")
 
 
 def parse():
