@@ -72,9 +72,9 @@ def change(stream, name, changes, out):
 
 
 def main():
-    parser = Arguments(description=__doc__.partition("\n")[0])
-    parser.add_argument("changes", metavar="CHANGES")
-    parser.add_argument("graph", nargs="?", metavar="MAP.gr")
+    parser = Arguments(__doc__)
+    parser.add_argument("changes")
+    parser.add_argument("graph", nargs="?")
     options = parser.parse_args()
     changes = read_changes(options.changes)
     name = options.graph or "standard input"

@@ -18,7 +18,6 @@ A map that is no such XML, was cut off, or has no road is refused, with its line
 and neither file is written.
 """
 
-import argparse
 import bz2
 import gzip
 import math
@@ -252,11 +251,11 @@ def report(found, lacking):
 
 
 def parse():
-    parser = Arguments(description=__doc__, formatter_class=argparse.RawDescriptionHelpFormatter, allow_abbrev=False)
-    parser.add_argument("map", nargs="?", metavar="MAP.osm")
+    parser = Arguments(__doc__)
+    parser.add_argument("map", nargs="?")
     parser.add_argument("--profile", choices=PROFILES, default="car")
     parser.add_argument("--weight", choices=UNITS, default="decimetres")
-    parser.add_argument("--nodes", default="nodes.txt", metavar="FILE")
+    parser.add_argument("--nodes", default="nodes.txt")
     return parser.parse_args()
 
 

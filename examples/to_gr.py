@@ -174,6 +174,15 @@ def run(name, main):
 
 
 class Arguments(argparse.ArgumentParser):
+    """Its help is the text at the head of a script, and what is wrong with the words comes in one line."""
+
+    def __init__(self, text):
+        super().__init__(allow_abbrev=False)
+        self.text = text
+
+    def format_help(self):
+        return self.text
+
     def error(self, message):
         raise Refused(f"{message} (see --help)")
 
@@ -200,16 +209,16 @@ def weight_of(text):
 
 
 def parse():
-    parser = Arguments(description=__doc__, formatter_class=argparse.RawDescriptionHelpFormatter, allow_abbrev=False)
-    parser.add_argument("table", nargs="?", metavar="ROADS.csv")
+    parser = Arguments(__doc__)
+    parser.add_argument("table", nargs="?")
     parser.add_argument("--header", action="store_true")
-    parser.add_argument("--delimiter", type=delimiter_of, default=None)
-    parser.add_argument("--columns", type=columns_of, metavar="FROM,TO,WEIGHT")
-    parser.add_argument("--decimals", type=int, choices=range(10), default=0, metavar="N")
-    parser.add_argument("--weight", type=weight_of, metavar="N")
+    parser.add_argument("--delimiter", type=delimiter_of)
+    parser.add_argument("--columns", type=columns_of)
+    parser.add_argument("--decimals", type=int, choices=range(10), default=0)
+    parser.add_argument("--weight", type=weight_of)
     parser.add_argument("--snap", action="store_true")
     parser.add_argument("--both-ways", action="store_true")
-    parser.add_argument("--names", default="names.txt", metavar="FILE")
+    parser.add_argument("--names", default="names.txt")
     options = parser.parse_args()
     if options.snap:
         if options.delimiter not in (None, "blanks"):
