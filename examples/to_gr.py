@@ -73,6 +73,8 @@ def rows(stream, name, delimiter):
 
 def whole_weight(text, decimals):
     """The whole number of a weight, times 10 to the power of decimals. ValueError says why there is none."""
+    if decimals == 0 and len(text) < 10 and text.isascii() and text.isdigit():
+        return int(text)  # most weights, quickly
     if not re.fullmatch(r"[0-9]+" if decimals == 0 else r"[0-9]*\.?[0-9]+", text):
         raise ValueError(f"weight {text!r} is no {'whole' if decimals == 0 else 'decimal'} number")
     try:
@@ -87,9 +89,10 @@ def whole_weight(text, decimals):
 
 
 def check_name(name):
+    """names.txt has a name a line."""
     if not name:
         raise ValueError("a name is empty")
-    if "\n" in name or "\r" in name or "\0" in name:
+    if not name.isprintable() and not {"\n", "\r", "\0"}.isdisjoint(name):
         raise ValueError(f"name {name!r} has a line break or a zero byte in it")
 
 
