@@ -4,10 +4,7 @@ recipes.py LIBRARY, with the program in the variable PROGRAM. It prints what dif
 """
 
 import heapq
-import io
-import os
 import random
-import subprocess
 import sys
 
 sys.path.insert(0, "examples")
@@ -63,11 +60,6 @@ def by_pandas(arcs):
 
     table = pandas.DataFrame(arcs, columns=["from", "to", "weight"])
     yield distances(table[["from", "to", "weight"]].itertuples(index=False), 0), dijkstra(arcs, 0)
-    job = f"p sp 60 {len(arcs)}\n" + "".join(f"a {u + 1} {v + 1} {w}\n" for u, v, w in arcs) + "p aux sp ss 1\ns 1\n"
-    answer = subprocess.run([os.environ["PROGRAM"]], input=job, stdout=subprocess.PIPE, text=True, check=True).stdout
-    read = pandas.read_csv(io.StringIO(answer), sep=" ", names=["kind", "vertex", "cost"], na_values="inf")
-    reached = read[read["kind"] == "d"].dropna()
-    yield {int(vertex) - 1: cost for vertex, cost in zip(reached["vertex"], reached["cost"])}, dijkstra(arcs, 0)
 
 
 recipes = {"networkx": by_networkx, "igraph": by_igraph, "pandas": by_pandas}
