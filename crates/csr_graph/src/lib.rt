@@ -21,6 +21,3 @@ mod sort;
 
 pub use csr::{Csr, Target};
 pub use route_walks::{MAX_ARCS, MAX_VERTICES};
-
-#[cfg(test)]
-mod tests;

@@ -31,6 +31,3 @@ pub use fault::{LineKind, TextFault};
 pub use form::{MAX_ADDED, MAX_QUERIES, MAX_TEXT_ARCS};
 pub use job::{Ask, Job};
 pub use reader::{JobReader, read_job};
-
-#[cfg(test)]
-mod tests;

@@ -51,6 +51,3 @@ pub use known::Known;
 pub use pause::Paused;
 pub use seat::WorkSeat;
 pub use words::{Step, Words};
-
-#[cfg(test)]
-mod tests;

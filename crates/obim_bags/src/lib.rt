@@ -45,6 +45,3 @@ pub use log::BagLog;
 pub use log_rule::LogKnown;
 pub use mirror::Mirror;
 pub use passes::BagPass;
-
-#[cfg(test)]
-mod tests;

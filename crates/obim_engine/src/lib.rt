@@ -40,6 +40,4 @@ pub use obim_pool::Worklist;
 pub use operators::{components, distances, least_labels, least_labels_resumed, levels};
 pub use runs::{RunFault, resume, run, run_for};
 pub use settings::{MAX_CHUNK, MAX_SHIFT, MAX_WORKERS, Settings};
-
-#[cfg(test)]
-mod tests;
+pub use widths::{Widths, widths_of};

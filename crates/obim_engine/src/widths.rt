@@ -12,15 +12,17 @@ const LIGHT: u64 = 8;
 /// A bucket is at least this power of two of light weights wide, divided by the arcs of a vertex.
 const LIGHT_WEIGHTS: u32 = 3;
 
-/// How wide buckets are.
+/// How wide buckets are. A hint: no label depends on it.
 #[derive(Clone, Copy, Debug, PartialEq, Eq)]
-pub(crate) struct Widths {
+pub struct Widths {
     /// At least 2^`shift` labels.
     pub shift: u32,
     /// By how much wider they are then.
     pub scale: Scale,
 }
 
+/// The widths of the buckets that the operators take where no shift is given, by a sample of the weights.
+///
 /// Where no vertex has a light arc to another one of its bucket, no label falls again. So buckets are as
 /// wide as the light weights of a graph let them be, and narrower where vertices have more arcs.
 ///
@@ -28,7 +30,7 @@ pub(crate) struct Widths {
 /// labels fall again. There are about as many of these as the root of the number of vertices, so that the
 /// looks into empty ones are no more than twice the vertices. In a graph whose arcs are free labels are near
 /// their seeds: there buckets only widen.
-pub(crate) fn widths_of(csr: &Csr) -> Widths {
+pub fn widths_of(csr: &Csr) -> Widths {
     let sample = Sample::of(csr);
     let mean = sample.sum.checked_div(sample.count).unwrap_or(0);
     if mean == 0 {

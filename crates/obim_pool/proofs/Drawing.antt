@@ -5,6 +5,7 @@ use Rattle.std.specs.Prelude.{Option, Box, IfNone, IfSome, sum_by}
 use Rattle.std.specs.declared.alloc.Global.{Global}
 use Rattle.std.proofs.lemmas.List.{append-nil, nil_from_length}
 use Rattle.std.proofs.lemmas.List.Sums.{sum_by-cons}
+use Rattle.obim_bags.proofs.Facts.{some_same}
 use Rattle.obim_bags.specs.BagRule.{WasEmptyIfAlone}
 use Rattle.obim_bags.specs.Chunks.{ChunkSeen}
 use Rattle.obim_bags.specs.Logs.{MirrorSeen, AccessSeen, ChangesAt, WasEmptyIfAloneAt, access_after_empty_find}
@@ -18,10 +19,6 @@ use Rattle.obim_pool.specs.Steps.{FindsEmpty, OneBag}
 pub same_none : (xs : List ℕ) → AreSame [] xs → xs ≡ []
 same_none [] same = refl
 same_none (x ∷ xs) same = absurd (omega (arith, same (λ _. 1), sum_by-cons (λ _. 1) x xs))
-
--- what two finds of one thing found is one
-pub some_same : {A : Type 0} {x y : A} → Some x ≡ Some y → x ≡ y
-some_same same = cc same
 
 -- an empty find at a place of which nothing is held, before and after
 pub finds_bare : (place : ℕ) (old new : MirrorSeen) (old_chunks new_chunks : BagChunks)
@@ -92,14 +89,3 @@ drain_filling_finds place m m' old mid new None changes empty same turned fillin
 pub at_none : {A P : Type 0} (found : Option A) → P → IfNone found P
 at_none None p = p
 at_none (Some x) p = tt
-
--- what follows from what is so where there is none
-pub none_then : {A : Type 0} (P Q : Type 0) (found : Option A) → (P → Q) → IfNone found P → IfNone found Q
-none_then P Q None then' p = then' p
-none_then P Q (Some x) then' p = tt
-
--- what follows from what is so where there is one
-pub some_then : {A : Type 0} (P Q : A → Type 0) (found : Option A) → ((x : A) → P x → Q x) → IfSome found P
-    → IfSome found Q
-some_then P Q None then' p = tt
-some_then P Q (Some x) then' p = then' x p

@@ -1,6 +1,7 @@
 mod Buckets
 mod Changes
 mod Drawing
+pub mod Facts
 mod Growing
 mod Lifting
 mod Looking

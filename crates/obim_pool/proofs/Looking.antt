@@ -13,7 +13,7 @@ use Rattle.obim_pool.specs.Held.{all_held}
 use Rattle.obim_pool.specs.Orders.{IsOrder}
 use Rattle.obim_pool.specs.Sides.{account_in}
 use Rattle.obim_pool.specs.Steps.{AreBare, Draws, FindsEmpty, IsBare, OneBag, OneFind}
-use Rattle.obim_pool.proofs.Drawing.{some_same}
+use Rattle.obim_bags.proofs.Facts.{some_same}
 use Rattle.obim_pool.proofs.Lifting.{Changed, changed_here, set_same}
 
 -- The bags of the order before this rank were found empty, and the account of each from there on is as it was. Of no

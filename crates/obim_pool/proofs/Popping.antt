@@ -18,7 +18,7 @@ use Rattle.obim_pool.specs.Sides.{FoundEmptyAt, HasLookedBelow, IsCurrent, IsSid
 use Rattle.obim_pool.specs.Sides.{Keeps, Pops, PopsNone, SideSeen, account_at, account_in, current_of}
 use Rattle.obim_pool.specs.Steps.{AreBare, Draws, FindsAllEmpty, FindsEmpty, FoundOnceAt, Grows, IsBare, OneBag}
 use Rattle.obim_pool.specs.Steps.{OneFind, PopsLowest, TriesCurrent}
-use Rattle.obim_pool.proofs.Drawing.{some_same}
+use Rattle.obim_bags.proofs.Facts.{some_same}
 use Rattle.obim_pool.proofs.Lifting.{Changed}
 use Rattle.obim_pool.proofs.Looking.{find_looks, looks_same, looks_then}
 use Rattle.obim_pool.proofs.Standing.{seen}

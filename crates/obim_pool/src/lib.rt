@@ -59,6 +59,3 @@ pub use scale::{MOST_BUCKETS, Scale};
 pub use side::ObimSide;
 pub use widening::{BUCKETS, WideningPool, bucket_of};
 pub use worklist::Worklist;
-
-#[cfg(test)]
-mod tests;

@@ -26,6 +26,3 @@ pub use runs::{ReplayFault, replay};
 pub use state::{Core, open_core};
 pub use steps::{CoreFault, apply};
 pub use views::{Hand, SHARES, View};
-
-#[cfg(test)]
-mod tests;

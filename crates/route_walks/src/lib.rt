@@ -17,8 +17,6 @@ pub mod laws;
 mod operators;
 mod plain;
 mod refusal;
-#[cfg(test)]
-mod tests;
 
 pub use checks::{are_seeds, is_graph};
 pub use example::{EXAMPLE_ARCS, EXAMPLE_SEEDS};

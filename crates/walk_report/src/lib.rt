@@ -18,6 +18,3 @@ mod printed;
 pub use hop::{NONE, hops};
 pub use parent::parents;
 pub use printed::walk_to;
-
-#[cfg(test)]
-mod tests;

@@ -2,7 +2,7 @@ use Rattle.std.proofs.Common.{refl}
 use Rattle.obim_pool.specs.Accounts.{Gets}
 use Rattle.obim_pool.specs.Sides.{Keeps, Pops, current_of}
 use Rattle.obim_pool.specs.Steps.{OneFind, TriesCurrent}
-use Rattle.obim_pool.proofs.Drawing.{none_then, some_then}
+use Rattle.obim_bags.proofs.Facts.{none_then, some_then}
 use Rattle.obim_pool.proofs.Lifting.{changed_here}
 use Rattle.obim_pool.proofs.Popping.{change_keeps, current_own, one_of_both, pops_current, tries_current}
 use Rattle.obim_pool.proofs.Standing.{of_sides, side_changes}

@@ -1,4 +1,4 @@
-use Rattle.obim_pool.proofs.Drawing.{none_then, some_then}
+use Rattle.obim_bags.proofs.Facts.{none_then, some_then}
 use Rattle.obim_pool.proofs.Popping.{tried_below, tried_none}
 use Rattle.obim_pool.proofs.side.ObimSide.pop_far.Goals as goal
 

@@ -1,0 +1,116 @@
+//! Each call with one allocation of it refused, inside a worker's push too: `Memory` or `Spawn` then, with a prefix of
+//! the answer, and made once more it writes the answer that was worked by hand. `tests/refusals` refuses each in
+//! turn; `tests/refusals.tsv` has the calls.
+
+use crate::answers::added::{SIX_ADDED, SIX_ADDED_WALKS};
+use crate::answers::at_once::{SIX_SOURCES, SIX_SOURCES_ANSWER, asked_at_once};
+use crate::answers::pairs::{SIX_PAIRS, SIX_PAIRS_ANSWER, SIX_PAIRS_WALKS};
+use crate::answers::{SIX, SIX_WALKS, asked_for_walks, asked_with};
+use job_answer::{Answer, AtOnce, Counter, Fault, Figures, answer, answer_bytes, answer_watched};
+use obim_engine::{Gate, OpenGate};
+use route_walks::{Memory, refusable, tried_again};
+use std::process::Abort;
+use std::test::Fail;
+
+// A writer with room for more than the answer takes no memory of its own.
+const ROOM: usize = 1000;
+
+fn expect_refused(rt: &impl Abort, fault: Fault) {
+    assert!(rt; matches!(fault, Fault::Memory | Fault::Spawn), "{fault:?}");
+}
+
+#[test]
+fn of_answer(rt: HostRuntime) -> Result<(), Fail> {
+    let alloc = rt.alloc();
+    let labels = asked_with(&rt, Answer::Distances, 1000, (2, 4, 16));
+    let three = asked_at_once(&rt, 3, AtOnce::Most(3));
+    let table = [
+        (asked_for_walks(&rt, 1, 1000), SIX, SIX_WALKS),
+        (asked_for_walks(&rt, 2, 1000), SIX, SIX_WALKS),
+        (asked_for_walks(&rt, 2, 1000), SIX_PAIRS, SIX_PAIRS_WALKS),
+        (asked_for_walks(&rt, 2, 1000), SIX_ADDED, SIX_ADDED_WALKS),
+        (labels, SIX_PAIRS, SIX_PAIRS_ANSWER),
+        (three, SIX_SOURCES, SIX_SOURCES_ANSWER),
+    ];
+    for (asked, text, want) in table {
+        let (mut reader, mut same) = (text, text);
+        let mut out = Vec::with_capacity(alloc, ROOM)?;
+        if let Err(fault) = refusable!(
+            alloc,
+            answer(&rt, alloc, &mut reader, &mut out, &asked, &OpenGate)
+        ) {
+            expect_refused(&rt, fault);
+            assert!(rt; want.starts_with(&out));
+            out.clear();
+            answer(&rt, alloc, &mut same, &mut out, &asked, &OpenGate)?;
+        }
+        assert_eq!(rt; out.as_slice(), want);
+    }
+    Ok(())
+}
+
+#[test]
+fn of_answer_watched(rt: HostRuntime) -> Result<(), Fail> {
+    let alloc = rt.alloc();
+    for workers in [1, 2] {
+        let asked = asked_for_walks(&rt, workers, 1000);
+        let (mut reader, mut same) = (SIX, SIX);
+        let mut out = Vec::with_capacity(alloc, ROOM)?;
+        let mut figures = Figures::new(&rt);
+        if let Err(fault) = refusable!(
+            alloc,
+            answer_watched(
+                &rt,
+                alloc,
+                &mut reader,
+                &mut out,
+                &asked,
+                &OpenGate,
+                &mut figures
+            )
+        ) {
+            expect_refused(&rt, fault);
+            assert!(rt; SIX_WALKS.starts_with(&out));
+            out.clear();
+            answer_watched(
+                &rt,
+                alloc,
+                &mut same,
+                &mut out,
+                &asked,
+                &OpenGate,
+                &mut figures,
+            )?;
+        }
+        assert_eq!(rt; out.as_slice(), SIX_WALKS);
+    }
+    Ok(())
+}
+
+#[test]
+fn of_answer_bytes(rt: HostRuntime) -> Result<(), Fail> {
+    let alloc = rt.alloc();
+    for workers in [1, 2] {
+        let asked = asked_for_walks(&rt, workers, 1000);
+        let bytes = match refusable!(alloc, answer_bytes(&rt, alloc, SIX, &asked, &OpenGate)) {
+            Ok(bytes) => bytes,
+            Err(fault) => {
+                expect_refused(&rt, fault);
+                answer_bytes(&rt, alloc, SIX, &asked, &OpenGate)?
+            }
+        };
+        assert_eq!(rt; bytes.as_slice(), SIX_WALKS);
+    }
+    Ok(())
+}
+
+#[test]
+fn of_counter_open(rt: HostRuntime) -> Result<(), Fail> {
+    let alloc = rt.alloc();
+    let counter = tried_again!(rt, alloc, Memory, Counter::open(alloc, 2));
+    counter.pass(&rt, 1, 7);
+    for (worker, visits) in [(0, 0), (1, 1), (2, 0)] {
+        assert_eq!(rt; counter.visits_of(worker), visits);
+    }
+    Ok(())
+}

@@ -1,0 +1,278 @@
+//! Scripts of calls on the words, worked out by hand, and callers that know the words by their contracts.
+
+ghost use Rattle.std.specs.Prelude.{◌≡◌, IfOk};
+ghost use Rattle.relax_core.specs.declared.views.TheConstants.{SHARES};
+ghost use Rattle.label_words.specs.Callers.{Stays};
+ghost use Rattle.label_words.specs.Closed.{IsEnd};
+ghost use Rattle.label_words.specs.Known.{IsIdle};
+ghost use Rattle.label_words.specs.Paused.{IsPause};
+ghost use Rattle.route_walks.specs.Walk.{AreSeeds};
+
+mod callers;
+mod refusals;
+
+use csr_graph::Csr;
+use label_words::{Closed, Paused, Step, Words, WorkSeat};
+use relax_core::{Hand, SHARES};
+use route_walks::{ArcRec, EXAMPLE_SEEDS, INF, Memory, Seed, arcs, are_seeds};
+use std::alloc::Global;
+use std::process::Abort;
+
+const ARCS: [ArcRec; 4] = arcs![(0, 1, 10), (0, 2, 1), (2, 1, 1), (1, 3, 1)];
+
+const SEVERAL: [Seed; 3] = [
+    Seed {
+        vertex: 2,
+        start: 5,
+    },
+    Seed {
+        vertex: 0,
+        start: 3,
+    },
+    Seed {
+        vertex: 2,
+        start: 4,
+    },
+];
+
+// A call, and what it returns.
+#[derive(Clone, Copy)]
+enum Call {
+    Take(u32, bool),
+    Read(u64),
+    Lowers(u32, u64),
+    Raise,
+    SetMark(bool),
+    Finish,
+    See(bool),
+}
+
+use Call::{Finish, Lowers, Raise, Read, See, SetMark, Take};
+
+// What two seats of the words of four vertices do, and what the words are then: settled where no vertex is marked.
+struct Script {
+    seeds: &'static [Seed],
+    // Which of the two seats calls, what it calls, and the credits that it has then.
+    calls: &'static [(u8, Call, u8)],
+    labels: [u64; 4],
+    marked: &'static [u32],
+}
+
+const OPENED: Script = Script {
+    seeds: &EXAMPLE_SEEDS,
+    calls: &[(0, Take(1, false), 0), (1, See(false), 0)],
+    labels: [0, INF, INF, INF],
+    marked: &[0],
+};
+
+const TO_THE_END: Script = Script {
+    seeds: &EXAMPLE_SEEDS,
+    calls: &[
+        (0, Take(0, true), 1),
+        (0, Read(0), 1),
+        (0, Lowers(1, 10), 1),
+        (0, Raise, 2),
+        (0, SetMark(true), 1),
+        (1, Take(1, true), 1),
+        (1, Read(10), 1),
+        (0, Lowers(2, 1), 1),
+        (0, Raise, 2),
+        (0, SetMark(true), 1),
+        (0, Finish, 0),
+        (0, Take(2, true), 1),
+        (0, Read(1), 1),
+        (0, Lowers(1, 2), 1),
+        (0, Raise, 2),
+        (0, SetMark(true), 1),
+        (0, Finish, 0),
+        (1, Lowers(3, 11), 1),
+        (1, Raise, 2),
+        (1, SetMark(true), 1),
+        (1, Finish, 0),
+        (0, Take(1, true), 1),
+        (0, Read(2), 1),
+        (0, Lowers(3, 3), 1),
+        (0, Raise, 2),
+        (0, SetMark(false), 2),
+        (0, Finish, 0),
+        (1, Take(3, true), 1),
+        (1, Read(3), 1),
+        (1, Finish, 0),
+        (0, See(true), 0),
+    ],
+    labels: [0, 2, 1, 3],
+    marked: &[],
+};
+
+const SEVERAL_SEEDS: Script = Script {
+    seeds: &SEVERAL,
+    calls: &[],
+    labels: [3, INF, 4, INF],
+    marked: &[0, 2],
+};
+
+const NO_SEEDS: Script = Script {
+    seeds: &[],
+    calls: &[(0, See(true), 0)],
+    labels: [INF; 4],
+    marked: &[],
+};
+
+fn graph(alloc: Global) -> Result<Csr, Memory>
+    ensures { IfOk result (λ csr. csr.n ≡ 4) }
+{
+    Csr::build(alloc, 4, &ARCS)
+}
+
+// Whether the seat is as the call asks, the call returns what the script says, and the credits are those of the
+// script then.
+fn goes(words: &Words, seat: &mut WorkSeat, csr: &Csr, call: Call, credits: u8) -> bool
+    requires words { seat.old.words ≡ words.now }
+    requires graph { csr.now ≡ seat.old.known.graph }
+    ensures stays { Stays seat.old seat.new }
+{
+    let answers = match (call, seat.hand()) {
+        (Take(u, taken), Hand::Idle) if u < csr.n() => words.take(seat, u) == taken,
+        (Read(label), Hand::Fresh { .. }) => words.read(seat, csr) == label,
+        (Lowers(head, label), Hand::Open { .. }) => {
+            words.relax(seat, csr) == Step::Lowered { head, label }
+        }
+        (Raise, Hand::Owe { .. }) if seat.credits() == 1 => {
+            words.raise(seat);
+            true
+        }
+        (SetMark(new), Hand::Owe { .. }) if seat.credits() == 2 => words.set_mark(seat) == new,
+        (Finish, Hand::Open { .. }) => {
+            let Step::RowEnd = words.relax(seat, csr) else {
+                return false;
+            };
+            words.finish(seat, csr);
+            true
+        }
+        (See(zero), Hand::Idle) => words.see(seat) == zero,
+        _ => false,
+    };
+    answers && seat.credits() == credits
+}
+
+// Stops where something does not hold, and says where in the script.
+fn expect(rt: &impl Abort, holds: bool, what: &str, number: usize) {
+    assert!(rt; holds, "{what} {number}");
+}
+
+// Goes through the calls of a script with two seats of the same words.
+fn go_along(
+    rt: &impl Abort,
+    words: &Words,
+    left: &mut WorkSeat,
+    right: &mut WorkSeat,
+    csr: &Csr,
+    script: &Script,
+)
+    requires words { (left.old.words ≡ words.now) × (right.old.words ≡ words.now) }
+    requires graph { (csr.now ≡ left.old.known.graph) × (csr.now ≡ right.old.known.graph) }
+    ensures left { Stays left.old left.new }
+    ensures right { Stays right.old right.new }
+{
+    for i in 0..script.calls.len() {
+        let (seat, call, credits) = script.calls[i];
+        let went = if seat == 0 {
+            goes(words, left, csr, call, credits)
+        } else {
+            goes(words, right, csr, call, credits)
+        };
+        expect(rt, went, "call", i);
+    }
+}
+
+// Goes through a script with this seat and one that is split off it and joined again.
+fn play(rt: &impl Abort, words: &Words, seat: &mut WorkSeat, csr: &Csr, script: &Script)
+    requires words { seat.old.words ≡ words.now }
+    requires graph { csr.now ≡ seat.old.known.graph }
+    requires idle { IsIdle seat.old }
+    requires share { seat.old.known.view.share ≡ SHARES }
+    ensures words { seat.new.words ≡ words.now }
+    ensures graph { seat.new.known.graph ≡ csr.now }
+    ensures seeds { seat.new.known.seeds ≡ seat.old.known.seeds }
+    ensures idle { IsIdle seat.new }
+    ensures share { seat.new.known.view.share ≡ SHARES }
+{
+    let mut right = words.split(seat);
+    go_along(rt, words, seat, &mut right, csr, script);
+    assert!(rt; seat.hand() == Hand::Idle && right.hand() == Hand::Idle);
+    words.join(seat, right);
+    assert!(rt; seat.share() == SHARES);
+}
+
+// The words give the label of each marked vertex of a script, and no other.
+fn expect_marked_labels(rt: &impl Abort, words: &Words, seat: &WorkSeat, script: &Script)
+    requires words { seat.now.words ≡ words.now }
+    requires vertices { seat.now.known.graph.n ≡ 4 }
+{
+    for v in 0..4_u32 {
+        let place = v as usize;
+        let holds = match words.marked_label(seat, v) {
+            Some(label) => script.marked.contains(&v) && label == script.labels[place],
+            None => !script.marked.contains(&v),
+        };
+        expect(rt, holds, "label of", place);
+    }
+}
+
+// Closes words to what a script says.
+fn close(
+    rt: &impl Abort,
+    alloc: Global,
+    words: Words,
+    seat: WorkSeat,
+    script: &Script,
+) -> Result<Closed, Memory>
+    requires words { seat.words ≡ words }
+    requires vertices { seat.known.graph.n ≡ 4 }
+    requires idle { IsIdle seat }
+    requires share { seat.known.view.share ≡ SHARES }
+    ensures { IfOk result (λ closed. IsEnd seat.known.graph seat.known.seeds closed) }
+{
+    expect_marked_labels(rt, &words, &seat, script);
+    let closed = words.close(alloc, seat)?;
+    for v in 0..4_u32 {
+        let place = v as usize;
+        let (label, marked) = match &closed {
+            Closed::Settled(labels) => (labels[place], false),
+            Closed::Paused(rest) => (rest.labels()[place], rest.marked(v)),
+        };
+        let holds = label == script.labels[place] && marked == script.marked.contains(&v);
+        expect(rt, holds, "vertex", place);
+    }
+    Ok(closed)
+}
+
+// What words were closed to, as a pause.
+fn pause_of(alloc: Global, csr: &Csr, seeds: &[Seed], closed: Closed) -> Result<Paused, Memory>
+    requires seeds { AreSeeds csr.now.n seeds.now }
+    requires end { IsEnd csr.now seeds.now closed }
+    ensures { IfOk result (λ rest. IsPause csr.now seeds.now rest) }
+{
+    let _ = seeds;
+    let _n = csr.n();
+    match closed {
+        Closed::Paused(rest) => Ok(rest),
+        Closed::Settled(labels) => Paused::settled(alloc, labels),
+    }
+}
+
+// Goes through a script from opening to closing. What is left is taken as a pause, and comes back as it was.
+fn open_and_close(rt: &impl Abort, alloc: Global, csr: &Csr, script: &Script) -> Result<(), Memory>
+    requires { csr.now.n ≡ 4 }
+{
+    let sown = are_seeds(csr.n(), script.seeds);
+    assert!(rt; sown);
+    let (words, mut seat) = Words::open(alloc, csr, script.seeds)?;
+    play(rt, &words, &mut seat, csr, script);
+    let closed = close(rt, alloc, words, seat, script)?;
+    let rest = pause_of(alloc, csr, script.seeds, closed)?;
+    let (words, mut seat) = Words::reopen(alloc, csr, &rest)?;
+    words.see(&mut seat);
+    close(rt, alloc, words, seat, script)?;
+    Ok(())
+}

@@ -1,0 +1,180 @@
+//! Runs in pieces, each with settings, a pool and a budget of its own.
+
+ghost use Rattle.std.specs.Prelude.{◌≡◌, length, All, IfOk, IfSome};
+ghost use Rattle.route_walks.specs.Label.{AreLeastLabels};
+ghost use Rattle.route_walks.specs.Walk.{AreSeeds};
+ghost use Rattle.label_words.specs.Closed.{IsEnd};
+ghost use Rattle.label_words.specs.Paused.{IsPause};
+
+use crate::runs::draws::Draws;
+use crate::runs::hostile::Hostile;
+use crate::runs::pools::{Misleading, Useless};
+use csr_graph::Csr;
+use obim_engine::{Closed, OpenGate, Paused, RunFault, Settings, resume, run_for};
+use obim_pool::{LockedPool, ObimPool, Scale, WideningPool, WorkPool};
+use route_walks::Seed;
+use std::alloc::Global;
+use std::process::Abort;
+use std::sync::Wait;
+use std::thread::Threads;
+use std::time::Clock;
+
+/// A pool: those that come with the engine, and callers' own.
+#[derive(Clone, Copy)]
+pub(crate) enum Kind {
+    Locked,
+    Obim,
+    Widening,
+    Misleading,
+    Hostile(Draws),
+    /// Whether it says that it keeps a vertex, and what it gives.
+    Useless(bool, Option<u32>),
+}
+
+/// A part of a run.
+#[derive(Clone, Copy)]
+pub(crate) struct Piece {
+    pub settings: Settings,
+    pub kind: Kind,
+    pub budget: u64,
+}
+
+/// Which pieces a run goes on by: the same one again and again, or others that are drawn.
+#[derive(Clone, Copy)]
+pub(crate) enum Plan {
+    Same(Piece),
+    Drawn(Draws),
+}
+
+impl Plan {
+    pub fn next(&mut self, rt: &impl Abort) -> Piece {
+        match self {
+            Plan::Same(piece) => *piece,
+            Plan::Drawn(draws) => draws.piece(rt),
+        }
+    }
+}
+
+/// No run has more pieces.
+const MOST_PIECES: u32 = 100_000;
+
+/// Goes on from a pause for a while, or begins where there is none.
+fn go_on_over<H: Threads + Wait + Clock + Sync, P: WorkPool + Sync>(
+    rt: &H,
+    alloc: Global,
+    csr: &Csr,
+    seeds: &[Seed],
+    rest: Option<Paused>,
+    piece: &Piece,
+    pool: &P,
+    sides: &mut [P::Side],
+) -> Result<Closed, RunFault>
+where
+    P::Side: Send,
+    requires seeds { AreSeeds csr.now.n seeds.now }
+    requires pause { IfSome rest (λ rest. IsPause csr.now seeds.now rest) }
+    requires workers { length sides.old ≡ piece.now.settings.workers }
+    requires sides { All (P.is_side pool.now) sides.old }
+    ensures { IfOk result (λ closed. IsEnd csr.now seeds.now closed) }
+{
+    let Piece {
+        settings,
+        budget,
+        ..
+    } = *piece;
+    match rest {
+        None => run_for(
+            rt, alloc, csr, seeds, &settings, pool, sides, &OpenGate, budget,
+        ),
+        Some(rest) => resume(
+            rt, alloc, csr, seeds, rest, &settings, pool, sides, &OpenGate, budget,
+        ),
+    }
+}
+
+/// Goes on from a pause for a while, or begins where there is none, over a new pool of the piece's kind.
+pub(crate) fn go_on<H: Threads + Wait + Clock + Sync>(
+    rt: &H,
+    alloc: Global,
+    csr: &Csr,
+    seeds: &[Seed],
+    rest: Option<Paused>,
+    piece: &Piece,
+) -> Result<Closed, RunFault>
+    requires seeds { AreSeeds csr.now.n seeds.now }
+    requires pause { IfSome rest (λ rest. IsPause csr.now seeds.now rest) }
+    ensures { IfOk result (λ closed. IsEnd csr.now seeds.now closed) }
+{
+    let Settings { workers, chunk, .. } = piece.settings;
+    match piece.kind {
+        Kind::Locked => {
+            let (pool, mut sides) = LockedPool::open(alloc, workers)?;
+            go_on_over(rt, alloc, csr, seeds, rest, piece, &pool, &mut sides)
+        }
+        Kind::Obim => {
+            let (pool, mut sides) = ObimPool::open(alloc, workers, chunk)?;
+            go_on_over(rt, alloc, csr, seeds, rest, piece, &pool, &mut sides)
+        }
+        Kind::Widening => {
+            let scale = Scale::new(2, 8);
+            let (pool, mut sides) = WideningPool::open(alloc, workers, chunk, scale)?;
+            go_on_over(rt, alloc, csr, seeds, rest, piece, &pool, &mut sides)
+        }
+        Kind::Misleading => {
+            let (pool, mut sides) = Misleading::open(alloc, workers)?;
+            go_on_over(rt, alloc, csr, seeds, rest, piece, &pool, &mut sides)
+        }
+        Kind::Hostile(draws) => {
+            let (pool, mut sides) = Hostile::open(alloc, workers, draws)?;
+            go_on_over(rt, alloc, csr, seeds, rest, piece, &pool, &mut sides)
+        }
+        Kind::Useless(accepts, gives) => {
+            let pool = Useless { accepts, gives };
+            let mut sides = Useless::sides(alloc, workers)?;
+            go_on_over(rt, alloc, csr, seeds, rest, piece, &pool, &mut sides)
+        }
+    }
+}
+
+/// The pause after a piece that does not come to the end.
+pub(crate) fn pause_after<H: Threads + Wait + Clock + Abort + Sync>(
+    rt: &H,
+    alloc: Global,
+    csr: &Csr,
+    seeds: &[Seed],
+    rest: Option<Paused>,
+    piece: &Piece,
+) -> Result<Paused, RunFault>
+    requires seeds { AreSeeds csr.now.n seeds.now }
+    requires pause { IfSome rest (λ rest. IsPause csr.now seeds.now rest) }
+    ensures { IfOk result (λ rest. IsPause csr.now seeds.now rest) }
+{
+    match go_on(rt, alloc, csr, seeds, rest, piece)? {
+        Closed::Paused(rest) => Ok(rest),
+        Closed::Settled(_) => panic!(rt; "settled"),
+    }
+}
+
+/// The labels at the end, from a pause or from the beginning.
+pub(crate) fn settle<H: Threads + Wait + Clock + Abort + Sync>(
+    rt: &H,
+    alloc: Global,
+    csr: &Csr,
+    seeds: &[Seed],
+    mut rest: Option<Paused>,
+    plan: &mut Plan,
+) -> Result<Vec<u64>, RunFault>
+    requires seeds { AreSeeds csr.now.n seeds.now }
+    requires pause { IfSome rest (λ rest. IsPause csr.now seeds.now rest) }
+    ensures { IfOk result
+        (λ labels. AreLeastLabels csr.now.n csr.now.arcs seeds.now labels.items) }
+{
+    for _ in 0..MOST_PIECES {
+        let piece = plan.next(rt);
+        match go_on(rt, alloc, csr, seeds, rest, &piece)? {
+            Closed::Settled(labels) => return Ok(labels),
+            Closed::Paused(left) => rest = Some(left),
+        }
+    }
+    panic!(rt; "not settled after {MOST_PIECES} pieces")
+}

@@ -1,0 +1,192 @@
+//! Each call with one allocation of it refused, inside a worker's push too: `RunFault::Memory` then, and made once more
+//! it gives the labels that were worked by hand. `tests/refusals` refuses each in turn; `tests/refusals.tsv` has the
+//! calls.
+
+ghost use Rattle.std.specs.Prelude.{IfOk};
+ghost use Rattle.route_walks.specs.Walk.{AreSeeds};
+ghost use Rattle.label_words.specs.Paused.{IsPause};
+
+use crate::runs::graphs::{SIX_LABELS, same_labels, six};
+use crate::runs::growths::{ONE_VISIT, expect_pause};
+use crate::runs::operators::Ask::{self, Components, Distances, Least, Levels, Resumed, Run};
+use crate::runs::operators::labels_of;
+use crate::runs::pieces::{Kind, Piece, Plan, go_on, pause_after, settle};
+use crate::runs::settings;
+use csr_graph::Csr;
+use obim_engine::{Closed, Paused, Recorder, RunFault, Settings};
+use route_walks::{EXAMPLE_SEEDS, Seed, refusable};
+use std::alloc::Global;
+use std::process::Abort;
+use std::sync::Wait;
+use std::test::Fail;
+use std::thread::Threads;
+use std::time::Clock;
+
+// So many workers, and whether buckets widen.
+const SETTINGS: &[(u32, bool)] = &[(1, false), (2, false), (1, true), (2, true)];
+
+// The labels of the six vertices, asked once more where memory was refused.
+fn asked_again<H: Threads + Wait + Clock + Abort + Sync>(
+    rt: &H,
+    alloc: Global,
+    csr: &Csr,
+    ask: Ask,
+    settings: &Settings,
+) -> Result<Vec<u64>, Fail> {
+    match refusable!(alloc, labels_of(rt, alloc, csr, ask, settings)) {
+        Ok(labels) => Ok(labels),
+        Err(fault) => {
+            assert!(rt; fault == RunFault::Memory);
+            Ok(labels_of(rt, alloc, csr, ask, settings)?)
+        }
+    }
+}
+
+fn expect_labels<H: Threads + Wait + Clock + Abort + Sync>(
+    rt: &H,
+    alloc: Global,
+    ask: Ask,
+    want: &[u64],
+) -> Result<(), Fail> {
+    let csr = six(alloc)?;
+    for (row, &(workers, widening)) in SETTINGS.iter().enumerate() {
+        let settings = settings(rt, workers, 4, widening);
+        let labels = asked_again(rt, alloc, &csr, ask, &settings)?;
+        same_labels(rt, row, &labels, want);
+    }
+    Ok(())
+}
+
+#[test]
+fn of_run(rt: HostRuntime) -> Result<(), Fail> {
+    expect_labels(&rt, rt.alloc(), Run(&EXAMPLE_SEEDS), &SIX_LABELS)
+}
+
+#[test]
+fn of_distances(rt: HostRuntime) -> Result<(), Fail> {
+    expect_labels(&rt, rt.alloc(), Distances(0), &SIX_LABELS)
+}
+
+#[test]
+fn of_levels(rt: HostRuntime) -> Result<(), Fail> {
+    expect_labels(&rt, rt.alloc(), Levels(0), &[0, 1, 1, 2, 2, 3])
+}
+
+#[test]
+fn of_components(rt: HostRuntime) -> Result<(), Fail> {
+    expect_labels(&rt, rt.alloc(), Components, &[0; 6])
+}
+
+#[test]
+fn of_least_labels(rt: HostRuntime) -> Result<(), Fail> {
+    expect_labels(&rt, rt.alloc(), Least(&EXAMPLE_SEEDS), &SIX_LABELS)
+}
+
+#[test]
+fn of_least_labels_resumed(rt: HostRuntime) -> Result<(), Fail> {
+    expect_labels(&rt, rt.alloc(), Resumed(&EXAMPLE_SEEDS), &SIX_LABELS)
+}
+
+// A pool that comes with the engine, and how many workers.
+const POOLS: &[(Kind, u32)] = &[
+    (Kind::Locked, 1),
+    (Kind::Locked, 2),
+    (Kind::Obim, 1),
+    (Kind::Obim, 2),
+];
+
+// The pause after a piece, which is made once more where memory was refused.
+fn begun_again<H: Threads + Wait + Clock + Abort + Sync>(
+    rt: &H,
+    alloc: Global,
+    csr: &Csr,
+    seeds: &[Seed],
+    piece: &Piece,
+) -> Result<Paused, Fail>
+    requires { AreSeeds csr.now.n seeds.now }
+    ensures { IfOk result (λ rest. IsPause csr.now seeds.now rest) }
+{
+    match refusable!(alloc, pause_after(rt, alloc, csr, seeds, None, piece)) {
+        Ok(rest) => Ok(rest),
+        Err(fault) => {
+            assert!(rt; fault == RunFault::Memory);
+            Ok(pause_after(rt, alloc, csr, seeds, None, piece)?)
+        }
+    }
+}
+
+// What a pause comes to. After a refusal it is gone, and the run goes on from the same one.
+fn gone_on_again<H: Threads + Wait + Clock + Abort + Sync>(
+    rt: &H,
+    alloc: Global,
+    csr: &Csr,
+    seeds: &[Seed],
+    rest: Paused,
+    same: Paused,
+    piece: &Piece,
+) -> Result<Closed, Fail>
+    requires seeds { AreSeeds csr.now.n seeds.now }
+    requires rest { IsPause csr.now seeds.now rest }
+    requires same { IsPause csr.now seeds.now same }
+{
+    match refusable!(alloc, go_on(rt, alloc, csr, seeds, Some(rest), piece)) {
+        Ok(closed) => Ok(closed),
+        Err(fault) => {
+            assert!(rt; fault == RunFault::Memory);
+            Ok(go_on(rt, alloc, csr, seeds, Some(same), piece)?)
+        }
+    }
+}
+
+// A run leaves what one worker's first visit leaves, and goes on to the end from there.
+#[test]
+fn of_run_for(rt: HostRuntime) -> Result<(), Fail> {
+    let (alloc, seeds) = (rt.alloc(), EXAMPLE_SEEDS);
+    let csr = six(alloc)?;
+    for (row, &(kind, workers)) in POOLS.iter().enumerate() {
+        let settings = settings(&rt, workers, 4, false);
+        let piece = Piece {
+            settings,
+            kind,
+            budget: 1,
+        };
+        let rest = begun_again(&rt, alloc, &csr, &seeds, &piece)?;
+        if workers == 1 {
+            expect_pause(&rt, row, &rest, &ONE_VISIT, &[1, 2]);
+        }
+        let mut plan = Plan::Same(piece);
+        let labels = settle(&rt, alloc, &csr, &seeds, Some(rest), &mut plan)?;
+        same_labels(&rt, row, &labels, &SIX_LABELS);
+    }
+    Ok(())
+}
+
+#[test]
+fn of_resume(rt: HostRuntime) -> Result<(), Fail> {
+    let (alloc, seeds) = (rt.alloc(), EXAMPLE_SEEDS);
+    let csr = six(alloc)?;
+    for (row, &(kind, workers)) in POOLS.iter().enumerate() {
+        let settings = settings(&rt, workers, 4, false);
+        let mut piece = Piece {
+            settings,
+            kind,
+            budget: 1,
+        };
+        let rest = pause_after(&rt, alloc, &csr, &seeds, None, &piece)?;
+        let same = pause_after(&rt, alloc, &csr, &seeds, None, &piece)?;
+        piece.budget = u64::MAX;
+        match gone_on_again(&rt, alloc, &csr, &seeds, rest, same, &piece)? {
+            Closed::Settled(labels) => same_labels(&rt, row, &labels, &SIX_LABELS),
+            Closed::Paused(_) => assert!(rt; false, "row {row}: paused"),
+        }
+    }
+    Ok(())
+}
+
+#[test]
+fn of_recorder_new(rt: HostRuntime) -> Result<(), Fail> {
+    let alloc = rt.alloc();
+    let gate = refusable!(alloc, Recorder::new(alloc));
+    assert!(rt; gate.into_passed().is_empty());
+    Ok(())
+}

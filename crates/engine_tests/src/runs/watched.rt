@@ -1,0 +1,145 @@
+//! What a gate and a pool see of workers: their numbers, and marks before pushes; and workers that yield at random.
+
+ghost use Rattle.std.specs.Prelude.{⊤};
+
+use crate::runs::gates::settings_of;
+use crate::runs::graphs::{random_arcs, rows_of, same_labels, star};
+use crate::runs::pools::{Unused, Useless};
+use crate::runs::settings;
+use obim_engine::{Gate, OpenGate, Yielding, distances, run};
+use obim_pool::WorkPool;
+use route_walks::EXAMPLE_SEEDS;
+use std::sync::Wait;
+use std::sync::atomic::{AtomicU64, Ordering};
+use std::test::Fail;
+use std::thread::yield_now;
+
+/// A worker waits this many turns at most.
+const TURNS: u32 = 10_000_000;
+
+/// Holds each worker at its first leaf until each of the workers has one, and keeps their numbers.
+#[derive(Drop)]
+struct Numbers {
+    /// A bit for each worker that came.
+    came: AtomicU64,
+    /// The bits of all workers.
+    all: u64,
+}
+
+impl Gate for Numbers {
+    fn pass<H: Wait>(&self, _rt: &H, worker: u32, vertex: u32) {
+        let bit = 1_u64 << worker.min(63);
+        if vertex == 0 || self.came.fetch_or(bit, Ordering::SeqCst) & bit != 0 {
+            return;
+        }
+        for _ in 0..TURNS {
+            if self.came.load(Ordering::SeqCst) == self.all {
+                return;
+            }
+            yield_now();
+        }
+    }
+}
+
+/// So many workers, and a bit for each.
+const NUMBERS: &[(u32, u64)] = &[(1, 0b1), (2, 0b11), (4, 0b1111)];
+
+#[test]
+fn each_worker_has_its_number(rt: HostRuntime) -> Result<(), Fail> {
+    let alloc = rt.alloc();
+    let csr = star(&rt, alloc, 65, 1)?;
+    for &(workers, all) in NUMBERS {
+        let came = AtomicU64::new(0);
+        let gate = Numbers { came, all };
+        distances(&rt, alloc, &csr, 0, &settings_of(&rt, workers, 1), &gate)?;
+        assert!(rt;
+            gate.came.load(Ordering::SeqCst) == all,
+            "{workers} workers"
+        );
+    }
+    Ok(())
+}
+
+/// Gives vertex 1 to the other worker at once, and keeps the one that pushed it in its push until the other has popped
+/// again.
+#[derive(Drop)]
+struct Relay {
+    /// The vertex that waits, and 1 more; 0 where none does.
+    waiting: AtomicU64,
+    /// How many pops there were since vertex 1 was given, that one counted.
+    pops: AtomicU64,
+    /// As many as there were when vertex 1 was visited.
+    pops_at_visit: AtomicU64,
+}
+
+impl WorkPool for Relay {
+    type Side = Unused;
+
+    ghost is_side = { λ _ _. ⊤ };
+
+    fn push<H: Wait>(&self, _rt: &H, _side: &mut Unused, v: u32, _metric: u64) -> bool {
+        self.waiting.store(u64::from(v) + 1, Ordering::SeqCst);
+        for _ in 0..TURNS {
+            if v == 0 || self.pops.load(Ordering::SeqCst) > 1 {
+                break;
+            }
+            yield_now();
+        }
+        true
+    }
+
+    fn pop<H: Wait>(&self, _rt: &H, _side: &mut Unused) -> Option<u32> {
+        let found = self.waiting.swap(0, Ordering::SeqCst);
+        if found == 2 || self.pops.load(Ordering::SeqCst) > 0 {
+            self.pops.fetch_add(1, Ordering::SeqCst);
+        }
+        u32::try_from(found.checked_sub(1)?).ok()
+    }
+}
+
+impl Gate for Relay {
+    fn pass<H: Wait>(&self, _rt: &H, _worker: u32, vertex: u32) {
+        if vertex == 1 {
+            let pops = self.pops.load(Ordering::SeqCst);
+            self.pops_at_visit.store(pops, Ordering::SeqCst);
+        }
+    }
+}
+
+// A vertex is marked before it is pushed: a worker that is given it at once visits it.
+#[test]
+fn a_vertex_is_marked_before_it_is_pushed(rt: HostRuntime) -> Result<(), Fail> {
+    let (alloc, seeds) = (rt.alloc(), EXAMPLE_SEEDS);
+    let csr = star(&rt, alloc, 2, 1)?;
+    let relay = Relay {
+        waiting: AtomicU64::new(0),
+        pops: AtomicU64::new(0),
+        pops_at_visit: AtomicU64::new(0),
+    };
+    let mut sides = Useless::sides(alloc, 2)?;
+    let settings = settings(&rt, 2, 0, false);
+    let labels = run(
+        &rt, alloc, &csr, &seeds, &settings, &relay, &mut sides, &relay,
+    )?;
+    same_labels(&rt, 0, &labels, &[0, 1]);
+    assert!(rt; relay.pops_at_visit.load(Ordering::SeqCst) == 1);
+    Ok(())
+}
+
+// Workers that are held back at random, on a graph that has many bags: the same labels each time.
+#[test]
+fn workers_that_yield_at_random(rt: HostRuntime) -> Result<(), Fail> {
+    let (alloc, n) = (rt.alloc(), 100_000);
+    let csr = rows_of(&rt, alloc, n, &random_arcs(alloc, n, 400_000)?)?;
+    let one = distances(&rt, alloc, &csr, 0, &settings(&rt, 1, 7, false), &OpenGate)?;
+    for round in 0..40_u32 {
+        for workers in [2, 4, 8] {
+            let gate = Yielding::new(u64::from(round * 8 + workers));
+            let settings = settings(&rt, workers, 3 + round % 8, false);
+            let labels = distances(&rt, alloc, &csr, 0, &settings, &gate)?;
+            let same = labels.as_slice() == one.as_slice();
+            assert!(rt; same, "round {round}, workers {workers}");
+        }
+    }
+    Ok(())
+}

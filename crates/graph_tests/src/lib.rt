@@ -1,0 +1,13 @@
+//! What do the public calls on graphs and walks do that no contract says?
+//!
+//! Tests of `route_walks`, `csr_graph` and `walk_report`, which know their public calls and contracts alone. They stand
+//! in a crate of their own, since a crate is proved once more for the tests that it has.
+
+#![tactic(auto)]
+
+#[cfg(test)]
+mod reports;
+#[cfg(test)]
+mod rows;
+#[cfg(test)]
+mod walks;

@@ -1,0 +1,47 @@
+//! Each call that takes memory, with one allocation of it refused: `Memory` then, and made once more it gives the
+//! walks that were worked by hand. `tests/refusals` refuses each in turn; `tests/refusals.tsv` has the calls.
+
+use crate::reports::{build, distances};
+use route_walks::{EXAMPLE_ARCS, Memory, tried_again};
+use std::test::Fail;
+use walk_report::{NONE, hops, parents, walk_to};
+
+// Hops and parents of the six vertices from the first.
+const HOPS: [u32; 6] = [0, 3, 1, 4, 2, 5];
+
+const PARENTS: [u32; 6] = [NONE, 4, 0, 1, 2, 3];
+
+#[test]
+fn of_hops(rt: HostRuntime) -> Result<(), Fail> {
+    let alloc = rt.alloc();
+    let csr = build(&rt, alloc, 6, &EXAMPLE_ARCS)?;
+    let labels = distances(alloc, &csr, 0)?;
+    let hops = tried_again!(rt, alloc, Memory, hops(alloc, &csr, &labels, 0));
+    assert_eq!(rt; hops.as_slice(), HOPS.as_slice());
+    Ok(())
+}
+
+#[test]
+fn of_parents(rt: HostRuntime) -> Result<(), Fail> {
+    let alloc = rt.alloc();
+    let csr = build(&rt, alloc, 6, &EXAMPLE_ARCS)?;
+    let labels = distances(alloc, &csr, 0)?;
+    let hops = hops(alloc, &csr, &labels, 0)?;
+    let parents = tried_again!(rt, alloc, Memory, parents(alloc, &csr, &labels, &hops));
+    assert_eq!(rt; parents.as_slice(), PARENTS.as_slice());
+    Ok(())
+}
+
+#[test]
+fn of_walk_to(rt: HostRuntime) -> Result<(), Fail> {
+    let alloc = rt.alloc();
+    let csr = build(&rt, alloc, 6, &EXAMPLE_ARCS)?;
+    let labels = distances(alloc, &csr, 0)?;
+    let hops = hops(alloc, &csr, &labels, 0)?;
+    let parents = parents(alloc, &csr, &labels, &hops)?;
+    assert_eq!(rt; hops.len(), 6);
+    let walk = tried_again!(rt, alloc, Memory, walk_to(alloc, &hops, &parents, 5));
+    let want = Some([0, 2, 4, 1, 3, 5].as_slice());
+    assert!(rt; walk.as_ref().map(|walk| walk.as_slice()) == want);
+    Ok(())
+}

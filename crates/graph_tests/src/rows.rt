@@ -1,0 +1,174 @@
+//! A graph of six vertices, whose places were worked out by hand.
+
+ghost use Rattle.std.specs.Prelude.{◌<◌, ◌≤◌, ◌≡◌, ◌^◌, length, IfOk};
+ghost use Rattle.route_walks.specs.Walk.{IsGraph};
+ghost use Rattle.route_walks.specs.declared.graph.TheConstants.{MAX_VERTICES};
+
+mod refusals;
+
+use csr_graph::{Csr, MAX_ARCS, Target};
+use route_walks::{ArcRec, EXAMPLE_ARCS, Memory, arcs, both_ways, is_graph};
+use std::alloc::Global;
+use std::process::Abort;
+use std::test::Fail;
+
+// The arcs of the example, not by tail: two leave 3 and come last here.
+const GIVEN: [ArcRec; 8] = arcs![
+    (4, 1, 0),
+    (0, 1, 17),
+    (1, 3, 2),
+    (0, 2, 10),
+    (2, 4, 0),
+    (4, 5, 20),
+    (3, 2, 0),
+    (3, 5, 3),
+];
+
+/// These arcs turned round, by tail.
+const ENTERING: [ArcRec; 8] = arcs![
+    (1, 0, 17),
+    (1, 4, 0),
+    (2, 0, 10),
+    (2, 3, 0),
+    (3, 1, 2),
+    (4, 2, 0),
+    (5, 3, 3),
+    (5, 4, 20),
+];
+
+const ADDED: [ArcRec; 1] = arcs![(0, 5, 4)];
+
+/// The example with the added arc, which comes after the arcs that leave 0.
+const GROWN: [ArcRec; 9] = arcs![
+    (0, 1, 17),
+    (0, 2, 10),
+    (0, 5, 4),
+    (1, 3, 2),
+    (2, 4, 0),
+    (3, 2, 0),
+    (3, 5, 3),
+    (4, 1, 0),
+    (4, 5, 20),
+];
+
+/// The rows of `GIVEN`.
+fn six(rt: &impl Abort, alloc: Global) -> Result<Csr, Fail>
+    ensures { IfOk result (λ csr. csr.n ≡ 6 × length csr.arcs ≡ 8) }
+{
+    assert!(rt; is_graph(6, &GIVEN));
+    Ok(Csr::build(alloc, 6, &GIVEN)?)
+}
+
+/// Looks whether a graph has this number of vertices and these arcs, by tail.
+fn expect_rows(
+    rt: &impl Abort,
+    alloc: Global,
+    csr: &Csr,
+    n: u32,
+    arcs: &[ArcRec],
+) -> Result<(), Fail> {
+    assert_eq!(rt; (csr.n(), csr.arc_count()), (n, arcs.len()));
+    assert!(rt; csr.arcs(alloc)?.as_slice() == arcs);
+    Ok(())
+}
+
+/// Looks where the row of a vertex begins and ends.
+fn expect_row(rt: &impl Abort, csr: &Csr, u: u32, first: usize, end: usize)
+    requires { u < csr.now.n }
+{
+    assert_eq!(rt; csr.first(u), first, "first of {u}");
+    assert_eq!(rt; csr.end(u), end, "end of {u}");
+}
+
+/// Looks whether an arc is at a place.
+fn expect_arc(rt: &impl Abort, csr: &Csr, k: usize, arc: ArcRec)
+    requires { k < length csr.now.arcs }
+{
+    assert_eq!(rt; csr.arc(k), arc, "at {k}");
+    let Target { head, weight } = csr.target(k);
+    assert_eq!(rt; (head, weight), (arc.head, arc.weight), "at {k}");
+}
+
+#[test]
+fn rows_of_six_vertices(rt: HostRuntime) -> Result<(), Fail> {
+    let csr = six(&rt, rt.alloc())?;
+    for (u, first, end) in [
+        (0, 0, 2),
+        (1, 2, 3),
+        (2, 3, 4),
+        (3, 4, 6),
+        (4, 6, 8),
+        (5, 8, 8),
+    ] {
+        expect_row(&rt, &csr, u, first, end);
+    }
+    expect_rows(&rt, rt.alloc(), &csr, 6, &EXAMPLE_ARCS)
+}
+
+#[test]
+fn arcs_of_six_vertices(rt: HostRuntime) -> Result<(), Fail> {
+    let csr = six(&rt, rt.alloc())?;
+    for (k, arc) in EXAMPLE_ARCS.iter().enumerate() {
+        expect_arc(&rt, &csr, k, *arc);
+    }
+    Ok(())
+}
+
+#[test]
+fn a_graph_without_vertices(rt: HostRuntime) -> Result<(), Fail> {
+    let csr = Csr::build(rt.alloc(), 0, &[])?;
+    expect_rows(&rt, rt.alloc(), &csr, 0, &[])
+}
+
+/// A number below `bound`, drawn by Knuth's multiplier and increment for numbers of 64 bits.
+fn draw(state: &mut u64, bound: u32) -> u32
+    requires { 0 < bound }
+{
+    *state = state
+        .wrapping_mul(6364136223846793005)
+        .wrapping_add(1442695040888963407);
+    (*state >> 33) as u32 % bound
+}
+
+/// Arcs among n vertices, in no order.
+fn drawn(alloc: Global, n: u32, count: usize) -> Result<Vec<ArcRec>, Memory>
+    requires { 0 < n }
+{
+    let mut state = 1;
+    let mut arcs = Vec::with_capacity(alloc, count)?;
+    for _ in 0..count {
+        let (tail, head) = (draw(&mut state, n), draw(&mut state, n));
+        arcs.push(ArcRec::new(tail, head, draw(&mut state, 256)))?;
+    }
+    Ok(arcs)
+}
+
+/// The arcs that `drawn` gives, of which rows can be made, also both ways.
+fn graph_of(rt: &impl Abort, alloc: Global, n: u32, count: usize) -> Result<Vec<ArcRec>, Fail>
+    requires { 0 < n }
+    ensures few { IfOk result (λ arcs. length arcs.items ≤ 2 ^ 30) }
+    ensures ends { IfOk result (λ arcs. IsGraph n arcs.items) }
+{
+    let arcs = drawn(alloc, n, count)?;
+    assert!(rt; is_graph(n, &arcs) && arcs.len() <= 1 << 30);
+    Ok(arcs)
+}
+
+// Arcs that stand by rising tail are sorted by two threads, each of which takes some of them.
+#[test]
+fn rows_of_arcs_by_rising_tail(rt: HostRuntime) -> Result<(), Fail> {
+    let (alloc, n) = (rt.alloc(), 700);
+    let csr = Csr::build(alloc, n, &graph_of(&rt, alloc, n, 70_000)?)?;
+    let again = Csr::build_from(&rt, alloc, n, csr.arcs(alloc)?, 2)?;
+    expect_rows(&rt, alloc, &again, n, &csr.arcs(alloc)?)
+}
+
+/// The rows of the list of arcs both ways.
+fn both_rows(rt: &impl Abort, alloc: Global, n: u32, arcs: &[ArcRec]) -> Result<Vec<ArcRec>, Fail>
+    requires vertices { n ≤ MAX_VERTICES }
+    requires few { length arcs.now ≤ 2 ^ 30 }
+{
+    let both = both_ways(alloc, arcs)?;
+    assert!(rt; is_graph(n, &both));
+    Ok(Csr::build(alloc, n, &both)?.arcs(alloc)?)
+}

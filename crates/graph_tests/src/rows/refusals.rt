@@ -1,0 +1,84 @@
+//! Each call that takes memory, with one allocation of it refused: `Memory` then, and made once more it gives the
+//! rows that were worked by hand. `tests/refusals` refuses each in turn; `tests/refusals.tsv` has the calls.
+
+use crate::rows::{ADDED, ENTERING, GIVEN, GROWN, both_rows, expect_rows, graph_of, six};
+use csr_graph::Csr;
+use route_walks::{EXAMPLE_ARCS, Memory, is_graph, tried_again};
+use std::test::Fail;
+
+// No arc; few, which are sorted as they stand; and as many as are put into bins by two threads.
+const SIZES: [(u32, usize); 3] = [(1, 0), (10, 64), (4, 65_600)];
+
+#[test]
+fn of_csr_build(rt: HostRuntime) -> Result<(), Fail> {
+    let alloc = rt.alloc();
+    assert!(rt; is_graph(6, &GIVEN));
+    let csr = tried_again!(rt, alloc, Memory, Csr::build(alloc, 6, &GIVEN));
+    expect_rows(&rt, alloc, &csr, 6, &EXAMPLE_ARCS)
+}
+
+#[test]
+fn of_csr_build_from(rt: HostRuntime) -> Result<(), Fail> {
+    let alloc = rt.alloc();
+    for (n, count) in SIZES {
+        let arcs = graph_of(&rt, alloc, n, count)?;
+        let same = graph_of(&rt, alloc, n, count)?;
+        let rows = Csr::build(alloc, n, &arcs)?.arcs(alloc)?;
+        let csr = tried_again!(
+            rt,
+            alloc,
+            Memory,
+            Csr::build_from(&rt, alloc, n, arcs, 2),
+            Csr::build_from(&rt, alloc, n, same, 2)
+        );
+        expect_rows(&rt, alloc, &csr, n, &rows)?;
+    }
+    Ok(())
+}
+
+#[test]
+fn of_csr_build_both_ways(rt: HostRuntime) -> Result<(), Fail> {
+    let alloc = rt.alloc();
+    for (n, count) in SIZES {
+        let arcs = graph_of(&rt, alloc, n, count)?;
+        let same = graph_of(&rt, alloc, n, count)?;
+        let rows = both_rows(&rt, alloc, n, &arcs)?;
+        let csr = tried_again!(
+            rt,
+            alloc,
+            Memory,
+            Csr::build_both_ways(&rt, alloc, n, arcs, 2),
+            Csr::build_both_ways(&rt, alloc, n, same, 2)
+        );
+        expect_rows(&rt, alloc, &csr, n, &rows)?;
+    }
+    Ok(())
+}
+
+#[test]
+fn of_csr_arcs(rt: HostRuntime) -> Result<(), Fail> {
+    let alloc = rt.alloc();
+    let csr = six(&rt, alloc)?;
+    let arcs = tried_again!(rt, alloc, Memory, csr.arcs(alloc));
+    assert!(rt; arcs.as_slice() == EXAMPLE_ARCS.as_slice());
+    Ok(())
+}
+
+#[test]
+fn of_csr_reversed(rt: HostRuntime) -> Result<(), Fail> {
+    let alloc = rt.alloc();
+    let csr = six(&rt, alloc)?;
+    let reversed = tried_again!(rt, alloc, Memory, csr.reversed(alloc));
+    expect_rows(&rt, alloc, &reversed, 6, &ENTERING)
+}
+
+// After a refusal the graph is as it was.
+#[test]
+fn of_csr_with_arcs(rt: HostRuntime) -> Result<(), Fail> {
+    let alloc = rt.alloc();
+    assert!(rt; is_graph(6, &ADDED));
+    let csr = six(&rt, alloc)?;
+    let grown = tried_again!(rt, alloc, Memory, csr.with_arcs(alloc, &ADDED));
+    expect_rows(&rt, alloc, &grown, 6, &GROWN)?;
+    expect_rows(&rt, alloc, &csr, 6, &EXAMPLE_ARCS)
+}

@@ -1,7 +1,0 @@
-use Rattle.std.proofs.Common.{◌≡◌}
-use Rattle.relax_core.specs.declared.views.Hand.TheVariants.{Idle}
-use Rattle.label_words.specs.Callers.{Stays}
-use Rattle.label_words.proofs.tests.callers.sweep_thrice.Given as goal
-
-abbrev pub invariant-loop : goal.invariant-loop
-invariant-loop l = Stays l.fn.seat l.seat × (l.seat.known.view.hand ≡ Idle)

@@ -1,5 +1,0 @@
-use Rattle.label_words.specs.Callers.{Stays}
-use Rattle.label_words.proofs.tests.go_along.Given as goal
-
-abbrev pub invariant-loop-i : goal.invariant-loop-i
-invariant-loop-i g l = Stays l.fn.left l.left × Stays l.fn.right l.right

@@ -1,6 +1,0 @@
--- The mirror stays one of the log.
-use Rattle.std.proofs.Common.{◌≡◌}
-use Rattle.obim_bags.proofs.tests.refusals.put_each_at.Given as goal
-
-abbrev pub invariant-loop-serial : goal.invariant-loop-serial
-invariant-loop-serial g l = l.mirror.log ≡ l.log

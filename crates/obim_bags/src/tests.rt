@@ -1,8 +1,0 @@
-mod bags;
-mod callers;
-mod chunks;
-mod faults;
-mod helpers;
-mod logs;
-mod refusals;
-mod threads;

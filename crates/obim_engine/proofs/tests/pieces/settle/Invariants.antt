@@ -1,6 +1,0 @@
-use Rattle.std.proofs.Common.{IfSome}
-use Rattle.label_words.specs.Paused.{IsPause}
-use Rattle.obim_engine.proofs.tests.pieces.settle.Given as goal
-
-abbrev pub invariant-loop : goal.invariant-loop
-invariant-loop g l = IfSome l.rest (λ rest. IsPause l.csr l.seeds rest)

@@ -1,6 +1,0 @@
--- It is a side of the pool.
-use Rattle.obim_pool.specs.Sides.{IsSideOf}
-use Rattle.obim_pool.proofs.tests.callers.pop_to_end.Given as goal
-
-abbrev pub invariant-loop : goal.invariant-loop
-invariant-loop g l = IsSideOf l.pool l.side

@@ -1,5 +1,0 @@
--- The side stays one of the pool.
-use Rattle.obim_pool.proofs.tests.calls.gives.Given as goal
-
-abbrev pub invariant-loop-want : goal.invariant-loop-want
-invariant-loop-want g l = g.P.WorkPool.is_side l.pool l.side

@@ -1,5 +1,0 @@
--- The side stays one of the pool.
-use Rattle.obim_pool.proofs.tests.calls.takes_all.Given as goal
-
-abbrev pub invariant-loop-at : goal.invariant-loop-at
-invariant-loop-at g l = g.P.WorkPool.is_side l.pool l.side

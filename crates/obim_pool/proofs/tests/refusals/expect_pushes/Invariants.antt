@@ -1,5 +1,0 @@
--- The side stays one of the pool.
-use Rattle.obim_pool.proofs.tests.refusals.expect_pushes.Given as goal
-
-abbrev pub invariant-loop-v : goal.invariant-loop-v
-invariant-loop-v g l = g.P.WorkPool.is_side l.pool l.side

@@ -1,5 +1,0 @@
--- The side stays one of the pool.
-use Rattle.obim_pool.proofs.tests.threads.pop_rest.Given as goal
-
-abbrev pub invariant-loop : goal.invariant-loop
-invariant-loop g l = g.P.WorkPool.is_side l.pool l.side

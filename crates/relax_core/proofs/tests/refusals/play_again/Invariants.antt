@@ -1,5 +1,0 @@
-use Rattle.relax_core.specs.State.{IsOf}
-use Rattle.relax_core.proofs.tests.refusals.play_again.Given as goal
-
-abbrev pub invariant-loop-i : goal.invariant-loop-i
-invariant-loop-i g l = IsOf l.csr l.core

@@ -1,5 +1,0 @@
-use Rattle.relax_core.specs.State.{IsOf}
-use Rattle.relax_core.proofs.tests.refusals.split_again.Given as goal
-
-abbrev pub invariant-loop : goal.invariant-loop
-invariant-loop g l = IsOf l.csr l.core

@@ -1,0 +1,22 @@
+//! What a fault says of itself.
+
+use obim_bags::{Full, LogFault, SettleFault};
+use std::alloc::Global;
+use std::fmt::Display;
+use std::process::Abort;
+
+// What a fault says of itself is this text.
+fn expect_text<T: Display>(rt: &impl Abort, alloc: Global, fault: &T, text: &str) {
+    let said = format!(in alloc; "{fault}").expect(rt, "memory for a text");
+    assert_eq!(rt; said.as_str(), text);
+}
+
+#[test]
+fn each_fault_has_its_text(rt: HostRuntime) {
+    let alloc = rt.alloc();
+    expect_text(&rt, alloc, &Full, "chunk is full");
+    expect_text(&rt, alloc, &SettleFault::Missing, "passes are missing");
+    expect_text(&rt, alloc, &SettleFault::Memory, "out of memory");
+    expect_text(&rt, alloc, &LogFault::Memory, "out of memory");
+    expect_text(&rt, alloc, &LogFault::Taken, "the log was drained");
+}

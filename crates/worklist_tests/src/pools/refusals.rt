@@ -1,0 +1,223 @@
+//! Each call on a pool that may be refused memory, with one allocation of it refused: no vertex that was pushed is
+//! lost or comes twice, and a refused push leaves the current metric. `tests/refusals` refuses each in turn;
+//! `tests/refusals.tsv` has the calls.
+
+ghost use Rattle.std.specs.Prelude.{◌≤◌, All, IfOk};
+ghost use Rattle.obim_pool.specs.Sides.{IsSideOf};
+
+use crate::pools::calls::expect_calls;
+use crate::pools::obim::{LEFT, PUSHES, expect_left, open_pool};
+use obim_bags::SettleFault;
+use obim_pool::{LockedPool, ObimPool, ObimSide, Scale, WideningPool, WorkPool};
+use route_walks::{Memory, refusable};
+use std::alloc::Global;
+use std::process::Abort;
+use std::sync::Wait;
+
+// The first vertices have a metric each, of which the last is the lowest. All others have that one: more than a
+// block of a bag's queue has chunks, so that some put takes memory for the next block.
+const METRICS: u32 = 12;
+
+const VERTICES: u32 = 52;
+
+fn metric_of(v: u32) -> u64 {
+    u64::from(METRICS.saturating_sub(v).max(1))
+}
+
+// Pushes a vertex. A refused push leaves the current metric: the vertex that was pushed last comes out then.
+fn push_again<P: WorkPool, R: Wait + Abort>(
+    rt: &R,
+    alloc: Global,
+    pool: &P,
+    side: &mut P::Side,
+    v: u32,
+) -> Result<(), Memory>
+    requires { P.is_side pool.now side.old }
+    ensures { P.is_side pool.now side.new }
+{
+    if refusable!(alloc, pool.push(rt, side, v, metric_of(v))) {
+        return Ok(());
+    }
+    if v > 0 && v < METRICS {
+        let last = v.saturating_sub(1);
+        assert!(rt; pool.pop(rt, side) == Some(last));
+        assert!(rt; pool.push(rt, side, last, metric_of(last)));
+    }
+    assert!(rt; pool.push(rt, side, v, metric_of(v)));
+    Ok(())
+}
+
+// Notes a vertex that was popped, and was not before.
+fn note(rt: &impl Abort, popped: &mut u64, v: u32) {
+    assert!(rt; v < VERTICES);
+    let bit = 1_u64 << v;
+    assert!(rt; *popped & bit == 0, "vertex {v} comes twice");
+    *popped |= bit;
+}
+
+// A side pushes all vertices and pops them. Each comes once, by rising metric.
+fn expect_pushes<P: WorkPool, R: Wait + Abort>(
+    rt: &R,
+    alloc: Global,
+    pool: &P,
+    sides: &mut [P::Side],
+)
+    requires { All (P.is_side pool.now) sides.old }
+{
+    assert!(rt; sides.len() == 1);
+    let side = &mut sides[0];
+    for v in 0..VERTICES {
+        assert!(rt; push_again(rt, alloc, pool, side, v).is_ok());
+    }
+    expect_rising(rt, pool, side);
+}
+
+fn expect_rising<P: WorkPool, R: Wait + Abort>(rt: &R, pool: &P, side: &mut P::Side)
+    requires { P.is_side pool.now side.old }
+{
+    let (mut popped, mut metric) = (0, 0);
+    for _ in 0..VERTICES {
+        let v = pool.pop(rt, side).expect(rt, "a vertex that was pushed");
+        note(rt, &mut popped, v);
+        assert!(rt; metric <= metric_of(v), "vertex {v} comes late");
+        metric = metric_of(v);
+    }
+    assert!(rt; pool.pop(rt, side).is_none());
+}
+
+// One side pushes all vertices, and the other pops them.
+fn expect_pops<P: WorkPool, R: Wait + Abort>(rt: &R, alloc: Global, pool: &P, sides: &mut [P::Side])
+    requires { All (P.is_side pool.now) sides.old }
+{
+    assert!(rt; sides.len() == 2);
+    push_plainly(rt, pool, &mut sides[0]);
+    assert!(rt; pop_again(rt, alloc, pool, &mut sides[1]).is_ok());
+    assert!(rt; pool.pop(rt, &mut sides[0]).is_none());
+}
+
+fn push_plainly<P: WorkPool, R: Wait + Abort>(rt: &R, pool: &P, side: &mut P::Side)
+    requires { P.is_side pool.now side.old }
+    ensures { P.is_side pool.now side.new }
+{
+    for v in 0..VERTICES {
+        assert!(rt; pool.push(rt, side, v, metric_of(v)));
+    }
+}
+
+// A refused pop goes on with the bags that its side has, and where it has none gives none, once.
+fn pop_again<P: WorkPool, R: Wait + Abort>(
+    rt: &R,
+    alloc: Global,
+    pool: &P,
+    side: &mut P::Side,
+) -> Result<(), Memory>
+    requires { P.is_side pool.now side.old }
+    ensures { P.is_side pool.now side.new }
+{
+    let mut popped = 0;
+    for _ in 0..=VERTICES {
+        if let Some(v) = refusable!(alloc, pool.pop(rt, side)) {
+            note(rt, &mut popped, v);
+        }
+    }
+    assert!(rt; popped == (1 << VERTICES) - 1 && pool.pop(rt, side).is_none());
+    Ok(())
+}
+
+fn opens_locked(alloc: Global) -> bool {
+    LockedPool::open(alloc, 2).is_ok()
+}
+
+#[test]
+fn of_locked_pool_open(rt: HostRuntime) -> Result<(), Memory> {
+    let alloc = rt.alloc();
+    let opened = refusable!(alloc, opens_locked(alloc));
+    assert!(rt; opened || opens_locked(alloc));
+    Ok(())
+}
+
+#[test]
+fn of_locked_pool_push(rt: HostRuntime) {
+    let (pool, mut sides) = LockedPool::open(rt.alloc(), 1).expect(&rt, "memory for a pool");
+    expect_pushes(&rt, rt.alloc(), &pool, &mut sides);
+}
+
+#[test]
+fn of_locked_pool_pop(rt: HostRuntime) {
+    let (pool, mut sides) = LockedPool::open(rt.alloc(), 2).expect(&rt, "memory for a pool");
+    expect_pops(&rt, rt.alloc(), &pool, &mut sides);
+}
+
+fn opens_obim(alloc: Global) -> bool {
+    ObimPool::open(alloc, 2, 1).is_ok()
+}
+
+#[test]
+fn of_obim_pool_open(rt: HostRuntime) -> Result<(), Memory> {
+    let alloc = rt.alloc();
+    let opened = refusable!(alloc, opens_obim(alloc));
+    assert!(rt; opened || opens_obim(alloc));
+    Ok(())
+}
+
+#[test]
+fn of_obim_pool_push(rt: HostRuntime) {
+    let (pool, mut sides) = open_pool(&rt, rt.alloc(), 1, 1);
+    expect_pushes(&rt, rt.alloc(), &pool, &mut sides);
+}
+
+#[test]
+fn of_obim_pool_pop(rt: HostRuntime) {
+    let (pool, mut sides) = open_pool(&rt, rt.alloc(), 2, 1);
+    expect_pops(&rt, rt.alloc(), &pool, &mut sides);
+}
+
+// Settles a pool with a full chunk in each of two bags. False where memory is refused.
+fn settle<R: Wait + Abort>(rt: &R, alloc: Global) -> Result<bool, Memory> {
+    let (pool, mut sides) = open_pool(rt, alloc, 1, 2);
+    expect_calls(rt, &pool, &mut sides, 0, &[(0, PUSHES)]);
+    let settled = refusable!(alloc, pool.settle(rt, alloc, sides));
+    if let Err(SettleFault::Memory) = settled {
+        return Ok(false);
+    }
+    expect_left(rt, 0, settled, LEFT);
+    Ok(true)
+}
+
+#[test]
+fn of_obim_pool_settle(rt: HostRuntime) -> Result<(), Memory> {
+    let settled = settle(&rt, rt.alloc())? || settle(&rt, rt.alloc())?;
+    assert!(rt; settled);
+    Ok(())
+}
+
+fn open_widening(alloc: Global, workers: u32) -> Result<(WideningPool, Vec<ObimSide>), Memory>
+    requires { 1 ≤ workers }
+    ensures { IfOk result (λ opened. All (IsSideOf opened.0.log) opened.1.items) }
+{
+    WideningPool::open(alloc, workers, 1, Scale::widening())
+}
+
+fn opens_widening(alloc: Global) -> bool {
+    open_widening(alloc, 2).is_ok()
+}
+
+#[test]
+fn of_widening_pool_open(rt: HostRuntime) -> Result<(), Memory> {
+    let alloc = rt.alloc();
+    let opened = refusable!(alloc, opens_widening(alloc));
+    assert!(rt; opened || opens_widening(alloc));
+    Ok(())
+}
+
+#[test]
+fn of_widening_pool_push(rt: HostRuntime) {
+    let (pool, mut sides) = open_widening(rt.alloc(), 1).expect(&rt, "memory for a pool");
+    expect_pushes(&rt, rt.alloc(), &pool, &mut sides);
+}
+
+#[test]
+fn of_widening_pool_pop(rt: HostRuntime) {
+    let (pool, mut sides) = open_widening(rt.alloc(), 2).expect(&rt, "memory for a pool");
+    expect_pops(&rt, rt.alloc(), &pool, &mut sides);
+}
