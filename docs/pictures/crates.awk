@@ -1,5 +1,5 @@
 # Draws the crates of crates.txt in layers: each above those that it stands on. An arrow that follows from others is
-# left out, and so are the crates of the toolchain.
+# left out, and so are the crates of the toolchain and those of tests.
 function stands_on(above, below, i, parts, count) {
     count = split(below_of[above], parts, " ")
     for (i = 1; i <= count; i++) if (parts[i] == below || stands_on(parts[i], below)) return 1
@@ -25,7 +25,7 @@ BEGIN {
     column["walk_report"] = 4.2
 }
 
-/^[a-z_]+:/ {
+/^[a-z_]+:/ && !/_tests:/ {
     crate = substr($1, 1, length($1) - 1)
     order[++crates] = crate
     for (i = 2; i <= NF; i++) if ($i in layer) {
