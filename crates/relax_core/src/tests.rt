@@ -133,8 +133,8 @@ fn expect_pending(rt: &impl Abort, core: &Core, total: u64, i: usize) {
     assert_eq!(rt; core.pending(), total, "after event {i}");
 }
 
-// What a core says is what stands after event i, which is that of the row.
-fn stands(rt: &impl Abort, core: &Core, csr: &Csr, row: &Row, i: usize)
+// What a core says is what stands in the row, which is that of event i.
+fn stands_as(rt: &impl Abort, core: &Core, csr: &Csr, row: &Row, i: usize)
     requires vertices { csr.now.n ≡ 4 }
     requires belongs { IsOf csr.now core.now }
 {
@@ -145,6 +145,15 @@ fn stands(rt: &impl Abort, core: &Core, csr: &Csr, row: &Row, i: usize)
     }
     expect_pending(rt, core, total, i);
     expect_seat(rt, core.views().get(seat_of(event)), (hand, credits), i);
+}
+
+// What a core says is what stands after event i of the schedule.
+fn stands(rt: &impl Abort, core: &Core, csr: &Csr, i: usize)
+    requires vertices { csr.now.n ≡ 4 }
+    requires belongs { IsOf csr.now core.now }
+    requires place { i < 33 }
+{
+    stands_as(rt, core, csr, &row(i), i);
 }
 
 // Does a schedule to a core that is just open, and looks at it after each event.
@@ -160,7 +169,7 @@ fn play(
 {
     for (i, row) in rows.iter().enumerate() {
         apply(alloc, core, csr, row.0)?;
-        stands(rt, core, csr, row, i);
+        stands_as(rt, core, csr, row, i);
     }
     Ok(())
 }
@@ -213,7 +222,7 @@ fn the_schedule_by_replay(rt: HostRuntime) -> Result<(), Fail> {
     for i in 0..33_usize {
         assert!(rt; i < events.len());
         let core = replay(rt.alloc(), &csr, &EXAMPLE_SEEDS, &events[..i + 1])?;
-        stands(&rt, &core, &csr, &row(i), i);
+        stands(&rt, &core, &csr, i);
     }
     Ok(())
 }

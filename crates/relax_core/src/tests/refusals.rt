@@ -73,7 +73,7 @@ fn play_again(rt: &impl Abort, alloc: Global, core: &mut Core, csr: &Csr) -> Res
 {
     for i in 0..33_usize {
         apply_again(rt, alloc, core, csr, row(i).0)?;
-        stands(rt, core, csr, &row(i), i);
+        stands(rt, core, csr, i);
     }
     Ok(())
 }
@@ -119,13 +119,13 @@ fn expect_stop_again(rt: &impl Abort, alloc: Global, csr: &Csr) -> Result<(), Fa
 fn of_replay(rt: HostRuntime) -> Result<(), Fail> {
     let alloc = rt.alloc();
     let csr = graph(alloc)?;
-    let (events, last) = (events(alloc)?, row(32));
+    let events = events(alloc)?;
     let core = tried_again!(
         rt,
         alloc,
         ReplayFault::Memory,
         replay(alloc, &csr, &EXAMPLE_SEEDS, &events)
     );
-    stands(&rt, &core, &csr, &last, 32);
+    stands(&rt, &core, &csr, 32);
     expect_stop_again(&rt, alloc, &csr)
 }
