@@ -1,4 +1,4 @@
-//! One schedule of two seats over four vertices, worked out by hand, and short lists of events.
+//! Two schedules over four vertices, worked out by hand, one of which keeps credits, and short lists of events.
 
 ghost use Rattle.std.specs.Prelude.{◌≡◌, ◌<◌, IfOk};
 ghost use Rattle.relax_core.specs.State.{IsOf};
@@ -6,8 +6,10 @@ ghost use Rattle.relax_core.specs.State.{IsOf};
 mod refusals;
 
 use csr_graph::Csr;
-use relax_core::Event::{Finish, Join, Raise, Read, Relax, See, SetMark, Split, Take};
-use relax_core::Hand::{Fresh, Idle, Open, Owe};
+use relax_core::Event::{
+    Finish, Join, Keep, Raise, RaiseBy, Read, Relax, Return, See, SetMark, Split, Take,
+};
+use relax_core::Hand::{Fresh, Idle, Kept, Open, Owe};
 use relax_core::{Core, Event, Hand, ReplayFault, SHARES, View, apply, open_core, replay};
 use route_walks::{ArcRec, EXAMPLE_SEEDS, INF, Seed, arcs, are_seeds};
 use std::alloc::Global;
@@ -63,6 +65,35 @@ const SCHEDULE: [Row; 33] = rows![
     Join(0, 1) => Idle, 0, 0, [0, 2, 1, 3], [0, 0, 0, 0];
 ];
 
+// One seat that raises three credits at once and keeps what is left, from vertex to vertex.
+const KEPT_SCHEDULE: [Row; 25] = rows![
+    Take(0, 0) => Fresh { u: 0 }, 1, 1, [0, INF, INF, INF], [0, 0, 0, 0];
+    Read(0) => Open { u: 0, d: 0, k: 0 }, 1, 1, [0, INF, INF, INF], [0, 0, 0, 0];
+    Relax(0) => Owe { u: 0, d: 0, k: 1, head: 1 }, 1, 1, [0, 10, INF, INF], [0, 0, 0, 0];
+    RaiseBy(0, 3) => Owe { u: 0, d: 0, k: 1, head: 1 }, 4, 4, [0, 10, INF, INF], [0, 0, 0, 0];
+    SetMark(0) => Open { u: 0, d: 0, k: 1 }, 3, 4, [0, 10, INF, INF], [0, 1, 0, 0];
+    Relax(0) => Owe { u: 0, d: 0, k: 2, head: 2 }, 3, 4, [0, 10, 1, INF], [0, 1, 0, 0];
+    SetMark(0) => Open { u: 0, d: 0, k: 2 }, 2, 4, [0, 10, 1, INF], [0, 1, 1, 0];
+    Keep(0) => Kept, 2, 4, [0, 10, 1, INF], [0, 1, 1, 0];
+    Take(0, 3) => Kept, 2, 4, [0, 10, 1, INF], [0, 1, 1, 0];
+    Take(0, 2) => Fresh { u: 2 }, 3, 4, [0, 10, 1, INF], [0, 1, 0, 0];
+    Read(0) => Open { u: 2, d: 1, k: 3 }, 3, 4, [0, 10, 1, INF], [0, 1, 0, 0];
+    Relax(0) => Owe { u: 2, d: 1, k: 4, head: 1 }, 3, 4, [0, 2, 1, INF], [0, 1, 0, 0];
+    SetMark(0) => Open { u: 2, d: 1, k: 4 }, 3, 4, [0, 2, 1, INF], [0, 1, 0, 0];
+    Keep(0) => Kept, 3, 4, [0, 2, 1, INF], [0, 1, 0, 0];
+    Return(0, 1) => Kept, 2, 3, [0, 2, 1, INF], [0, 1, 0, 0];
+    Take(0, 1) => Fresh { u: 1 }, 3, 3, [0, 2, 1, INF], [0, 0, 0, 0];
+    Read(0) => Open { u: 1, d: 2, k: 2 }, 3, 3, [0, 2, 1, INF], [0, 0, 0, 0];
+    Relax(0) => Owe { u: 1, d: 2, k: 3, head: 3 }, 3, 3, [0, 2, 1, 3], [0, 0, 0, 0];
+    SetMark(0) => Open { u: 1, d: 2, k: 3 }, 2, 3, [0, 2, 1, 3], [0, 0, 0, 1];
+    Keep(0) => Kept, 2, 3, [0, 2, 1, 3], [0, 0, 0, 1];
+    Take(0, 3) => Fresh { u: 3 }, 3, 3, [0, 2, 1, 3], [0, 0, 0, 0];
+    Read(0) => Open { u: 3, d: 3, k: 4 }, 3, 3, [0, 2, 1, 3], [0, 0, 0, 0];
+    Keep(0) => Kept, 3, 3, [0, 2, 1, 3], [0, 0, 0, 0];
+    Return(0, 3) => Idle, 0, 0, [0, 2, 1, 3], [0, 0, 0, 0];
+    See(0) => Idle, 0, 0, [0, 2, 1, 3], [0, 0, 0, 0];
+];
+
 fn row(i: usize) -> Row
     requires { i < 33 }
 {
@@ -83,9 +114,9 @@ fn events(alloc: Global) -> Result<Vec<Event>, Fail> {
 
 fn seat_of(event: Event) -> usize {
     match event {
-        Take(seat, _) | Join(seat, _) => seat,
+        Take(seat, _) | RaiseBy(seat, _) | Return(seat, _) | Join(seat, _) => seat,
         Read(seat) | Relax(seat) | Raise(seat) | SetMark(seat) => seat,
-        Finish(seat) | See(seat) | Split(seat) => seat,
+        Finish(seat) | Keep(seat) | See(seat) | Split(seat) => seat,
     }
 }
 
@@ -102,13 +133,12 @@ fn expect_pending(rt: &impl Abort, core: &Core, total: u64, i: usize) {
     assert_eq!(rt; core.pending(), total, "after event {i}");
 }
 
-// What a core says is what stands after event i.
-fn stands(rt: &impl Abort, core: &Core, csr: &Csr, i: usize)
+// What a core says is what stands in the row, which is that of event i.
+fn stands_as(rt: &impl Abort, core: &Core, csr: &Csr, row: &Row, i: usize)
     requires vertices { csr.now.n ≡ 4 }
     requires belongs { IsOf csr.now core.now }
-    requires place { i < 33 }
 {
-    let (event, hand, credits, total, labels, marks) = row(i);
+    let (event, hand, credits, total, labels, marks) = *row;
     for v in 0..4_u32 {
         let said = (core.label(v), u8::from(core.mark(v)));
         expect_vertex(rt, v, said, (labels[v as usize], marks[v as usize]), i);
@@ -117,14 +147,29 @@ fn stands(rt: &impl Abort, core: &Core, csr: &Csr, i: usize)
     expect_seat(rt, core.views().get(seat_of(event)), (hand, credits), i);
 }
 
-// Does the schedule to a core that is just open, and looks at it after each event.
-fn play(rt: &impl Abort, alloc: Global, core: &mut Core, csr: &Csr) -> Result<(), Fail>
+// What a core says is what stands after event i of the schedule.
+fn stands(rt: &impl Abort, core: &Core, csr: &Csr, i: usize)
+    requires vertices { csr.now.n ≡ 4 }
+    requires belongs { IsOf csr.now core.now }
+    requires place { i < 33 }
+{
+    stands_as(rt, core, csr, &row(i), i);
+}
+
+// Does a schedule to a core that is just open, and looks at it after each event.
+fn play(
+    rt: &impl Abort,
+    alloc: Global,
+    core: &mut Core,
+    csr: &Csr,
+    rows: &[Row],
+) -> Result<(), Fail>
     requires vertices { csr.now.n ≡ 4 }
     requires belongs { IsOf csr.now core.old }
 {
-    for i in 0..33_usize {
-        apply(alloc, core, csr, row(i).0)?;
-        stands(rt, core, csr, i);
+    for (i, row) in rows.iter().enumerate() {
+        apply(alloc, core, csr, row.0)?;
+        stands_as(rt, core, csr, row, i);
     }
     Ok(())
 }
@@ -138,7 +183,7 @@ fn the_schedule_event_by_event(rt: HostRuntime) -> Result<(), Fail> {
     let csr = graph(rt.alloc())?;
     let mut core = open_core(rt.alloc(), &csr, &EXAMPLE_SEEDS)?;
     expect_pending(&rt, &core, 1, 0);
-    play(&rt, rt.alloc(), &mut core, &csr)?;
+    play(&rt, rt.alloc(), &mut core, &csr, &SCHEDULE)?;
     let all = View {
         hand: Idle,
         credits: 0,
@@ -152,6 +197,21 @@ fn the_schedule_event_by_event(rt: HostRuntime) -> Result<(), Fail> {
         share: 0,
     };
     expect_views(&rt, &core, &[all, spent]);
+    Ok(())
+}
+
+#[test]
+fn the_schedule_of_kept_credits(rt: HostRuntime) -> Result<(), Fail> {
+    let csr = graph(rt.alloc())?;
+    let mut core = open_core(rt.alloc(), &csr, &EXAMPLE_SEEDS)?;
+    play(&rt, rt.alloc(), &mut core, &csr, &KEPT_SCHEDULE)?;
+    let all = View {
+        hand: Idle,
+        credits: 0,
+        saw: true,
+        share: SHARES,
+    };
+    expect_views(&rt, &core, &[all]);
     Ok(())
 }
 
@@ -186,13 +246,64 @@ fn expect_stop(
     Ok(())
 }
 
-const STOPS: [(&[Event], Option<usize>); 5] = [
+// A seat with 255 credits at a row's end, which it can't keep.
+const TOO_MANY: [Event; 17] = [
+    Take(0, 0),
+    Read(0),
+    Relax(0),
+    RaiseBy(0, 254),
+    SetMark(0),
+    Relax(0),
+    RaiseBy(0, 1),
+    SetMark(0),
+    Keep(0),
+    Take(0, 1),
+    Read(0),
+    Relax(0),
+    SetMark(0),
+    Keep(0),
+    Take(0, 3),
+    Read(0),
+    Keep(0),
+];
+
+const STOPS: [(&[Event], Option<usize>); 6] = [
     (&[], None),
     (&[See(0)], None),
+    (&TOO_MANY, Some(16)),
     (&[Join(0, 0)], Some(0)),
     (&[Split(0); 17], Some(16)),
     (&[Split(0), Take(0, 0), Relax(0)], Some(2)),
 ];
+
+// Events that aren't enabled after so many events of the schedule with kept credits.
+const NOT_ENABLED: [(usize, Event); 12] = [
+    (0, RaiseBy(0, 1)),
+    (0, Keep(0)),
+    (0, Return(0, 0)),
+    (3, RaiseBy(0, 255)),
+    (3, Keep(0)),
+    (4, Raise(0)),
+    (5, Keep(0)),
+    (5, Return(0, 1)),
+    (8, See(0)),
+    (8, Split(0)),
+    (8, Finish(0)),
+    (8, Return(0, 3)),
+];
+
+#[test]
+fn what_kept_credits_do_not_allow(rt: HostRuntime) -> Result<(), Fail> {
+    let alloc = rt.alloc();
+    let csr = graph(alloc)?;
+    for (count, event) in NOT_ENABLED {
+        let before = KEPT_SCHEDULE.iter().take(count);
+        let mut events: Vec<Event> = before.map(|row| row.0).collect(alloc)?;
+        events.push(event)?;
+        expect_stop(&rt, alloc, &csr, &events, Some(count))?;
+    }
+    Ok(())
+}
 
 // The events of the schedule but those that raise credits and look at the total.
 fn events_without_credits(alloc: Global) -> Result<Vec<Event>, Fail> {

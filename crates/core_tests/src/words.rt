@@ -2,9 +2,10 @@
 
 ghost use Rattle.std.specs.Prelude.{◌≡◌, IfOk};
 ghost use Rattle.relax_core.specs.declared.views.TheConstants.{SHARES};
+ghost use Rattle.relax_core.specs.Views.{IsOpen};
 ghost use Rattle.label_words.specs.Callers.{Stays};
 ghost use Rattle.label_words.specs.Closed.{IsEnd};
-ghost use Rattle.label_words.specs.Known.{IsIdle};
+ghost use Rattle.label_words.specs.Known.{IsIdle, hand_of};
 ghost use Rattle.label_words.specs.Paused.{IsPause};
 ghost use Rattle.route_walks.specs.Walk.{AreSeeds};
 
@@ -17,6 +18,7 @@ use relax_core::{Hand, SHARES};
 use route_walks::{ArcRec, EXAMPLE_SEEDS, INF, Memory, Seed, arcs, are_seeds};
 use std::alloc::Global;
 use std::process::Abort;
+use std::test::Fail;
 
 const ARCS: [ArcRec; 4] = arcs![(0, 1, 10), (0, 2, 1), (2, 1, 1), (1, 3, 1)];
 
@@ -42,12 +44,15 @@ enum Call {
     Read(u64),
     Lowers(u32, u64),
     Raise,
+    RaiseBy(u8),
     SetMark(bool),
     Finish,
+    Keep,
+    GiveBack(u8),
     See(bool),
 }
 
-use Call::{Finish, Lowers, Raise, Read, See, SetMark, Take};
+use Call::{Finish, GiveBack, Keep, Lowers, Raise, RaiseBy, Read, See, SetMark, Take};
 
 // What two seats of the words of four vertices do, and what the words are then: settled where no vertex is marked.
 struct Script {
@@ -104,6 +109,69 @@ const TO_THE_END: Script = Script {
     marked: &[],
 };
 
+// The first seat raises three credits at once and lives on them; while the second one keeps a credit, the first sees
+// no 0.
+const KEPT: Script = Script {
+    seeds: &EXAMPLE_SEEDS,
+    calls: &[
+        (0, Take(0, true), 1),
+        (0, Read(0), 1),
+        (0, Lowers(1, 10), 1),
+        (0, RaiseBy(3), 4),
+        (0, SetMark(true), 3),
+        (0, Lowers(2, 1), 3),
+        (0, SetMark(true), 2),
+        (0, Keep, 2),
+        (0, Take(3, false), 2),
+        (1, Take(2, true), 1),
+        (1, Read(1), 1),
+        (1, Lowers(1, 2), 1),
+        (1, RaiseBy(1), 2),
+        (1, SetMark(false), 2),
+        (1, Keep, 2),
+        (1, GiveBack(1), 1),
+        (0, Take(1, true), 3),
+        (0, Read(2), 3),
+        (0, Lowers(3, 3), 3),
+        (0, SetMark(true), 2),
+        (0, Keep, 2),
+        (0, Take(3, true), 3),
+        (0, Read(3), 3),
+        (0, Keep, 3),
+        (0, GiveBack(3), 0),
+        (0, See(false), 0),
+        (1, GiveBack(1), 0),
+        (0, See(true), 0),
+    ],
+    labels: [0, 2, 1, 3],
+    marked: &[],
+};
+
+// A run that is closed while there is a mark that kept credits paid for.
+const KEPT_AND_PAUSED: Script = Script {
+    seeds: &EXAMPLE_SEEDS,
+    calls: &[
+        (1, Take(0, true), 1),
+        (1, Read(0), 1),
+        (1, Lowers(1, 10), 1),
+        (1, RaiseBy(254), 255),
+        (1, SetMark(true), 254),
+        (1, Lowers(2, 1), 254),
+        (1, RaiseBy(1), 255),
+        (1, SetMark(true), 254),
+        (1, Keep, 254),
+        (1, Take(1, true), 255),
+        (1, Read(10), 255),
+        (1, Lowers(3, 11), 255),
+        (1, SetMark(true), 254),
+        (1, Keep, 254),
+        (1, GiveBack(254), 0),
+        (1, See(false), 0),
+    ],
+    labels: [0, 10, 1, 11],
+    marked: &[2, 3],
+};
+
 const SEVERAL_SEEDS: Script = Script {
     seeds: &SEVERAL,
     calls: &[],
@@ -124,6 +192,24 @@ fn graph(alloc: Global) -> Result<Csr, Memory>
     Csr::build(alloc, 4, &ARCS)
 }
 
+// Whether the row is at its end, where the seat lets go of it, and its credits leave the total or are kept.
+fn ends_row(words: &Words, seat: &mut WorkSeat, csr: &Csr, keeps: bool) -> bool
+    requires words { seat.old.words ≡ words.now }
+    requires graph { csr.now ≡ seat.old.known.graph }
+    requires open { IsOpen (hand_of seat.old) }
+    ensures stays { Stays seat.old seat.new }
+{
+    let Step::RowEnd = words.relax(seat, csr) else {
+        return false;
+    };
+    if !keeps {
+        words.finish(seat, csr);
+    } else if seat.credits() < 255 {
+        words.keep(seat, csr);
+    }
+    true
+}
+
 // Whether the seat is as the call asks, the call returns what the script says, and the credits are those of the
 // script then.
 fn goes(words: &Words, seat: &mut WorkSeat, csr: &Csr, call: Call, credits: u8) -> bool
@@ -132,7 +218,7 @@ fn goes(words: &Words, seat: &mut WorkSeat, csr: &Csr, call: Call, credits: u8) 
     ensures stays { Stays seat.old seat.new }
 {
     let answers = match (call, seat.hand()) {
-        (Take(u, taken), Hand::Idle) if u < csr.n() => words.take(seat, u) == taken,
+        (Take(u, taken), Hand::Idle | Hand::Kept) if u < csr.n() => words.take(seat, u) == taken,
         (Read(label), Hand::Fresh { .. }) => words.read(seat, csr) == label,
         (Lowers(head, label), Hand::Open { .. }) => {
             words.relax(seat, csr) == Step::Lowered { head, label }
@@ -141,12 +227,15 @@ fn goes(words: &Words, seat: &mut WorkSeat, csr: &Csr, call: Call, credits: u8) 
             words.raise(seat);
             true
         }
-        (SetMark(new), Hand::Owe { .. }) if seat.credits() == 2 => words.set_mark(seat) == new,
-        (Finish, Hand::Open { .. }) => {
-            let Step::RowEnd = words.relax(seat, csr) else {
-                return false;
-            };
-            words.finish(seat, csr);
+        (RaiseBy(count), Hand::Owe { .. }) if count <= 255 - seat.credits() => {
+            words.raise_by(seat, count);
+            true
+        }
+        (SetMark(new), Hand::Owe { .. }) if seat.credits() >= 2 => words.set_mark(seat) == new,
+        (Finish, Hand::Open { .. }) => ends_row(words, seat, csr, false),
+        (Keep, Hand::Open { .. }) => ends_row(words, seat, csr, true),
+        (GiveBack(count), Hand::Kept) if count <= seat.credits() => {
+            words.give_back(seat, count);
             true
         }
         (See(zero), Hand::Idle) => words.see(seat) == zero,
@@ -275,4 +364,11 @@ fn open_and_close(rt: &impl Abort, alloc: Global, csr: &Csr, script: &Script) ->
     words.see(&mut seat);
     close(rt, alloc, words, seat, script)?;
     Ok(())
+}
+
+#[test]
+fn credits_are_kept(rt: HostRuntime) -> Result<(), Fail> {
+    let csr = graph(rt.alloc())?;
+    open_and_close(&rt, rt.alloc(), &csr, &KEPT)?;
+    Ok(open_and_close(&rt, rt.alloc(), &csr, &KEPT_AND_PAUSED)?)
 }

@@ -16,7 +16,7 @@ use Rattle.csr_graph.specs.Graph.{Graph}
 use Rattle.relax_core.specs.declared.views.View.{View}
 use Rattle.relax_core.specs.declared.events.Event.{Event}
 use Rattle.relax_core.specs.declared.views.Hand.{Hand}
-use Rattle.relax_core.specs.declared.views.Hand.TheVariants.{Idle, Fresh, Open, Owe}
+use Rattle.relax_core.specs.declared.views.Hand.TheVariants.{Idle, Kept, Fresh, Open, Owe}
 use Rattle.relax_core.specs.Views.{HasView, IsHand, idle_view}
 use Rattle.relax_core.specs.State.{State, IsLawful}
 use Rattle.relax_core.proofs.Facts.{credits_at, hand_at, event_keeps_lawful, sum_replaced}
@@ -54,6 +54,7 @@ no_label_rises words i x lt falls v =
 hand_fits : (graph : Graph) (seeds : List Seed) (label : ℕ → ℕ) (hand : Hand)
     → IsHand graph seeds label hand → FitsGraph graph hand
 hand_fits graph seeds label Idle h = tt
+hand_fits graph seeds label Kept h = tt
 hand_fits graph seeds label (Fresh u) h = h
 hand_fits graph seeds label (Open u d k) h = (h.vertex, h.upto)
 hand_fits graph seeds label (Owe u d k head) h = (h.0.vertex, h.0.upto, h.1)

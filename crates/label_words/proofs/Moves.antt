@@ -12,12 +12,12 @@ use Rattle.atomic_table.specs.Table.{State as TableState, Splits, Joins}
 use Rattle.atomic_table.proofs.Lists.{at_set, at_snoc, set_here}
 use Rattle.route_walks.specs.declared.graph.Seed.{Seed}
 use Rattle.csr_graph.specs.Graph.{Graph}
-use Rattle.relax_core.specs.declared.events.Event.TheVariants.{Take, Read, Relax, Raise, SetMark}
-use Rattle.relax_core.specs.declared.events.Event.TheVariants.{Finish, See, Split, Join}
-use Rattle.relax_core.specs.declared.views.Hand.TheVariants.{Idle}
-use Rattle.relax_core.specs.Views.{IsFresh, IsOpen, Owes, HasNextArc, IsAtRowEnd, vertex_of}
-use Rattle.relax_core.specs.Views.{owed_of, taken, raised, marked, finished, looked, next_arc}
-use Rattle.relax_core.specs.Views.{next_offer}
+use Rattle.relax_core.specs.declared.events.Event.TheVariants.{Take, Read, Relax, Raise, RaiseBy, SetMark}
+use Rattle.relax_core.specs.declared.events.Event.TheVariants.{Finish, Keep, Return, See, Split, Join}
+use Rattle.relax_core.specs.declared.views.Hand.TheVariants.{Idle, Kept}
+use Rattle.relax_core.specs.Views.{IsFresh, IsOpen, Owes, HasNextArc, IsAtRowEnd, has_no_vertex, vertex_of}
+use Rattle.relax_core.specs.Views.{owed_of, taken, raised, raised_by, marked, finished, kept, gave_back, looked}
+use Rattle.relax_core.specs.Views.{next_arc, next_offer}
 use Rattle.relax_core.proofs.Facts.{total_above, head_in, lowering_attains, total_is_bounded}
 use Rattle.relax_core.proofs.Facts.{event_keeps_lawful}
 use Rattle.label_words.specs.declared.known.Known.{Known}
@@ -25,21 +25,21 @@ use Rattle.label_words.specs.Layout.{label_word, mark_word, label_of, total_of}
 use Rattle.label_words.specs.Rule.{AreLawful, SeesLawful}
 use Rattle.label_words.specs.Seats.{IsReady, FitsGraph}
 use Rattle.label_words.specs.Known.{IsFound, OfferAttains, after_take, after_read, after_relax}
-use Rattle.label_words.specs.Known.{after_raise, after_set_mark, after_finish, after_see, left_half}
-use Rattle.label_words.specs.Known.{right_half, both_known, gone}
+use Rattle.label_words.specs.Known.{after_raise, after_raise_by, after_set_mark, after_finish, after_keep}
+use Rattle.label_words.specs.Known.{after_give_back, after_see, left_half, right_half, both_known, gone}
 use Rattle.label_words.proofs.Keeps.{Mine, Allowed, allows, allows_quiet, words_hold, knows_at}
 use Rattle.label_words.proofs.Keeps.{all_know_still, renamed}
-use Rattle.label_words.proofs.Steps.{taking, reading, relaxing, raising, marking, finishing, seeing, laid_views}
-use Rattle.label_words.proofs.Steps.{splitting, joining}
+use Rattle.label_words.proofs.Steps.{taking, reading, relaxing, raising, raising_by, marking, finishing, keeping}
+use Rattle.label_words.proofs.Steps.{returning, seeing, laid_views, splitting, joining}
 
-pub take_allowed : (u : ℕ) (me : Mine) → IsReady me.0 → me.0.view.hand ≡ Idle → u < me.0.graph.n
+pub take_allowed : (u : ℕ) (me : Mine) → IsReady me.0 → has_no_vertex me.0.view.hand ≡ true → u < me.0.graph.n
     → Allowed me (mark_word u) (λ n. 0)
     (λ found new. ((x : ℕ) → mark_word u ≡ mark_word x → new ≡ (after_take (nat_lt 0 found) x me.0, me.1))
     × IsReady new.0)
-take_allowed u me ready idle vertex graph seeds slots id state holds count at below =
+take_allowed u me ready free vertex graph seeds slots id state holds count at below =
     let call = allows_quiet (λ n. 0) (λ s. Take s u) (λ found. taken (nat_lt 0 found) u me.0.view) ready (omega arith)
     (λ v e. absurd (omega arith)) (λ x. refl)
-    (λ words seats s x was holds is below. rw (← is) (taking was.state words s u me.0 holds idle vertex))
+    (λ words seats s x was holds is below. rw (← is) (taking was.state words s u me.0 holds free vertex))
     graph seeds slots id state holds count at below in
     (call.0, call.1, call.2, call.3, (λ x e. let same : x ≡ u = omega arith in rw same call.4.0, call.4.1))
 
@@ -108,7 +108,19 @@ raise_allowed me ready owe one =
     omega (arith, bound, was.laid.total, was.lawful.rows.vertices) in
     rw (← is, mod-eq_of_lt small) (raising was.state words s me.0 holds owe one))
 
-pub set_mark_allowed : (head : ℕ) (me : Mine) → IsReady me.0 → Owes me.0.view.hand → me.0.view.credits ≡ 2
+pub raise_by_allowed : (count : ℕ) (me : Mine) → IsReady me.0 → Owes me.0.view.hand → me.0.view.credits + count ≤ 255
+    → Allowed me 0 (λ n. (n + count) % 18446744073709551616)
+    (λ found new. (new ≡ (after_raise_by count me.0, me.1)) × IsReady new.0)
+raise_by_allowed count me ready owe room =
+    allows_quiet (λ n. (n + count) % 18446744073709551616) (λ s. RaiseBy s count) (λ found. raised_by count me.0.view) ready
+    (omega arith) (λ v e. absurd (omega arith)) (λ x. refl)
+    (λ words seats s x was holds is below.
+    let bound = total_is_bounded _ _ _ _ _ _ was.lawful.covers was.lawful.account in
+    let small : total_of words + count < 18446744073709551616 =
+    omega (arith, bound, was.laid.total, was.lawful.rows.vertices) in
+    rw (← is, mod-eq_of_lt small) (raising_by was.state words s count me.0 holds owe room))
+
+pub set_mark_allowed : (head : ℕ) (me : Mine) → IsReady me.0 → Owes me.0.view.hand → 2 ≤ me.0.view.credits
     → owed_of me.0.view.hand ≡ head
     → Allowed me (mark_word head) (λ n. 1)
     (λ found new. (new ≡ (after_set_mark (nat_lt 0 found) me.0, me.1)) × IsReady new.0)
@@ -136,6 +148,23 @@ finish_allowed c me ready held end credits =
     (λ words seats s x was holds is below.
     rw (lessened x c (omega (arith, total_above was.lawful.account holds.has, was.laid.total)) below, ← is, ← credits)
     (finishing was.state words s me.0 holds held end))
+
+pub keep_allowed : (me : Mine) → IsReady me.0 → IsOpen me.0.view.hand → IsAtRowEnd me.0.graph me.0.view.hand
+    → me.0.view.credits ≤ 254
+    → Allowed me 0 (λ n. n) (λ found new. (new ≡ (after_keep me.0, me.1)) × IsReady new.0)
+keep_allowed me ready held end room =
+    allows_quiet (λ n. n) Keep (λ found. kept me.0.view) ready (omega arith) (λ v e. absurd (omega arith)) (λ x. refl)
+    (λ words seats s x was holds is below. rw (← is) (keeping was.state words s me.0 holds held end room))
+
+pub give_back_allowed : (count : ℕ) (me : Mine) → IsReady me.0 → me.0.view.hand ≡ Kept → count ≤ me.0.view.credits
+    → Allowed me 0 (λ n. (n + (18446744073709551616 - count)) % 18446744073709551616)
+    (λ found new. (new ≡ (after_give_back count me.0, me.1)) × IsReady new.0)
+give_back_allowed count me ready held enough =
+    allows_quiet (λ n. (n + (18446744073709551616 - count)) % 18446744073709551616) (λ s. Return s count)
+    (λ found. gave_back count me.0.view) ready (omega arith) (λ v e. absurd (omega arith)) (λ x. refl)
+    (λ words seats s x was holds is below.
+    rw (lessened x count (omega (arith, total_above was.lawful.account holds.has, was.laid.total)) below, ← is)
+    (returning was.state words s count me.0 holds held enough))
 
 -- a seat that is there has a place among all
 at_within : (seats : List Known) (s : ℕ) (seat : Known) → get_elem? seats s ≡ some seat → s < length seats

@@ -15,8 +15,9 @@ use Rattle.label_words.specs.Rule.{IsLaid}
 use Rattle.label_words.specs.declared.known.Known.{Known}
 use Rattle.label_words.specs.Seats.{FitsGraph}
 use Rattle.label_words.specs.Laws.{WordsHold, TakeIsItsEvent, ReadIsItsEvent, RelaxIsItsEvent}
-use Rattle.label_words.specs.Laws.{RaiseIsItsEvent, SetMarkIsItsEvent, FinishIsItsEvent}
-use Rattle.label_words.specs.Laws.{SeeIsItsEvent, SplitIsItsEvent, JoinIsItsEvent}
+use Rattle.label_words.specs.Laws.{RaiseIsItsEvent, RaiseByIsItsEvent, SetMarkIsItsEvent, FinishIsItsEvent}
+use Rattle.label_words.specs.Laws.{KeepIsItsEvent, ReturnIsItsEvent, SeeIsItsEvent, SplitIsItsEvent}
+use Rattle.label_words.specs.Laws.{JoinIsItsEvent}
 
 -- a word after a word was written
 word_after : {X : Type 0} (f : ℕ → X) (words : List ℕ) (i x j : ℕ) (old new : X) → i < length words
@@ -97,10 +98,10 @@ live : {state : State} {words : List ℕ} {s : ℕ} {seat : Known}
 live {state} {s} {seat} holds = live_some state.views s seat.view holds.has
 
 pub taking : TakeIsItsEvent
-taking state words s u seat holds idle vertex =
+taking state words s u seat holds free vertex =
     rw (holds.laid.marks u vertex) (
       _,
-      enabled state _ s seat.view _ _ (live holds) (rw idle (lt-ltb u seat.graph.n vertex)) refl,
+      enabled state _ s seat.view _ _ (live holds) (rw free (lt-ltb u seat.graph.n vertex)) refl,
       laid_mark u 0 false _ holds.laid holds.marks vertex refl,
       refl,
     )
@@ -132,12 +133,20 @@ raising state words s seat holds owe one = (
   refl,
 )
 
+pub raising_by : RaiseByIsItsEvent
+raising_by state words s count seat holds owe room = (
+  _,
+  enabled state _ s seat.view _ _ (live holds) (rw owe (le-leb (seat.view.credits + count) 255 room)) refl,
+  laid_total (total_of words + count) (state.total + count) _ holds.laid (ap (λ t. t + count) holds.laid.total),
+  refl,
+)
+
 pub marking : SetMarkIsItsEvent
 marking state words s head seat holds owe two owed =
     let within : head < seat.graph.n = rw owed at ((subst (FitsGraph seat.graph) owe holds.ready.hand).2) in
     rw (holds.laid.marks head within, ← owed) (
       _,
-      enabled state _ s seat.view _ _ (live holds) (rw (owe, two) refl) refl,
+      enabled state _ s seat.view _ _ (live holds) (rw owe (le-leb 2 seat.view.credits two)) refl,
       laid_mark (owed_of seat.view.hand) 1 true _ holds.laid holds.marks (omega arith) refl,
       refl,
     )
@@ -148,6 +157,23 @@ finishing state words s seat holds held end = (
   enabled state _ s seat.view _ _ (live holds) (rw held (eq-eqb _ _ end)) refl,
   laid_total (total_of words - seat.view.credits) (state.total - seat.view.credits) _ holds.laid
       (ap (λ t. t - seat.view.credits) holds.laid.total),
+  refl,
+)
+
+pub keeping : KeepIsItsEvent
+keeping state words s seat holds held end room = (
+  _,
+  enabled state _ s seat.view _ _ (live holds)
+      (rw (held, eq-eqb _ _ end) (le-leb seat.view.credits 254 room)) refl,
+  laid_load 0 _ holds.laid,
+  refl,
+)
+
+pub returning : ReturnIsItsEvent
+returning state words s count seat holds held some = (
+  _,
+  enabled state _ s seat.view _ _ (live holds) (rw held (le-leb count seat.view.credits some)) refl,
+  laid_total (total_of words - count) (state.total - count) _ holds.laid (ap (λ t. t - count) holds.laid.total),
   refl,
 )
 

@@ -1,6 +1,6 @@
 -- What a caller that goes along rows keeps true of its seat: for the clauses of such callers, in the
 -- crates above and in the tests here.
-use Rattle.std.specs.Prelude.{◌≡◌, ℕ, ◌⊎◌}
+use Rattle.std.specs.Prelude.{◌≡◌, ℕ, ◌≤◌}
 use Rattle.relax_core.specs.declared.views.View.{View}
 use Rattle.relax_core.specs.Views.{IsOpen, vertex_of}
 use Rattle.label_words.specs.Known.{Held}
@@ -12,8 +12,8 @@ pub record Stays (old new : Held) : Type 0 where
   pub seeds : new.known.seeds ≡ old.known.seeds
   pub share : new.known.view.share ≡ old.known.view.share
 
--- the row of u is open, and the seat has one credit or two
+-- the row of u is open, and the seat has credits
 pub record HasRowOpen (u : ℕ) (view : View) : Type 0 where
   pub hand : IsOpen view.hand
   pub vertex : vertex_of view.hand ≡ u
-  pub credits : (view.credits ≡ 1) ⊎ (view.credits ≡ 2)
+  pub credits : 1 ≤ view.credits

@@ -6,11 +6,11 @@ use Rattle.route_walks.specs.declared.graph.TheConstants.{INF}
 use Rattle.route_walks.specs.Walk.{IsAttained}
 use Rattle.csr_graph.specs.Graph.{Graph, first_place}
 use Rattle.relax_core.specs.declared.views.Hand.{Hand}
-use Rattle.relax_core.specs.declared.views.Hand.TheVariants.{Idle}
+use Rattle.relax_core.specs.declared.views.Hand.TheVariants as hand
 use Rattle.relax_core.specs.declared.views.TheConstants.{SHARES}
-use Rattle.relax_core.specs.Views.{HasNextArc, IsAtRowEnd, vertex_of, next_arc, next_offer, idle_view}
-use Rattle.relax_core.specs.Views.{taken, opened, went_along, raised, marked, finished, looked}
-use Rattle.relax_core.specs.Views.{kept_half, new_half, joined}
+use Rattle.relax_core.specs.Views.{HasNextArc, IsAtRowEnd, has_no_vertex, vertex_of, next_arc, next_offer}
+use Rattle.relax_core.specs.Views.{idle_view, taken, opened, went_along, raised, raised_by, marked, finished}
+use Rattle.relax_core.specs.Views.{kept, gave_back, looked, kept_half, new_half, joined}
 use Rattle.label_words.specs.declared.words.Step.{Step}
 use Rattle.label_words.specs.declared.words.Step.TheVariants.{Lowered, Kept, RowEnd}
 use Rattle.label_words.specs.declared.known.Known.{Known}
@@ -25,7 +25,15 @@ abbrev pub hand_of : Held → Hand
 hand_of seat = seat.known.view.hand
 
 abbrev pub IsIdle : Held → Type 0
-IsIdle seat = seat.known.view.hand ≡ Idle
+IsIdle seat = seat.known.view.hand ≡ hand.Idle
+
+-- credits alone are held
+abbrev pub IsKept : Held → Type 0
+IsKept seat = seat.known.view.hand ≡ hand.Kept
+
+-- nothing is held, or credits alone
+abbrev pub HasNoVertex : Held → Type 0
+HasNoVertex seat = has_no_vertex seat.known.view.hand ≡ true
 
 -- ---- what each call makes of what a seat knows
 
@@ -53,12 +61,22 @@ after_relax fell known = record known {
 abbrev pub after_raise : Known → Known
 after_raise known = record known { view = raised known.view }
 
+abbrev pub after_raise_by : ℕ → Known → Known
+after_raise_by count known = record known { view = raised_by count known.view }
+
 -- `set_mark`: the flag says whether the mark was set before
 abbrev pub after_set_mark : Bool → Known → Known
 after_set_mark was_marked known = record known { view = marked was_marked known.view }
 
 abbrev pub after_finish : Known → Known
 after_finish known = record known { view = finished known.view }
+
+abbrev pub after_keep : Known → Known
+after_keep known = record known { view = kept known.view }
+
+-- `give_back`: of so many credits
+abbrev pub after_give_back : ℕ → Known → Known
+after_give_back count known = record known { view = gave_back count known.view }
 
 -- see: the flag says whether the total was 0
 abbrev pub after_see : Bool → Known → Known

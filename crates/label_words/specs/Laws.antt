@@ -1,7 +1,7 @@
 -- Each call's one operation on one word is the event of its name: where the words hold a state of the
 -- core, after the operation they hold the state after the event, and the seat's view is the event's.
 -- And what the rule of the words keeps is a lawful core.
-use Rattle.std.specs.Prelude.{◌≡◌, ◌≢◌, ℕ, ◌+◌, ◌-◌, ◌<◌, ◌≤◌, ◌==◌, nat_lt, min, false}
+use Rattle.std.specs.Prelude.{◌≡◌, ◌≢◌, ℕ, ◌+◌, ◌-◌, ◌<◌, ◌≤◌, ◌==◌, nat_lt, min, true, false}
 use Rattle.std.specs.Prelude.{Some, List, [], ◌∷◌, ◌++◌, length, slice_index, slice_set}
 use Rattle.route_walks.specs.declared.graph.Seed.{Seed}
 use Rattle.route_walks.specs.Label.{AreLeast}
@@ -9,18 +9,19 @@ use Rattle.route_walks.specs.Walk.{AreSeeds}
 use Rattle.route_walks.specs.Operators.{seeds_of}
 use Rattle.csr_graph.specs.Graph.{Graph, IsInRows}
 use Rattle.relax_core.specs.declared.events.Event.{Event}
-use Rattle.relax_core.specs.declared.events.Event.TheVariants.{Take, Read, Relax, Raise, SetMark}
-use Rattle.relax_core.specs.declared.events.Event.TheVariants.{Finish, See, Split, Join}
-use Rattle.relax_core.specs.declared.views.Hand.TheVariants.{Idle}
+use Rattle.relax_core.specs.declared.events.Event.TheVariants.{Take, Read, Relax, Raise, RaiseBy, SetMark}
+use Rattle.relax_core.specs.declared.events.Event.TheVariants.{Finish, Keep, Return, See, Split, Join}
+use Rattle.relax_core.specs.declared.views.Hand.TheVariants.{Idle, Kept}
 use Rattle.relax_core.specs.Events.{after}
-use Rattle.relax_core.specs.Views.{HasView, IsFresh, IsOpen, Owes, HasNextArc, IsAtRowEnd}
+use Rattle.relax_core.specs.Views.{HasView, IsFresh, IsOpen, Owes, HasNextArc, IsAtRowEnd, has_no_vertex}
 use Rattle.relax_core.specs.Views.{vertex_of, owed_of, next_arc, next_offer}
 use Rattle.relax_core.specs.State.{State, IsLawful, mark_of}
 use Rattle.label_words.specs.declared.known.Known.{Known}
 use Rattle.label_words.specs.Layout.{label_word, mark_word, total_of, label_of}
 use Rattle.label_words.specs.Rule.{views_of, AreLawful, IsLaid}
-use Rattle.label_words.specs.Known.{after_take, after_read, after_relax, after_raise, after_set_mark}
-use Rattle.label_words.specs.Known.{after_finish, after_see, left_half, right_half, both_known, gone}
+use Rattle.label_words.specs.Known.{after_take, after_read, after_relax, after_raise, after_raise_by}
+use Rattle.label_words.specs.Known.{after_set_mark, after_finish, after_keep, after_give_back, after_see}
+use Rattle.label_words.specs.Known.{left_half, right_half, both_known, gone}
 use Rattle.label_words.specs.declared.closed.Closed.{Closed}
 use Rattle.label_words.specs.Closed.{IsEnd, AreNoHigher, closed_labels}
 use Rattle.label_words.specs.Paused.{Rest, IsPause}
@@ -46,7 +47,7 @@ abbrev pub TakeIsItsEvent : Type 0
 TakeIsItsEvent =
     (state : State) (words : List ℕ) (s u : ℕ) (seat : Known)
     → WordsHold state words s seat
-    → seat.view.hand ≡ Idle
+    → has_no_vertex seat.view.hand ≡ true
     → u < seat.graph.n
     → IsTheEvent (Take s u) state words s seat (mark_word u) 0
     (after_take (nat_lt 0 (slice_index words (mark_word u))) u seat)
@@ -82,13 +83,22 @@ RaiseIsItsEvent =
     → seat.view.credits ≡ 1
     → IsTheEvent (Raise s) state words s seat 0 (total_of words + 1) (after_raise seat)
 
+-- `raise_by`: a `fetch_add` of so many to the total
+abbrev pub RaiseByIsItsEvent : Type 0
+RaiseByIsItsEvent =
+    (state : State) (words : List ℕ) (s count : ℕ) (seat : Known)
+    → WordsHold state words s seat
+    → Owes seat.view.hand
+    → seat.view.credits + count ≤ 255
+    → IsTheEvent (RaiseBy s count) state words s seat 0 (total_of words + count) (after_raise_by count seat)
+
 -- `set_mark`: a swap of the owed mark to 1
 abbrev pub SetMarkIsItsEvent : Type 0
 SetMarkIsItsEvent =
     (state : State) (words : List ℕ) (s head : ℕ) (seat : Known)
     → WordsHold state words s seat
     → Owes seat.view.hand
-    → seat.view.credits ≡ 2
+    → 2 ≤ seat.view.credits
     → owed_of seat.view.hand ≡ head
     → IsTheEvent (SetMark s) state words s seat (mark_word head) 1
     (after_set_mark (nat_lt 0 (slice_index words (mark_word head))) seat)
@@ -101,6 +111,25 @@ FinishIsItsEvent =
     → IsOpen seat.view.hand
     → IsAtRowEnd seat.graph seat.view.hand
     → IsTheEvent (Finish s) state words s seat 0 (total_of words - seat.view.credits) (after_finish seat)
+
+-- keep: a load of the total
+abbrev pub KeepIsItsEvent : Type 0
+KeepIsItsEvent =
+    (state : State) (words : List ℕ) (s : ℕ) (seat : Known)
+    → WordsHold state words s seat
+    → IsOpen seat.view.hand
+    → IsAtRowEnd seat.graph seat.view.hand
+    → seat.view.credits ≤ 254
+    → IsTheEvent (Keep s) state words s seat 0 (total_of words) (after_keep seat)
+
+-- `give_back`: a `fetch_sub` of so many from the total
+abbrev pub ReturnIsItsEvent : Type 0
+ReturnIsItsEvent =
+    (state : State) (words : List ℕ) (s count : ℕ) (seat : Known)
+    → WordsHold state words s seat
+    → seat.view.hand ≡ Kept
+    → count ≤ seat.view.credits
+    → IsTheEvent (Return s count) state words s seat 0 (total_of words - count) (after_give_back count seat)
 
 -- see: a load of the total
 abbrev pub SeeIsItsEvent : Type 0

@@ -2,7 +2,7 @@
 use Rattle.std.specs.Prelude.{◌≡◌, ◌<◌, ◌≤◌}
 use Rattle.csr_graph.specs.Graph.{Graph, IsInRows, end_place}
 use Rattle.relax_core.specs.declared.views.Hand.{Hand}
-use Rattle.relax_core.specs.declared.views.Hand.TheVariants.{Idle, Fresh, Open, Owe}
+use Rattle.relax_core.specs.declared.views.Hand.TheVariants.{Idle, Kept, Fresh, Open, Owe}
 use Rattle.relax_core.specs.declared.views.View.{View}
 use Rattle.relax_core.specs.declared.views.TheConstants.{SHARES}
 use Rattle.relax_core.specs.Views.{HasCredits}
@@ -13,6 +13,7 @@ use Rattle.atomic_table.specs.Seated.{TableId}
 -- what a hand holds is in the graph
 abbrev pub FitsGraph : Graph → Hand → Type 0
 FitsGraph graph Idle = Unit {0}
+FitsGraph graph Kept = Unit {0}
 FitsGraph graph (Fresh u) = u < graph.n
 FitsGraph graph (Open u d k) = (u < graph.n) × (k ≤ end_place graph.arcs u)
 FitsGraph graph (Owe u d k head) = (u < graph.n) × (k ≤ end_place graph.arcs u) × (head < graph.n)

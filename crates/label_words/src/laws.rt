@@ -2,7 +2,8 @@
 //! nothing: each contract is a law over words that hold a state of the core, and over what seats know.
 
 ghost use Rattle.label_words.specs.Laws.{TakeIsItsEvent, ReadIsItsEvent, RelaxIsItsEvent};
-ghost use Rattle.label_words.specs.Laws.{RaiseIsItsEvent, SetMarkIsItsEvent, FinishIsItsEvent};
+ghost use Rattle.label_words.specs.Laws.{RaiseIsItsEvent, RaiseByIsItsEvent, SetMarkIsItsEvent};
+ghost use Rattle.label_words.specs.Laws.{FinishIsItsEvent, KeepIsItsEvent, ReturnIsItsEvent};
 ghost use Rattle.label_words.specs.Laws.{SeeIsItsEvent, SplitIsItsEvent, JoinIsItsEvent};
 ghost use Rattle.label_words.specs.Laws.{LawfulWordsHoldACore, UnmarkedPauseIsLeast};
 ghost use Rattle.label_words.specs.Laws.{ResumedRunsEndAlike};
@@ -18,8 +19,11 @@ pub fn calls_are_events()
     ensures read { ReadIsItsEvent }
     ensures relax { RelaxIsItsEvent }
     ensures raise { RaiseIsItsEvent }
+    ensures raise_by { RaiseByIsItsEvent }
     ensures set_mark { SetMarkIsItsEvent }
     ensures finish { FinishIsItsEvent }
+    ensures keep { KeepIsItsEvent }
+    ensures give_back { ReturnIsItsEvent }
     ensures see { SeeIsItsEvent }
 {}
 

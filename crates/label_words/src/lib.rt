@@ -33,6 +33,11 @@
 //!
 //! A worker that finds nothing to take calls `see`, and is done where it returns true.
 //!
+//! The total is the one word that all workers would step on at each mark. A worker that keeps its credits
+//! hardly steps on it: it raises many at once by `raise_by`, ends its row by `keep`, and has the next marks
+//! paid by what it kept. No seat sees 0 as long as one keeps credits, so a worker calls `give_back` before
+//! it calls `see`.
+//!
 //! Stands on `relax_core` for the law of each event, on `csr_graph` for the rows and on `atomic_table`.
 #![tactic(auto)]
 

@@ -51,6 +51,17 @@ impl Play<(), Known> for Raises {
     ghost then = { λ step old found new. (new ≡ (after_raise old.0, old.1)) × IsReady new.0 };
 }
 
+pub(crate) struct RaisesBy;
+
+impl Play<(), Known> for RaisesBy {
+    ghost use Rattle.std.specs.Prelude.{◌≡◌};
+    ghost use Rattle.label_words.specs.Known.{after_raise_by};
+    ghost use Rattle.label_words.specs.Seats.{IsReady};
+
+    ghost then = { λ step old found new.
+        (new ≡ (after_raise_by step.first old.0, old.1)) × IsReady new.0 };
+}
+
 pub(crate) struct SetsMark;
 
 impl Play<(), Known> for SetsMark {
@@ -70,6 +81,27 @@ impl Play<(), Known> for Finishes {
     ghost use Rattle.label_words.specs.Seats.{IsReady};
 
     ghost then = { λ step old found new. (new ≡ (after_finish old.0, old.1)) × IsReady new.0 };
+}
+
+pub(crate) struct Keeps;
+
+impl Play<(), Known> for Keeps {
+    ghost use Rattle.std.specs.Prelude.{◌≡◌};
+    ghost use Rattle.label_words.specs.Known.{after_keep};
+    ghost use Rattle.label_words.specs.Seats.{IsReady};
+
+    ghost then = { λ step old found new. (new ≡ (after_keep old.0, old.1)) × IsReady new.0 };
+}
+
+pub(crate) struct GivesBack;
+
+impl Play<(), Known> for GivesBack {
+    ghost use Rattle.std.specs.Prelude.{◌≡◌};
+    ghost use Rattle.label_words.specs.Known.{after_give_back};
+    ghost use Rattle.label_words.specs.Seats.{IsReady};
+
+    ghost then = { λ step old found new.
+        (new ≡ (after_give_back step.first old.0, old.1)) × IsReady new.0 };
 }
 
 pub(crate) struct Sees;

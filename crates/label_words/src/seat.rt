@@ -12,7 +12,7 @@ use std::marker::Model;
 /// A worker's place at the words: what it holds, its credits, whether it saw the total at 0, and its
 /// share. Contracts also see the least label that it knows of each vertex that it read or lowered, and
 /// the graph and the seeds of its words; these take no room. A seat that is dropped while it holds
-/// something keeps its credits, so no seat sees 0 from then on.
+/// something, or credits alone, takes its credits along, so no seat sees 0 from then on.
 #[derive(Drop)]
 pub struct WorkSeat {
     pub(crate) table_seat: TableSeat,
@@ -45,7 +45,7 @@ impl WorkSeat {
         self.view.hand
     }
 
-    /// The part of the pending total that stands for what the seat holds: 0 to 2.
+    /// The part of the pending total that stands for what the seat holds and for marks to come: 0 to 255.
     pub fn credits(&self) -> u8
         ensures { result ≡ self.now.known.view.credits }
     {

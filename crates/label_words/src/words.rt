@@ -1,14 +1,14 @@
 //! The words of a run, and the calls on them.
 
-ghost use Rattle.std.specs.Prelude.{◌≡◌, ◌⊎◌, ◌<◌, ◌≤◌, true, not, [], ◌∷◌, IfOk};
+ghost use Rattle.std.specs.Prelude.{◌≡◌, ◌⊎◌, ◌+◌, ◌<◌, ◌≤◌, true, not, [], ◌∷◌, IfOk};
 ghost use Rattle.route_walks.specs.Walk.{AreSeeds};
 ghost use Rattle.route_walks.specs.Operators.{seeds_of};
 ghost use Rattle.relax_core.specs.declared.views.TheConstants.{SHARES};
 ghost use Rattle.relax_core.specs.Views.{IsFresh, IsOpen, Owes, IsAtRowEnd, vertex_of};
 ghost use Rattle.csr_graph.specs.Graph.{end_place};
-ghost use Rattle.label_words.specs.Known.{hand_of, IsIdle, IsFound, GoesAlong, Attains};
-ghost use Rattle.label_words.specs.Known.{first_known, after_take, after_read, after_raise};
-ghost use Rattle.label_words.specs.Known.{after_set_mark, after_finish, after_see};
+ghost use Rattle.label_words.specs.Known.{hand_of, IsIdle, IsKept, HasNoVertex, IsFound, GoesAlong, Attains};
+ghost use Rattle.label_words.specs.Known.{first_known, after_take, after_read, after_raise, after_raise_by};
+ghost use Rattle.label_words.specs.Known.{after_set_mark, after_finish, after_keep, after_give_back, after_see};
 ghost use Rattle.label_words.specs.Known.{left_half, right_half, both_known};
 ghost use Rattle.label_words.specs.Closed.{IsClosed, IsBelowKnown};
 ghost use Rattle.label_words.specs.Paused.{CanGoOn};
@@ -19,7 +19,10 @@ use crate::known::{Key, WordTable};
 use crate::layout::{TOTAL, label_word, mark_word, vertex_count};
 use crate::opening::{lay, lay_rest};
 use crate::pause::Paused;
-use crate::plays::{Finishes, Raises, Reads, Relaxes, Sees, SetsMark, SplitsOrJoins, Takes};
+use crate::plays::{
+    Finishes, GivesBack, Keeps, Raises, RaisesBy, Reads, Relaxes, Sees, SetsMark, SplitsOrJoins,
+    Takes,
+};
 use crate::seat::WorkSeat;
 use atomic_table::Table;
 use csr_graph::{Csr, Target};
@@ -134,11 +137,11 @@ impl Words {
         Some(self.table.shared.peek(label_word(v)))
     }
 
-    /// Takes the mark of `u` away by one swap. Where it was set, the seat holds `u` with one credit and
-    /// this returns true.
+    /// Takes the mark of `u` away by one swap. Where it was set, the seat holds `u`, has the mark's credit
+    /// besides those that it kept, and this returns true.
     pub fn take(&self, seat: &mut WorkSeat, u: u32) -> bool
         requires words { seat.old.words ≡ self.now }
-        requires idle { IsIdle seat.old }
+        requires no_vertex { HasNoVertex seat.old }
         requires vertex { u < seat.old.known.graph.n }
         ensures { seat.new ≡ record seat.old { known = after_take result u seat.old.known } }
     {
@@ -250,12 +253,26 @@ impl Words {
         seat.view.raise();
     }
 
+    /// Adds this many to the total, by one `fetch_add`, for the mark that the seat owes and for marks to come.
+    /// A seat has 255 credits at most.
+    pub fn raise_by(&self, seat: &mut WorkSeat, count: u8)
+        requires words { seat.old.words ≡ self.now }
+        requires owes { Owes (hand_of seat.old) }
+        requires room { seat.old.known.view.credits + count ≤ 255 }
+        ensures { seat.new ≡ record seat.old { known = after_raise_by count seat.old.known } }
+    {
+        let more = u64::from(count);
+        let shared = &self.table.shared;
+        shared.fetch_add::<RaisesBy>(&mut seat.table_seat, TOTAL, more);
+        seat.view.raise_by(count);
+    }
+
     /// Sets the mark that the seat owes, by one swap. Where it was not set before, one credit goes to it
-    /// and this returns true; otherwise the seat keeps both.
+    /// and this returns true; otherwise the seat keeps all.
     pub fn set_mark(&self, seat: &mut WorkSeat) -> bool
         requires words { seat.old.words ≡ self.now }
         requires owes { Owes (hand_of seat.old) }
-        requires credits { seat.old.known.view.credits ≡ 2 }
+        requires credits { 2 ≤ seat.old.known.view.credits }
         ensures { seat.new ≡ record seat.old { known = after_set_mark (not result) seat.old.known } }
     {
         let Hand::Owe { u, d, k, head } = seat.view.hand else {
@@ -282,6 +299,38 @@ impl Words {
         let shared = &self.table.shared;
         shared.fetch_sub::<Finishes>(&mut seat.table_seat, TOTAL, credits);
         seat.view.finish();
+    }
+
+    /// At the end of its row the seat lets go of the row and keeps its credits, by one load of the total, which
+    /// stays as it is. It has room for one more then, that of the next vertex that it takes. The graph says
+    /// where the row ends.
+    pub fn keep(&self, seat: &mut WorkSeat, csr: &Csr)
+        requires words { seat.old.words ≡ self.now }
+        requires graph { csr.now ≡ seat.old.known.graph }
+        requires open { IsOpen (hand_of seat.old) }
+        requires row_end { IsAtRowEnd seat.old.known.graph (hand_of seat.old) }
+        requires room { seat.old.known.view.credits ≤ 254 }
+        ensures { seat.new ≡ record seat.old { known = after_keep seat.old.known } }
+    {
+        // Only the contract asks where the row ends.
+        let _ = csr;
+        let shared = &self.table.shared;
+        let _total = shared.load::<Keeps>(&mut seat.table_seat, TOTAL);
+        seat.view.keep();
+    }
+
+    /// Takes this many of the credits that the seat kept from the total, by one `fetch_sub`. Where none is left
+    /// the seat is idle. No seat sees the total at 0 while one keeps credits.
+    pub fn give_back(&self, seat: &mut WorkSeat, count: u8)
+        requires words { seat.old.words ≡ self.now }
+        requires kept { IsKept seat.old }
+        requires credits { count ≤ seat.old.known.view.credits }
+        ensures { seat.new ≡ record seat.old { known = after_give_back count seat.old.known } }
+    {
+        let less = u64::from(count);
+        let shared = &self.table.shared;
+        shared.fetch_sub::<GivesBack>(&mut seat.table_seat, TOTAL, less);
+        seat.view.give_back(count);
     }
 
     /// Looks at the total, by one load. True, and the seat saw, where it was 0.

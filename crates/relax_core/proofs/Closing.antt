@@ -8,50 +8,49 @@ use Rattle.std.proofs.lemmas.Bool.{cases_eq, cases_Bool}
 use Rattle.std.proofs.lemmas.Option.{slice_get-get_or}
 use Rattle.route_walks.proofs.Facts.{settled_and_sound_are_least}
 use Rattle.relax_core.specs.declared.views.Hand.{Hand}
-use Rattle.relax_core.specs.declared.views.Hand.TheVariants.{Idle}
+use Rattle.relax_core.specs.declared.views.Hand.TheVariants.{Idle, Kept}
 use Rattle.relax_core.specs.declared.views.View.{View}
 use Rattle.relax_core.specs.Views.{HasCredits}
 use Rattle.relax_core.specs.Lawful.{marks_below}
 use Rattle.relax_core.specs.Laws.{TotalIsBounded, QuietIsSettled, ZeroIsLeast}
 use Rattle.relax_core.proofs.Accounts.{marks_le}
 
--- no hand has more than two credits
-two_at_most : (hand : Hand) (credits : ℕ) → HasCredits hand credits → credits ≤ 2
-two_at_most Idle credits h = omega arith
-two_at_most other credits h = h.1
+-- no hand has more than 255 credits
+most_credits : (hand : Hand) (credits : ℕ) → HasCredits hand credits → credits ≤ 255
+most_credits Idle credits h = omega arith
+most_credits Kept credits h = omega (arith, h.1)
+most_credits other credits h = h.1
 
 -- a hand with no credit is idle
 idle_without : (hand : Hand) (credits : ℕ) → HasCredits hand credits → credits ≡ 0 → hand ≡ Idle
 idle_without Idle credits h none = refl
 idle_without other credits h none = absurd (omega arith)
 
--- a view has at most two credits for each share
+-- a view has at most 255 credits for each share
 few_credits : (view : View)
     → HasCredits view.hand view.credits → (view.share ≡ 0 → view.hand ≡ Idle)
-    → view.credits ≤ 2 * view.share
+    → view.credits ≤ 255 * view.share
 few_credits view credits spent =
     elim (cases_eq view.share 0) [
-      | inl none ↦
-          let nothing = rw (spent none) at credits in
-          omega arith
-      | inr some ↦ omega (arith, two_at_most view.hand view.credits credits)
+      | inl none ↦ let nothing = rw (spent none) at credits in omega arith
+      | inr some ↦ omega (arith, most_credits view.hand view.credits credits)
     ]
 
--- what is at most twice as much in each view is so in all
-sum_at_most_twice : (f g : View → ℕ) (views : List View)
-    → All (λ view. f view ≤ 2 * g view) views
-    → sum_by f views ≤ 2 * sum_by g views
-sum_at_most_twice f g [] each = omega arith
-sum_at_most_twice f g (view ∷ views) each =
-    let Twice = λ (v : View). f v ≤ 2 * g v in
-    let here = All-head Twice view views each in
-    let rest = sum_at_most_twice f g views (All-tail Twice view views each) in
+-- what is at most 255 times as much in each view is so in all
+sum_at_most : (f g : View → ℕ) (views : List View)
+    → All (λ view. f view ≤ 255 * g view) views
+    → sum_by f views ≤ 255 * sum_by g views
+sum_at_most f g [] each = omega arith
+sum_at_most f g (view ∷ views) each =
+    let Few = λ (v : View). f v ≤ 255 * g v in
+    let here = All-head Few view views each in
+    let rest = sum_at_most f g views (All-tail Few view views each) in
     omega (arith, sum_by-cons f view views, sum_by-cons g view views)
 
 pub total_is_bounded : TotalIsBounded
 total_is_bounded graph seeds label mark total views covers account =
     let credits =
-    sum_at_most_twice (λ (view : View). view.credits) (λ (view : View). view.share) views
+    sum_at_most (λ (view : View). view.credits) (λ (view : View). view.share) views
     (λ k d lt. few_credits (get_or views k d) (account.credits k d lt) (covers.spent k d lt)) in
     omega (arith, credits, account.balance, covers.shares, marks_le mark graph.n)
 

@@ -1,7 +1,7 @@
 -- The laws of cover: each event leaves every arc covered.
-use Rattle.std.proofs.Common.{◌≡◌, ◌∙◌, sym, refl, ℕ, ◌+◌, ◌<◌, ◌≤◌, Bool, true, List, ◌⊎◌, inl, inr, Some, set}
-use Rattle.std.proofs.Common.{get_or, arith}
-use Rattle.std.specs.Prelude.{slice_get}
+use Rattle.std.proofs.Common.{◌≡◌, ◌∙◌, sym, refl, ℕ, ◌+◌, ◌<◌, ◌≤◌, Bool, true, false, cond, List, ◌⊎◌, inl, inr}
+use Rattle.std.proofs.Common.{Some, set, get_or, arith}
+use Rattle.std.specs.Prelude.{◌==◌, slice_get}
 use Rattle.std.proofs.lemmas.List.Elements.{All-set, All-push}
 use Rattle.std.proofs.lemmas.List.Sums.{sum_by_push}
 use Rattle.std.proofs.lemmas.List.Quantifiers.{any-set}
@@ -13,13 +13,15 @@ use Rattle.route_walks.specs.Label.{IsSound}
 use Rattle.csr_graph.specs.Graph.{Graph, first_place}
 use Rattle.csr_graph.proofs.Facts.{first_place_rises, rows_are_runs}
 use Rattle.relax_core.specs.declared.views.Hand.{Hand}
-use Rattle.relax_core.specs.declared.views.Hand.TheVariants.{Idle, Fresh, Open, Owe}
+use Rattle.relax_core.specs.declared.views.Hand.TheVariants.{Idle, Kept, Fresh, Open, Owe}
 use Rattle.relax_core.specs.declared.views.View.{View}
-use Rattle.relax_core.specs.Views.{HasView, HoldsArc, IsHand, IsInRow, vertex_of, owed_of, idle_view, taken}
-use Rattle.relax_core.specs.Views.{opened, marked, finished, kept_half, new_half, joined}
+use Rattle.relax_core.specs.Views.{HasView, HoldsArc, IsHand, IsInRow, has_no_vertex, vertex_of, owed_of}
+use Rattle.relax_core.specs.Views.{idle_view, taken, opened, marked, finished, kept, gave_back, kept_half, new_half}
+use Rattle.relax_core.specs.Views.{joined}
 use Rattle.relax_core.specs.Lawful.{Covers, AreCovered, IsCovered}
 use Rattle.relax_core.specs.Laws.{TakingKeepsCover, ReadingKeepsCover, StayingKeepsCover, MarkingKeepsCover}
-use Rattle.relax_core.specs.Laws.{FinishingKeepsCover, SplittingKeepsCover, JoiningKeepsCover}
+use Rattle.relax_core.specs.Laws.{FinishingKeepsCover, KeepingKeepsCover, ReturningKeepsCover}
+use Rattle.relax_core.specs.Laws.{SplittingKeepsCover, JoiningKeepsCover}
 use Rattle.relax_core.proofs.Seats.{all_at, any_replaced, any_added, sum_replaced, other_seat, two_shares}
 
 -- a hand stays lawful while labels fall
@@ -31,6 +33,7 @@ row_falls {label'} {u} {d} falls row = let read : label' u ≤ d = omega (arith,
 pub hand_falls : (graph : Graph) (seeds : List Seed) {label label' : ℕ → ℕ} → ((x : ℕ) → label' x ≤ label x)
     → (hand : Hand) → IsHand graph seeds label hand → IsHand graph seeds label' hand
 hand_falls graph seeds falls Idle h = tt
+hand_falls graph seeds falls Kept h = tt
 hand_falls graph seeds falls (Fresh u) h = h
 hand_falls graph seeds falls (Open u d k) h = row_falls falls h
 hand_falls graph seeds falls (Owe u d k head) h = (row_falls falls h.0, h.1)
@@ -39,6 +42,7 @@ hand_falls graph seeds falls (Owe u d k head) h = (row_falls falls h.0, h.1)
 holds_kept : (label label' : ℕ → ℕ) (k : ℕ) (arc : ArcRec) (hand : Hand) → label' arc.tail ≡ label arc.tail
     → HoldsArc label k arc hand → HoldsArc label' k arc hand
 holds_kept label label' k arc Idle same h = h
+holds_kept label label' k arc Kept same h = h
 holds_kept label label' k arc (Fresh u) same h = h
 holds_kept label label' k arc (Open u d place) same h = (h.0, rw (h.0, same) (rw h.0 at h.1), h.2)
 holds_kept label label' k arc (Owe u d place head) same (inl owed) = inl owed
@@ -123,14 +127,21 @@ labels_stay w was has share hand own set_before =
       set_before = set_before;
     })
 
+-- a hand without a vertex holds no arc
+no_arc_held : (label : ℕ → ℕ) (k : ℕ) (arc : ArcRec) (hand : Hand)
+    → has_no_vertex hand ≡ true → HoldsArc label k arc hand → ⊥
+no_arc_held label k arc Idle is holds = holds
+no_arc_held label k arc Kept is holds = holds
+no_arc_held label k arc other is holds = cc
+
 pub taking : TakingKeepsCover
-taking graph seeds label mark mark' views s u v was has idle vertex agree =
+taking graph seeds label mark mark' views s u v was has free vertex agree =
     labels_stay (taken (mark u) u v) was has refl
     (elim (cases_Bool (mark u)) [
       | inl marked ↦ rw marked vertex
       | inr unset ↦ rw unset (hand_at was has refl)
     ])
-    (λ k arc is holds. absurd (rw idle at holds))
+    (λ k arc is holds. absurd (no_arc_held label k arc v.hand free holds))
     (λ k arc marked. elim (cases_eq arc.tail u) [
       | inl same ↦ held_here label mark' (taken (mark u) u v) k arc has (rw (← same, marked) refl)
       | inr other ↦ inr (inl (agree arc.tail other ∙ marked))
@@ -178,6 +189,26 @@ finishing graph seeds label mark views s v rows was has held end =
     (λ k arc is holds.
     let own = rw held at holds in
     absurd (omega (arith, rw (← own.0) at (rows_are_runs graph rows k arc is).1)))
+    (λ k arc marked. inr (inl marked))
+
+pub keeping : KeepingKeepsCover
+keeping graph seeds label mark views s v rows was has held end =
+    labels_stay (kept v) was has refl tt
+    (λ k arc is holds.
+    let own = rw held at holds in
+    absurd (omega (arith, rw (← own.0) at (rows_are_runs graph rows k arc is).1)))
+    (λ k arc marked. inr (inl marked))
+
+-- credits alone, or nothing, is a lawful hand
+rest_held : (graph : Graph) (seeds : List Seed) (label : ℕ → ℕ) (all : Bool)
+    → IsHand graph seeds label (cond {A = Hand} all Idle Kept)
+rest_held graph seeds label true = tt
+rest_held graph seeds label false = tt
+
+pub returning : ReturningKeepsCover
+returning graph seeds label mark views s count v was has held =
+    labels_stay (gave_back count v) was has refl (rest_held graph seeds label (v.credits == count))
+    (λ k arc is holds. absurd (rw held at holds))
     (λ k arc marked. inr (inl marked))
 
 -- an idle view that is replaced by an idle one held no arc

@@ -1,18 +1,19 @@
 -- Each event leads from a lawful state to a lawful state.
-use Rattle.std.proofs.Common.{◌≡◌, ◌∙◌, refl, ℕ, ◌<◌, min, Bool, true, false, ◌&&◌, cond, List, [], ◌∷◌, Some}
+use Rattle.std.proofs.Common.{◌≡◌, ◌∙◌, refl, ℕ, ◌+◌, ◌<◌, min, Bool, true, false, ◌&&◌, cond, List, [], ◌∷◌, Some}
 use Rattle.std.proofs.Common.{None, inl, inr, set, arith, length, length-set, get_or-set_same, get_or-set_other}
 use Rattle.std.specs.Prelude.{slice_get, slice_index, ◌==◌, nat_lt, nat_le}
-use Rattle.std.proofs.lemmas.Bool.{cases_Bool, ltb-true, eqb-true, eqb-false, ne_eqb, and_parts}
+use Rattle.std.proofs.lemmas.Bool.{cases_Bool, ltb-true, leb-true, eqb-true, eqb-false, ne_eqb, and_parts}
 use Rattle.std.proofs.lemmas.Option.{option_and_then_some, cond_some, none-some, same_Some}
 use Rattle.route_walks.specs.declared.graph.Seed.{Seed}
 use Rattle.csr_graph.specs.Graph.{Graph, end_place}
-use Rattle.relax_core.specs.declared.events.Event.TheVariants.{Take, Read, Relax, Raise, SetMark, Finish, See}
-use Rattle.relax_core.specs.declared.events.Event.TheVariants.{Split, Join}
+use Rattle.relax_core.specs.declared.events.Event.TheVariants.{Take, Read, Relax, Raise, RaiseBy, SetMark}
+use Rattle.relax_core.specs.declared.events.Event.TheVariants.{Finish, Keep, Return, See, Split, Join}
 use Rattle.relax_core.specs.declared.views.Hand.{Hand}
-use Rattle.relax_core.specs.declared.views.Hand.TheVariants.{Idle, Fresh, Open, Owe}
+use Rattle.relax_core.specs.declared.views.Hand.TheVariants.{Idle, Kept, Fresh, Open, Owe}
 use Rattle.relax_core.specs.declared.views.View.{View}
-use Rattle.relax_core.specs.Views.{HasView, IsFresh, IsOpen, Owes, is_idle, is_fresh, is_open, owes, vertex_of}
-use Rattle.relax_core.specs.Views.{place_of, owed_of, next_arc, next_offer, idle_view, joined}
+use Rattle.relax_core.specs.Views.{HasView, IsFresh, IsOpen, Owes, is_idle, is_kept, has_no_vertex, is_fresh}
+use Rattle.relax_core.specs.Views.{is_open, owes, vertex_of, place_of, owed_of, next_arc, next_offer, idle_view}
+use Rattle.relax_core.specs.Views.{joined}
 use Rattle.relax_core.specs.Lawful.{Covers, Account}
 use Rattle.relax_core.specs.State.{State, IsLawful, mark_of}
 use Rattle.relax_core.specs.Events.{after_at, live_view}
@@ -26,6 +27,10 @@ use Rattle.relax_core.proofs.Accounts as account
 idle_is : (hand : Hand) → is_idle hand ≡ true → hand ≡ Idle
 idle_is Idle e = refl
 idle_is other e = cc
+
+kept_is : (hand : Hand) → is_kept hand ≡ true → hand ≡ Kept
+kept_is Kept e = refl
+kept_is other e = cc
 
 fresh_is : (hand : Hand) → is_fresh hand ≡ true → IsFresh hand
 fresh_is (Fresh u) e = refl
@@ -84,14 +89,13 @@ lawful_on was labels marks covers account = record {
 pub event_keeps_lawful : EventsKeepLawful
 event_keeps_lawful graph seeds state next (Take s u) lawful e =
     done_at (IsLawful graph seeds) state _ _ _ _ e (λ v has may.
-    let is = and_parts (is_idle v.hand) (nat_lt u graph.n) may in
-    let idle = idle_is v.hand is.0 in
+    let is = and_parts (has_no_vertex v.hand) (nat_lt u graph.n) may in
     let vertex = ltb-true u graph.n is.1 in
     let other : AgreeBut u (mark_of state.marks) (mark_of (set state.marks u false)) =
     λ x apart. get_or-set_other state.marks u x false false apart in
     lawful_on lawful refl (length-set state.marks u false)
-    (cover.taking _ _ _ _ _ _ _ _ _ lawful.covers has idle vertex other)
-    (account.taking _ _ _ _ _ _ _ _ lawful.account has idle vertex
+    (cover.taking _ _ _ _ _ _ _ _ _ lawful.covers has is.0 vertex other)
+    (account.taking _ _ _ _ _ _ _ _ lawful.account has is.0 vertex
     (get_or-set_same state.marks u false false (omega (arith, lawful.marks))) other))
 event_keeps_lawful graph seeds state next (Read s) lawful e =
     done_at (IsLawful graph seeds) state _ _ _ _ e (λ v has may.
@@ -116,9 +120,15 @@ event_keeps_lawful graph seeds state next (Raise s) lawful e =
     let is = and_parts (owes v.hand) (v.credits == 1) may in
     lawful_on lawful refl refl (cover.staying _ _ _ _ _ _ _ _ lawful.covers has refl refl)
     (account.raising _ _ _ _ _ _ lawful.account has (owes_is v.hand is.0) (eqb-true v.credits 1 is.1)))
+event_keeps_lawful graph seeds state next (RaiseBy s count) lawful e =
+    done_at (IsLawful graph seeds) state _ _ _ _ e (λ v has may.
+    let is = and_parts (owes v.hand) (nat_le (v.credits + count) 255) may in
+    lawful_on lawful refl refl (cover.staying _ _ _ _ _ _ _ _ lawful.covers has refl refl)
+    (account.raising_by _ _ _ _ _ _ _ lawful.account has (owes_is v.hand is.0)
+    (leb-true (v.credits + count) 255 is.1)))
 event_keeps_lawful graph seeds state next (SetMark s) lawful e =
     done_at (IsLawful graph seeds) state _ _ _ _ e (λ v has may.
-    let is = and_parts (owes v.hand) (v.credits == 2) may in
+    let is = and_parts (owes v.hand) (nat_le 2 v.credits) may in
     let owe = owes_is v.hand is.0 in
     let head = owed_of v.hand in
     let within : head < graph.n = (cover.hand_at lawful.covers has owe).1 in
@@ -127,7 +137,7 @@ event_keeps_lawful graph seeds state next (SetMark s) lawful e =
     λ x apart. get_or-set_other state.marks head x true false apart in
     lawful_on lawful refl (length-set state.marks head true)
     (cover.marking _ _ _ _ _ _ _ _ lawful.covers has owe now' other)
-    (account.marking _ _ _ _ _ _ _ lawful.account has owe (eqb-true v.credits 2 is.1) within now' other))
+    (account.marking _ _ _ _ _ _ _ lawful.account has owe (leb-true 2 v.credits is.1) within now' other))
 event_keeps_lawful graph seeds state next (Finish s) lawful e =
     done_at (IsLawful graph seeds) state _ _ _ _ e (λ v has may.
     let is = and_parts (is_open v.hand) (place_of v.hand == end_place graph.arcs (vertex_of v.hand)) may in
@@ -136,6 +146,23 @@ event_keeps_lawful graph seeds state next (Finish s) lawful e =
     lawful_on lawful refl refl
     (cover.finishing _ _ _ _ _ _ _ lawful.rows lawful.covers has (open_is v.hand is.0) end')
     (account.finishing _ _ _ _ _ _ _ lawful.account has (omega arith)))
+event_keeps_lawful graph seeds state next (Keep s) lawful e =
+    done_at (IsLawful graph seeds) state _ _ _ _ e (λ v has may.
+    let ends = place_of v.hand == end_place graph.arcs (vertex_of v.hand) in
+    let is = and_parts (is_open v.hand) (ends && nat_le v.credits 254) may in
+    let both = and_parts ends (nat_le v.credits 254) is.1 in
+    let end' = eqb-true (place_of v.hand) (end_place graph.arcs (vertex_of v.hand)) both.0 in
+    lawful_on lawful refl refl
+    (cover.keeping _ _ _ _ _ _ _ lawful.rows lawful.covers has (open_is v.hand is.0) end')
+    (account.keeping _ _ _ _ _ _ lawful.account has (open_is v.hand is.0) (leb-true v.credits 254 both.1)))
+event_keeps_lawful graph seeds state next (Return s count) lawful e =
+    done_at (IsLawful graph seeds) state _ _ _ _ e (λ v has may.
+    let is = and_parts (is_kept v.hand) (nat_le count v.credits) may in
+    let held = kept_is v.hand is.0 in
+    let some = leb-true count v.credits is.1 in
+    let above = account.total_above lawful.account has in
+    lawful_on lawful refl refl (cover.returning _ _ _ _ _ _ _ _ lawful.covers has held)
+    (account.returning _ _ _ _ _ _ _ _ lawful.account has held some (omega arith)))
 event_keeps_lawful graph seeds state next (See s) lawful e =
     done_at (IsLawful graph seeds) state _ _ _ _ e (λ v has idle.
     lawful_on lawful refl refl (cover.staying _ _ _ _ _ _ _ _ lawful.covers has refl refl)

@@ -4,12 +4,13 @@ use Rattle.std.specs.Prelude.{if◌then◌else◌, Option, Some, None, List, [],
 use Rattle.std.specs.Prelude.{slice_get, slice_set, slice_index, option_and_then, MatchBool}
 use Rattle.csr_graph.specs.Graph.{Graph, first_place, end_place}
 use Rattle.relax_core.specs.declared.events.Event.{Event}
-use Rattle.relax_core.specs.declared.events.Event.TheVariants.{Take, Read, Relax, Raise, SetMark}
-use Rattle.relax_core.specs.declared.events.Event.TheVariants.{Finish, See, Split, Join}
+use Rattle.relax_core.specs.declared.events.Event.TheVariants.{Take, Read, Relax, Raise, RaiseBy, SetMark}
+use Rattle.relax_core.specs.declared.events.Event.TheVariants.{Finish, Keep, Return, See, Split, Join}
 use Rattle.relax_core.specs.declared.views.View.{View}
-use Rattle.relax_core.specs.Views.{is_idle, is_fresh, is_open, owes, vertex_of, place_of, owed_of}
-use Rattle.relax_core.specs.Views.{next_arc, next_offer, idle_view, taken, opened, went_along, raised}
-use Rattle.relax_core.specs.Views.{marked, finished, looked, kept_half, new_half, joined}
+use Rattle.relax_core.specs.Views.{is_idle, is_kept, has_no_vertex, is_fresh, is_open, owes}
+use Rattle.relax_core.specs.Views.{vertex_of, place_of, owed_of, next_arc, next_offer, idle_view, taken, opened}
+use Rattle.relax_core.specs.Views.{went_along, raised, raised_by, marked, finished, kept, gave_back, looked}
+use Rattle.relax_core.specs.Views.{kept_half, new_half, joined}
 use Rattle.relax_core.specs.State.{State, mark_of}
 
 -- the state with one view changed
@@ -38,9 +39,9 @@ relaxed graph state seat v =
 
 -- the state after an event, where it is enabled
 abbrev pub after : Graph → State → Event → Option State
--- the vertex is marked no more; if it was, an idle seat holds it
+-- the vertex is marked no more; if it was, the seat, which held none, holds it
 after graph state (Take seat u) =
-    after_at state seat (λ v. is_idle v.hand && nat_lt u graph.n) (λ v.
+    after_at state seat (λ v. has_no_vertex v.hand && nat_lt u graph.n) (λ v.
     record (with_view state seat (taken (mark_of state.marks u) u v)) {
       marks = slice_set state.marks u false;
     })
@@ -57,9 +58,13 @@ after graph state (Relax seat) =
 after graph state (Raise seat) =
     after_at state seat (λ v. owes v.hand && (v.credits == 1)) (λ v.
     record (with_view state seat (raised v)) { total = state.total + 1 })
+-- the total gains as many as the seat that owes a mark gains credits, which are 255 at most
+after graph state (RaiseBy seat count) =
+    after_at state seat (λ v. owes v.hand && nat_le (v.credits + count) 255) (λ v.
+    record (with_view state seat (raised_by count v)) { total = state.total + count })
 -- the mark that is owed is set
 after graph state (SetMark seat) =
-    after_at state seat (λ v. owes v.hand && (v.credits == 2)) (λ v.
+    after_at state seat (λ v. owes v.hand && nat_le 2 v.credits) (λ v.
     record (with_view state seat (marked (mark_of state.marks (owed_of v.hand)) v)) {
       marks = slice_set state.marks (owed_of v.hand) true;
     })
@@ -67,6 +72,16 @@ after graph state (SetMark seat) =
 after graph state (Finish seat) =
     after_at state seat (λ v. is_open v.hand && (place_of v.hand == end_place graph.arcs (vertex_of v.hand))) (λ v.
     record (with_view state seat (finished v)) { total = state.total - v.credits })
+-- at the row's end the credits stay with the seat, which has room for one more
+after graph state (Keep seat) =
+    after_at state seat (λ v.
+    is_open v.hand
+    && ((place_of v.hand == end_place graph.arcs (vertex_of v.hand)) && nat_le v.credits 254))
+    (λ v. with_view state seat (kept v))
+-- the total loses the credits that a seat gives back of those that it kept
+after graph state (Return seat count) =
+    after_at state seat (λ v. is_kept v.hand && nat_le count v.credits) (λ v.
+    record (with_view state seat (gave_back count v)) { total = state.total - count })
 -- an idle seat looks at the total
 after graph state (See seat) =
     after_at state seat (λ v. is_idle v.hand) (λ v. with_view state seat (looked (state.total == 0) v))
@@ -96,8 +111,11 @@ IsSplit (Take seat u) = ⊥
 IsSplit (Read seat) = ⊥
 IsSplit (Relax seat) = ⊥
 IsSplit (Raise seat) = ⊥
+IsSplit (RaiseBy seat count) = ⊥
 IsSplit (SetMark seat) = ⊥
 IsSplit (Finish seat) = ⊥
+IsSplit (Keep seat) = ⊥
+IsSplit (Return seat count) = ⊥
 IsSplit (See seat) = ⊥
 IsSplit (Join seat other) = ⊥
 

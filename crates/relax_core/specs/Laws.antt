@@ -9,12 +9,13 @@ use Rattle.route_walks.specs.Walk.{IsAttained}
 use Rattle.route_walks.specs.Label.{AreCapped, AreLeast, IsSettled}
 use Rattle.csr_graph.specs.Graph.{Graph, IsInRows, first_place}
 use Rattle.relax_core.specs.declared.events.Event.{Event}
-use Rattle.relax_core.specs.declared.views.Hand.TheVariants.{Idle}
+use Rattle.relax_core.specs.declared.views.Hand.TheVariants.{Idle, Kept}
 use Rattle.relax_core.specs.declared.views.View.{View}
 use Rattle.relax_core.specs.declared.views.TheConstants.{SHARES}
 use Rattle.relax_core.specs.Views.{HasView, IsFresh, IsOpen, Owes, HasNextArc, IsAtRowEnd, vertex_of}
-use Rattle.relax_core.specs.Views.{owed_of, next_arc, next_offer, idle_view, taken, opened, went_along}
-use Rattle.relax_core.specs.Views.{raised, marked, finished, looked, kept_half, new_half, joined}
+use Rattle.relax_core.specs.Views.{has_no_vertex, owed_of, next_arc, next_offer, idle_view, taken, opened}
+use Rattle.relax_core.specs.Views.{went_along, raised, raised_by, marked, finished, kept, gave_back, looked}
+use Rattle.relax_core.specs.Views.{kept_half, new_half, joined}
 use Rattle.relax_core.specs.Lawful.{Covers, Account}
 use Rattle.relax_core.specs.State.{State, IsLawful}
 use Rattle.relax_core.specs.Events.{after, Run}
@@ -31,7 +32,7 @@ abbrev pub TakingKeepsCover : Type 0
 TakingKeepsCover =
     (graph : Graph) (seeds : List Seed) (label : ℕ → ℕ) (mark mark' : ℕ → Bool) (views : List View) (s u : ℕ) (v : View)
     → Covers graph seeds label mark views → HasView views s v
-    → v.hand ≡ Idle → u < graph.n → AgreeBut u mark mark'
+    → has_no_vertex v.hand ≡ true → u < graph.n → AgreeBut u mark mark'
     → Covers graph seeds label mark' (slice_set views s (taken (mark u) u v))
 
 -- Read: the whole row is to be relaxed with the label that was read
@@ -78,6 +79,21 @@ FinishingKeepsCover =
     → IsOpen v.hand → IsAtRowEnd graph v.hand
     → Covers graph seeds label mark (slice_set views s (finished v))
 
+-- Keep: the row is done
+abbrev pub KeepingKeepsCover : Type 0
+KeepingKeepsCover =
+    (graph : Graph) (seeds : List Seed) (label : ℕ → ℕ) (mark : ℕ → Bool) (views : List View) (s : ℕ) (v : View)
+    → IsInRows graph → Covers graph seeds label mark views → HasView views s v
+    → IsOpen v.hand → IsAtRowEnd graph v.hand
+    → Covers graph seeds label mark (slice_set views s (kept v))
+
+-- Return: no arc was held
+abbrev pub ReturningKeepsCover : Type 0
+ReturningKeepsCover =
+    (graph : Graph) (seeds : List Seed) (label : ℕ → ℕ) (mark : ℕ → Bool) (views : List View) (s count : ℕ) (v : View)
+    → Covers graph seeds label mark views → HasView views s v → v.hand ≡ Kept
+    → Covers graph seeds label mark (slice_set views s (gave_back count v))
+
 -- Split: an idle view becomes two, with the same share together
 abbrev pub SplittingKeepsCover : Type 0
 SplittingKeepsCover =
@@ -100,7 +116,7 @@ abbrev pub TakingKeepsAccount : Type 0
 TakingKeepsAccount =
     (n : ℕ) (mark mark' : ℕ → Bool) (total : ℕ) (views : List View) (s u : ℕ) (v : View)
     → Account n mark total views → HasView views s v
-    → v.hand ≡ Idle → u < n → mark' u ≡ false → AgreeBut u mark mark'
+    → has_no_vertex v.hand ≡ true → u < n → mark' u ≡ false → AgreeBut u mark mark'
     → Account n mark' total (slice_set views s (taken (mark u) u v))
 
 -- Read and Relax: nothing of the account changes
@@ -123,12 +139,19 @@ RaisingKeepsAccount =
     → Account n mark total views → HasView views s v → Owes v.hand → v.credits ≡ 1
     → Account n mark (total + 1) (slice_set views s (raised v))
 
--- SetMark: one of two credits goes to the mark, unless it was set before
+-- RaiseBy: the total gains what the seat gains
+abbrev pub RaisingByKeepsAccount : Type 0
+RaisingByKeepsAccount =
+    (n : ℕ) (mark : ℕ → Bool) (total : ℕ) (views : List View) (s count : ℕ) (v : View)
+    → Account n mark total views → HasView views s v → Owes v.hand → v.credits + count ≤ 255
+    → Account n mark (total + count) (slice_set views s (raised_by count v))
+
+-- SetMark: one of the credits goes to the mark, unless it was set before
 abbrev pub MarkingKeepsAccount : Type 0
 MarkingKeepsAccount =
     (n : ℕ) (mark mark' : ℕ → Bool) (total : ℕ) (views : List View) (s : ℕ) (v : View)
     → Account n mark total views → HasView views s v
-    → Owes v.hand → v.credits ≡ 2 → owed_of v.hand < n
+    → Owes v.hand → 2 ≤ v.credits → owed_of v.hand < n
     → mark' (owed_of v.hand) ≡ true → AgreeBut (owed_of v.hand) mark mark'
     → Account n mark' total (slice_set views s (marked (mark (owed_of v.hand)) v))
 
@@ -138,6 +161,20 @@ FinishingKeepsAccount =
     (n : ℕ) (mark : ℕ → Bool) (total total' : ℕ) (views : List View) (s : ℕ) (v : View)
     → Account n mark total views → HasView views s v → total' + v.credits ≡ total
     → Account n mark total' (slice_set views s (finished v))
+
+-- Keep: nothing of the account changes
+abbrev pub KeepingKeepsAccount : Type 0
+KeepingKeepsAccount =
+    (n : ℕ) (mark : ℕ → Bool) (total : ℕ) (views : List View) (s : ℕ) (v : View)
+    → Account n mark total views → HasView views s v → IsOpen v.hand → v.credits ≤ 254
+    → Account n mark total (slice_set views s (kept v))
+
+-- Return: the total loses what the seat gives back
+abbrev pub ReturningKeepsAccount : Type 0
+ReturningKeepsAccount =
+    (n : ℕ) (mark : ℕ → Bool) (total total' : ℕ) (views : List View) (s count : ℕ) (v : View)
+    → Account n mark total views → HasView views s v → v.hand ≡ Kept → count ≤ v.credits → total' + count ≡ total
+    → Account n mark total' (slice_set views s (gave_back count v))
 
 -- See: the seat saw only where the total is 0
 abbrev pub SeeingKeepsAccount : Type 0
@@ -171,12 +208,12 @@ LoweringAttains =
     → IsOpen v.hand → HasNextArc graph v.hand → next_offer graph v.hand < INF
     → IsAttained graph.arcs seeds (next_arc graph v.hand).head (next_offer graph v.hand)
 
--- the total is at most a mark for each vertex and two credits for each share
+-- the total is at most a mark for each vertex and 255 credits for each share
 abbrev pub TotalIsBounded : Type 0
 TotalIsBounded =
     (graph : Graph) (seeds : List Seed) (label : ℕ → ℕ) (mark : ℕ → Bool) (total : ℕ) (views : List View)
     → Covers graph seeds label mark views → Account graph.n mark total views
-    → total ≤ graph.n + 2 * SHARES
+    → total ≤ graph.n + 255 * SHARES
 
 -- where nothing is marked and every view is idle, labels are settled
 abbrev pub QuietIsSettled : Type 0

@@ -8,15 +8,20 @@ ghost use Rattle.relax_core.specs.Laws.{
   FinishingKeepsCover,
   JoiningKeepsAccount,
   JoiningKeepsCover,
+  KeepingKeepsAccount,
+  KeepingKeepsCover,
   LoweringAttains,
   MarkingKeepsAccount,
   MarkingKeepsCover,
   QuietIsSettled,
+  RaisingByKeepsAccount,
   RaisingKeepsAccount,
   ReadingKeepsAccount,
   ReadingKeepsCover,
   RelaxingKeepsAccount,
   RelaxingKeepsCover,
+  ReturningKeepsAccount,
+  ReturningKeepsCover,
   RunsDontStop,
   RunsKeepLawful,
   SeeingKeepsAccount,
@@ -30,7 +35,7 @@ ghost use Rattle.relax_core.specs.Laws.{
   ZeroIsLeast,
 };
 
-/// What an idle seat takes was marked, so it stays covered, and the mark's credit is the seat's.
+/// What a seat takes was marked, so it stays covered, and the mark's credit is the seat's.
 pub fn taking()
     ensures cover { TakingKeepsCover }
     ensures account { TakingKeepsAccount }
@@ -55,6 +60,12 @@ pub fn raising()
     ensures account { RaisingKeepsAccount }
 {}
 
+/// A seat that raises the total for several marks holds what it held.
+pub fn raising_by()
+    ensures cover { StayingKeepsCover }
+    ensures account { RaisingByKeepsAccount }
+{}
+
 /// A seat that sets the mark that it owes hands the head over to the mark.
 pub fn marking()
     ensures cover { MarkingKeepsCover }
@@ -65,6 +76,18 @@ pub fn marking()
 pub fn finishing()
     ensures cover { FinishingKeepsCover }
     ensures account { FinishingKeepsAccount }
+{}
+
+/// A seat at its row's end holds no arc any more, and keeps its credits.
+pub fn keeping()
+    ensures cover { KeepingKeepsCover }
+    ensures account { KeepingKeepsAccount }
+{}
+
+/// A seat that holds credits alone gives some of them back to the total.
+pub fn returning()
+    ensures cover { ReturningKeepsCover }
+    ensures account { ReturningKeepsAccount }
 {}
 
 /// A seat that looks at the total holds what it held.

@@ -54,7 +54,7 @@ impl Core {
         let Some(mut view) = self.live(seat) else {
             return false;
         };
-        let Hand::Idle = view.hand else {
+        let (Hand::Idle | Hand::Kept) = view.hand else {
             return false;
         };
         if u >= csr.n() {
@@ -123,6 +123,25 @@ impl Core {
         true
     }
 
+    fn raise_by(&mut self, csr: &Csr, seat: usize, count: u8) -> bool
+        requires { IsOf csr.now self.old }
+        ensures { IsDone csr.now self.old (Event.RaiseBy seat count) result self.new }
+    {
+        let Some(mut view) = self.live(seat) else {
+            return false;
+        };
+        let Hand::Owe { .. } = view.hand else {
+            return false;
+        };
+        if count > 255 - view.credits {
+            return false;
+        }
+        self.total += u64::from(count);
+        view.raise_by(count);
+        self.views[seat] = view;
+        true
+    }
+
     fn set_mark(&mut self, csr: &Csr, seat: usize) -> bool
         requires { IsOf csr.now self.old }
         ensures { IsDone csr.now self.old (Event.SetMark seat) result self.new }
@@ -133,7 +152,7 @@ impl Core {
         let Hand::Owe { u, d, k, head } = view.hand else {
             return false;
         };
-        if view.credits != 2 {
+        if view.credits < 2 {
             return false;
         }
         let was_marked = self.marks[head as usize];
@@ -158,6 +177,43 @@ impl Core {
         }
         self.total -= u64::from(view.credits);
         view.finish();
+        self.views[seat] = view;
+        true
+    }
+
+    fn keep(&mut self, csr: &Csr, seat: usize) -> bool
+        requires { IsOf csr.now self.old }
+        ensures { IsDone csr.now self.old (Event.Keep seat) result self.new }
+    {
+        let Some(mut view) = self.live(seat) else {
+            return false;
+        };
+        let Hand::Open { u, k, .. } = view.hand else {
+            return false;
+        };
+        if k != csr.end(u) || view.credits > 254 {
+            return false;
+        }
+        view.keep();
+        self.views[seat] = view;
+        true
+    }
+
+    fn give_back(&mut self, csr: &Csr, seat: usize, count: u8) -> bool
+        requires { IsOf csr.now self.old }
+        ensures { IsDone csr.now self.old (Event.Return seat count) result self.new }
+    {
+        let Some(mut view) = self.live(seat) else {
+            return false;
+        };
+        let Hand::Kept = view.hand else {
+            return false;
+        };
+        if count > view.credits {
+            return false;
+        }
+        self.total -= u64::from(count);
+        view.give_back(count);
         self.views[seat] = view;
         true
     }
@@ -233,8 +289,11 @@ impl Core {
             Event::Read(seat) => Ok(self.read(csr, seat)),
             Event::Relax(seat) => Ok(self.relax(csr, seat)),
             Event::Raise(seat) => Ok(self.raise(csr, seat)),
+            Event::RaiseBy(seat, count) => Ok(self.raise_by(csr, seat, count)),
             Event::SetMark(seat) => Ok(self.set_mark(csr, seat)),
             Event::Finish(seat) => Ok(self.finish(csr, seat)),
+            Event::Keep(seat) => Ok(self.keep(csr, seat)),
+            Event::Return(seat, count) => Ok(self.give_back(csr, seat, count)),
             Event::See(seat) => Ok(self.see(csr, seat)),
             Event::Split(seat) => self.split(csr, seat),
             Event::Join(seat, other) => Ok(self.join(csr, seat, other)),

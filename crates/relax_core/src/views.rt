@@ -1,9 +1,10 @@
 //! What a worker holds, what is known of one seat, and what each event makes of a seat's view.
 
-ghost use Rattle.std.specs.Prelude.{◌≡◌, ◌+◌, ◌-◌, ◌^◌, ◌<◌};
-ghost use Rattle.relax_core.specs.declared.views.Hand.TheVariants.{Idle, Open, Owe};
-ghost use Rattle.relax_core.specs.Views.{IsFresh, owed_of, idle_view, taken, opened, went_along};
-ghost use Rattle.relax_core.specs.Views.{raised, marked, finished, looked, kept_half, new_half, joined};
+ghost use Rattle.std.specs.Prelude.{◌≡◌, ◌+◌, ◌-◌, ◌^◌, ◌<◌, ◌≤◌, true};
+ghost use Rattle.relax_core.specs.declared.views.Hand.TheVariants.{Open, Owe};
+ghost use Rattle.relax_core.specs.Views.{IsFresh, has_no_vertex, owed_of, idle_view, taken, opened, went_along};
+ghost use Rattle.relax_core.specs.Views.{raised, raised_by, marked, finished, kept, gave_back, looked};
+ghost use Rattle.relax_core.specs.Views.{kept_half, new_half, joined};
 
 /// The shares of all seats together.
 pub const SHARES: u32 = 65536;
@@ -13,6 +14,8 @@ pub const SHARES: u32 = 65536;
 pub enum Hand {
     /// Nothing.
     Idle,
+    /// No vertex, but credits that the seat kept for marks to come.
+    Kept,
     /// Vertex `u`, whose mark it took and whose label it hasn't read.
     Fresh { u: u32 },
     /// The row of `u` from place `k` on, relaxed with `d`, the label that it read.
@@ -25,7 +28,7 @@ pub enum Hand {
 #[derive(Clone, Copy, Debug, PartialEq, Eq)]
 pub struct View {
     pub hand: Hand,
-    /// The part of the pending total that stands for what the hand holds: 0 to 2.
+    /// The part of the pending total that stands for what the hand holds and for marks to come: 0 to 255.
     pub credits: u8,
     /// Whether the seat saw the pending total at 0.
     pub saw: bool,
@@ -46,22 +49,27 @@ impl View {
         }
     }
 
-    /// Holds nothing, as before. What an earlier hand left behind is written over, so that a loop over `Take`
-    /// and `Finish` need not carry it along.
+    /// Holds no vertex, as before. What an earlier hand left behind is written over, so that a loop over `Take`
+    /// and `Finish` or `Keep` need not carry it along.
     pub fn rest(&mut self)
-        requires { self.old.hand ≡ Idle }
+        requires { has_no_vertex self.old.hand ≡ true }
         ensures { self.new ≡ self.old }
     {
-        self.hand = Hand::Idle;
+        self.hand = match self.hand {
+            Hand::Idle => Hand::Idle,
+            Hand::Kept => Hand::Kept,
+            _ => unreachable!(),
+        };
     }
 
-    /// `Take`: where the mark of `u` was set, the seat holds `u` with one credit.
+    /// `Take`: where the mark of `u` was set, the seat holds `u`, and the mark's credit besides its own.
     pub fn take(&mut self, was_marked: bool, u: u32)
+        requires { self.old.credits < 255 }
         ensures { self.new ≡ taken was_marked u self.old }
     {
         if was_marked {
             self.hand = Hand::Fresh { u };
-            self.credits = 1;
+            self.credits += 1;
         }
     }
 
@@ -98,14 +106,25 @@ impl View {
         self.credits = 2;
     }
 
+    /// `RaiseBy`: this many credits more, for the mark that is owed and others to come.
+    pub fn raise_by(&mut self, count: u8)
+        requires { self.old.credits + count ≤ 255 }
+        ensures { self.new ≡ raised_by count self.old }
+    {
+        self.credits += count;
+    }
+
     /// `SetMark`: nothing is owed any more. One credit went to the mark, unless it was set before. The
     /// caller hands in the parts of the hand that it still holds.
     pub fn set_mark(&mut self, was_marked: bool, u: u32, d: u64, k: usize)
-        requires { self.old.hand ≡ Owe u d k (owed_of self.old.hand) }
+        requires hand { self.old.hand ≡ Owe u d k (owed_of self.old.hand) }
+        requires credits { 1 ≤ self.old.credits }
         ensures { self.new ≡ marked was_marked self.old }
     {
         self.hand = Hand::Open { u, d, k };
-        self.credits = if was_marked { 2 } else { 1 };
+        if !was_marked {
+            self.credits -= 1;
+        }
     }
 
     /// `Finish`: nothing is held.
@@ -114,6 +133,26 @@ impl View {
     {
         self.hand = Hand::Idle;
         self.credits = 0;
+    }
+
+    /// `Keep`: no vertex is held, and the credits stay as they are.
+    pub fn keep(&mut self)
+        ensures { self.new ≡ kept self.old }
+    {
+        self.hand = Hand::Kept;
+    }
+
+    /// `Return`: this many credits less. Where none is left, nothing is held.
+    pub fn give_back(&mut self, count: u8)
+        requires { count ≤ self.old.credits }
+        ensures { self.new ≡ gave_back count self.old }
+    {
+        self.hand = if self.credits == count {
+            Hand::Idle
+        } else {
+            Hand::Kept
+        };
+        self.credits -= count;
     }
 
     /// `See`: the seat saw, if the total is 0.

@@ -7,6 +7,6 @@ pub swap-was_marked-requires : goal.swap-was_marked-requires
 swap-was_marked-requires c =
     let same = rw (← c.seat.view_is, ← c.self.view_is) at c.requires.words in
     let vertex = rw (← c.seat.view_is) at c.requires.vertex in
-    let idle = rw (← c.seat.view_is) at c.requires.idle in
+    let free = rw (← c.seat.view_is) at c.requires.no_vertex in
     rw c.mark_word.ensures
-    (same, omega (arith, ap (λ t. t.words) same), take_allowed _ _ c.seat.invariant.0.ready idle vertex _ _ _ _)
+    (same, omega (arith, ap (λ t. t.words) same), take_allowed _ _ c.seat.invariant.0.ready free vertex _ _ _ _)
