@@ -6,6 +6,6 @@
 #![tactic(auto)]
 
 #[cfg(test)]
-mod core;
+mod events;
 #[cfg(test)]
 mod words;

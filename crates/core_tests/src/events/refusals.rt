@@ -5,7 +5,7 @@
 ghost use Rattle.std.specs.Prelude.{◌≡◌};
 ghost use Rattle.relax_core.specs.State.{IsOf};
 
-use crate::core::{events, expect_pending, expect_vertex, expect_views, graph, row, stands};
+use crate::events::{events, expect_pending, expect_vertex, expect_views, graph, row, stands};
 use csr_graph::Csr;
 use relax_core::{
     Core, CoreFault, Event, Hand, ReplayFault, SHARES, View, apply, open_core, replay,
