@@ -1,4 +1,4 @@
-use Rattle.std.proofs.Common.{◌≡◌, ◌∙◌, ℕ, List, length, take, min, ap, arith}
+use Rattle.std.proofs.Common.{◌≡◌, ◌∙◌, ℕ, List, length, take, ap, arith}
 use Rattle.std.proofs.lemmas.List.{take_at, take_min, length-take}
 use Rattle.dimacs_text.proofs.explanation.Beginning.of.Goals as goal
 
