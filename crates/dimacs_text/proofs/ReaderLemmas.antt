@@ -8,6 +8,7 @@ use Rattle.std.proofs.lemmas.List.Elements.{filter_map-append}
 use Rattle.route_walks.specs.declared.graph.ArcRec.{ArcRec}
 use Rattle.route_walks.specs.declared.graph.TheConstants.{MAX_VERTICES}
 use Rattle.dimacs_text.specs.declared.draft.Draft.{Draft}
+use Rattle.dimacs_text.specs.declared.explanation.ExplainedFault.{ExplainedFault}
 use Rattle.dimacs_text.specs.declared.form.Section.TheVariants.{Problem, Sources, Pairs, Added}
 use Rattle.dimacs_text.specs.declared.fault.LineKind.{LineKind}
 use Rattle.dimacs_text.specs.declared.fault.TextFault.{TextFault}
@@ -268,18 +269,18 @@ pub kept_whole : (o : Option LineKind) (whole kept text : List ℕ) → o ≡ No
 kept_whole o whole kept text e k = (subst (λ x. Keeps x whole kept text) e k).0
 
 -- the job and the fault at the end of the text
-pub job_at_end : (text : List ℕ) (line : ℕ) (draft : Draft) (result : Result Job TextFault)
+pub job_at_end : (text : List ℕ) (line : ℕ) (draft : Draft) (result : Result Job ExplainedFault)
     → IsReadTo text [] line (progress_of draft)
     → IfOk result (λ job. (progress_of draft).records ≡ records_of (content_of job))
     → IfOk result (λ job. IsJobText text (content_of job))
 job_at_end text line draft (Ok job) p same = finished text line (progress_of draft) (content_of job) p same
 job_at_end text line draft (Err fault) p same = tt
 
-pub fault_at_end : (text : List ℕ) (line : ℕ) (draft : Draft) (result : Result Job TextFault)
-    → IsReadTo text [] line (progress_of draft) → IfErr result (IsLackOf draft line)
-    → IfErr result (IsFaultOf text)
+pub fault_at_end : (text : List ℕ) (line : ℕ) (draft : Draft) (result : Result Job ExplainedFault)
+    → IsReadTo text [] line (progress_of draft) → IfErr result (λ refused. IsLackOf draft line refused.fault)
+    → IfErr result (λ refused. IsFaultOf text refused.fault)
 fault_at_end text line draft (Ok job) p lack = tt
-fault_at_end text line draft (Err fault) p lack = lacking text line draft fault p lack
+fault_at_end text line draft (Err refused) p lack = lacking text line draft refused.fault p lack
 
 -- after a fault the reader stays as it is
 pub fault_stays : (reader : JobReader) (text bytes : List ℕ)

@@ -2,6 +2,7 @@ pub mod Lines
 pub mod Forms
 pub mod Grammar
 pub mod Jobs
+pub mod Explaining
 pub mod Faults
 pub mod Laws
 pub mod AnswerLines

@@ -9,11 +9,13 @@ ghost use Rattle.dimacs_text.specs.reader.Drafts.{question_at, AreArcLines};
 ghost use Rattle.dimacs_text.specs.Jobs.{arc_record, question_of};
 ghost use Rattle.dimacs_text.specs.declared.form.Form.TheVariants.{Counted};
 ghost use Rattle.dimacs_text.specs.declared.form.Item.TheVariants.{Arc};
+ghost use Rattle.dimacs_text.specs.declared.fault.TextFault.TheVariants.{Line};
 
 use crate::arc_runs::ArcRun;
+use crate::explanation::{ExplainedFault, Explanation, Place};
 use crate::fast_arc::read_run;
 use crate::fault::{LineKind, TextFault};
-use crate::form::{Entry, Section, read_line};
+use crate::form::{Entry, Form, Section, read_line};
 use crate::job::{Ask, Job};
 use crate::line::line_end;
 use crate::stage::Stage;
@@ -39,6 +41,10 @@ pub struct Draft {
     pub added: Vec<ArcRec>,
     /// Where the reader stood before the added section, once that has begun.
     pub before_added: Stage,
+    /// The number of the line that begins the section, once one has begun.
+    pub head: u64,
+    /// Of the line that is wrong, once one is.
+    pub explanation: Option<Explanation>,
 }
 
 /// What is asked by the section that the reader is in.
@@ -94,6 +100,8 @@ impl Draft {
             pairs: Vec::new(alloc),
             added: Vec::new(alloc),
             before_added: Stage::Start,
+            head: 0,
+            explanation: None,
         }
     }
 
@@ -136,12 +144,15 @@ impl Draft {
         Ok(())
     }
 
-    /// Takes an entry that fits.
-    fn take(&mut self, entry: Entry) -> Result<(), AllocError>
+    /// Takes an entry that fits, and where it begins a section the number of its line.
+    fn take(&mut self, entry: Entry, line: u64) -> Result<(), AllocError>
         requires fits { misfit_at self.old.stage (record_of entry).form ≡ None }
         ensures takes { OnOk result
             (progress_of self.new ≡ after_line (progress_of self.old) (Some (record_of entry))) }
     {
+        if let Form::Head(_) = entry.form() {
+            self.head = line;
+        }
         match entry {
             Entry::Problem { vertices, arcs } => {
                 self.vertices = vertices;
@@ -192,16 +203,45 @@ impl Draft {
         ensures fault { IfErr result (IsFaultAt (progress_of self.old) text.now line) }
     {
         match read_line(text, self.vertices) {
-            Err(kind) => Err(TextFault::Line { line, kind }),
+            Err(kind) => Err(self.refuse(text, line, kind)),
             Ok(None) => Ok(()),
             Ok(Some(entry)) => match self.stage.misfit(entry.form()) {
-                Some(kind) => Err(TextFault::Line { line, kind }),
-                None => match self.take(entry) {
+                Some(kind) => Err(self.refuse(text, line, kind)),
+                None => match self.take(entry, line) {
                     Ok(()) => Ok(()),
                     Err(_) => Err(TextFault::Memory),
                 },
             },
         }
+    }
+
+    /// The fault of a line, which it explains.
+    fn refuse(&mut self, text: &[u8], line: u64, kind: LineKind) -> TextFault
+        ensures fault { result ≡ Line line kind }
+    {
+        let place = self.place();
+        let explanation = Explanation::of_line(text, line, kind, self.vertices, place);
+        self.explanation = Some(explanation);
+        TextFault::Line { line, kind }
+    }
+
+    /// The section that the reader is in, as far as it has come.
+    fn place(&self) -> Option<Place> {
+        let Stage::Within { section, missing } = self.stage else {
+            return None;
+        };
+        let came = match section {
+            Section::Problem => self.arcs.len(),
+            Section::Sources => self.sources.len(),
+            Section::Pairs => self.pairs.len(),
+            Section::Added => self.added.len(),
+        } as u64;
+        Some(Place {
+            section,
+            head: self.head,
+            announced: came.saturating_add(u64::from(missing)),
+            came,
+        })
     }
 
     /// Makes room for arcs of which `missing` are to come, and gives how many can be added before there has
@@ -291,9 +331,9 @@ impl Draft {
     }
 
     /// The job, where nothing is missing. The number is that of the line one past the last.
-    pub fn finish(self, line: u64) -> Result<Job, TextFault>
+    pub fn finish(self, line: u64) -> Result<Job, ExplainedFault>
         ensures job { IfOk result (λ job. (progress_of self).records ≡ records_of (content_of job)) }
-        ensures fault { IfErr result (IsLackOf self line) }
+        ensures fault { IfErr result (λ refused. IsLackOf self line refused.fault) }
     {
         let kind = match self.stage {
             Stage::Start => Some(LineKind::NoProblem),
@@ -301,7 +341,11 @@ impl Draft {
             Stage::Within { .. } => Some(LineKind::TooFew),
         };
         if let Some(kind) = kind {
-            return Err(TextFault::Line { line, kind });
+            let explanation = Explanation::of_end(line, kind, self.place());
+            return Err(ExplainedFault {
+                fault: TextFault::Line { line, kind },
+                explanation: Some(explanation),
+            });
         }
         let Draft {
             stage,
@@ -311,6 +355,7 @@ impl Draft {
             pairs,
             added,
             before_added,
+            ..
         } = self;
         let (asked, added) = match stage {
             Stage::Within {

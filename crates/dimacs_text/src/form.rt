@@ -46,6 +46,16 @@ impl Section {
         }
     }
 
+    /// What an item of this section is called.
+    pub fn item_name(self) -> &'static str {
+        match self {
+            Section::Problem => "arc",
+            Section::Sources => "source",
+            Section::Pairs => "pair",
+            Section::Added => "added arc",
+        }
+    }
+
     /// The place of this section in a text: the first is 0, and a section follows those of lower places.
     pub fn place(self) -> u8
         ensures { result ≡ place self }
@@ -85,7 +95,7 @@ pub enum Form {
 }
 
 /// The forms, in the order in which a line is compared with them.
-const FORMS: [Form; 7] = [
+pub const FORMS: [Form; 7] = [
     Form::Head(Section::Problem),
     Form::Head(Section::Sources),
     Form::Head(Section::Pairs),
@@ -97,7 +107,7 @@ const FORMS: [Form; 7] = [
 
 impl Form {
     /// The fields by which a form is known.
-    fn leading(self) -> &'static [&'static [u8]]
+    pub fn leading(self) -> &'static [&'static [u8]]
         ensures { fields_of result.now ≡ leading self }
     {
         match self {
@@ -199,7 +209,7 @@ fn strip_leading<'a>(line: &'a [u8], leading: &[&[u8]]) -> Option<&'a [u8]>
 }
 
 /// The form of a line by its leading fields, and what follows them.
-fn find_form(line: &[u8]) -> Option<(Form, &[u8])>
+pub fn find_form(line: &[u8]) -> Option<(Form, &[u8])>
     ensures { MatchOption result (form_of (fields line.now) ≡ None)
         (λ found. (form_of (fields line.now) ≡ Some found.0)
         × (fields found.1.now ≡ drop (length (leading found.0)) (fields line.now))) }

@@ -14,6 +14,7 @@
 mod answer;
 mod arc_runs;
 mod draft;
+mod explanation;
 mod fast_arc;
 mod fault;
 mod form;
@@ -27,7 +28,8 @@ pub use answer::{
     put_components, put_distances, put_grown, put_label, put_labels, put_pair, put_source, put_walk,
 };
 pub use arc_runs::{ArcRuns, Parts, ReadAhead, read_side_by_side};
+pub use explanation::{Beginning, Expected, ExplainedFault, Explanation, MAX_KEPT, Place};
 pub use fault::{LineKind, TextFault};
-pub use form::{MAX_ADDED, MAX_QUERIES, MAX_TEXT_ARCS};
+pub use form::{Form, Item, Limit, MAX_ADDED, MAX_QUERIES, MAX_TEXT_ARCS, Section};
 pub use job::{Ask, Job};
 pub use reader::{JobReader, read_job};

@@ -15,6 +15,7 @@ ghost use Rattle.dimacs_text.specs.Reading.{HasRead, HasReadLines, HasReadText};
 
 use crate::arc_runs::{ArcRun, ReadAhead};
 use crate::draft::Draft;
+use crate::explanation::ExplainedFault;
 use crate::fault::{LineKind, TextFault};
 use crate::job::Job;
 use crate::line::{after_last_feed, line_end};
@@ -70,11 +71,11 @@ impl LineReader {
     }
 
     /// The job of the lines and of a last line with no line feed, which is empty where there is none.
-    fn finish(self, last: &[u8]) -> Result<Job, TextFault>
+    fn finish(self, last: &[u8]) -> Result<Job, ExplainedFault>
         ensures job { (text : List ℕ) → HasReadText self last.now text
             → IfOk result (λ job. IsJobText text (content_of job)) }
         ensures fault { (text : List ℕ) → HasReadText self last.now text
-            → IfErr result (IsFaultOf text) }
+            → IfErr result (λ refused. IsFaultOf text refused.fault) }
     {
         let LineReader {
             mut draft,
@@ -82,14 +83,20 @@ impl LineReader {
             fault,
         } = self;
         if let Some(kind) = fault {
-            return Err(TextFault::Line { line, kind });
+            return Err(ExplainedFault {
+                fault: TextFault::Line { line, kind },
+                explanation: draft.explanation,
+            });
         }
         if last.is_empty() {
             return draft.finish(line);
         }
         match draft.read(last, line) {
             Ok(()) => draft.finish(line.saturating_add(1)),
-            Err(fault) => Err(fault),
+            Err(fault) => Err(ExplainedFault {
+                fault,
+                explanation: draft.explanation,
+            }),
         }
     }
 }
@@ -224,6 +231,21 @@ impl JobReader {
         ensures within { (text : List ℕ) → HasRead self text
             → IfOk result (λ job. IsWithinLimits (content_of job)) }
         ensures fault { (text : List ℕ) → HasRead self text → IfErr result (IsFaultOf text) }
+    {
+        match self.finish_explained() {
+            Ok(job) => Ok(job),
+            Err(refused) => Err(refused.fault),
+        }
+    }
+
+    /// The same, where a text that is no job's is refused with what a person needs to mend it besides.
+    pub fn finish_explained(self) -> Result<Job, ExplainedFault>
+        ensures job { (text : List ℕ) → HasRead self text
+            → IfOk result (λ job. IsJobText text (content_of job)) }
+        ensures within { (text : List ℕ) → HasRead self text
+            → IfOk result (λ job. IsWithinLimits (content_of job)) }
+        ensures fault { (text : List ℕ) → HasRead self text
+            → IfErr result (λ refused. IsFaultOf text refused.fault) }
     {
         let JobReader { lines, unfinished } = self;
         lines.finish(&unfinished)

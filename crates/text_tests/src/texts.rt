@@ -1,5 +1,6 @@
 //! Texts with the job or the fault that they must give, and the lines of answers.
 
+mod explanations;
 mod refusals;
 mod several;
 

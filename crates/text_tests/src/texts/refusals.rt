@@ -7,8 +7,9 @@ ghost use Rattle.dimacs_text.specs.Reading.{IsReadAhead};
 use crate::texts::several::large;
 use crate::texts::{GRAPH, SHORT, assert_added, assert_job, joined};
 use dimacs_text::{
-    JobReader, LineKind, Parts, ReadAhead, TextFault, put_components, put_distances, put_grown,
-    put_label, put_labels, put_pair, put_source, put_walk, read_job, read_side_by_side,
+    ExplainedFault, JobReader, LineKind, Parts, ReadAhead, TextFault, put_components,
+    put_distances, put_grown, put_label, put_labels, put_pair, put_source, put_walk, read_job,
+    read_side_by_side,
 };
 use route_walks::{ArcRec, INF, Memory, refusable, tried_again};
 use std::alloc::Global;
@@ -139,6 +140,19 @@ fn of_job_reader_finish(rt: HostRuntime) -> Result<(), Fail> {
     let alloc = rt.alloc();
     let (reader, same) = (fed(alloc)?, fed(alloc)?);
     let job = tried_again!(rt, alloc, TextFault::Memory, reader.finish(), same.finish());
+    assert_job(&rt, &job, 2, ArcRec::new(0, 1, 7), &[]);
+    Ok(())
+}
+
+#[test]
+fn of_job_reader_finish_explained(rt: HostRuntime) -> Result<(), Fail> {
+    let alloc = rt.alloc();
+    let (reader, same) = (fed(alloc)?, fed(alloc)?);
+    let memory = ExplainedFault {
+        fault: TextFault::Memory,
+        explanation: None,
+    };
+    let job = tried_again!(rt, alloc, memory, reader.finish_explained(), same.finish());
     assert_job(&rt, &job, 2, ArcRec::new(0, 1, 7), &[]);
     Ok(())
 }

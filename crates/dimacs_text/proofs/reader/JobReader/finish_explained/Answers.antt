@@ -3,7 +3,7 @@ use Rattle.std.proofs.lemmas.Result.{IfOk-weaker}
 use Rattle.dimacs_text.specs.Jobs.{content_of, IsJobText, IsWithinLimits}
 use Rattle.dimacs_text.specs.Reading.{HasReadText}
 use Rattle.dimacs_text.proofs.Limits.{job_within}
-use Rattle.dimacs_text.proofs.reader.JobReader.finish.Goals as goal
+use Rattle.dimacs_text.proofs.reader.JobReader.finish_explained.Goals as goal
 
 pub returns-clause-within : goal.returns-clause-within
 returns-clause-within c text r =

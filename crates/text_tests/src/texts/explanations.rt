@@ -1,0 +1,108 @@
+//! What is told of a line that is wrong: texts beside words that were worked by hand. Rows of all kinds of faults, as
+//! the program prints them, stand in `tests/explanations.tsv`.
+
+use dimacs_text::{ExplainedFault, Explanation, JobReader, LineKind, MAX_KEPT, TextFault};
+use std::alloc::Global;
+use std::process::Abort;
+use std::test::Fail;
+
+/// What a reader says of a text that comes in pieces of a size.
+fn refused(alloc: Global, text: &[u8], size: usize) -> Option<ExplainedFault> {
+    let mut reader = JobReader::new(alloc);
+    for piece in text.chunks(size.max(1)) {
+        if reader.feed(piece).is_err() {
+            return None;
+        }
+    }
+    reader.finish_explained().err()
+}
+
+/// The line with its fields and the one that is wrong, what belongs there, and where it stands.
+fn told(alloc: Global, explanation: &Explanation) -> Result<String, Fail> {
+    let Explanation {
+        line,
+        text,
+        fields,
+        field,
+        expected,
+        place,
+        ..
+    } = *explanation;
+    let text = match text {
+        Some(text) => format!(in alloc; "{text}")?,
+        None => format!(in alloc; "no line")?,
+    };
+    let place = match place {
+        Some(place) => format!(in alloc; "{place}")?,
+        None => format!(in alloc; "no section")?,
+    };
+    let field = field.unwrap_or(0);
+    Ok(format!(in alloc; "{line}: {text}; {field} of {fields}: {expected}; {place}")?)
+}
+
+const EXPLAINED: [(&str, &str); 9] = [
+    ("", "1: no line; 0 of 0: the line 'p sp N M'; no section"),
+    (
+        "c\np max 2\t1\r\n",
+        "2: p max 2\\t1\\r; 2 of 4: the line 'p sp N M'; no section",
+    ),
+    (
+        "p sp 2 1\na 1 2\n",
+        "2: a 1 2; 4 of 3: 3 numbers, as in 'a U V W'; 1 arc announced at line 1, 0 came before",
+    ),
+    (
+        "p sp 6 2\n\na 1 2 3\na 1 7 x\n",
+        "4: a 1 7 x; 4 of 4: a whole number from 0 to 4294967295; 2 arcs announced at line 1, 1 came before",
+    ),
+    (
+        "p sp 6 2\na 1 7 3",
+        "2: a 1 7 3; 3 of 4: a vertex from 1 to 6; 2 arcs announced at line 1, 0 came before",
+    ),
+    (
+        "p sp 6 0\nc\np aux sp ss 1\nq 1 6\n",
+        "4: q 1 6; 0 of 3: a line 's V'; 1 source announced at line 3, 0 came before",
+    ),
+    (
+        "p sp 6 0\ns 1\n",
+        "2: s 1; 0 of 2: 'p aux sp ss K' or 'p aux sp p2p K' or 'p aux sp add K' or the end of the text; \
+         0 arcs announced at line 1, 0 came before",
+    ),
+    (
+        "p sp 6 0\np aux sp p2p 2\nq 1 6",
+        "4: no line; 0 of 0: a line 'q S T'; 2 pairs announced at line 2, 1 came before",
+    ),
+    (
+        "p sp 6 0\np aux sp add 1\na 1 6 4\na 1 6 4\n",
+        "4: a 1 6 4; 0 of 4: the end of the text; 1 added arc announced at line 2, 1 came before",
+    ),
+];
+
+#[test]
+fn explanations(rt: HostRuntime) -> Result<(), Fail> {
+    for (text, want) in EXPLAINED {
+        for size in [1, 7, 1000] {
+            let refused = refused(rt.alloc(), text.as_bytes(), size);
+            let explanation = refused.and_then(|refused| refused.explanation);
+            let explanation = explanation.expect(&rt, "a text that is refused");
+            assert_eq!(rt; told(rt.alloc(), &explanation)?.as_str(), want);
+        }
+    }
+    Ok(())
+}
+
+// Of a long line the first bytes are kept, and its length.
+#[test]
+fn beginnings_of_long_lines(rt: HostRuntime) -> Result<(), Fail> {
+    let mut text = b"p sp 1 0\n".to_vec(rt.alloc())?;
+    text.resize(1009, b'\x1f')?;
+    let refused = refused(rt.alloc(), &text, 100).expect(&rt, "a text that is refused");
+    let kind = LineKind::Unknown;
+    assert_eq!(rt; refused.fault, TextFault::Line { line: 2, kind });
+    let explanation = refused.explanation.expect(&rt, "an explanation");
+    assert_eq!(rt; (explanation.line, explanation.kind), (2, kind));
+    let line = explanation.text.expect(&rt, "a line");
+    assert_eq!(rt; line.length(), 1000);
+    assert_eq!(rt; line.bytes(), [b'\x1f'; MAX_KEPT].as_slice());
+    assert_eq!(rt; format!(in rt.alloc(); "{line}")?.len(), 4 * MAX_KEPT);
+    Ok(())
+}
