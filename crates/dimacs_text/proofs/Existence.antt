@@ -320,7 +320,7 @@ unfolding IsJobText IsFirstFault
 job_or_fault text =
     answered
     (fault_or_legal (lines text) (lines text) 1 (record { records = []; stage = Start; vertices = MAX_VERTICES })
-    (record { said = []; split = refl; records = refl; stage = refl; count = refl }))
+    (record { said = []; split = refl; records = refl; stage = refl; count = refl; left = refl }))
   where
     answered : FaultOrLegal (readings MAX_VERTICES (lines text))
         → ((job : Content)

@@ -1,14 +1,17 @@
 -- What one more line does to what was read, and what is known at the end.
 use Rattle.std.proofs.Common.{◌≡◌, ℕ, zero, suc, ◌+◌, ◌-◌, ◌^◌, List, [], ◌∷◌, ◌++◌, map, ◌⊎◌, inl, inr, Option, Some}
-use Rattle.std.proofs.Common.{None, Ok, Err, option_to_list, refl, sym, ap, ap₂, subst, ◌∙◌, true, is_some, ◌≤◌}
-use Rattle.std.proofs.Common.{length, IfOk, IfErr, Result, append-nil, append_assoc, length-append, arith, take, drop}
+use Rattle.std.proofs.Common.{None, Ok, Err, option_to_list, refl, sym, ap, ap₂, subst, ◌∙◌, true, false, is_some, ◌≤◌}
+use Rattle.std.proofs.Common.{length, IfOk, IfErr, Result, append-nil, append_assoc, length-append, arith, take, drop, drop-drop}
 use Rattle.std.proofs.Math.Seq.{take-add}
-use Rattle.std.proofs.lemmas.List.{map-append}
+use Rattle.std.proofs.lemmas.Grind.{common_steps}
+use Rattle.std.proofs.lemmas.List.{map-append, get_or_append_left, get_or-append-add}
 use Rattle.std.proofs.lemmas.List.Elements.{filter_map-append}
 use Rattle.route_walks.specs.declared.graph.ArcRec.{ArcRec}
 use Rattle.route_walks.specs.declared.graph.TheConstants.{MAX_VERTICES}
 use Rattle.dimacs_text.specs.declared.draft.Draft.{Draft}
 use Rattle.dimacs_text.specs.declared.explanation.ExplainedFault.{ExplainedFault}
+use Rattle.dimacs_text.specs.declared.explanation.Explanation.{Explanation}
+use Rattle.dimacs_text.specs.Explaining.{Explains, IsFirstShown}
 use Rattle.dimacs_text.specs.declared.form.Section.TheVariants.{Problem, Sources, Pairs, Added}
 use Rattle.dimacs_text.specs.declared.fault.LineKind.{LineKind}
 use Rattle.dimacs_text.specs.declared.fault.TextFault.{TextFault}
@@ -26,7 +29,7 @@ use Rattle.dimacs_text.specs.Jobs.{IsJobText}
 use Rattle.dimacs_text.specs.Faults.{tokens_among, unread, misfit, unfinished, IsFirstAmong, IsFirstFault, IsFaultOf}
 use Rattle.dimacs_text.specs.reader.Drafts.{Progress, progress_of, records_by, token_in, after_line, arcs_progress}
 use Rattle.dimacs_text.specs.reader.Drafts.{ReadsArcs, Fits, ReadsLine, IsReadAmong, IsReadTo, ReadsTo, IsFaultAt}
-use Rattle.dimacs_text.specs.reader.Drafts.{IsLackAt, IsLackOf}
+use Rattle.dimacs_text.specs.reader.Drafts.{IsLackAt, IsLackOf, ExplainsLine, ExplainsEnd}
 use Rattle.dimacs_text.specs.reader.FastArc.{IsArcLine, HasNoFeed}
 use Rattle.dimacs_text.specs.declared.job.Job.{Job}
 use Rattle.dimacs_text.specs.declared.reader.LineReader.{LineReader}
@@ -101,6 +104,10 @@ line_leads old all after text s line reads fits p =
       records = both.0;
       stage = both.1;
       count = let len = length-append p.said (s ∷ []) in let c = p.count in omega arith;
+      left =
+          ap (λ n. drop n all) (omega (arith, length-append p.said (s ∷ [])))
+          ∙ sym (drop-drop 1 (length p.said) all)
+          ∙ ap (λ ls. drop 1 ls) p.left;
     }
 
 pub line_reads : (old new : Progress) (whole rest text after : List ℕ) (line : ℕ)
@@ -188,6 +195,41 @@ line_fails progress whole rest text after line (Line number kind) split (same, w
     (line_wrong progress (lines whole) (lines after) text line kind wrong
     (subst (λ ls. IsReadAmong (lines whole) ls line progress) split p))
 
+-- and it is explained
+pub line_explained : (progress : Progress) (whole rest text after : List ℕ) (line : ℕ) (fault : TextFault)
+    (explanation : Option Explanation)
+    → lines rest ≡ text ∷ lines after → IsFaultAt progress text line fault → ExplainsLine text fault explanation
+    → IsReadTo whole rest line progress
+    → Explains whole fault explanation
+unfolding Explains
+line_explained progress whole rest text after line Memory explanation split f is p = tt
+line_explained progress whole rest text after line (Line number kind) None split f is p = is
+line_explained progress whole rest text after line (Line number kind) (Some e) split f is p =
+    record {
+      line_is = is.line_is;
+      kind_is = is.kind_is;
+      shown =
+          subst (λ ls. IsFirstShown ls e.text)
+          (sym (ap (λ n. drop n (lines whole)) (omega (arith, f.0, p.count)) ∙ p.left ∙ split)) is.shown;
+    }
+
+-- where the text ends too early there is no such line
+pub end_explained : (progress : Progress) (text : List ℕ) (line : ℕ) (fault : TextFault)
+    (explanation : Option Explanation)
+    → IsReadTo text [] line progress → ExplainsEnd line fault explanation
+    → Explains text fault explanation
+unfolding Explains
+end_explained progress text line Memory explanation p is = absurd is
+end_explained progress text line (Line number kind) None p is = is
+end_explained progress text line (Line number kind) (Some e) p is =
+    record {
+      line_is = is.line_is;
+      kind_is = is.kind_is;
+      shown =
+          subst (λ ls. IsFirstShown ls e.text)
+          (sym (ap (λ n. drop n (lines text)) (omega (arith, is.at_end, p.count)) ∙ p.left)) is.none;
+    }
+
 -- at the end of the text
 pub all_said : (all : List (List ℕ)) (line : ℕ) (progress : Progress)
     → (p : IsReadAmong all [] line progress)
@@ -253,7 +295,15 @@ pub text_fails : (reader : LineReader) (kept text : List ℕ) (kind : LineKind)
 text_fails reader kept text kind wrong r =
     let is = subst (λ o. Keeps o r.whole kept text) wrong r.keeps in
     subst (λ t. IsFirstFault t reader.line kind) (append-nil r.whole ∙ sym is)
-    (subst (λ o. HasReadBy o reader.draft reader.line r.whole) wrong r.lines [])
+    (subst (λ o. HasReadBy o reader.draft reader.line r.whole) wrong r.lines []).0
+
+pub text_explained : (reader : LineReader) (kept text : List ℕ) (kind : LineKind)
+    → reader.fault ≡ Some kind → HasReadText reader kept text
+    → Explains text (Line reader.line kind) reader.draft.explanation
+text_explained reader kept text kind wrong r =
+    let is = subst (λ o. Keeps o r.whole kept text) wrong r.keeps in
+    subst (λ t. Explains t (Line reader.line kind) reader.draft.explanation) (append-nil r.whole ∙ sym is)
+    (subst (λ o. HasReadBy o reader.draft reader.line r.whole) wrong r.lines []).1
 
 -- what is kept of a line is read with the rest of it
 pub nothing_kept : (o : Option LineKind) (whole text : List ℕ) → text ≡ whole → Keeps o whole [] text
@@ -268,6 +318,39 @@ pub kept_whole : (o : Option LineKind) (whole kept text : List ℕ) → o ≡ No
     → text ≡ whole ++ kept
 kept_whole o whole kept text e k = (subst (λ x. Keeps x whole kept text) e k).0
 
+-- what is known before the next lines are read
+pub nothing_wrong : (fault : Option LineKind) → is_some fault ≡ false → fault ≡ None
+nothing_wrong None none = refl
+nothing_wrong (Some kind) none = absurd (cc)
+
+pub read_before : (fault : Option LineKind) (draft : Draft) (line : ℕ) (text bytes : List ℕ)
+    → is_some fault ≡ false → HasReadBy fault draft line text
+    → (line ≤ length text + 1)
+    × ((more : List ℕ) → IsReadTo ((text ++ bytes) ++ more) (bytes ++ more) line (progress_of draft))
+read_before None draft line text bytes none r = (
+  r.0,
+  λ more.
+      subst (λ t. IsReadTo t (bytes ++ more) line (progress_of draft)) (sym (append_assoc text bytes more))
+      (r.1 (bytes ++ more)),
+)
+read_before (Some kind) draft line text bytes none r = absurd (cc)
+
+pub keeps_more : (o : Option LineKind) (whole kept text bytes : List ℕ)
+    → is_some o ≡ false → HasNoFeed bytes 0 (length bytes) → Keeps o whole kept text
+    → Keeps o whole (kept ++ bytes) (text ++ bytes)
+keeps_more (Some kind) whole kept text bytes none free is = absurd (cc)
+keeps_more None whole kept text bytes none free (is, closed) =
+    (ap (λ t. t ++ bytes) is ∙ append_assoc whole kept bytes, no_feed)
+  where
+    no_feed : HasNoFeed (kept ++ bytes) 0 (length (kept ++ bytes))
+    no_feed k from to feed =
+        let len = length-append kept bytes in
+        let front = closed k in
+        let back = free (k - length kept) in
+        let left = get_or_append_left kept bytes 0 k in
+        let right = get_or-append-add kept bytes (k - length kept) 0 in
+        grind (arith, common_steps)
+
 -- the job and the fault at the end of the text
 pub job_at_end : (text : List ℕ) (line : ℕ) (draft : Draft) (result : Result Job ExplainedFault)
     → IsReadTo text [] line (progress_of draft)
@@ -281,6 +364,14 @@ pub fault_at_end : (text : List ℕ) (line : ℕ) (draft : Draft) (result : Resu
     → IfErr result (λ refused. IsFaultOf text refused.fault)
 fault_at_end text line draft (Ok job) p lack = tt
 fault_at_end text line draft (Err refused) p lack = lacking text line draft refused.fault p lack
+
+pub explained_at_end : (text : List ℕ) (line : ℕ) (draft : Draft) (result : Result Job ExplainedFault)
+    → IsReadTo text [] line (progress_of draft)
+    → IfErr result (λ refused. ExplainsEnd line refused.fault refused.explanation)
+    → IfErr result (λ refused. Explains text refused.fault refused.explanation)
+explained_at_end text line draft (Ok job) p is = tt
+explained_at_end text line draft (Err refused) p is =
+    end_explained (progress_of draft) text line refused.fault refused.explanation p is
 
 -- after a fault the reader stays as it is
 pub fault_stays : (reader : JobReader) (text bytes : List ℕ)
@@ -300,7 +391,9 @@ fault_stays reader text bytes some r few =
     stays None some reads is = absurd (cc)
     stays (Some kind) some reads is = (
       λ more.
-          subst (λ t. IsFirstFault t reader.lines.line kind)
+          subst
+          (λ t. IsFirstFault t reader.lines.line kind
+          × Explains t (Line reader.lines.line kind) reader.lines.draft.explanation)
           (ap (λ t. t ++ (bytes ++ more)) (sym is) ∙ sym (append_assoc text bytes more)) (reads (bytes ++ more)),
       refl,
     )

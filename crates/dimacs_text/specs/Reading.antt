@@ -7,17 +7,22 @@ use Rattle.dimacs_text.specs.declared.fault.LineKind.{LineKind}
 use Rattle.dimacs_text.specs.declared.draft.Draft.{Draft}
 use Rattle.dimacs_text.specs.declared.reader.LineReader.{LineReader}
 use Rattle.dimacs_text.specs.declared.reader.JobReader.{JobReader}
+use Rattle.dimacs_text.specs.declared.fault.TextFault.TheVariants.{Line}
+use Rattle.dimacs_text.specs.Explaining.{Explains}
 use Rattle.dimacs_text.specs.Faults.{IsFirstFault}
 use Rattle.dimacs_text.specs.reader.FastArc.{HasNoFeed}
 use Rattle.dimacs_text.specs.reader.Drafts.{IsReadTo, progress_of}
 use Rattle.dimacs_text.specs.reader.ArcRuns.{IsArcRun}
 
--- the whole lines of the text were read; or one of them is the first fault, whatever comes after
+-- the whole lines of the text were read; or one of them is the first fault, which is explained, whatever comes after
 abbrev pub HasReadBy : Option LineKind → Draft → ℕ → List ℕ → Type 0
 HasReadBy None draft line text =
     (line ≤ length text + 1)
     × ((more : List ℕ) → IsReadTo (text ++ more) more line (progress_of draft))
-HasReadBy (Some kind) draft line text = (more : List ℕ) → IsFirstFault (text ++ more) line kind
+HasReadBy (Some kind) draft line text =
+    (more : List ℕ)
+    → IsFirstFault (text ++ more) line kind
+    × Explains (text ++ more) (Line line kind) draft.explanation
 
 abbrev pub HasReadLines : LineReader → List ℕ → Type 0
 HasReadLines reader text = HasReadBy reader.fault reader.draft reader.line text

@@ -3,7 +3,7 @@
 //! A run is a hint: it says which arcs come next where it begins, and whoever has no run there reads the
 //! lines one by one. So it may end early, for any reason, and nothing is said of what stands after it.
 
-ghost use Rattle.std.specs.Prelude.{◌≡◌, ◌≤◌, ◌+◌, ◌-◌, ◌*◌, ◌/◌, max, List, [], ℕ, length, take, All, IfSome};
+ghost use Rattle.std.specs.Prelude.{◌<◌, ◌≡◌, ◌≤◌, ◌+◌, ◌-◌, ◌*◌, ◌/◌, max, List, [], ℕ, length, take, All, IfSome};
 ghost use Rattle.std.specs.Prelude.{vec_len, vec_capacity};
 ghost use Rattle.std.specs.Bool.{OnTrue};
 ghost use Rattle.dimacs_text.specs.Reading.{AreRunsOf, IsReadAhead, most_parts, run_count};
@@ -37,7 +37,10 @@ pub struct ArcRun {
 }
 
 impl ArcRun {
-    fn new(alloc: Global) -> ArcRun {
+    /// No arcs, of whatever piece.
+    fn new(alloc: Global) -> ArcRun
+        ensures { (bytes : List ℕ) → IsArcRun bytes result }
+    {
         ArcRun {
             start: 0,
             after: 0,
@@ -148,6 +151,16 @@ impl ArcRuns {
         empty_all(&mut self.runs);
     }
 
+    /// Opens a run at a place, where none is yet. False where memory for it is refused.
+    fn open(&mut self, place: usize) -> bool
+        requires next { place ≤ run_count self.old }
+        ensures runs { (bytes : List ℕ) → AreRunsOf bytes self.old → AreRunsOf bytes self.new }
+        ensures there { OnTrue result (place < run_count self.new) }
+        ensures few { run_count self.new ≤ max (run_count self.old) (place + 1) }
+    {
+        place < self.runs.len() || self.runs.push(ArcRun::new(self.alloc)).is_ok()
+    }
+
     /// Reads parts of a piece ahead until all are given out, or twice this thread's share is read. What is no plain
     /// line of an arc ends what is read of its part, and where memory is refused no more is read.
     pub fn read(&mut self, parts: &Parts)
@@ -159,7 +172,7 @@ impl ArcRuns {
             let Some(part) = parts.take() else {
                 return;
             };
-            if place == self.runs.len() && self.runs.push(ArcRun::new(self.alloc)).is_err() {
+            if !self.open(place) {
                 return;
             }
             self.runs[place].read_part(parts.bytes, parts.vertices, part, parts.count);

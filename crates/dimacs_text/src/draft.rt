@@ -83,6 +83,7 @@ fn make_room(arcs: &mut Vec<ArcRec>, count: usize, missing: u32)
 impl Draft {
     ghost use Rattle.dimacs_text.specs.reader.Drafts.{after_line, progress_of, IsFaultAt, IsFaultIn};
     ghost use Rattle.dimacs_text.specs.reader.Drafts.{IsLackOf, ReadsLine, ReadsTo};
+    ghost use Rattle.dimacs_text.specs.reader.Drafts.{ExplainsEnd, ExplainsIn, ExplainsLine};
     ghost use Rattle.dimacs_text.specs.reader.FastArc.{EndsWithFeed};
     ghost use Rattle.dimacs_text.specs.Jobs.{content_of, records_of};
     ghost use Rattle.std.specs.Prelude.{Some};
@@ -201,6 +202,8 @@ impl Draft {
     pub fn read(&mut self, text: &[u8], line: u64) -> Result<(), TextFault>
         ensures reads { OnOk result (ReadsLine (progress_of self.old) (progress_of self.new) text.now) }
         ensures fault { IfErr result (IsFaultAt (progress_of self.old) text.now line) }
+        ensures explained { IfErr result
+            (λ fault. ExplainsLine text.now fault self.new.explanation) }
     {
         match read_line(text, self.vertices) {
             Err(kind) => Err(self.refuse(text, line, kind)),
@@ -218,6 +221,7 @@ impl Draft {
     /// The fault of a line, which it explains.
     fn refuse(&mut self, text: &[u8], line: u64, kind: LineKind) -> TextFault
         ensures fault { result ≡ Line line kind }
+        ensures explained { ExplainsLine text.now result self.new.explanation }
     {
         let place = self.place();
         let explanation = Explanation::of_line(text, line, kind, self.vertices, place);
@@ -311,6 +315,8 @@ impl Draft {
             × (next ≤ first + length bytes.now)) }
         ensures fault { first + length bytes.now < 2 ^ 64
             → IfErr result (IsFaultIn (progress_of self.old) first bytes.now) }
+        ensures explained { first + length bytes.now < 2 ^ 64
+            → IfErr result (ExplainsIn (progress_of self.old) first bytes.now self.new.explanation) }
     {
         let mut at = 0;
         let mut line = first;
@@ -334,6 +340,8 @@ impl Draft {
     pub fn finish(self, line: u64) -> Result<Job, ExplainedFault>
         ensures job { IfOk result (λ job. (progress_of self).records ≡ records_of (content_of job)) }
         ensures fault { IfErr result (λ refused. IsLackOf self line refused.fault) }
+        ensures explained { IfErr result
+            (λ refused. ExplainsEnd line refused.fault refused.explanation) }
     {
         let kind = match self.stage {
             Stage::Start => Some(LineKind::NoProblem),

@@ -206,6 +206,8 @@ pub struct Explanation {
 }
 
 impl Explanation {
+    ghost use Rattle.dimacs_text.specs.reader.Drafts.{IsOfEnd, IsOfLine};
+
     /// Of a line with its number and what is wrong with it, where vertices count to the number given.
     pub(crate) fn of_line(
         text: &[u8],
@@ -213,7 +215,9 @@ impl Explanation {
         kind: LineKind,
         vertices: u32,
         place: Option<Place>,
-    ) -> Explanation {
+    ) -> Explanation
+        ensures { IsOfLine text.now line kind result }
+    {
         let content = trim_cr(text);
         let (field, expected) = match wrong_field(content, kind, vertices) {
             Some((field, expected)) => (Some(field), expected),
@@ -231,7 +235,9 @@ impl Explanation {
     }
 
     /// Of a text that ends too early, with the number of the line that would be next.
-    pub(crate) fn of_end(line: u64, kind: LineKind, place: Option<Place>) -> Explanation {
+    pub(crate) fn of_end(line: u64, kind: LineKind, place: Option<Place>) -> Explanation
+        ensures { IsOfEnd line line kind result }
+    {
         Explanation {
             line,
             kind,

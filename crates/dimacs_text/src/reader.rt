@@ -6,6 +6,7 @@
 ghost use Rattle.std.specs.Prelude.{◌≡◌, ◌^◌, ◌≤◌, ◌+◌, ◌++◌, ℕ, All, List, [], length, take, ◌<◌, None, IfOk, IfErr};
 ghost use Rattle.std.specs.Prelude.{OnOk};
 ghost use Rattle.dimacs_text.specs.Jobs.{content_of, IsJobText, IsWithinLimits};
+ghost use Rattle.dimacs_text.specs.Explaining.{Explains};
 ghost use Rattle.dimacs_text.specs.Faults.{IsFaultOf};
 ghost use Rattle.std.specs.Bool.{OnFalse, OnTrue};
 ghost use Rattle.dimacs_text.specs.reader.FastArc.{EndsWithFeed, HasNoFeed};
@@ -76,6 +77,8 @@ impl LineReader {
             → IfOk result (λ job. IsJobText text (content_of job)) }
         ensures fault { (text : List ℕ) → HasReadText self last.now text
             → IfErr result (λ refused. IsFaultOf text refused.fault) }
+        ensures explained { (text : List ℕ) → HasReadText self last.now text
+            → IfErr result (λ refused. Explains text refused.fault refused.explanation) }
     {
         let LineReader {
             mut draft,
@@ -246,6 +249,8 @@ impl JobReader {
             → IfOk result (λ job. IsWithinLimits (content_of job)) }
         ensures fault { (text : List ℕ) → HasRead self text
             → IfErr result (λ refused. IsFaultOf text refused.fault) }
+        ensures explained { (text : List ℕ) → HasRead self text
+            → IfErr result (λ refused. Explains text refused.fault refused.explanation) }
     {
         let JobReader { lines, unfinished } = self;
         lines.finish(&unfinished)

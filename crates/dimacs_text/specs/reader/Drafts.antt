@@ -1,5 +1,5 @@
 -- What the reader keeps, as the records that were read. Not part of what a caller is promised.
-use Rattle.std.specs.Prelude.{◌≡◌, ℕ, zero, suc, ◌+◌, ◌-◌, ◌≤◌, List, [], ◌∷◌, ◌++◌, length, map}
+use Rattle.std.specs.Prelude.{◌≡◌, ℕ, zero, suc, ◌+◌, ◌-◌, ◌≤◌, List, [], ◌∷◌, ◌++◌, length, map, drop}
 use Rattle.std.specs.Prelude.{Option, Some, None, Ok, Err, ◌⊎◌, slice_index}
 use Rattle.route_walks.specs.declared.graph.ArcRec.{ArcRec}
 use Rattle.route_walks.specs.declared.graph.TheConstants.{MAX_VERTICES}
@@ -9,6 +9,8 @@ use Rattle.dimacs_text.specs.declared.fault.LineKind.{LineKind}
 use Rattle.dimacs_text.specs.declared.fault.LineKind.TheVariants.{TooFew, NoProblem}
 use Rattle.dimacs_text.specs.declared.fault.TextFault.{TextFault}
 use Rattle.dimacs_text.specs.declared.fault.TextFault.TheVariants.{Memory, Line}
+use Rattle.dimacs_text.specs.declared.explanation.Explanation.{Explanation}
+use Rattle.dimacs_text.specs.Explaining.{Explains, IsShown}
 use Rattle.dimacs_text.specs.Forms.{Record, reading, readings, vertices_next}
 use Rattle.dimacs_text.specs.Lines.{lines}
 use Rattle.dimacs_text.specs.Grammar.{Token, token_of}
@@ -101,6 +103,7 @@ pub record IsReadAmong (all rest : List (List ℕ)) (line : ℕ) (progress : Pro
   pub records : records_among said ≡ progress.records
   pub stage : run Start (tokens_among said) ≡ Some progress.stage
   pub count : line ≡ length said + 1
+  pub left : drop (length said) all ≡ rest
 
 abbrev pub IsReadTo : List ℕ → List ℕ → ℕ → Progress → Type 0
 IsReadTo text rest line progress = IsReadAmong (lines text) (lines rest) line progress
@@ -154,3 +157,33 @@ IsLackAt (Within section (suc missing)) kind = kind ≡ TooFew
 abbrev pub IsLackOf : Draft → ℕ → TextFault → Type 0
 IsLackOf draft number Memory = ⊥
 IsLackOf draft number (Line line kind) = (line ≡ number) × IsLackAt draft.stage kind
+
+-- the explanation of a line that is wrong: of this line
+pub record IsOfLine (line : List ℕ) (number : ℕ) (kind : LineKind) (explanation : Explanation) : Type 0 where
+  pub line_is : explanation.line ≡ number
+  pub kind_is : explanation.kind ≡ kind
+  pub shown : IsShown line explanation.text
+
+abbrev pub ExplainsLine : List ℕ → TextFault → Option Explanation → Type 0
+ExplainsLine line Memory explanation = Unit {0}
+ExplainsLine line (Line number kind) None = ⊥
+ExplainsLine line (Line number kind) (Some explanation) = IsOfLine line number kind explanation
+
+-- the first line that is wrong is explained, whatever the text is in which it stands
+abbrev pub ExplainsIn : Progress → ℕ → List ℕ → Option Explanation → TextFault → Type 0
+ExplainsIn old line rest explanation fault =
+    (text more : List ℕ)
+    → IsReadTo text (rest ++ more) line old
+    → Explains text fault explanation
+
+-- where the text ends too early, before the line of this number, there is no line to show
+pub record IsOfEnd (before number : ℕ) (kind : LineKind) (explanation : Explanation) : Type 0 where
+  pub at_end : number ≡ before
+  pub line_is : explanation.line ≡ number
+  pub kind_is : explanation.kind ≡ kind
+  pub none : explanation.text ≡ None
+
+abbrev pub ExplainsEnd : ℕ → TextFault → Option Explanation → Type 0
+ExplainsEnd before Memory explanation = ⊥
+ExplainsEnd before (Line number kind) None = ⊥
+ExplainsEnd before (Line number kind) (Some explanation) = IsOfEnd before number kind explanation

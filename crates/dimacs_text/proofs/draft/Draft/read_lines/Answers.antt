@@ -1,7 +1,7 @@
 use Rattle.std.proofs.Common.{◌≡◌, ◌++◌, ◌+◌, drop, subst, sym, arith}
 use Rattle.dimacs_text.specs.reader.Drafts.{IsReadTo, progress_of}
 use Rattle.dimacs_text.proofs.LineLemmas.{line_split}
-use Rattle.dimacs_text.proofs.ReaderLemmas.{line_reads, line_fails}
+use Rattle.dimacs_text.proofs.ReaderLemmas.{line_reads, line_fails, line_explained}
 use Rattle.dimacs_text.proofs.draft.Draft.read_lines.Goals as goal
 
 pub returns-in-Err-clause-fault : goal.returns-in-Err-clause-fault
@@ -17,6 +17,22 @@ returns-in-Err-clause-fault c room text more p =
     (drop (end.result + 1) bytes ++ more) c.saturating_add-line.result c.in-Err.fault
     (line_split bytes start end.result end.ensures.place.0 end.ensures.place.1 end.ensures.feed end.ensures.first more)
     c.in-Err.ensures.fault
+    (subst (λ n. IsReadTo text (drop start bytes ++ more) n (progress_of c.read_arcs-count.new.self)) (sym line)
+    (c.read_arcs-count.ensures.reads c.loop-at.line text more (so_far.1 text more p)))
+
+pub returns-in-Err-clause-explained : goal.returns-in-Err-clause-explained
+returns-in-Err-clause-explained c room text more p =
+    let bytes = c.args.bytes.now in
+    let start = c.read_arcs-count.result.1 in
+    let end = c.line_end-end in
+    let so_far = c.loop-at.invariant.reads room in
+    let place = c.read_arcs-count.ensures.place in
+    let line : c.saturating_add-line.result ≡ c.loop-at.line + c.read_arcs-count.result.0 =
+    omega (arith, room, so_far.0, place.0, place.1, c.saturating_add-line.ensures) in
+    line_explained (progress_of c.read_arcs-count.new.self) text (drop start bytes ++ more) _
+    (drop (end.result + 1) bytes ++ more) c.saturating_add-line.result c.in-Err.fault c.read.new.self.explanation
+    (line_split bytes start end.result end.ensures.place.0 end.ensures.place.1 end.ensures.feed end.ensures.first more)
+    c.in-Err.ensures.fault c.in-Err.ensures.explained
     (subst (λ n. IsReadTo text (drop start bytes ++ more) n (progress_of c.read_arcs-count.new.self)) (sym line)
     (c.read_arcs-count.ensures.reads c.loop-at.line text more (so_far.1 text more p)))
 

@@ -2,12 +2,17 @@ use Rattle.std.proofs.Common.{List, ℕ, [], subst, sym, ◌∙◌, arith}
 use Rattle.dimacs_text.specs.reader.Drafts.{IsReadTo, progress_of}
 use Rattle.dimacs_text.specs.Reading.{HasReadText}
 use Rattle.dimacs_text.proofs.LineLemmas.{empty_length, lines_whole, filled_length}
-use Rattle.dimacs_text.proofs.ReaderLemmas.{text_read, text_fails, job_at_end, fault_at_end, line_reads, line_fails}
+use Rattle.dimacs_text.proofs.ReaderLemmas.{text_read, text_fails, text_explained, job_at_end, fault_at_end}
+use Rattle.dimacs_text.proofs.ReaderLemmas.{explained_at_end, line_reads, line_fails, line_explained}
 use Rattle.dimacs_text.proofs.reader.LineReader.finish.Goals as goal
 
 pub returns-in-Some-clause-fault : goal.returns-in-Some-clause-fault
 returns-in-Some-clause-fault c text r =
     text_fails c.args.self c.args.last.now text c.in-Some.kind c.in-Some.is r
+
+pub returns-in-Some-clause-explained : goal.returns-in-Some-clause-explained
+returns-in-Some-clause-explained c text r =
+    text_explained c.args.self c.args.last.now text c.in-Some.kind c.in-Some.is r
 
 none_left : (c : goal.After-finish) (text : List ℕ)
     → HasReadText c.args.self c.args.last.now text
@@ -24,6 +29,11 @@ returns-then-is_empty-clause-job c text r =
 pub returns-then-is_empty-clause-fault : goal.returns-then-is_empty-clause-fault
 returns-then-is_empty-clause-fault c text r =
     fault_at_end text c.args.self.line c.args.self.draft c.finish.result (none_left c text r) c.finish.ensures.fault
+
+pub returns-then-is_empty-clause-explained : goal.returns-then-is_empty-clause-explained
+returns-then-is_empty-clause-explained c text r =
+    explained_at_end text c.args.self.line c.args.self.draft c.finish.result (none_left c text r)
+    c.finish.ensures.explained
 
 last_read : (c : goal.After-finish-in-Ok) (text : List ℕ)
     → HasReadText c.args.self c.args.last.now text
@@ -47,9 +57,23 @@ returns-in-Ok-clause-fault c text r =
     fault_at_end text c.saturating_add.result c.read.new.self c.finish-in-Ok.result (last_read c text r)
     c.finish-in-Ok.ensures.fault
 
+pub returns-in-Ok-clause-explained : goal.returns-in-Ok-clause-explained
+returns-in-Ok-clause-explained c text r =
+    explained_at_end text c.saturating_add.result c.read.new.self c.finish-in-Ok.result (last_read c text r)
+    c.finish-in-Ok.ensures.explained
+
 pub returns-in-Err-clause-fault : goal.returns-in-Err-clause-fault
 returns-in-Err-clause-fault c text r =
     let read = text_read c.args.self c.args.last.now text c.in_default.is r in
     let filled = filled_length c.args.last.now (sym c.is_empty.ensures ∙ c.if-is_empty.false) in
     line_fails (progress_of c.args.self.draft) text c.args.last.now c.args.last.now [] c.args.self.line c.in-Err.fault
     (lines_whole c.args.last.now filled (λ k few. read.2 k (omega arith) few)) c.in-Err.ensures.fault read.1
+
+pub returns-in-Err-clause-explained : goal.returns-in-Err-clause-explained
+returns-in-Err-clause-explained c text r =
+    let read = text_read c.args.self c.args.last.now text c.in_default.is r in
+    let filled = filled_length c.args.last.now (sym c.is_empty.ensures ∙ c.if-is_empty.false) in
+    line_explained (progress_of c.args.self.draft) text c.args.last.now c.args.last.now [] c.args.self.line
+    c.in-Err.fault c.read.new.self.explanation
+    (lines_whole c.args.last.now filled (λ k few. read.2 k (omega arith) few)) c.in-Err.ensures.fault
+    c.in-Err.ensures.explained read.1
