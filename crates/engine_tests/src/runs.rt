@@ -5,6 +5,7 @@ mod gates;
 mod graphs;
 mod growths;
 mod hostile;
+mod kept;
 mod operators;
 mod orders;
 mod pieces;

@@ -1,5 +1,5 @@
 -- What workers need of a seat, and what they make of it.
-use Rattle.std.specs.Prelude.{◌≡◌, ℕ, ◌≤◌, ◌⊎◌, true, Option, None}
+use Rattle.std.specs.Prelude.{◌≡◌, ℕ, ◌≤◌, true, Option, None}
 use Rattle.csr_graph.specs.Graph.{Graph}
 use Rattle.relax_core.specs.declared.views.Hand.TheVariants.{Idle}
 use Rattle.relax_core.specs.declared.views.TheConstants.{SHARES}
@@ -22,8 +22,8 @@ pub record AreDone (budget : Option ℕ) (old new : Held) : Type 0 where
   pub idle : new.known.view.hand ≡ Idle
   pub saw : budget ≡ None → new.known.view.saw ≡ true
 
--- in the row of u a label was lowered whose vertex is owed a mark, and the seat has one credit or two
+-- in the row of u a label was lowered whose vertex is owed a mark, and the seat has credits
 pub record OwesMark (u : ℕ) (view : View) : Type 0 where
   pub hand : Owes view.hand
   pub vertex : vertex_of view.hand ≡ u
-  pub credits : (view.credits ≡ 1) ⊎ (view.credits ≡ 2)
+  pub credits : 1 ≤ view.credits

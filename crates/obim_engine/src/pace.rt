@@ -5,7 +5,7 @@
 //! come. So each worker shows the bucket of the metric that it visits, and one that is far ahead of another
 //! sleeps a little now and then. No label depends on it.
 
-ghost use Rattle.std.specs.Prelude.{◌<◌};
+ghost use Rattle.std.specs.Prelude.{◌≡◌, ◌<◌, false};
 
 use crossbeam_utils::CachePadded;
 use obim_pool::bucket_of;
@@ -125,24 +125,26 @@ impl Watch {
         }
     }
 
-    /// After a visit: every so often a look at the others.
+    /// After a visit: whether a look at the others is due, as it is every so often.
     #[inline(always)]
-    pub(crate) fn visited<C: Clock>(&mut self, clock: &C, pace: &Pace)
+    pub(crate) fn visited(&mut self) -> bool
         requires { 0 < self.old.left }
-        ensures { 0 < self.new.left }
+        ensures { result ≡ false → 0 < self.new.left }
     {
         self.left -= 1;
-        if self.left == 0 {
-            self.look(clock, pace);
-        }
+        self.left == 0
     }
 
-    /// A look at the others, and naps while the worker is far ahead.
-    #[inline(never)]
-    fn look<C: Clock>(&mut self, clock: &C, pace: &Pace)
+    /// Whether the worker is far ahead of another one.
+    pub(crate) fn is_far_ahead(&self, pace: &Pace) -> bool {
+        pace.is_far_ahead(self.worker)
+    }
+
+    /// After a look at the others: naps while the worker is far ahead, if it was.
+    pub(crate) fn look<C: Clock>(&mut self, clock: &C, pace: &Pace, is_far: bool)
         ensures { 0 < self.new.left }
     {
-        if self.nap(clock, pace) {
+        if is_far && self.nap(clock, pace) {
             self.naps = self.naps.saturating_mul(2).min(NAPS);
             self.left = VISITS;
         } else {
@@ -154,11 +156,11 @@ impl Watch {
     /// Takes its naps, until the worker isn't far ahead any more. Whether it still is.
     fn nap<C: Clock>(&self, clock: &C, pace: &Pace) -> bool {
         for _ in 0..self.naps {
-            if !pace.is_far_ahead(self.worker) {
+            sleep(clock, Duration::from_micros(NAP));
+            if !self.is_far_ahead(pace) {
                 return false;
             }
-            sleep(clock, Duration::from_micros(NAP));
         }
-        pace.is_far_ahead(self.worker)
+        true
     }
 }

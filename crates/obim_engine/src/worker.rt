@@ -1,10 +1,16 @@
 //! One worker: draw a vertex, take it, relax its arcs, and again until the pending total is 0 or the
 //! worker's budget is spent.
+//!
+//! The pending total is the one word on which every worker would step at each mark and after each visit. So a
+//! worker keeps its credits from visit to visit: the credit of a vertex that it took pays for the mark of a
+//! head, and where it has none for a mark it raises many at once. As long as it keeps some the total isn't 0,
+//! so it gives all back before it looks at the total, naps, sweeps or leaves.
 
-ghost use Rattle.std.specs.Prelude.{◌≡◌, ◌≤◌, ◌<◌, IfNone, IfSome};
+ghost use Rattle.std.specs.Prelude.{◌≡◌, ◌≤◌, ◌<◌, true, IfNone, IfSome};
 ghost use Rattle.relax_core.specs.declared.views.Hand.TheVariants.{Idle, Fresh};
 ghost use Rattle.csr_graph.specs.Graph.{end_place};
 ghost use Rattle.label_words.specs.Callers.{Stays, HasRowOpen};
+ghost use Rattle.label_words.specs.Known.{HasNoVertex};
 ghost use Rattle.relax_core.specs.Views.{place_of};
 ghost use Rattle.obim_engine.specs.Workers.{CanLead, AreDone, OwesMark};
 
@@ -18,9 +24,16 @@ use crate::settings::Settings;
 use csr_graph::Csr;
 use label_words::{Step, Words, WorkSeat};
 use obim_pool::WorkPool;
+use relax_core::Hand;
 use route_walks::INF;
 use std::sync::Wait;
 use std::time::Clock;
+
+/// How many credits a worker raises at once, where it has none for a mark.
+const RAISED: u8 = 64;
+
+/// The most credits that a worker keeps after a visit. Where it has more it gives all back.
+const MOST_KEPT: u8 = 128;
 
 /// What all workers of a run share.
 #[derive(Drop)]
@@ -79,7 +92,7 @@ pub(crate) fn work<H: Wait + Clock, P: WorkPool, G: Gate>(
         if budget.is_spent() {
             near.pace.leave(worker);
             // The run may be over all the same.
-            near.words.see(&mut seat);
+            is_over(near.words, &mut seat);
             return seat;
         }
         let popped = match near.pool.pop_now(side) {
@@ -94,7 +107,9 @@ pub(crate) fn work<H: Wait + Clock, P: WorkPool, G: Gate>(
                 prefetch(&near, n, &seat, side);
                 visit(rt, &near, worker, &mut seat, side, u);
                 budget.spend();
-                watch.visited(rt, near.pace);
+                if watch.visited() {
+                    seat = look(rt, &near, &mut watch, seat);
+                }
             }
             _ => {
                 if patience.had_work(budget.left()) {
@@ -106,7 +121,7 @@ pub(crate) fn work<H: Wait + Clock, P: WorkPool, G: Gate>(
                     pauses.reset();
                     continue;
                 }
-                if near.words.see(&mut seat) {
+                if is_over(near.words, &mut seat) {
                     return seat;
                 }
                 if ends {
@@ -118,6 +133,59 @@ pub(crate) fn work<H: Wait + Clock, P: WorkPool, G: Gate>(
         }
     }
     unreachable!()
+}
+
+/// Gives back all credits that the seat kept. Until then no seat sees the total at 0.
+#[inline(always)]
+fn give_all_back(words: &Words, seat: &mut WorkSeat)
+    requires words { seat.old.words ≡ words.now }
+    requires no_vertex { HasNoVertex seat.old }
+    ensures stays { Stays seat.old seat.new }
+    ensures idle { seat.new.known.view.hand ≡ Idle }
+{
+    match seat.hand() {
+        Hand::Idle => {}
+        Hand::Kept => {
+            let credits = seat.credits();
+            words.give_back(seat, credits);
+        }
+        _ => unreachable!(),
+    }
+}
+
+/// Whether the pending total is 0. A worker that looked with credits of its own would never see that.
+#[inline(always)]
+fn is_over(words: &Words, seat: &mut WorkSeat) -> bool
+    requires words { seat.old.words ≡ words.now }
+    requires no_vertex { HasNoVertex seat.old }
+    ensures stays { Stays seat.old seat.new }
+    ensures idle { seat.new.known.view.hand ≡ Idle }
+    ensures saw { result ≡ true → seat.new.known.view.saw ≡ true }
+{
+    give_all_back(words, seat);
+    words.see(seat)
+}
+
+/// Looks at the other workers, and naps where it is far ahead of one: without credits then.
+#[inline(never)]
+fn look<C: Clock, P, G>(
+    clock: &C,
+    shared: &Shared<'_, P, G>,
+    watch: &mut Watch,
+    mut seat: WorkSeat,
+) -> WorkSeat
+    requires words { seat.words ≡ shared.now.words.now }
+    requires no_vertex { HasNoVertex seat }
+    ensures stays { Stays seat result }
+    ensures no_vertex { HasNoVertex result }
+    ensures left { 0 < watch.new.left }
+{
+    let naps = watch.is_far_ahead(shared.pace);
+    if naps {
+        give_all_back(shared.words, &mut seat);
+    }
+    watch.look(clock, shared.pace, naps);
+    seat
 }
 
 /// Shows other workers the metric of the vertex that the worker is about to take, if it is marked, and `INF`
@@ -138,7 +206,7 @@ fn show<P, G>(shared: &Shared<'_, P, G>, worker: u32, seat: &WorkSeat, vertex: O
 }
 
 /// Visits each vertex that is marked, in rising order, until the budget is spent: those too that the pool
-/// has lost. Returns the seat, and what is left of the budget.
+/// has lost. Returns the seat, which kept no credit, and what is left of the budget.
 #[inline(never)]
 fn sweep<H: Wait, P: WorkPool, G: Gate>(
     rt: &H,
@@ -170,10 +238,11 @@ fn sweep<H: Wait, P: WorkPool, G: Gate>(
             budget.spend();
         }
     }
+    give_all_back(shared.words, &mut seat);
     (seat, budget)
 }
 
-/// Relaxes the row of the vertex that the seat took, and finishes it.
+/// Relaxes the row of the vertex that the seat took, and keeps the credits that are left, for marks to come.
 #[inline(always)]
 fn visit<H: Wait, P: WorkPool, G: Gate>(
     rt: &H,
@@ -186,11 +255,11 @@ fn visit<H: Wait, P: WorkPool, G: Gate>(
     requires words { seat.old.words ≡ shared.now.words.now }
     requires graph { shared.now.csr.now ≡ seat.old.known.graph }
     requires fresh { seat.old.known.view.hand ≡ Fresh u }
-    requires credit { seat.old.known.view.credits ≡ 1 }
+    requires credit { 1 ≤ seat.old.known.view.credits }
     requires vertex { u < shared.now.csr.now.n }
     requires side { P.is_side shared.now.pool.now side.old }
     ensures stays { Stays seat.old seat.new }
-    ensures idle { seat.new.known.view.hand ≡ Idle }
+    ensures no_vertex { HasNoVertex seat.new }
     ensures side { P.is_side shared.now.pool.now side.new }
 {
     shared.gate.pass(rt, worker, u);
@@ -208,7 +277,11 @@ fn visit<H: Wait, P: WorkPool, G: Gate>(
             shared.pace.lose();
         }
     }
-    words.finish(seat, csr);
+    if seat.credits() > MOST_KEPT {
+        words.finish(seat, csr);
+    } else {
+        words.keep(seat, csr);
+    }
 }
 
 /// Relaxes the arcs of the row of `u` that come next, until the label of a head falls: the head, which is
@@ -241,7 +314,7 @@ fn next_lowered(
     }
 }
 
-/// Sets the mark that is owed, with a credit of its own.
+/// Sets the mark that is owed, with a credit that the worker has besides the one of its vertex.
 #[inline(always)]
 fn mark(words: &Words, seat: &mut WorkSeat, u: u32)
     requires words { seat.old.words ≡ words.now }
@@ -251,7 +324,7 @@ fn mark(words: &Words, seat: &mut WorkSeat, u: u32)
     ensures place { place_of seat.new.known.view.hand ≡ place_of seat.old.known.view.hand }
 {
     if seat.credits() == 1 {
-        words.raise(seat);
+        words.raise_by(seat, RAISED);
     }
     words.set_mark(seat);
 }

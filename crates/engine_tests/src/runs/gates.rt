@@ -156,6 +156,8 @@ const HELD: &[(u32, u64)] = &[
     (4, 20),
     (4, 200),
     (4, 5000),
+    (8, 1),
+    (8, 200),
 ];
 
 /// Counts over a run from the middle of a grid.
