@@ -1,10 +1,11 @@
 //! From what a reader gives to the job in it: what is read, and up to where?
 
-ghost use Rattle.std.specs.Prelude.{◌≡◌, ◌^◌, ◌≤◌, ◌<◌, ◌+◌, ◌-◌, [], length, true, false, IfOk, IfErr, OnOk, All};
+ghost use Rattle.std.specs.Prelude.{◌≡◌, ◌^◌, ◌≤◌, ◌<◌, ◌+◌, ◌-◌, [], length, true, false, IfOk, IfErr, OnOk, All, List, ℕ};
 ghost use Rattle.std.specs.Thread.{IsSync};
-ghost use Rattle.dimacs_text.specs.Jobs.{content_of};
+ghost use Rattle.dimacs_text.specs.Faults.{IsFaultOf};
+ghost use Rattle.dimacs_text.specs.Jobs.{content_of, IsJobText, IsWithinLimits};
 ghost use Rattle.std.specs.Io.KnownBytes.{Consumes, IsAtEnd};
-ghost use Rattle.dimacs_text.specs.Reading.{AreRunsOf, IsReadAhead, Reads};
+ghost use Rattle.dimacs_text.specs.Reading.{AreRunsOf, HasRead, IsReadAhead, Reads};
 ghost use Rattle.job_answer.specs.Pieces.{StepsOn, StopsShort};
 ghost use Rattle.job_answer.specs.Outcome.{HasTaken, IsRequest, IsRequestFault};
 
@@ -12,7 +13,7 @@ use crate::fault::Fault;
 use crate::piece::Piece;
 use crate::readers::{BLOCK, Readers};
 use crate::watch::Watch;
-use dimacs_text::{ArcRuns, Job, JobReader, Parts, ReadAhead, read_side_by_side};
+use dimacs_text::{ArcRuns, Job, JobReader, Parts, ReadAhead, TextFault, read_side_by_side};
 use route_walks::Memory;
 use std::alloc::Global;
 use std::io::{Read, empty};
@@ -108,7 +109,26 @@ fn read_pieces<H: Threads + Clock + Sync, R: Read>(
     pieces.back.feed_to(&mut job)?;
     let fed = pieces.front.len().saturating_add(pieces.back.len());
     watch.see_text(fed, job.arcs_so_far());
-    Ok(job.finish()?)
+    Ok(finish(job, watch)?)
+}
+
+/// The job of the text that a reader has read. Where the text is refused, the watch is told why.
+fn finish(reader: JobReader, watch: &mut impl Watch) -> Result<Job, TextFault>
+    ensures job { (text : List ℕ) → HasRead reader text
+        → IfOk result (λ job. IsJobText text (content_of job)) }
+    ensures within { (text : List ℕ) → HasRead reader text
+        → IfOk result (λ job. IsWithinLimits (content_of job)) }
+    ensures fault { (text : List ℕ) → HasRead reader text → IfErr result (IsFaultOf text) }
+{
+    match reader.finish_explained() {
+        Ok(job) => Ok(job),
+        Err(refused) => {
+            if let Some(explanation) = &refused.explanation {
+                watch.see_fault(explanation);
+            }
+            Err(refused.fault)
+        }
+    }
 }
 
 /// Feeds the front piece and takes the next bytes of the reader into the spare one, up to the limit. Meanwhile

@@ -1,5 +1,6 @@
 //! What is a caller told while a job is answered?
 
+use dimacs_text::Explanation;
 use std::time::Clock;
 
 /// What the time is spent on, in turn.
@@ -29,6 +30,9 @@ pub trait Watch {
 
     /// Of all the sources or pairs, in the order in which they are solved, `done` are answered.
     fn see_answered(&mut self, _done: usize, _all: usize) {}
+
+    /// The text is refused, and this is what a person needs to mend it. Told once, before the fault is returned.
+    fn see_fault(&mut self, _explanation: &Explanation) {}
 
     /// The time since the last phase ended was spent on this one.
     fn end<C: Clock>(&mut self, clock: &C, phase: Phase);
