@@ -13,7 +13,7 @@ _obim_query() {
         --workers | -w | --chunk | -c) compopt +o bashdefault +o default; return ;;
         *[\<\>]) return ;;
         *) choices="-a --answer -W --walks -w --workers --at-once -s --shift -c --chunk --progress --stats
-            -h --help -V --version" ;;
+            --explain -h --help -V --version" ;;
     esac
     mapfile -t COMPREPLY < <(compgen -W "$choices" -- "$word")
 }

@@ -8,5 +8,6 @@ complete -c obim_query -s s -l shift -x -a auto -d "Bucket width 2^BITS, 0 to 63
 complete -c obim_query -s c -l chunk -x -d "Vertices in a chunk, the unit of shared work, 1 to 256"
 complete -c obim_query -l progress -d "Print on standard error how far the answer is"
 complete -c obim_query -l stats -d "Print figures on standard error after the answer"
+complete -c obim_query -l explain -d "Explain a fault: the line, the field, what was expected"
 complete -c obim_query -s h -l help -d "Print help"
 complete -c obim_query -s V -l version -d "Print the version"

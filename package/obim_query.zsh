@@ -9,5 +9,6 @@ _arguments -s -S \
     '(-c --chunk)'{-c+,--chunk=}'[vertices in a chunk, the unit of shared work, 1 to 256]:size:' \
     '--progress[print on standard error how far the answer is]' \
     '--stats[print figures on standard error after the answer]' \
+    '--explain[explain a fault: the line, the field, what was expected]' \
     '(- *)'{-h,--help}'[print help]' \
     '(- *)'{-V,--version}'[print the version]'

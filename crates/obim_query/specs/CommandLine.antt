@@ -21,7 +21,7 @@ use Rattle.job_answer.specs.declared.asked.AtOnce.TheVariants as at_once
 use Rattle.obim_query.specs.declared.command_line.Options.{Options}
 use Rattle.obim_query.specs.declared.command_line.Refusal.{Refusal}
 use Rattle.obim_query.specs.declared.command_line.Refusal.TheVariants as refusal
-use Rattle.obim_query.specs.declared.command_line.TheConstants.{SHARED_CHUNK}
+use Rattle.obim_query.specs.declared.values.TheConstants.{SHARED_CHUNK}
 
 -- ---- the arguments of the command
 
@@ -60,7 +60,7 @@ operand_rule = record (new_rule (codes "operand")) {
 
 abbrev pub program_rules : List Rule
 program_rules = answer_rule ∷ walks_rule ∷ workers_rule ∷ at_once_rule ∷ shift_rule ∷ chunk_rule
-    ∷ flag (codes "progress") ∷ flag (codes "stats") ∷ operand_rule ∷ []
+    ∷ flag (codes "progress") ∷ flag (codes "stats") ∷ flag (codes "explain") ∷ operand_rule ∷ []
 
 -- a command with a version, and of an option that is given twice the last one counts
 abbrev pub bare_program : App
@@ -133,6 +133,7 @@ pub record AsksFor (rows : List Row) (options : Options) : Type 0 where
   pub limit : options.asked.limit ≡ MAX_BYTES
   pub stats : IsFlag (first_of (codes "stats") rows) options.stats
   pub progress : IsFlag (first_of (codes "progress") rows) options.progress
+  pub explain : IsFlag (first_of (codes "explain") rows) options.explain
 
 -- The words, of which the first is the program's name, ask for these options.
 pub record WordsAskFor (words : List Text) (options : Options) : Type 0 where

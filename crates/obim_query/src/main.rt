@@ -2,10 +2,10 @@
 //!
 //! `obim_query` reads a job from standard input and writes its answer to standard output. What it
 //! writes, and what a fault leaves, is the contract of `answer` of `job_answer`; this crate reads the
-//! command line, prints help, faults and figures, and gives the status.
+//! command line, prints help, faults with their explanations and figures, and gives the status.
 //!
-//! It stands on `job_answer`, on `obim_engine` for the limits of the settings, and on `clap` for the
-//! command line.
+//! It stands on `job_answer`, on `dimacs_text` for what is said of a line that is wrong, on `obim_engine`
+//! for the limits of the settings, and on `clap` for the command line.
 #![tactic(auto)]
 
 ghost use Rattle.std.specs.Prelude.{◌≡◌, map};
@@ -14,22 +14,31 @@ ghost use Rattle.job_answer.specs.Outcome.{IsReply};
 ghost use Rattle.obim_query.specs.CommandLine.{IsText};
 ghost use Rattle.obim_query.specs.Replied.{HasReplied, HasRun, IsRefusalStatus, IsTextStatus};
 
+mod command;
 mod command_line;
+mod explain;
+mod guess;
+mod input;
 mod output;
 mod progress;
+mod refusals;
 mod stats;
 #[cfg(test)]
 mod tests;
+mod values;
 
 use command_line::{Options, Refusal, parse_options};
-use job_answer::{Counter, Fault, Phase, Watch, answer, answer_watched, status};
+use dimacs_text::Explanation;
+use explain::print_explanation;
+use input::Input;
+use job_answer::{Counter, Fault, Phase, Watch, answer_watched, status};
 use obim_engine::OpenGate;
 use output::Output;
 use progress::{Progress, Shown};
 use stats::print_stats;
 use std::convert::AsStr;
 use std::env::Env;
-use std::io::{ErrorKind, IsTerminal, Read, Write};
+use std::io::{self, ErrorKind, IsTerminal, Read, Write};
 use std::process::ExitCode;
 use std::sync::Wait;
 use std::thread::Threads;
@@ -39,8 +48,14 @@ use std::{env, fmt};
 /// The status of a command line that is refused.
 const USAGE: u8 = 1;
 
+/// The status of a text that is refused.
+const REFUSED: u8 = 2;
+
 /// Why there is no answer where standard input is a terminal, which nobody types a job at by chance.
 const NO_JOB: &str = "no job: obim_query [OPTIONS] < JOB, or - to type it (see obim_query --help)";
+
+/// What a terminal is told after the fault of a text.
+const HINT: &str = "--explain says more";
 
 /// Which streams are a terminal.
 #[derive(Clone, Copy)]
@@ -58,7 +73,7 @@ fn main(rt: HostRuntime) -> ExitCode {
         Ok(words) => run(
             &rt,
             &words,
-            &mut rt.stdin(),
+            &mut Input::new(rt.stdin()),
             &mut Output::new(rt.stdout()),
             terminals,
         ),
@@ -90,16 +105,13 @@ fn run<
     S: AsStr,
     R: Read,
     W: Write,
->(rt: &H, words: &[S], reader: &mut R, output: &mut Output<W>, terminals: Terminals) -> u8
-    ensures { HasRun (map S.text words.now) (R.remaining reader.old) (R.remaining reader.new)
+>(rt: &H, words: &[S], input: &mut Input<R>, output: &mut Output<W>, terminals: Terminals) -> u8
+    ensures { HasRun (map S.text words.now) (R.remaining input.old.inner) (R.remaining input.new.inner)
         (W.contents output.old.inner) (W.contents output.new.inner) result }
 {
     match parse_options(rt.alloc(), words) {
         Ok(options) if !options.typed && terminals.input => print_error(rt, NO_JOB, USAGE),
-        Ok(options) => {
-            let shown = shown_at(&options, terminals.error);
-            answer_job(rt, reader, output, &options, shown)
-        }
+        Ok(options) => answer_job(rt, input, output, &options, terminals.error),
         Err(refusal) => print_refusal(rt, refusal),
     }
 }
@@ -140,24 +152,52 @@ fn shown_at(options: &Options, is_terminal: bool) -> Shown {
 /// Answers, and gives the status to end with. If the reader of the answer closed the pipe, nothing is printed.
 fn answer_job<H: AllocGlobal + Eprint + Threads + Wait + Clock + Sync, R: Read, W: Write>(
     rt: &H,
-    reader: &mut R,
+    input: &mut Input<R>,
     output: &mut Output<W>,
     options: &Options,
-    shown: Shown,
+    is_terminal: bool,
 ) -> u8
-    ensures { HasReplied options.now.asked (R.remaining reader.old) (R.remaining reader.new)
+    ensures { HasReplied options.now.asked (R.remaining input.old.inner) (R.remaining input.new.inner)
         (W.contents output.old.inner) (W.contents output.new.inner) result }
 {
-    let replied = if options.stats || options.progress {
-        answer_with_figures(rt, reader, output, options, shown)
-    } else {
-        answer(rt, rt.alloc(), reader, output, &options.asked, &OpenGate)
-    };
+    let mut progress = Progress::new(rt, shown_at(options, is_terminal));
+    let replied = reply(rt, input, output, options, &mut progress);
     match replied {
         Ok(()) => 0,
         Err(fault) if output.has_no_reader => status(&fault),
-        Err(fault) => print_fault(rt, fault),
+        Err(fault) => {
+            let failure = input.failure.or(output.failure);
+            let explanation = progress.explanation;
+            print_whole_fault(rt, fault, explanation, failure, options, is_terminal)
+        }
     }
+}
+
+/// Answers, with what is asked for beside.
+fn reply<H: AllocGlobal + Eprint + Threads + Wait + Clock + Sync, R: Read, W: Write>(
+    rt: &H,
+    reader: &mut R,
+    writer: &mut W,
+    options: &Options,
+    progress: &mut Progress<H>,
+) -> Result<(), Fault>
+    ensures { IsReply options.now.asked.limit options.now.asked.answer options.now.asked.walks
+        (R.remaining reader.old) (R.remaining reader.new)
+        (W.contents writer.old) (W.contents writer.new) result }
+{
+    if options.stats || options.progress {
+        return answer_with_figures(rt, reader, writer, options, progress);
+    }
+    let gate = &OpenGate;
+    answer_watched(
+        rt,
+        rt.alloc(),
+        reader,
+        writer,
+        &options.asked,
+        gate,
+        progress,
+    )
 }
 
 /// Answers, and prints how far it is and figures after the answer, as they are asked for.
@@ -166,7 +206,7 @@ fn answer_with_figures<H: AllocGlobal + Eprint + Threads + Wait + Clock + Sync, 
     reader: &mut R,
     writer: &mut W,
     options: &Options,
-    shown: Shown,
+    progress: &mut Progress<H>,
 ) -> Result<(), Fault>
     ensures { IsReply options.now.asked.limit options.now.asked.answer options.now.asked.walks
         (R.remaining reader.old) (R.remaining reader.new)
@@ -174,16 +214,7 @@ fn answer_with_figures<H: AllocGlobal + Eprint + Threads + Wait + Clock + Sync, 
 {
     let asked = &options.asked;
     let counter = Counter::open(rt.alloc(), asked.settings.workers)?;
-    let mut progress = Progress::new(rt, shown);
-    let replied = answer_watched(
-        rt,
-        rt.alloc(),
-        reader,
-        writer,
-        asked,
-        &counter,
-        &mut progress,
-    );
+    let replied = answer_watched(rt, rt.alloc(), reader, writer, asked, &counter, progress);
     progress.clear();
     replied?;
     progress.end(rt, Phase::Writing);
@@ -192,6 +223,27 @@ fn answer_with_figures<H: AllocGlobal + Eprint + Threads + Wait + Clock + Sync, 
         print_stats(rt, asked, &progress.figures, &counter);
     }
     Ok(())
+}
+
+/// Prints the fault's text, and what explains it if that is asked for, and gives its status. A terminal is told of
+/// the option where a text is refused.
+fn print_whole_fault<H: Eprint>(
+    rt: &H,
+    fault: Fault,
+    explanation: Option<Explanation>,
+    failure: Option<io::Error>,
+    options: &Options,
+    is_terminal: bool,
+) -> u8
+    ensures { result ≡ status_of fault }
+{
+    let status = print_fault(rt, fault);
+    if options.explain {
+        print_explanation(rt, fault, explanation, failure);
+    } else if is_terminal && status == REFUSED {
+        print_error(rt, HINT, status);
+    }
+    status
 }
 
 /// Prints the fault's text, and gives its status.

@@ -2,12 +2,14 @@
 
 use std::io::{self, ErrorKind, Write};
 
-/// A writer that notes whether whoever read its bytes has gone.
+/// A writer that notes why it failed, and whether whoever read its bytes has gone.
 #[derive(Drop)]
 pub(crate) struct Output<W> {
     pub(crate) inner: W,
     /// A write failed since the other end of the pipe is closed, as `head` closes it.
     pub(crate) has_no_reader: bool,
+    /// What the system said of a write that failed.
+    pub(crate) failure: Option<io::Error>,
 }
 
 impl<W> Output<W> {
@@ -15,6 +17,7 @@ impl<W> Output<W> {
         Output {
             inner,
             has_no_reader: false,
+            failure: None,
         }
     }
 }
@@ -26,11 +29,16 @@ impl<W: Write> Write for Output<W> {
         let written = self.inner.write(bytes);
         if let Err(error) = &written {
             self.has_no_reader = error.kind() == ErrorKind::BrokenPipe;
+            self.failure = Some(*error);
         }
         written
     }
 
     fn flush(&mut self) -> io::Result<()> {
-        self.inner.flush()
+        let flushed = self.inner.flush();
+        if let Err(error) = &flushed {
+            self.failure = Some(*error);
+        }
+        flushed
     }
 }

@@ -1,5 +1,6 @@
 //! What `--progress` prints on standard error while a job is answered.
 
+use dimacs_text::Explanation;
 use job_answer::{Figures, Phase, Watch};
 use std::fmt;
 use std::time::{Clock, Duration};
@@ -28,6 +29,8 @@ pub(crate) enum Shown {
 pub(crate) struct Progress<'a, H> {
     rt: &'a H,
     pub(crate) figures: Figures,
+    /// Why the text is refused, if it is.
+    pub(crate) explanation: Option<Explanation>,
     shown: Shown,
     bytes: u64,
     lines: u32,
@@ -44,6 +47,7 @@ impl<'a, H: Eprint + Clock> Progress<'a, H> {
         let mut progress = Progress {
             rt,
             figures: Figures::new(rt),
+            explanation: None,
             shown,
             bytes: 0,
             lines: 0,
@@ -143,6 +147,10 @@ impl<H: Eprint + Clock> Watch for Progress<'_, H> {
             self.began_queries = self.rt.monotonic().ok();
         }
         self.tell(Step::Answered(done, all));
+    }
+
+    fn see_fault(&mut self, explanation: &Explanation) {
+        self.explanation = Some(*explanation);
     }
 
     fn end<C: Clock>(&mut self, clock: &C, phase: Phase) {

@@ -90,17 +90,28 @@ fn lines_beside_what_they_ask_for(rt: HostRuntime) {
 
 #[test]
 fn lines_beside_what_they_leave_to_the_program(rt: HostRuntime) {
-    // Whether they ask for figures, for progress, and for a job that is typed.
+    // Whether they ask for figures, for progress, for explanations, and for a job that is typed.
     for (line, want) in [
-        ("it", (false, false, false)),
-        ("it --stats", (true, false, false)),
-        ("it --progress", (false, true, false)),
-        ("it --stats -w 4 --stats", (true, false, false)),
-        ("it --progress - --stats -", (true, true, true)),
-        ("it -- -", (false, false, true)),
+        ("it", (false, false, false, false)),
+        ("it --stats", (true, false, false, false)),
+        ("it --progress", (false, true, false, false)),
+        ("it --explain", (false, false, true, false)),
+        ("it --stats -w 4 --stats", (true, false, false, false)),
+        ("it --progress - --stats -", (true, true, false, true)),
+        ("it --explain --stats --explain", (true, false, true, false)),
+        ("it -- -", (false, false, false, true)),
     ] {
         let options = asked_of(line, rt.alloc()).ok();
-        let found = options.map(|options| (options.stats, options.progress, options.typed));
+        let found = options.map(|options| {
+            let Options {
+                stats,
+                progress,
+                explain,
+                typed,
+                ..
+            } = options;
+            (stats, progress, explain, typed)
+        });
         assert_eq!(rt; found, Some(want), "{line}");
     }
 }

@@ -34,4 +34,5 @@ returns c =
       limit = with.limit ∙ made.limit;
       stats = carried IsFlag _ _ _ _ (first_value-rows found (codes "stats")) (search rules) c.has_flag.ensures;
       progress = carried IsFlag _ _ _ _ (first_value-rows found (codes "progress")) (search rules) c.has_flag-2.ensures;
+      explain = carried IsFlag _ _ _ _ (first_value-rows found (codes "explain")) (search rules) c.has_flag-3.ensures;
     }

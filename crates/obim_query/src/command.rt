@@ -1,0 +1,218 @@
+//! Which arguments has the command, as clap sees it?
+
+ghost use Rattle.std.specs.Prelude.{◌≡◌, codes, false, IfOk};
+ghost use Rattle.clap.specs.Words.{app_of, rule_of, with_rule};
+ghost use Rattle.obim_query.specs.CommandLine.{answer_rule, at_once_rule, chunk_rule, operand_rule, shift_rule};
+ghost use Rattle.obim_query.specs.CommandLine.{bare_program, flag, program, valued, workers_rule};
+
+use crate::values::{AT_ONCE, CHUNK, KINDS, SHIFT, WORKERS};
+use clap::{Arg, ArgAction, Command};
+use std::alloc::{AllocError, Global};
+
+/// What `--version` prints after the program's name.
+const VERSION: &str = "0.1.0";
+
+const USAGE: &str = "obim_query [OPTIONS] < JOB";
+
+const ABOUT: &str = "Answers a job: a directed graph with whole-number weights, and queries.";
+
+const AFTER: &str = "\
+Workers, sources at once, shift and chunk change how long an answer takes, and
+no byte of it. The defaults serve every kind of graph, from paths to maps of 24
+million vertices. With --at-once auto sources are solved side by side, up to one
+for each worker, if vertices have few arcs, and else one by one; each source at
+once takes memory of its own. With --shift auto the buckets of vertices get
+wider as costs rise, up to a width that fits the graph; with --shift BITS each
+spans 2^BITS costs. Without --chunk a chunk has 256 vertices with one worker,
+and 64 with several. If an option is given twice, the last one counts.
+
+A job is one text on standard input (which the argument - stands for): a graph
+in the .gr format of the 9th DIMACS Implementation Challenge, and after it its
+sources in the .ss format, or pairs of a source and a target in the .p2p format.
+Vertices count from 1.
+
+  c a comment
+  p sp N M           N vertices and M arcs; M lines follow:
+  a U V W            an arc from U to V of weight W, from 0 to 4294967295
+  p aux sp ss K      K sources; K lines follow:
+  s V                the source V
+  p aux sp p2p K     or K pairs; K lines follow:
+  q S T              the pair of the source S and the target T
+  p aux sp add K     perhaps K added arcs, last; K lines `a U V W` follow
+
+For each source the answer has the line `s V`, and for each vertex a line
+`d V COST`: the least cost of a walk there, or the fewest arcs for levels, or
+`inf` if there is no walk. For each pair it has the line `q S T COST`. With
+--walks a line `w V COST U .. V` follows if there is a walk: its vertices in
+order. For components, which are the weak ones, the answer has for each vertex
+`k V LABEL`: the least vertex that arcs join to V, whichever way they point.
+With added arcs the line `g K` follows the lines of each source, each pair or
+the components, and then the same lines for the graph with these arcs.
+
+Example:
+  $ printf 'p sp 2 1\\na 1 2 7\\np aux sp ss 1\\ns 1\\n' | obim_query
+  s 1
+  d 1 0
+  d 2 7
+
+Status: 0 answered, 1 the command line is refused, 2 the text is refused,
+3 memory is refused, 4 reading or writing failed, 5 a thread is refused.";
+
+/// What the help says of each setting.
+#[derive(Drop)]
+pub(crate) struct Limits {
+    workers: String,
+    at_once: String,
+    shift: String,
+    chunk: String,
+}
+
+impl Limits {
+    pub(crate) fn new(alloc: Global) -> Result<Limits, AllocError> {
+        Ok(Limits {
+            workers: format!(in alloc; "How many workers, {WORKERS}")?,
+            at_once: format!(in alloc; "Sources at once, {AT_ONCE}")?,
+            shift: format!(in alloc; "Bucket width 2^BITS, {SHIFT}")?,
+            chunk: format!(in alloc; "Vertices in a chunk, the unit of shared work, {CHUNK}")?,
+        })
+    }
+}
+
+/// The command. None of its settings changes how clap reads the words, so that clap's contract says which words are
+/// whose values.
+pub(crate) fn command<'a>(alloc: Global, limits: &'a Limits) -> Result<Command<'a>, AllocError>
+    ensures { IfOk result (λ command. app_of command ≡ program) }
+{
+    let help = "Print a shortest path for each cost, of fewest arcs";
+    let walks = flag(alloc, "walks", help).short('W');
+    let command = texts(alloc).arg(answer_option(alloc))?.arg(walks)?;
+    with_flags(alloc, with_settings(alloc, command, limits)?)
+}
+
+/// The command with its texts, before it has an argument. Of an option the last one counts.
+fn texts<'a>(alloc: Global) -> Command<'a>
+    ensures { app_of result ≡ bare_program }
+{
+    Command::new(alloc, "obim_query")
+        .version(VERSION)
+        .override_usage(USAGE)
+        .about(ABOUT)
+        .after_help(AFTER)
+        .args_override_self(true)
+}
+
+/// The options of the settings.
+fn with_settings<'a>(
+    alloc: Global,
+    command: Command<'a>,
+    limits: &'a Limits,
+) -> Result<Command<'a>, AllocError>
+    ensures { IfOk result (λ with. app_of with ≡ with_rule (with_rule (with_rule (with_rule
+        (app_of command.entry) workers_rule) at_once_rule) shift_rule) chunk_rule) }
+{
+    let command = command
+        .arg(workers_option(alloc, &limits.workers))?
+        .arg(at_once_option(alloc, &limits.at_once))?
+        .arg(shift_option(alloc, &limits.shift))?
+        .arg(chunk_option(alloc, &limits.chunk))?;
+    Ok(command)
+}
+
+/// The flags of what is printed besides, and `-`, which the help says in its text.
+fn with_flags<'a>(alloc: Global, command: Command<'a>) -> Result<Command<'a>, AllocError>
+    ensures { IfOk result (λ with. app_of with ≡ with_rule (with_rule (with_rule (with_rule
+        (app_of command.entry) (flag (codes "progress"))) (flag (codes "stats"))) (flag (codes "explain")))
+        operand_rule) }
+{
+    let progress = flag(
+        alloc,
+        "progress",
+        "Print on standard error how far the answer is",
+    );
+    let stats = flag(
+        alloc,
+        "stats",
+        "Print figures on standard error after the answer",
+    );
+    let explain = flag(
+        alloc,
+        "explain",
+        "Explain a fault: the line, the field, what was expected",
+    );
+    let command = command.arg(progress)?.arg(stats)?.arg(explain)?;
+    Ok(command.arg(operand(alloc))?)
+}
+
+fn answer_option<'a>(alloc: Global) -> Arg<'a>
+    ensures rule { rule_of result ≡ answer_rule }
+    ensures local { result.global ≡ false }
+{
+    option(alloc, "answer", "KIND", KINDS)
+        .short('a')
+        .default_value("distances")
+}
+
+fn workers_option<'a>(alloc: Global, help: &'a str) -> Arg<'a>
+    ensures rule { rule_of result ≡ workers_rule }
+    ensures local { result.global ≡ false }
+{
+    option(alloc, "workers", "COUNT", help)
+        .short('w')
+        .default_value("2")
+}
+
+fn at_once_option<'a>(alloc: Global, help: &'a str) -> Arg<'a>
+    ensures rule { rule_of result ≡ at_once_rule }
+    ensures local { result.global ≡ false }
+{
+    option(alloc, "at-once", "COUNT", help).default_value("auto")
+}
+
+fn shift_option<'a>(alloc: Global, help: &'a str) -> Arg<'a>
+    ensures rule { rule_of result ≡ shift_rule }
+    ensures local { result.global ≡ false }
+{
+    option(alloc, "shift", "BITS", help)
+        .short('s')
+        .default_value("auto")
+}
+
+fn chunk_option<'a>(alloc: Global, help: &'a str) -> Arg<'a>
+    ensures rule { rule_of result ≡ chunk_rule }
+    ensures local { result.global ≡ false }
+{
+    option(alloc, "chunk", "SIZE", help).short('c')
+}
+
+/// The words that are no options.
+fn operand<'a>(alloc: Global) -> Arg<'a>
+    ensures rule { rule_of result ≡ operand_rule }
+    ensures local { result.global ≡ false }
+{
+    Arg::new(alloc, "operand")
+        .action(ArgAction::Append)
+        .num_args(0..)
+        .hide(true)
+}
+
+/// An option with a value.
+fn option<'a>(alloc: Global, name: &'a str, value: &'a str, help: &'a str) -> Arg<'a>
+    ensures rule { rule_of result ≡ valued name.entry.now }
+    ensures local { result.global ≡ false }
+{
+    Arg::new(alloc, name)
+        .long(name)
+        .value_name(value)
+        .help(help)
+}
+
+/// An option without a value.
+fn flag<'a>(alloc: Global, name: &'a str, help: &'a str) -> Arg<'a>
+    ensures rule { rule_of result ≡ flag name.entry.now }
+    ensures local { result.global ≡ false }
+{
+    Arg::new(alloc, name)
+        .long(name)
+        .action(ArgAction::SetTrue)
+        .help(help)
+}

@@ -1,0 +1,129 @@
+//! What `--explain` prints on standard error after a fault.
+
+use crate::guess::guess;
+use dimacs_text::{Explanation, LineKind, MAX_KEPT};
+use job_answer::{Fault, MAX_BYTES};
+use std::{fmt, io};
+
+/// The lines that explain a fault, of which each begins alike. What is wrong with a text stands in its explanation, and
+/// what the system said of a read or a write that failed is its failure.
+pub(crate) fn print_explanation<H: Eprint>(
+    rt: &H,
+    fault: Fault,
+    explanation: Option<Explanation>,
+    failure: Option<io::Error>,
+) {
+    match fault {
+        Fault::Text { .. } => {
+            if let Some(explanation) = &explanation {
+                print_line(rt, explanation);
+            }
+        }
+        Fault::Read | Fault::Write => {
+            if let Some(failure) = &failure {
+                say(rt, Words::System(failure));
+            }
+        }
+        Fault::TooLong => say(rt, Words::Limit),
+        Fault::NoAsk => say(rt, Words::Advice(NO_ASK)),
+        Fault::Memory => say(rt, Words::Advice(NO_MEMORY)),
+        Fault::Spawn => {}
+    }
+}
+
+const NO_ASK: &str =
+    "expected 'p aux sp ss K' or 'p aux sp p2p K' after the arcs, or --answer components";
+
+const NO_MEMORY: &str = "--at-once 1 takes least: MEMORY in the manual says how much";
+
+/// The lines about a line of a text.
+fn print_line<H: Eprint>(rt: &H, explanation: &Explanation) {
+    say(rt, Words::Line(explanation));
+    say(rt, Words::Expected(explanation));
+    if explanation.place.is_some() {
+        say(rt, Words::Place(explanation));
+    }
+    if let Some(advice) = guess(explanation) {
+        say(rt, Words::Advice(advice));
+    }
+}
+
+/// Prints one of the lines. Where standard error is closed, nobody reads it.
+fn say<H: Eprint>(rt: &H, words: Words) {
+    let _ = eprintln!(rt; "obim_query: why: {words}");
+}
+
+/// What one of the lines says.
+#[derive(Clone, Copy)]
+enum Words<'a> {
+    /// The line itself, or that there is none.
+    Line(&'a Explanation),
+    /// What belongs there, and in place of which field.
+    Expected(&'a Explanation),
+    /// Where in its section the line is.
+    Place(&'a Explanation),
+    /// Why the system refused.
+    System(&'a io::Error),
+    /// How long a text may be.
+    Limit,
+    Advice(&'static str),
+}
+
+impl fmt::Display for Words<'_> {
+    fn fmt<W: fmt::Write>(&self, f: &mut fmt::Formatter<W>) -> fmt::Result {
+        match *self {
+            Words::Line(explanation) => write_line(f, explanation),
+            Words::Expected(explanation) => write_expected(f, explanation),
+            Words::Place(explanation) => write_place(f, explanation),
+            Words::System(error) => write!(f, "{error}"),
+            Words::Limit => write!(f, "a job has at most {MAX_BYTES} bytes"),
+            Words::Advice(advice) => f.write_str(advice),
+        }
+    }
+}
+
+fn write_line<W: fmt::Write>(f: &mut fmt::Formatter<W>, explanation: &Explanation) -> fmt::Result {
+    let line = explanation.line;
+    match &explanation.text {
+        None => write!(f, "the text ends before line {line}"),
+        Some(text) if text.length() > MAX_KEPT => {
+            let length = text.length();
+            write!(f, "line {line} has {length} bytes and begins '{text}'")
+        }
+        Some(text) => write!(f, "line {line} is '{text}'"),
+    }
+}
+
+fn write_expected<W: fmt::Write>(
+    f: &mut fmt::Formatter<W>,
+    explanation: &Explanation,
+) -> fmt::Result {
+    if let Some(field) = explanation.field {
+        let wrong = if field > explanation.fields {
+            "missing"
+        } else if explanation.kind == LineKind::Fields {
+            "one too many"
+        } else {
+            "wrong"
+        };
+        write!(f, "field {field} is {wrong}: ")?;
+    }
+    let expected = &explanation.expected;
+    write!(f, "expected {expected}")
+}
+
+fn write_place<W: fmt::Write>(f: &mut fmt::Formatter<W>, explanation: &Explanation) -> fmt::Result {
+    let Some(place) = &explanation.place else {
+        return Ok(());
+    };
+    if explanation.text.is_none() || place.came >= place.announced {
+        return write!(f, "{place}");
+    }
+    let item = place.section.item_name();
+    let number = place.came.saturating_add(1);
+    let (all, head) = (place.announced, place.head);
+    write!(
+        f,
+        "it stands in place of {item} {number} of {all} of the section that line {head} begins"
+    )
+}

@@ -1,0 +1,100 @@
+//! Why did clap refuse a command line, in a sentence?
+
+ghost use Rattle.clap.specs.Words.{kind_of};
+ghost use Rattle.obim_query.specs.CommandLine.{IsText, IsTextKind};
+
+use crate::command_line::Refusal;
+use crate::values::{AT_ONCE, CHUNK, Numbers, SHIFT, WORKERS};
+use clap::Error;
+use clap::error::ErrorKind;
+use std::alloc::{AllocError, Global};
+use std::convert::AsStr;
+
+/// Why clap gave no matches: a text is asked for, or its words in a sentence of ours.
+pub(crate) fn refused_by<S: AsStr>(alloc: Global, error: Error, arguments: &[S]) -> Refusal
+    ensures { IsText result → IsTextKind (kind_of error) }
+{
+    match error.kind() {
+        ErrorKind::OutOfMemory => return Refusal::Memory,
+        ErrorKind::DisplayHelp | ErrorKind::DisplayVersion => return Refusal::Text(error),
+        _ => {}
+    }
+    let line = match negative_in(arguments) {
+        Some((numbers, text)) if error.kind() == ErrorKind::UnknownArgument => {
+            numbers.refuse(alloc, text)
+        }
+        _ => sentence_of(alloc, &error),
+    };
+    match line {
+        Ok(line) => Refusal::Line(line),
+        Err(_) => Refusal::Memory,
+    }
+}
+
+/// The first negative number that stands where an option's number should, and the option. clap takes such a
+/// word for an option of its own.
+fn negative_in<S: AsStr>(arguments: &[S]) -> Option<(Numbers, &str)> {
+    let mut before: Option<Numbers> = None;
+    for argument in arguments {
+        let text = argument.as_str();
+        match before {
+            Some(numbers) if is_negative(text) => return Some((numbers, text)),
+            _ => before = numbers_of(text),
+        }
+    }
+    None
+}
+
+/// Whether the text is a minus sign and digits.
+fn is_negative(text: &str) -> bool {
+    match text.strip_prefix("-") {
+        Some(digits) => !digits.is_empty() && digits.bytes().all(|byte| byte.is_ascii_digit()),
+        None => false,
+    }
+}
+
+/// The option of numbers that a word names.
+fn numbers_of(text: &str) -> Option<Numbers> {
+    match text {
+        "--workers" | "-w" => Some(WORKERS),
+        "--at-once" => Some(AT_ONCE),
+        "--shift" | "-s" => Some(SHIFT),
+        "--chunk" | "-c" => Some(CHUNK),
+        _ => None,
+    }
+}
+
+/// What clap says is wrong, and what to do: clap's tip of a similar argument, or a look at the help.
+fn sentence_of(alloc: Global, error: &Error) -> Result<String, AllocError> {
+    let text = format!(in alloc; "{error}")?;
+    let wrong = wrong_in(&text);
+    match similar_in(&text) {
+        Some(tip) => format!(in alloc; "{wrong}: {tip}"),
+        None => format!(in alloc; "{wrong}: try '--help'"),
+    }
+}
+
+/// What clap says is wrong: its first line, without the words that begin and end each.
+fn wrong_in(text: &str) -> &str {
+    let first = first_line(text);
+    let wrong = first.strip_prefix("error: ").unwrap_or(first);
+    wrong.strip_suffix(" found").unwrap_or(wrong)
+}
+
+fn first_line(text: &str) -> &str {
+    match text.split_once('\n') {
+        Some((first, _)) => first,
+        None => text,
+    }
+}
+
+/// clap's tip which argument may be meant, where it has one.
+fn similar_in(text: &str) -> Option<&str> {
+    let (_, tip) = text.split_once("\n  tip: ")?;
+    let (tip, _) = tip.split_once('\n')?;
+    if tip.starts_with("a similar argument") {
+        Some(tip)
+    } else {
+        None
+    }
+}

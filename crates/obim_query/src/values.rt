@@ -1,0 +1,174 @@
+//! What do the values of the options ask for?
+
+ghost use Rattle.std.specs.Prelude.{◌≡◌, codes, IfOk};
+ghost use Rattle.clap.specs.Words.{first_value, found_of};
+ghost use Rattle.obim_query.specs.CommandLine.{AsksAtOnce, AsksNumber, AsksSettings, IsFlag, NamesKind, usual_chunk};
+
+use clap::ArgMatches;
+use job_answer::{Answer, AtOnce, MAX_AT_ONCE};
+use obim_engine::{MAX_CHUNK, MAX_SHIFT, MAX_WORKERS, Settings};
+use std::alloc::{AllocError, Global};
+use std::fmt;
+
+/// The values of `--answer`.
+pub(crate) const KINDS: &str = "distances, levels or components";
+
+pub(crate) const WORKERS: Numbers = Numbers {
+    option: "workers",
+    least: 1,
+    most: MAX_WORKERS,
+    has_auto: false,
+};
+
+pub(crate) const AT_ONCE: Numbers = Numbers {
+    option: "at-once",
+    least: 1,
+    most: MAX_AT_ONCE,
+    has_auto: true,
+};
+
+pub(crate) const SHIFT: Numbers = Numbers {
+    option: "shift",
+    least: 0,
+    most: MAX_SHIFT,
+    has_auto: true,
+};
+
+pub(crate) const CHUNK: Numbers = Numbers {
+    option: "chunk",
+    least: 1,
+    most: MAX_CHUNK as u32,
+    has_auto: false,
+};
+
+/// How many vertices a chunk of several workers has, if nothing else is asked for.
+pub(crate) const SHARED_CHUNK: usize = 64;
+
+/// Why the values of the options ask for no answer.
+#[derive(Drop)]
+pub(crate) enum Misuse {
+    /// What is wrong with them, in a sentence.
+    Line(String),
+    /// The system refused memory.
+    Memory,
+}
+
+impl From<AllocError> for Misuse {
+    fn from(_refused: AllocError) -> Misuse {
+        Misuse::Memory
+    }
+}
+
+/// Whether a flag is there.
+pub(crate) fn has_flag(matches: &ArgMatches, flag: &str) -> bool
+    ensures { IsFlag (first_value (found_of matches.now) flag.now) result }
+{
+    matches.get_str(flag) == Some("true")
+}
+
+/// Whether the operand `-`, which is standard input, is there. Each other operand is refused.
+pub(crate) fn has_hyphen(alloc: Global, matches: &ArgMatches) -> Result<bool, Misuse> {
+    let operands = matches.get_strs("operand").unwrap_or(&[]);
+    for operand in operands {
+        if *operand != "-" {
+            return Err(Misuse::Line(format!(in alloc;
+                "unexpected argument '{operand}': \
+                 the job comes on standard input: obim_query [OPTIONS] < {operand}"
+            )?));
+        }
+    }
+    Ok(!operands.is_empty())
+}
+
+/// The numbers that an option takes, and whether it takes `auto`.
+#[derive(Clone, Copy, Debug, PartialEq, Eq)]
+pub(crate) struct Numbers {
+    option: &'static str,
+    least: u32,
+    most: u32,
+    has_auto: bool,
+}
+
+impl Numbers {
+    /// The number that the option asks for. There is none where it is left out or `auto`.
+    fn asked_in(self, alloc: Global, matches: &ArgMatches) -> Result<Option<u32>, Misuse>
+        ensures { IfOk result (AsksNumber (first_value (found_of matches.now) self.option.now)) }
+    {
+        let Some(text) = matches.get_str(self.option) else {
+            return Ok(None);
+        };
+        if self.has_auto && text == "auto" {
+            return Ok(None);
+        }
+        match text.parse::<u32>() {
+            Ok(number) if self.least <= number && number <= self.most => Ok(Some(number)),
+            _ => Err(Misuse::Line(self.refuse(alloc, text)?)),
+        }
+    }
+
+    /// Why the text is none of these numbers.
+    pub(crate) fn refuse(self, alloc: Global, text: &str) -> Result<String, AllocError> {
+        let option = self.option;
+        format!(in alloc; "invalid value '{text}' for '--{option}': a number from {self}")
+    }
+}
+
+impl fmt::Display for Numbers {
+    fn fmt<W: fmt::Write>(&self, f: &mut fmt::Formatter<W>) -> fmt::Result {
+        let auto = if self.has_auto { ", or auto" } else { "" };
+        write!(f, "{} to {}{auto}", self.least, self.most)
+    }
+}
+
+pub(crate) fn settings_in(alloc: Global, matches: &ArgMatches) -> Result<Settings, Misuse>
+    ensures { IfOk result (AsksSettings (first_value (found_of matches.now) (codes "workers"))
+        (first_value (found_of matches.now) (codes "shift")) (first_value (found_of matches.now) (codes "chunk"))) }
+{
+    let workers = WORKERS.asked_in(alloc, matches)?.unwrap_or(2);
+    let chunk = match CHUNK.asked_in(alloc, matches)? {
+        Some(chunk) => chunk as usize,
+        None => usual_chunk(workers),
+    };
+    let shift = SHIFT.asked_in(alloc, matches)?;
+    let Some(settings) = Settings::new(workers, shift.unwrap_or(0), chunk) else {
+        return Err(Misuse::Line(format!(in alloc; "a setting is outside its limits")?));
+    };
+    match shift {
+        Some(_) => Ok(settings),
+        None => Ok(settings.with_widening_buckets()),
+    }
+}
+
+pub(crate) fn at_once_in(alloc: Global, matches: &ArgMatches) -> Result<AtOnce, Misuse>
+    ensures { IfOk result (AsksAtOnce (first_value (found_of matches.now) (codes "at-once"))) }
+{
+    Ok(match AT_ONCE.asked_in(alloc, matches)? {
+        Some(count) => AtOnce::Most(count),
+        None => AtOnce::Auto,
+    })
+}
+
+/// The chunk size where none is given. One worker shares nothing, so its chunks are as large as they can
+/// be: they take the same room whatever their size is.
+fn usual_chunk(workers: u32) -> usize
+    ensures { result ≡ usual_chunk workers }
+{
+    if workers == 1 {
+        MAX_CHUNK
+    } else {
+        SHARED_CHUNK
+    }
+}
+
+pub(crate) fn answer_in(alloc: Global, matches: &ArgMatches) -> Result<Answer, Misuse>
+    ensures { IfOk result (NamesKind (first_value (found_of matches.now) (codes "answer"))) }
+{
+    match matches.get_str("answer") {
+        None | Some("distances") => Ok(Answer::Distances),
+        Some("levels") => Ok(Answer::Levels),
+        Some("components") => Ok(Answer::Components),
+        Some(text) => Err(Misuse::Line(format!(in alloc;
+            "invalid value '{text}' for '--answer': {KINDS}"
+        )?)),
+    }
+}
