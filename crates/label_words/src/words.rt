@@ -143,7 +143,8 @@ impl Words {
         requires words { seat.old.words ≡ self.now }
         requires no_vertex { HasNoVertex seat.old }
         requires vertex { u < seat.old.known.graph.n }
-        ensures { seat.new ≡ record seat.old { known = after_take result u seat.old.known } }
+        ensures seat { seat.new ≡ record seat.old { known = after_take result u seat.old.known } }
+        ensures one_credit { IsIdle seat.old → result ≡ true → seat.new.known.view.credits ≡ 1 }
     {
         let shared = &self.table.shared;
         let was_marked = shared.swap::<Takes>(&mut seat.table_seat, mark_word(u), 0) > 0;
