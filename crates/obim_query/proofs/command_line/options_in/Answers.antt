@@ -1,9 +1,6 @@
-use Rattle.std.proofs.Common.{◌≡◌, ◌∙◌, Bool, Option, codes, rules, subst, sym}
+use Rattle.std.proofs.Common.{◌≡◌, ◌∙◌, Option, codes, rules, subst, sym}
 use Rattle.clap.proofs.WalkLemmas.{first_value-rows}
 use Rattle.clap.specs.Words.{Text, first_of, found_of, rows_of}
-use Rattle.job_answer.specs.declared.asked.Answer.{Answer}
-use Rattle.job_answer.specs.declared.asked.AtOnce.{AtOnce}
-use Rattle.obim_engine.specs.declared.settings.Settings.{Settings}
 use Rattle.obim_query.specs.CommandLine.{AsksAtOnce, AsksSettings, IsFlag, NamesKind}
 use Rattle.obim_query.proofs.command_line.options_in.Goals as goal
 
