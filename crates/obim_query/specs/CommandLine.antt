@@ -19,8 +19,8 @@ use Rattle.job_answer.specs.declared.asked.Answer.TheVariants.{Distances, Levels
 use Rattle.job_answer.specs.declared.asked.AtOnce.{AtOnce}
 use Rattle.job_answer.specs.declared.asked.AtOnce.TheVariants as at_once
 use Rattle.obim_query.specs.declared.command_line.Options.{Options}
-use Rattle.obim_query.specs.declared.command_line.Refusal.{Refusal}
-use Rattle.obim_query.specs.declared.command_line.Refusal.TheVariants as refusal
+use Rattle.obim_query.specs.declared.refusals.Refusal.{Refusal}
+use Rattle.obim_query.specs.declared.refusals.Refusal.TheVariants as refusal
 use Rattle.obim_query.specs.declared.values.TheConstants.{SHARED_CHUNK}
 
 -- ---- the arguments of the command

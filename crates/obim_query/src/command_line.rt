@@ -5,11 +5,11 @@ ghost use Rattle.clap.specs.Words.{found_of, rows_of};
 ghost use Rattle.obim_query.specs.CommandLine.{AskForText, AsksFor, IsText, WordsAskFor};
 
 use crate::command::{Limits, command};
-use crate::refusals::refused_by;
+use crate::refusals::{Refusal, refused_by};
 use crate::values::{Misuse, answer_in, at_once_in, has_flag, has_hyphen, settings_in};
-use clap::{ArgMatches, Error};
+use clap::ArgMatches;
 use job_answer::{Asked, MAX_BYTES};
-use std::alloc::{AllocError, Global};
+use std::alloc::Global;
 use std::convert::AsStr;
 
 /// What a command line asks for.
@@ -24,36 +24,6 @@ pub(crate) struct Options {
     pub(crate) explain: bool,
     /// Whether the job may come from a terminal, since the argument `-` is there.
     pub(crate) typed: bool,
-}
-
-/// Why a command line asks for no answer.
-#[derive(Drop)]
-pub(crate) enum Refusal {
-    /// It asks for a text: the help or the version.
-    Text(Error),
-    /// It is refused: what is wrong with it, in a sentence.
-    Line(String),
-    /// The system refused memory.
-    Memory,
-}
-
-impl From<AllocError> for Refusal {
-    ghost from_gives = { λ _ given. IsText given → ⊥ };
-
-    fn from(_refused: AllocError) -> Refusal {
-        Refusal::Memory
-    }
-}
-
-impl From<Misuse> for Refusal {
-    ghost from_gives = { λ _ given. IsText given → ⊥ };
-
-    fn from(misuse: Misuse) -> Refusal {
-        match misuse {
-            Misuse::Line(line) => Refusal::Line(line),
-            Misuse::Memory => Refusal::Memory,
-        }
-    }
 }
 
 /// Judges the command line: what its arguments ask for, or why they are refused. The first is the

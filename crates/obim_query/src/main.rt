@@ -27,7 +27,7 @@ mod stats;
 mod tests;
 mod values;
 
-use command_line::{Options, Refusal, parse_options};
+use command_line::{Options, parse_options};
 use dimacs_text::Explanation;
 use explain::print_explanation;
 use input::Input;
@@ -35,6 +35,7 @@ use job_answer::{Counter, Fault, Phase, Watch, answer_watched, status};
 use obim_engine::OpenGate;
 use output::Output;
 use progress::{Progress, Shown};
+use refusals::Refusal;
 use stats::print_stats;
 use std::convert::AsStr;
 use std::env::Env;

@@ -1,14 +1,43 @@
-//! Why did clap refuse a command line, in a sentence?
+//! Why does a command line ask for no answer?
 
 ghost use Rattle.clap.specs.Words.{kind_of};
 ghost use Rattle.obim_query.specs.CommandLine.{IsText, IsTextKind};
 
-use crate::command_line::Refusal;
-use crate::values::{AT_ONCE, CHUNK, Numbers, SHIFT, WORKERS};
+use crate::values::{AT_ONCE, CHUNK, Misuse, Numbers, SHIFT, WORKERS};
 use clap::Error;
 use clap::error::ErrorKind;
 use std::alloc::{AllocError, Global};
 use std::convert::AsStr;
+
+/// Why a command line asks for no answer.
+#[derive(Drop)]
+pub(crate) enum Refusal {
+    /// It asks for a text: the help or the version.
+    Text(Error),
+    /// It is refused: what is wrong with it, in a sentence.
+    Line(String),
+    /// The system refused memory.
+    Memory,
+}
+
+impl From<AllocError> for Refusal {
+    ghost from_gives = { λ _ given. IsText given → ⊥ };
+
+    fn from(_refused: AllocError) -> Refusal {
+        Refusal::Memory
+    }
+}
+
+impl From<Misuse> for Refusal {
+    ghost from_gives = { λ _ given. IsText given → ⊥ };
+
+    fn from(misuse: Misuse) -> Refusal {
+        match misuse {
+            Misuse::Line(line) => Refusal::Line(line),
+            Misuse::Memory => Refusal::Memory,
+        }
+    }
+}
 
 /// Why clap gave no matches: a text is asked for, or its words in a sentence of ours.
 pub(crate) fn refused_by<S: AsStr>(alloc: Global, error: Error, arguments: &[S]) -> Refusal

@@ -1,6 +1,7 @@
 //! Which arguments ask for what, and which are refused?
 
-use crate::command_line::{Options, Refusal, parse_options};
+use crate::command_line::{Options, parse_options};
+use crate::refusals::Refusal;
 use clap::error::ErrorKind;
 use job_answer::{Answer, Asked, AtOnce, MAX_BYTES};
 use obim_engine::Settings;
