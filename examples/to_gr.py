@@ -57,6 +57,10 @@ def rows(stream, name, delimiter):
             if text.strip() and not text.lstrip().startswith("#"):
                 yield line, text.split()
         return
+    # The csv module takes blanks before a quote, and refuses those after it.
+    blanks = " " if delimiter == "\t" else r" \t"
+    closed = re.compile(rf'("(?:[^"]|"")*")[{blanks}]+(?=[{re.escape(delimiter)}\r\n]|$)')
+    lines = (closed.sub(r"\1", text) for text in lines)
     reader = csv.reader(lines, delimiter=delimiter, skipinitialspace=True, strict=True)
     while True:
         line = reader.line_num + 1
