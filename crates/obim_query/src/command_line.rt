@@ -13,7 +13,7 @@ use std::alloc::Global;
 use std::convert::AsStr;
 
 /// What a command line asks for.
-#[derive(Clone, Copy, Debug, PartialEq, Eq)]
+#[derive(Clone, Copy)]
 pub(crate) struct Options {
     pub(crate) asked: Asked,
     /// Whether figures are printed after the answer.

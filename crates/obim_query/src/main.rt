@@ -23,8 +23,6 @@ mod output;
 mod progress;
 mod refusals;
 mod stats;
-#[cfg(test)]
-mod tests;
 mod values;
 
 use command_line::{Options, parse_options};

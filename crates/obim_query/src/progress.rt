@@ -15,7 +15,7 @@ const LINES_AT_A_PACE: u32 = 10;
 const TERMINAL_PACE: u64 = 200;
 
 /// Where progress is shown.
-#[derive(Clone, Copy, Debug, PartialEq, Eq)]
+#[derive(Clone, Copy, PartialEq)]
 pub(crate) enum Shown {
     Nowhere,
     /// In lines of their own.
@@ -159,7 +159,7 @@ impl<H: Eprint + Clock> Watch for Progress<'_, H> {
 }
 
 /// How far a job is.
-#[derive(Clone, Copy, Debug)]
+#[derive(Clone, Copy)]
 enum Step {
     /// The bytes of it that were read, and no problem line yet.
     Bytes(u64),
@@ -196,7 +196,7 @@ impl fmt::Display for Step {
 }
 
 /// A line: how far the job is, how long it took so far, and how much longer this step may take.
-#[derive(Clone, Copy, Debug)]
+#[derive(Clone, Copy)]
 struct Line {
     step: Step,
     spent: Duration,

@@ -1,7 +1,7 @@
 //! What `--stats` prints on standard error after the answer.
 
 use job_answer::{Asked, Counter, Figures};
-use obim_engine::Settings;
+use obim_engine::{Buckets, Settings};
 
 /// More buckets than these cost time: each is looked into again as workers go on to the next.
 const MANY: u64 = 4000;
@@ -23,10 +23,13 @@ pub(crate) fn print_stats<H: Eprint>(rt: &H, asked: &Asked, figures: &Figures, c
     let _ = eprintln!(rt; "rows: {} ms", figures.rows.as_millis());
     let _ = eprintln!(rt; "solving: {} ms", figures.solving.as_millis());
     let _ = eprintln!(rt; "writing: {} ms", figures.writing.as_millis());
-    if asked.settings.widening {
-        let _ = eprintln!(rt; "shift: auto");
-    } else {
-        let _ = eprintln!(rt; "shift: {}", asked.settings.shift);
+    match asked.settings.buckets {
+        Buckets::Widening => {
+            let _ = eprintln!(rt; "shift: auto");
+        }
+        Buckets::Even(shift) => {
+            let _ = eprintln!(rt; "shift: {shift}");
+        }
     }
     print_worklist(rt, &asked.settings, figures, counter);
 }
@@ -59,5 +62,5 @@ fn hundredths(visits: u64, figures: &Figures) -> u64 {
 /// Whether a shift was given that makes too many buckets, or so few that vertices are visited again and
 /// again.
 fn misfits(settings: &Settings, buckets: u64, rate: u64) -> bool {
-    !settings.widening && (buckets > MANY || buckets < FEW && rate > OFTEN)
+    settings.buckets != Buckets::Widening && (buckets > MANY || buckets < FEW && rate > OFTEN)
 }

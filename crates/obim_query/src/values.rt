@@ -81,7 +81,7 @@ pub(crate) fn has_hyphen(alloc: Global, matches: &ArgMatches) -> Result<bool, Mi
 }
 
 /// The numbers that an option takes, and whether it takes `auto`.
-#[derive(Clone, Copy, Debug, PartialEq, Eq)]
+#[derive(Clone, Copy)]
 pub(crate) struct Numbers {
     option: &'static str,
     least: u32,
