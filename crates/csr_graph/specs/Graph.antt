@@ -5,7 +5,7 @@ use Rattle.std.specs.Prelude.{map, filter, count_by, slice_get, Some, AllPairs}
 use Rattle.route_walks.specs.declared.graph.ArcRec.{ArcRec}
 use Rattle.route_walks.specs.declared.graph.TheConstants.{MAX_ARCS, MAX_VERTICES}
 use Rattle.route_walks.specs.Walk.{IsGraph}
-use Rattle.csr_graph.specs.declared.csr.Target.{Target}
+use Rattle.csr_graph.specs.declared.target.Target.{Target}
 
 -- the vertices are the numbers below n
 pub record Graph : Type 0 where

@@ -18,6 +18,8 @@ mod free;
 pub mod laws;
 mod part_sort;
 mod sort;
+mod target;
 
-pub use csr::{Csr, Target};
+pub use csr::Csr;
 pub use route_walks::{MAX_ARCS, MAX_VERTICES};
+pub use target::Target;

@@ -4,8 +4,6 @@ pub mod FormLemmas
 pub mod WordLemmas
 pub mod ReaderLemmas
 pub mod ArcRunLemmas
-pub mod AnswerLemmas
-pub mod Facts
 pub mod FastArcLemmas
 pub mod TextLaws
 pub mod Existence

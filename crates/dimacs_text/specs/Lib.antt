@@ -5,6 +5,5 @@ pub mod Jobs
 pub mod Explaining
 pub mod Faults
 pub mod Laws
-pub mod AnswerLines
 pub mod Reading
 pub mod reader

@@ -1,17 +1,15 @@
-//! Which job is this text, or which line is wrong; which bytes is this answer?
+//! Which job is this text, or which line is wrong?
 //!
 //! A job is a graph file (`.gr`) followed by an auxiliary file of sources (`.ss`) or of pairs (`.p2p`), in
 //! the formats of the 9th DIMACS Implementation Challenge on shortest paths, and perhaps by arcs that are
 //! added to the graph, a section of this project's own. `read_job` gives the job of a text, or the number
 //! of the first line that is wrong and what is wrong with it, and `JobReader` the same of a text that
-//! comes in pieces. The `put_` calls append the lines of an answer: each appends exactly its
-//! bytes, or leaves the vector as it was and returns `Memory`.
+//! comes in pieces. In the interfaces vertices are counted from 0; in the texts they are counted from 1.
 //!
-//! It stands on `route_walks`, whose arcs a job holds, and on `itoa` for digits. In the interfaces
-//! vertices are counted from 0; in the texts they are counted from 1.
+//! It stands on `route_walks`, whose arcs a job holds. The `put_` calls of `answer_lines`, which append the
+//! lines of an answer, can be called by this crate's name too.
 #![tactic(auto)]
 
-mod answer;
 mod arc_runs;
 mod draft;
 mod explanation;
@@ -24,7 +22,7 @@ mod line;
 mod reader;
 mod stage;
 
-pub use answer::{
+pub use answer_lines::{
     put_components, put_distances, put_grown, put_label, put_labels, put_pair, put_source, put_walk,
 };
 pub use arc_runs::{ArcRuns, Parts, ReadAhead, read_side_by_side};

@@ -17,10 +17,10 @@ use Rattle.route_walks.specs.Label.{AreLeastLabels, InfMeansNoWalk}
 use Rattle.route_walks.specs.Operators.{both_ways, seeds_from, unit_weight, unit_weights}
 use Rattle.job_answer.specs.declared.asked.Answer.{Answer}
 use Rattle.route_walks.proofs.Facts.{attained-by_walk, walk-of_attained}
-use Rattle.dimacs_text.specs.AnswerLines.{cost_text, label_text, label_lines, pair_text, walk_text}
+use Rattle.answer_lines.specs.Lines.{cost_text, label_text, label_lines, pair_text, walk_text}
 use Rattle.dimacs_text.specs.Jobs.{Content, Question, from_sources, of_pairs}
 use Rattle.dimacs_text.specs.Jobs.{IsAddedWithin, IsArcWithin, IsPairWithin, IsQuestionWithin, IsWithinLimits}
-use Rattle.dimacs_text.specs.AnswerLines.{component_lines}
+use Rattle.answer_lines.specs.Lines.{component_lines}
 use Rattle.walk_report.specs.Hop.{AreHops}
 use Rattle.walk_report.specs.Parent.{AreParents}
 use Rattle.walk_report.specs.Printed.{printed_walk, PrintedWalksAreWalks}

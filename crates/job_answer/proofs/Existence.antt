@@ -2,16 +2,16 @@
 use Rattle.std.proofs.Common.{◌≢◌, ℕ, ◌<◌, ◌≤◌, Bool, true, false, List, [], ◌∷◌, ◌++◌, slice_index, Option, Some, None}
 use Rattle.std.proofs.Common.{refl}
 use Rattle.std.specs.List.{All}
-use Rattle.std.proofs.lemmas.List.Elements.{All-cons, All-head, All-map, All-tail, All-weaker}
+use Rattle.std.proofs.lemmas.List.Elements.{All-head, All-map, All-tail, All-weaker}
 use Rattle.route_walks.specs.declared.graph.ArcRec.{ArcRec}
 use Rattle.route_walks.specs.declared.graph.TheConstants.{MAX_VERTICES}
 use Rattle.route_walks.specs.Walk.{IsArcBelow, IsGraph}
-use Rattle.route_walks.specs.Operators.{against, along, both_ways, seeds_all, seeds_from, unit_weight}
-use Rattle.route_walks.proofs.Facts.{graph-append}
+use Rattle.route_walks.specs.Operators.{both_ways, seeds_all, seeds_from, unit_weight}
+use Rattle.route_walks.proofs.Facts.{both_ways-graph, graph-append}
 use Rattle.route_walks.specs.Existence.{LeastLabelsExist}
 use Rattle.walk_report.specs.Existence.{HopsAndParentsExist}
 use Rattle.route_walks.specs.Label.{AreLeastLabels}
-use Rattle.dimacs_text.specs.AnswerLines.{components_text, distances_text, grown_text, pair_text}
+use Rattle.answer_lines.specs.Lines.{components_text, distances_text, grown_text, pair_text}
 use Rattle.dimacs_text.specs.Jobs.{Content, IsAddedWithin, IsArcWithin, IsPairWithin, IsQuestionWithin, IsWithinLimits}
 use Rattle.dimacs_text.specs.Jobs.{Question, absent, from_sources, of_pairs}
 use Rattle.job_answer.specs.declared.asked.Answer.{Answer}
@@ -21,14 +21,6 @@ use Rattle.job_answer.specs.AnswerText.{Growth, IsComponentsBlock, IsGrownBlock,
 use Rattle.job_answer.specs.AnswerText.{arcs_for, growth_for, growth_from, pair_walk_text, walks_text}
 use Rattle.job_answer.specs.Existence.{AskedJobsHaveAnswers}
 use Rattle.job_answer.proofs.Starts.{all-seeds, source-seeds}
-
-both_ways-graph : (n : ℕ) (arcs : List ArcRec) → IsGraph n arcs → IsGraph n (both_ways arcs)
-both_ways-graph n [] graph = graph
-both_ways-graph n (arc ∷ arcs) graph =
-    let ends = All-head (IsArcBelow n) arc arcs graph in
-    let rest = both_ways-graph n arcs (All-tail (IsArcBelow n) arc arcs graph) in
-    All-cons (IsArcBelow n) (along arc) (against arc ∷ both_ways arcs) ends
-    (All-cons (IsArcBelow n) (against arc) (both_ways arcs) (ends.1, ends.0) rest)
 
 -- where each query has a block, there are the blocks of all
 blocks-exist : {Query : Type 0} (IsWithin : Query → Type 0) (IsBlockOf : Query → List ℕ → Type 0)

@@ -4,7 +4,7 @@ use Rattle.std.proofs.Common.{refl, sym, subst, ap, append_assoc}
 use Rattle.std.proofs.lemmas.List.{append-nil}
 use Rattle.csr_graph.specs.Graph.{Graph}
 use Rattle.route_walks.specs.declared.graph.ArcRec.{ArcRec}
-use Rattle.dimacs_text.specs.AnswerLines.{grown_text, pair_text}
+use Rattle.answer_lines.specs.Lines.{grown_text, pair_text}
 use Rattle.job_answer.specs.declared.graphs.Grown.{Grown}
 use Rattle.job_answer.specs.declared.walked_pairs.Walked.{Walked}
 use Rattle.job_answer.specs.declared.solves.Start.{Start}

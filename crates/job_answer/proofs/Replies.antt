@@ -6,9 +6,10 @@ use Rattle.route_walks.specs.declared.graph.ArcRec.{ArcRec}
 use Rattle.route_walks.specs.Walk.{HaveSameArcs}
 use Rattle.route_walks.specs.Label.{LeastLabelsFollowTheArcs}
 use Rattle.route_walks.specs.Operators.{seeds_from, seeds_all}
+use Rattle.route_walks.proofs.Facts.{same_arcs-sym}
 use Rattle.walk_report.specs.Parent.{HopsAndParentsFollowTheArcs}
 use Rattle.dimacs_text.specs.Jobs.{Content, Question, absent, from_sources, of_pairs}
-use Rattle.dimacs_text.specs.AnswerLines.{grown_text}
+use Rattle.answer_lines.specs.Lines.{grown_text}
 use Rattle.std.specs.Prelude.{Result, Ok, Err, IfErr, OnErr}
 use Rattle.job_answer.specs.declared.fault.Fault.{Fault}
 use Rattle.job_answer.specs.declared.fault.Fault.TheVariants.{Read, TooLong, Text, NoAsk, Memory, Spawn, Write}
@@ -126,14 +127,11 @@ module _ (law : LeastLabelsFollowTheArcs) (walked : HopsAndParentsFollowTheArcs)
   text-over Components question text is =
       grown-over (IsComponentsBlock n) (components-over law n) one other first second same alike text is
 
-same-sym : (one other : List ArcRec) → HaveSameArcs one other → HaveSameArcs other one
-same-sym one other same arc = ((same arc).1, (same arc).0)
-
 alike-sym : (first second : Option Growth) → GrowAlike first second → GrowAlike second first
 alike-sym None None alike = alike
 alike-sym None (Some second) alike = absurd alike
 alike-sym (Some first) None alike = absurd alike
-alike-sym (Some first) (Some second) alike = (sym alike.0, same-sym first.arcs second.arcs alike.1)
+alike-sym (Some first) (Some second) alike = (sym alike.0, same_arcs-sym first.arcs second.arcs alike.1)
 
 -- the text along the rows of a job is the job's answer
 module _ (law : LeastLabelsFollowTheArcs) (walked : HopsAndParentsFollowTheArcs) (kind : Answer) (walks : Bool)
@@ -147,7 +145,7 @@ module _ (law : LeastLabelsFollowTheArcs) (walked : HopsAndParentsFollowTheArcs)
         text-over law walked walks job.n graphs.rows.arcs (arcs_for kind job.arcs) (growth_of graphs.grown)
             (growth_for kind job) are.along are.alike kind job.question text,
         text-over law walked walks job.n (arcs_for kind job.arcs) graphs.rows.arcs (growth_for kind job)
-            (growth_of graphs.grown) (same-sym graphs.rows.arcs (arcs_for kind job.arcs) are.along)
+            (growth_of graphs.grown) (same_arcs-sym graphs.rows.arcs (arcs_for kind job.arcs) are.along)
             (alike-sym (growth_of graphs.grown) (growth_for kind job) are.alike) kind job.question text,
       )
 

@@ -4,7 +4,7 @@ use Rattle.std.specs.List.{All, Contains, range_with_len}
 use Rattle.std.proofs.lemmas.List.Elements.{All-cons, All-from_get_or, All-map, All-nil}
 use Rattle.std.proofs.lemmas.List.FromFn.{get_or-range_with_len, length-range_with_len}
 use Rattle.std.proofs.lemmas.List.FromFn.{get_or-map-range_with_len, length-map-range_with_len}
-use Rattle.route_walks.proofs.Facts.{attained-start}
+use Rattle.route_walks.proofs.Facts.{attained-start, seed-within}
 use Rattle.route_walks.specs.declared.graph.ArcRec.{ArcRec}
 use Rattle.route_walks.specs.declared.graph.Seed.{Seed}
 use Rattle.route_walks.specs.declared.graph.TheConstants.{INF}
@@ -30,13 +30,6 @@ all-seeds n =
 pub start-seeds : (n : ℕ) (start : Start) → IsStartWithin n start → AreSeeds n (seeds_at n start)
 start-seeds n (At source) within = source-seeds n source within
 start-seeds n Everywhere within = all-seeds n
-
-seed-within : (n v : ℕ) → v < n → Contains (seeds_all n) (seed_at v)
-seed-within n v below = (
-  v,
-  omega (arith, length-map-range_with_len seed_at 0 n),
-  get_or-map-range_with_len seed_at 0 n v v (seed_at v) below (omega arith),
-)
 
 -- where each vertex is a seed that starts at its number, each label is below INF
 pub labels-finite : (n : ℕ) (arcs : List ArcRec) (labels : List ℕ)

@@ -8,7 +8,7 @@ use Rattle.route_walks.specs.Label.{AreLeastLabels, LeastLabelsAreUnique}
 use Rattle.route_walks.specs.Operators.{seeds_from, seeds_all}
 use Rattle.walk_report.specs.Hop.{AreHops}
 use Rattle.walk_report.specs.Parent.{AreParents, HopsAndParentsAreUnique}
-use Rattle.dimacs_text.specs.AnswerLines.{distances_text, components_text, grown_text, pair_text}
+use Rattle.answer_lines.specs.Lines.{distances_text, components_text, grown_text, pair_text}
 use Rattle.dimacs_text.specs.Jobs.{Question, absent, from_sources, of_pairs}
 use Rattle.job_answer.specs.declared.asked.Answer.TheVariants.{Distances, Levels, Components}
 use Rattle.job_answer.specs.AnswerText.{AnswerTextsAreUnique, BlocksAreUnique, IsOneBlock, IsOneText, IsBlock}

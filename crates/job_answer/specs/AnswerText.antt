@@ -6,8 +6,8 @@ use Rattle.route_walks.specs.declared.graph.TheConstants.{INF}
 use Rattle.route_walks.specs.Label.{AreLeastLabels}
 use Rattle.route_walks.specs.Operators.{seeds_from, seeds_all, unit_weights, both_ways}
 use Rattle.dimacs_text.specs.Jobs.{Content, Question, absent, from_sources, of_pairs}
-use Rattle.dimacs_text.specs.AnswerLines.{source_text, label_text, pair_text, walk_text}
-use Rattle.dimacs_text.specs.AnswerLines.{distances_text, components_text, grown_text}
+use Rattle.answer_lines.specs.Lines.{source_text, label_text, pair_text, walk_text}
+use Rattle.answer_lines.specs.Lines.{distances_text, components_text, grown_text}
 use Rattle.walk_report.specs.declared.hop.TheConstants.{NONE}
 use Rattle.walk_report.specs.Hop.{AreHops}
 use Rattle.walk_report.specs.Parent.{AreParents}

@@ -4,7 +4,7 @@ use Rattle.std.specs.Prelude.{codes, decimal, length, map}
 use Rattle.route_walks.specs.declared.graph.ArcRec.{ArcRec}
 use Rattle.route_walks.specs.Component.{IsComponentLabel}
 use Rattle.route_walks.specs.Walk.{IsWalk, cost}
-use Rattle.dimacs_text.specs.AnswerLines.{source_text, cost_line, pair_line, walk_text, component_text}
+use Rattle.answer_lines.specs.Lines.{source_text, cost_line, pair_line, walk_text, component_text}
 use Rattle.dimacs_text.specs.Jobs.{Content, from_sources, of_pairs, IsWithinLimits}
 use Rattle.job_answer.specs.AnswerText.{AreBlocks, IsAnswerText, IsGrownText, arcs_for, growth_for, growth_from}
 use Rattle.job_answer.specs.declared.asked.Answer.{Answer}

@@ -1,7 +1,7 @@
 -- What a solve works out, and what the labels of pairs are.
 use Rattle.std.specs.Prelude.{◌≡◌, ◌≢◌, ℕ, ◌+◌, ◌<◌, ◌≤◌, Bool, List, [], ◌++◌, All, Contains, length}
 use Rattle.std.specs.Prelude.{Option, Some, None, slice_index, slice_index_or, take, ⊤}
-use Rattle.dimacs_text.specs.AnswerLines.{grown_text}
+use Rattle.answer_lines.specs.Lines.{grown_text}
 use Rattle.route_walks.specs.declared.graph.ArcRec.{ArcRec}
 use Rattle.route_walks.specs.declared.graph.Seed.{Seed}
 use Rattle.route_walks.specs.Label.{AreLeastLabels}

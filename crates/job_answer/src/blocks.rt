@@ -2,7 +2,7 @@
 
 ghost use Rattle.std.specs.Prelude.{◌≡◌, ◌≢◌, ◌<◌, ◌≤◌, ◌++◌, ◌↔◌, [], length, slice_index};
 ghost use Rattle.std.specs.Prelude.{All, IfErr, IfOk, OnErr, OnOk, Some};
-ghost use Rattle.dimacs_text.specs.AnswerLines.{distances_text, components_text};
+ghost use Rattle.answer_lines.specs.Lines.{distances_text, components_text};
 ghost use Rattle.route_walks.specs.Label.{AreLeastLabels};
 ghost use Rattle.route_walks.specs.Operators.{seeds_from};
 ghost use Rattle.walk_report.specs.Parent.{LeadBack};
@@ -24,8 +24,8 @@ use crate::solved::{Queries, SolvedText, Solves, most_bytes};
 use crate::solves::{Solve, Start};
 use crate::teams::{TeamGate, teams_for};
 use crate::watch::{Phase, Watch};
+use answer_lines::{put_grown, put_label, put_source, put_walk};
 use csr_graph::Csr;
-use dimacs_text::{put_grown, put_label, put_source, put_walk};
 use obim_engine::Gate;
 use route_walks::{INF, MAX_VERTICES, Memory};
 use std::alloc::Global;
@@ -281,7 +281,7 @@ fn put_components<W: Write>(
 {
     let mut v = 0;
     for group in labels.chunks(LINES) {
-        dimacs_text::put_components(&mut waiting.bytes, v, group)?;
+        answer_lines::put_components(&mut waiting.bytes, v, group)?;
         waiting.send_if_full(writer)?;
         v += group.len() as u32;
     }
@@ -307,7 +307,7 @@ fn put_labels<W: Write>(
     put_source(&mut waiting.bytes, source)?;
     let mut v = 0;
     for group in labels.chunks(LINES) {
-        dimacs_text::put_labels(&mut waiting.bytes, v, group)?;
+        answer_lines::put_labels(&mut waiting.bytes, v, group)?;
         waiting.send_if_full(writer)?;
         v += group.len() as u32;
     }

@@ -5,7 +5,7 @@ ghost use Rattle.std.specs.Prelude.{All, IfErr, IfOk, IfSome, OnErr, OnOk, false
 ghost use Rattle.route_walks.specs.declared.graph.ArcRec.{ArcRec};
 ghost use Rattle.route_walks.specs.Label.{AreLeastLabels};
 ghost use Rattle.dimacs_text.specs.Jobs.{IsPairWithin};
-ghost use Rattle.dimacs_text.specs.AnswerLines.{pair_text};
+ghost use Rattle.answer_lines.specs.Lines.{pair_text};
 ghost use Rattle.job_answer.specs.AnswerText.{ArePairBlocks};
 ghost use Rattle.job_answer.specs.Bytes.{Writes, WritesPrefix};
 ghost use Rattle.job_answer.specs.Graphs.{AreGraphs, growth_of};
@@ -25,7 +25,7 @@ use crate::solves::{Solve, by_source};
 use crate::teams::teams_for;
 use crate::walked_pairs::write_walked;
 use crate::watch::Watch;
-use dimacs_text::{put_grown, put_pair};
+use answer_lines::{put_grown, put_pair};
 use obim_engine::{Gate, Settings};
 use route_walks::{INF, MAX_VERTICES, Memory};
 use std::alloc::Global;

@@ -54,13 +54,9 @@ impl Team {
     pub fn settings(self, settings: &Settings) -> Settings
         ensures workers { result.workers ≡ self.workers }
         ensures chunk { result.chunk ≡ settings.now.chunk }
-        ensures widening { result.widening ≡ settings.now.widening }
+        ensures buckets { result.buckets ≡ settings.now.buckets }
     {
-        match Settings::new(self.workers, settings.shift, settings.chunk) {
-            Some(own) if settings.widening => own.with_widening_buckets(),
-            Some(own) => own,
-            None => unreachable!(),
-        }
+        settings.with_workers(self.workers)
     }
 }
 

@@ -6,7 +6,8 @@ ghost use Rattle.obim_engine.specs.Workers.{CanLead, AreDone};
 
 use crate::gate::Gate;
 use crate::settings::MAX_WORKERS;
-use crate::worker::{Shared, work};
+use crate::shared::Shared;
+use crate::worker::work;
 use label_words::WorkSeat;
 use obim_pool::WorkPool;
 use std::sync::Wait;
@@ -31,11 +32,11 @@ where
     G: Gate + Sync,
     requires some { 1 ≤ length sides.old }
     requires words { seat.words ≡ shared.now.words.now }
-    requires seat { CanLead shared.now.csr.now (length sides.old) seat }
+    requires seat { CanLead shared.now.run.csr.now (length sides.old) seat }
     requires workers { first + length sides.old ≤ MAX_WORKERS }
-    requires sides { All (P.is_side shared.now.pool.now) sides.old }
-    ensures seat { AreDone shared.now.budget seat result }
-    ensures sides { All (P.is_side shared.now.pool.now) sides.new }
+    requires sides { All (P.is_side shared.now.run.pool.now) sides.old }
+    ensures seat { AreDone shared.now.run.budget seat result }
+    ensures sides { All (P.is_side shared.now.run.pool.now) sides.new }
 {
     if sides.len() == 1 {
         return work(rt, shared, first, seat, &mut sides[0]);
@@ -53,13 +54,13 @@ where
             requires sync { IsSync H.row }
             requires some { 1 ≤ length front.now }
             requires words { IfSome near (λ seat. seat.words ≡ shared.now.words.now) }
-            requires seat { IfSome near (CanLead shared.now.csr.now (length front.now)) }
+            requires seat { IfSome near (CanLead shared.now.run.csr.now (length front.now)) }
             requires workers { first + length front.now ≤ MAX_WORKERS }
-            requires sides { All (P.is_side shared.now.pool.now) front.now }
+            requires sides { All (P.is_side shared.now.run.pool.now) front.now }
             ensures seat { IfSome near.entry
-                (λ seat. IfSome result (λ done. AreDone shared.entry.now.budget seat done)) }
+                (λ seat. IfSome result (λ done. AreDone shared.entry.now.run.budget seat done)) }
             ensures none { IfNone result (near.entry ≡ None) }
-            ensures sides { All (P.is_side shared.entry.now.pool.now) front.exit.now }
+            ensures sides { All (P.is_side shared.entry.now.run.pool.now) front.exit.now }
         {
             match near.take() {
                 Some(seat) => Some(run_group(rt, shared, first, seat, front)),
@@ -70,13 +71,13 @@ where
             requires sync { IsSync H.row }
             requires some { 1 ≤ length back.now }
             requires words { IfSome far (λ seat. seat.words ≡ shared.now.words.now) }
-            requires seat { IfSome far (CanLead shared.now.csr.now (length back.now)) }
+            requires seat { IfSome far (CanLead shared.now.run.csr.now (length back.now)) }
             requires workers { middle + length back.now ≤ MAX_WORKERS }
-            requires sides { All (P.is_side shared.now.pool.now) back.now }
+            requires sides { All (P.is_side shared.now.run.pool.now) back.now }
             ensures seat { IfSome far.entry
-                (λ seat. IfSome result (λ done. AreDone shared.entry.now.budget seat done)) }
+                (λ seat. IfSome result (λ done. AreDone shared.entry.now.run.budget seat done)) }
             ensures none { IfNone result (far.entry ≡ None) }
-            ensures sides { All (P.is_side shared.entry.now.pool.now) back.exit.now }
+            ensures sides { All (P.is_side shared.entry.now.run.pool.now) back.exit.now }
         {
             match far.take() {
                 Some(seat) => Some(run_group(rt, shared, middle, seat, back)),

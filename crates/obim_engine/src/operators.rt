@@ -1,21 +1,22 @@
 //! The operators: which arcs and which seeds give distances, hop levels and components.
 
-ghost use Rattle.std.specs.Prelude.{◌≡◌, ◌<◌, ◌≤◌, ◌^◌, List, length, All, IfOk, IfSome};
+ghost use Rattle.std.specs.Prelude.{◌≡◌, ◌<◌, ◌≤◌, ◌^◌, List, length, IfOk};
 ghost use Rattle.route_walks.specs.Label.{AreLeastLabels};
 ghost use Rattle.route_walks.specs.Operators.{seeds_from, seeds_all, unit_weights, both_ways};
 ghost use Rattle.route_walks.specs.declared.graph.Seed.{Seed};
 ghost use Rattle.route_walks.specs.Walk.{AreSeeds, HaveSameArcs};
-ghost use Rattle.relax_core.specs.declared.views.TheConstants.{SHARES};
 ghost use Rattle.label_words.specs.Paused.{CanGoOn, IsPause};
 ghost use Rattle.obim_engine.specs.Workers.{CanLead};
 
 use crate::gate::Gate;
-use crate::runs::{RunFault, only_seeded, solve};
-use crate::settings::{MAX_WORKERS, Settings};
-use crate::widths::widths_of;
+use crate::hints::widths::widths_of;
+use crate::opened::Opened;
+use crate::runs::{RunFault, solve};
+use crate::settings::{Buckets, MAX_SHIFT, MAX_WORKERS, Settings};
+use crate::shared::Run;
 use csr_graph::Csr;
+use label_words::Paused;
 use label_words::laws::resumed_runs_end_alike;
-use label_words::{Paused, Words, WorkSeat};
 use obim_pool::{ObimPool, WideningPool, Worklist};
 use route_walks::laws::least_labels_follow_the_arcs;
 use route_walks::{Memory, Seed, seeds_all, seeds_from, unit_weights};
@@ -38,10 +39,9 @@ pub fn least_labels<H: Threads + Wait + Clock + Sync, G: Gate + Sync>(
     ensures { IfOk result
         (λ labels. AreLeastLabels csr.now.n csr.now.arcs seeds.items labels.items) }
 {
-    let (words, seat) = Words::open(alloc, csr, &seeds)?;
-    let only = only_seeded(&seeds);
+    let opened = Opened::from_seeds(alloc, csr, &seeds)?;
     drop(seeds);
-    solve_alone(rt, alloc, csr, words, seat, only, settings, gate)
+    solve_alone(rt, alloc, csr, opened, settings, gate)
 }
 
 /// The least label of each vertex of a graph from the seeds of a pause: workers go on from the pause, which
@@ -61,52 +61,54 @@ pub fn least_labels_resumed<H: Threads + Wait + Clock + Sync, G: Gate + Sync>(
         → IsPause csr.now seeds rest
         → IfOk result (λ labels. AreLeastLabels csr.now.n csr.now.arcs seeds labels.items) }
 {
-    let (words, seat) = Words::reopen(alloc, csr, &rest)?;
-    drop(rest);
+    let opened = Opened::from_pause(alloc, csr, rest)?;
     // The words have the labels as their seeds, and what is least from these is least from the others.
     resumed_runs_end_alike();
-    solve_alone(rt, alloc, csr, words, seat, None, settings, gate)
+    solve_alone(rt, alloc, csr, opened, settings, gate)
 }
 
-/// Settles open words over a pool of its own, from the `only` vertex that is marked, where that is known.
+/// Settles open words over a pool of its own.
 fn solve_alone<H: Threads + Wait + Clock + Sync, G: Gate + Sync>(
     rt: &H,
     alloc: Global,
     csr: &Csr,
-    words: Words,
-    seat: WorkSeat,
-    only: Option<u32>,
+    opened: Opened,
     settings: &Settings,
     gate: &G,
 ) -> Result<Vec<u64>, RunFault>
-    requires words { seat.words ≡ words }
-    requires seat { CanLead csr.now MAX_WORKERS seat }
-    requires shares { seat.known.view.share ≡ SHARES }
-    requires only { IfSome only (λ v. All (λ seed. seed.vertex ≡ v) seat.known.seeds) }
+    requires { CanLead csr.now MAX_WORKERS opened.seat }
     ensures { IfOk result
-        (λ labels. AreLeastLabels csr.now.n csr.now.arcs seat.known.seeds labels.items) }
+        (λ labels. AreLeastLabels csr.now.n csr.now.arcs opened.seat.known.seeds labels.items) }
 {
-    if settings.widening {
-        let widths = widths_of(csr);
-        let settings = settings.with_shift(widths.shift);
-        let (pool, mut sides) = WideningPool::open(
-            alloc,
-            settings.workers,
-            settings.chunk,
-            widths.scale,
-        )?;
-        let labels = solve(
-            rt, alloc, csr, words, seat, only, &settings, &pool, &mut sides, gate,
-        )?;
-        gate.end(rt, Worklist::of(&sides));
-        Ok(labels)
-    } else {
-        let (pool, mut sides) = ObimPool::open(alloc, settings.workers, settings.chunk)?;
-        let labels = solve(
-            rt, alloc, csr, words, seat, only, settings, &pool, &mut sides, gate,
-        )?;
-        gate.end(rt, Worklist::of(&sides));
-        Ok(labels)
+    let (workers, chunk) = (settings.workers, settings.chunk);
+    match settings.buckets {
+        Buckets::Widening => {
+            let widths = widths_of(csr);
+            let (pool, mut sides) = WideningPool::open(alloc, workers, chunk, widths.scale)?;
+            let run = Run {
+                csr,
+                pool: &pool,
+                gate,
+                shift: widths.shift.min(MAX_SHIFT),
+                budget: None,
+            };
+            let labels = solve(rt, alloc, opened, &run, &mut sides)?;
+            gate.end(rt, Worklist::of(&sides));
+            Ok(labels)
+        }
+        Buckets::Even(shift) => {
+            let (pool, mut sides) = ObimPool::open(alloc, workers, chunk)?;
+            let run = Run {
+                csr,
+                pool: &pool,
+                gate,
+                shift,
+                budget: None,
+            };
+            let labels = solve(rt, alloc, opened, &run, &mut sides)?;
+            gate.end(rt, Worklist::of(&sides));
+            Ok(labels)
+        }
     }
 }
 

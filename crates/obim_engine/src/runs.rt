@@ -1,9 +1,8 @@
 //! A run: open the words, hand the marked vertices to the pool, let the workers go, close.
 
-ghost use Rattle.std.specs.Prelude.{◌≡◌, length, None, All, IfOk, IfSome};
+ghost use Rattle.std.specs.Prelude.{◌≡◌, ◌≤◌, length, None, All, IfOk, IfSome};
 ghost use Rattle.route_walks.specs.Label.{AreLeastLabels};
 ghost use Rattle.route_walks.specs.Walk.{AreSeeds};
-ghost use Rattle.relax_core.specs.declared.views.TheConstants.{SHARES};
 ghost use Rattle.label_words.specs.Paused.{IsPause};
 ghost use Rattle.label_words.specs.Closed.{IsEnd, HasSettled, AreNoHigher, closed_labels};
 ghost use Rattle.obim_engine.specs.Workers.{CanLead};
@@ -11,12 +10,13 @@ ghost use Rattle.obim_engine.specs.declared.runs.RunFault.TheVariants as fault;
 
 use crate::gate::Gate;
 use crate::group::run_group;
-use crate::pace::Pace;
+use crate::hints::pace::Pace;
+use crate::opened::Opened;
 use crate::settings::{MAX_WORKERS, Settings};
-use crate::worker::Shared;
+use crate::shared::{Run, Shared};
 use csr_graph::Csr;
 use label_words::laws::resumed_runs_end_alike;
-use label_words::{Closed, Paused, Words, WorkSeat};
+use label_words::{Closed, Paused, WorkSeat};
 use obim_pool::WorkPool;
 use route_walks::Seed;
 use std::alloc::Global;
@@ -83,21 +83,15 @@ where
         (λ labels. AreLeastLabels csr.now.n csr.now.arcs seeds.now labels.items) }
     ensures sides { All (P.is_side pool.now) sides.new }
 {
-    let (words, seat) = Words::open(alloc, csr, seeds)?;
-    let only = only_seeded(seeds);
-    solve(
-        rt, alloc, csr, words, seat, only, settings, pool, sides, gate,
-    )
-}
-
-/// The one vertex that is seeded, where there are no others.
-pub(crate) fn only_seeded(seeds: &[Seed]) -> Option<u32>
-    ensures { IfSome result (λ v. All (λ seed. seed.vertex ≡ v) seeds.now) }
-{
-    match seeds {
-        [seed] => Some(seed.vertex),
-        _ => None,
-    }
+    let opened = Opened::from_seeds(alloc, csr, seeds)?;
+    let run = Run {
+        csr,
+        pool,
+        gate,
+        shift: settings.shift(),
+        budget: None,
+    };
+    solve(rt, alloc, opened, &run, sides)
 }
 
 /// A `run` until each worker has visited `budget` vertices or all is settled: then labels are
@@ -122,21 +116,15 @@ where
     ensures end { IfOk result (λ closed. IsEnd csr.now seeds.now closed) }
     ensures sides { All (P.is_side pool.now) sides.new }
 {
-    let (words, seat) = Words::open(alloc, csr, seeds)?;
-    let budget = Some(budget);
-    run_workers(
-        rt,
-        alloc,
+    let opened = Opened::from_seeds(alloc, csr, seeds)?;
+    let run = Run {
         csr,
-        words,
-        seat,
-        only_seeded(seeds),
-        budget,
-        settings,
         pool,
-        sides,
         gate,
-    )
+        shift: settings.shift(),
+        budget: Some(budget),
+    };
+    run_workers(rt, alloc, opened, &run, sides)
 }
 
 /// Goes on from a pause of this graph and these seeds, with a budget as `run_for` has it. No label rises.
@@ -165,85 +153,68 @@ where
 {
     // The words have the labels as their seeds; the caller's seeds are for the contract alone.
     let _ = seeds;
-    let (words, seat) = Words::reopen(alloc, csr, &rest)?;
-    drop(rest);
+    let opened = Opened::from_pause(alloc, csr, rest)?;
     resumed_runs_end_alike();
-    let visits = Some(budget);
-    run_workers(
-        rt, alloc, csr, words, seat, None, visits, settings, pool, sides, gate,
-    )
+    let run = Run {
+        csr,
+        pool,
+        gate,
+        shift: settings.shift(),
+        budget: Some(budget),
+    };
+    run_workers(rt, alloc, opened, &run, sides)
 }
 
-/// A `run` on words that are open, with the seat that they were opened with. `only` is the one vertex that is
-/// marked, where that is known: then the others aren't looked at.
+/// A `run` on open words, to the end.
 pub(crate) fn solve<H: Threads + Wait + Clock + Sync, P: WorkPool + Sync, G: Gate + Sync>(
     rt: &H,
     alloc: Global,
-    csr: &Csr,
-    words: Words,
-    seat: WorkSeat,
-    only: Option<u32>,
-    settings: &Settings,
-    pool: &P,
+    opened: Opened,
+    run: &Run<'_, P, G>,
     sides: &mut [P::Side],
-    gate: &G,
 ) -> Result<Vec<u64>, RunFault>
 where
     P::Side: Send,
-    requires words { seat.words ≡ words }
-    requires seat { CanLead csr.now MAX_WORKERS seat }
-    requires shares { seat.known.view.share ≡ SHARES }
-    requires only { IfSome only (λ v. All (λ seed. seed.vertex ≡ v) seat.known.seeds) }
-    requires workers { length sides.old ≡ settings.now.workers }
-    requires sides { All (P.is_side pool.now) sides.old }
+    requires seat { CanLead run.now.csr.now MAX_WORKERS opened.seat }
+    requires limit { run.now.budget ≡ None }
+    requires some { 1 ≤ length sides.old }
+    requires few { length sides.old ≤ MAX_WORKERS }
+    requires sides { All (P.is_side run.now.pool.now) sides.old }
     ensures labels { IfOk result
-        (λ labels. AreLeastLabels csr.now.n csr.now.arcs seat.known.seeds labels.items) }
-    ensures sides { All (P.is_side pool.now) sides.new }
+        (λ labels. AreLeastLabels run.now.csr.now.n run.now.csr.now.arcs opened.seat.known.seeds labels.items) }
+    ensures sides { All (P.is_side run.now.pool.now) sides.new }
 {
-    match run_workers(
-        rt, alloc, csr, words, seat, only, None, settings, pool, sides, gate,
-    )? {
+    match run_workers(rt, alloc, opened, run, sides)? {
         Closed::Settled(labels) => Ok(labels),
         // Without a budget the seat saw the total at 0.
         Closed::Paused(_) => unreachable!(),
     }
 }
 
-/// Lets the workers go, each with this budget, and closes the words.
+/// Lets a worker go for each side, and closes the words.
 fn run_workers<H: Threads + Wait + Clock + Sync, P: WorkPool + Sync, G: Gate + Sync>(
     rt: &H,
     alloc: Global,
-    csr: &Csr,
-    words: Words,
-    seat: WorkSeat,
-    only: Option<u32>,
-    budget: Option<u64>,
-    settings: &Settings,
-    pool: &P,
+    opened: Opened,
+    run: &Run<'_, P, G>,
     sides: &mut [P::Side],
-    gate: &G,
 ) -> Result<Closed, RunFault>
 where
     P::Side: Send,
-    requires words { seat.words ≡ words }
-    requires seat { CanLead csr.now MAX_WORKERS seat }
-    requires shares { seat.known.view.share ≡ SHARES }
-    requires only { IfSome only (λ v. All (λ seed. seed.vertex ≡ v) seat.known.seeds) }
-    requires workers { length sides.old ≡ settings.now.workers }
-    requires sides { All (P.is_side pool.now) sides.old }
-    ensures end { IfOk result (λ closed. IsEnd csr.now seat.known.seeds closed) }
-    ensures settled { budget ≡ None → IfOk result HasSettled }
-    ensures sides { All (P.is_side pool.now) sides.new }
+    requires seat { CanLead run.now.csr.now MAX_WORKERS opened.seat }
+    requires some { 1 ≤ length sides.old }
+    requires few { length sides.old ≤ MAX_WORKERS }
+    requires sides { All (P.is_side run.now.pool.now) sides.old }
+    ensures end { IfOk result (λ closed. IsEnd run.now.csr.now opened.seat.known.seeds closed) }
+    ensures settled { run.now.budget ≡ None → IfOk result HasSettled }
+    ensures sides { All (P.is_side run.now.pool.now) sides.new }
 {
-    let pace = Pace::open(alloc, settings.workers)?;
+    let pace = Pace::open(alloc, sides.len() as u32)?;
+    let Opened { words, seat, only } = opened;
     let shared = Shared {
+        run: run.again(),
         words: &words,
-        csr,
-        pool,
-        gate,
-        settings,
         pace: &pace,
-        budget,
     };
     push_marked(rt, &shared, &seat, only, &mut sides[0]);
     let seat = run_group(rt, &shared, 0, seat, sides);
@@ -259,12 +230,13 @@ fn push_marked<H: Wait, P: WorkPool, G>(
     side: &mut P::Side,
 )
     requires words { seat.now.words ≡ shared.now.words.now }
-    requires graph { shared.now.csr.now ≡ seat.now.known.graph }
+    requires graph { shared.now.run.csr.now ≡ seat.now.known.graph }
     requires only { IfSome only (λ v. All (λ seed. seed.vertex ≡ v) seat.now.known.seeds) }
-    requires side { P.is_side shared.now.pool.now side.old }
-    ensures { P.is_side shared.now.pool.now side.new }
+    requires side { P.is_side shared.now.run.pool.now side.old }
+    ensures { P.is_side shared.now.run.pool.now side.new }
 {
-    let n = shared.csr.n();
+    let run = &shared.run;
+    let n = run.csr.n();
     let (first, end) = match only {
         Some(v) if v < n => (v, v + 1),
         _ => (0, n),
@@ -272,10 +244,7 @@ fn push_marked<H: Wait, P: WorkPool, G>(
     for v in first..end {
         if let Some(label) = shared.words.marked_label(seat, v) {
             // Where the pool refuses the vertex, it stays marked all the same.
-            if !shared
-                .pool
-                .push(rt, side, v, label >> shared.settings.shift)
-            {
+            if !run.pool.push(rt, side, v, run.metric_of(label)) {
                 shared.pace.lose();
             }
         }

@@ -1,7 +1,8 @@
 //! How a run is set up.
 
-ghost use Rattle.std.specs.Prelude.{◌≡◌, ◌↔◌, false, true, IsSome, IfSome};
-ghost use Rattle.obim_engine.specs.Settings.{AreSettings};
+ghost use Rattle.std.specs.Prelude.{◌≡◌, ◌↔◌, ◌≤◌, IsSome, IfSome};
+ghost use Rattle.obim_engine.specs.Settings.{AreSettings, shift_of};
+ghost use Rattle.obim_engine.specs.declared.settings.Buckets.TheVariants as buckets;
 
 /// A run has at most this many workers.
 pub const MAX_WORKERS: u32 = 64;
@@ -12,28 +13,35 @@ pub const MAX_SHIFT: u32 = 63;
 /// A chunk has at most this many vertices.
 pub const MAX_CHUNK: usize = 256;
 
+/// Which labels share a bucket.
+#[derive(Clone, Copy, Debug, PartialEq, Eq)]
+pub enum Buckets {
+    /// Each bucket spans 2^bits labels: a label is shifted right by so many bits, from 0 to `MAX_SHIFT`, to give its
+    /// metric.
+    Even(u32),
+    /// The operators fit buckets to the graph, and they widen as labels rise (`widths_of`). To a run over another
+    /// pool each label is its own metric.
+    Widening,
+}
+
 /// How labels are worked out. No setting changes a label.
 #[derive(Clone, Copy, Debug, PartialEq, Eq)]
 pub struct Settings {
     /// How many workers, from 1 to `MAX_WORKERS`.
     pub workers: u32,
-    /// By how many bits a label is shifted right to give its metric, from 0 to `MAX_SHIFT`.
-    pub shift: u32,
+    pub buckets: Buckets,
     /// How many vertices are handed on at a time, from 1 to `MAX_CHUNK`.
     pub chunk: usize,
-    /// Whether the operators round a metric to the bucket of a `WideningPool`.
-    pub widening: bool,
-    ghost within: { AreSettings workers shift chunk },
+    ghost within: { AreSettings workers (shift_of buckets) chunk },
 }
 
 impl Settings {
-    /// The settings, or `None` where one is outside its limits.
+    /// The settings with even buckets, or `None` where one is outside its limits.
     pub fn new(workers: u32, shift: u32, chunk: usize) -> Option<Settings>
         ensures within { IsSome result ↔ AreSettings workers shift chunk }
         ensures workers { IfSome result (λ settings. settings.workers ≡ workers) }
-        ensures shift { IfSome result (λ settings. settings.shift ≡ shift) }
+        ensures buckets { IfSome result (λ settings. settings.buckets ≡ buckets.Even shift) }
         ensures chunk { IfSome result (λ settings. settings.chunk ≡ chunk) }
-        ensures narrow { IfSome result (λ settings. settings.widening ≡ false) }
     {
         if workers < 1 || workers > MAX_WORKERS || shift > MAX_SHIFT {
             return None;
@@ -43,43 +51,45 @@ impl Settings {
         }
         Some(Settings {
             workers,
-            shift,
+            buckets: Buckets::Even(shift),
             chunk,
-            widening: false,
         })
     }
 
-    /// These settings with buckets that widen with the label in place of the shift, which is 0 then: they fit
-    /// every graph that was tried.
+    /// These settings with buckets that widen: they fit every graph that was tried.
     pub fn with_widening_buckets(self) -> Settings
         ensures workers { result.workers ≡ self.workers }
-        ensures shift { result.shift ≡ 0 }
+        ensures buckets { result.buckets ≡ buckets.Widening }
         ensures chunk { result.chunk ≡ self.chunk }
-        ensures wide { result.widening ≡ true }
     {
         Settings {
             workers: self.workers,
-            shift: 0,
+            buckets: Buckets::Widening,
             chunk: self.chunk,
-            widening: true,
         }
     }
 
-    /// These settings with this shift, or the greatest one.
-    pub(crate) fn with_shift(&self, shift: u32) -> Settings
-        ensures workers { result.workers ≡ self.now.workers }
+    /// These settings with so many workers.
+    pub fn with_workers(self, workers: u32) -> Settings
+        requires { (1 ≤ workers) × (workers ≤ MAX_WORKERS) }
+        ensures workers { result.workers ≡ workers }
+        ensures buckets { result.buckets ≡ self.buckets }
+        ensures chunk { result.chunk ≡ self.chunk }
     {
-        let Settings {
-            workers,
-            chunk,
-            widening,
-            ..
-        } = *self;
         Settings {
             workers,
-            shift: shift.min(MAX_SHIFT),
-            chunk,
-            widening,
+            buckets: self.buckets,
+            chunk: self.chunk,
+        }
+    }
+
+    /// By how many bits labels are shifted right, where the graph isn't asked.
+    pub(crate) fn shift(&self) -> u32
+        ensures { result ≤ MAX_SHIFT }
+    {
+        match self.buckets {
+            Buckets::Even(shift) => shift,
+            Buckets::Widening => 0,
         }
     }
 }

@@ -16,11 +16,11 @@ ghost use Rattle.obim_engine.specs.Workers.{CanLead, AreDone, OwesMark};
 
 use crate::budget::Budget;
 use crate::gate::Gate;
-use crate::pace::{Pace, Watch};
-use crate::patience::Patience;
-use crate::pauses::Pauses;
-use crate::prefetch::prefetch;
-use crate::settings::Settings;
+use crate::hints::pace::Watch;
+use crate::hints::patience::Patience;
+use crate::hints::pauses::Pauses;
+use crate::hints::prefetch::prefetch;
+use crate::shared::Shared;
 use csr_graph::Csr;
 use label_words::{Step, Words, WorkSeat};
 use obim_pool::WorkPool;
@@ -35,37 +35,6 @@ const RAISED: u8 = 64;
 /// The most credits that a worker keeps after a visit. Where it has more it gives all back.
 const MOST_KEPT: u8 = 128;
 
-/// What all workers of a run share.
-#[derive(Drop)]
-pub(crate) struct Shared<'a, P, G> {
-    pub words: &'a Words,
-    pub csr: &'a Csr,
-    pub pool: &'a P,
-    pub gate: &'a G,
-    pub settings: &'a Settings,
-    pub pace: &'a Pace,
-    /// How many vertices each worker may visit, where there is a limit.
-    pub budget: Option<u64>,
-}
-
-impl<'a, P, G> Shared<'a, P, G> {
-    /// A copy, so that its fields can lie in registers.
-    #[inline(always)]
-    fn again(&self) -> Shared<'a, P, G>
-        ensures { result ≡ self.now }
-    {
-        Shared {
-            words: self.words,
-            csr: self.csr,
-            pool: self.pool,
-            gate: self.gate,
-            settings: self.settings,
-            pace: self.pace,
-            budget: self.budget,
-        }
-    }
-}
-
 /// Works until the seat sees the pending total at 0, or the worker has visited as many vertices as its
 /// budget lets it. The seat comes and goes by value, so that it lies in registers meanwhile.
 pub(crate) fn work<H: Wait + Clock, P: WorkPool, G: Gate>(
@@ -76,17 +45,17 @@ pub(crate) fn work<H: Wait + Clock, P: WorkPool, G: Gate>(
     side: &mut P::Side,
 ) -> WorkSeat
     requires words { seat.words ≡ shared.now.words.now }
-    requires seat { CanLead shared.now.csr.now 1 seat }
-    requires side { P.is_side shared.now.pool.now side.old }
-    ensures seat { AreDone shared.now.budget seat result }
-    ensures side { P.is_side shared.now.pool.now side.new }
+    requires seat { CanLead shared.now.run.csr.now 1 seat }
+    requires side { P.is_side shared.now.run.pool.now side.old }
+    ensures seat { AreDone shared.now.run.budget seat result }
+    ensures side { P.is_side shared.now.run.pool.now side.new }
 {
     let near = shared.again();
-    let n = near.csr.n();
+    let n = near.run.csr.n();
     let is_alone = near.pace.is_alone();
     let mut pauses = Pauses::new();
     let mut watch = Watch::new(worker);
-    let mut budget = Budget::new(near.budget);
+    let mut budget = Budget::new(near.run.budget);
     let mut patience = Patience::new(n, budget.left());
     for _ in rt.forever() {
         if budget.is_spent() {
@@ -95,9 +64,9 @@ pub(crate) fn work<H: Wait + Clock, P: WorkPool, G: Gate>(
             is_over(near.words, &mut seat);
             return seat;
         }
-        let popped = match near.pool.pop_now(side) {
+        let popped = match near.run.pool.pop_now(side) {
             Some(v) => Some(v),
-            None => near.pool.pop(rt, side),
+            None => near.run.pool.pop(rt, side),
         };
         if !is_alone {
             show(&near, worker, &seat, popped);
@@ -192,15 +161,15 @@ fn look<C: Clock, P, G>(
 /// where there is no vertex.
 fn show<P, G>(shared: &Shared<'_, P, G>, worker: u32, seat: &WorkSeat, vertex: Option<u32>)
     requires words { seat.now.words ≡ shared.now.words.now }
-    requires graph { shared.now.csr.now ≡ seat.now.known.graph }
+    requires graph { shared.now.run.csr.now ≡ seat.now.known.graph }
 {
     let Some(v) = vertex else {
         shared.pace.show(worker, INF);
         return;
     };
-    if v < shared.csr.n() {
+    if v < shared.run.csr.n() {
         if let Some(label) = shared.words.marked_label(seat, v) {
-            shared.pace.show(worker, label >> shared.settings.shift);
+            shared.pace.show(worker, shared.run.metric_of(label));
         }
     }
 }
@@ -217,16 +186,16 @@ fn sweep<H: Wait, P: WorkPool, G: Gate>(
     mut budget: Budget,
 ) -> (WorkSeat, Budget)
     requires words { seat.words ≡ shared.now.words.now }
-    requires graph { shared.now.csr.now ≡ seat.known.graph }
+    requires graph { shared.now.run.csr.now ≡ seat.known.graph }
     requires idle { seat.known.view.hand ≡ Idle }
-    requires side { P.is_side shared.now.pool.now side.old }
+    requires side { P.is_side shared.now.run.pool.now side.old }
     ensures stays { Stays seat result.0 }
     ensures idle { result.0.known.view.hand ≡ Idle }
-    ensures side { P.is_side shared.now.pool.now side.new }
+    ensures side { P.is_side shared.now.run.pool.now side.new }
     ensures limit { result.1.has_limit ≡ budget.has_limit }
 {
     shared.pace.seek();
-    for v in 0..shared.csr.n() {
+    for v in 0..shared.run.csr.n() {
         if budget.is_spent() {
             break;
         }
@@ -253,25 +222,25 @@ fn visit<H: Wait, P: WorkPool, G: Gate>(
     u: u32,
 )
     requires words { seat.old.words ≡ shared.now.words.now }
-    requires graph { shared.now.csr.now ≡ seat.old.known.graph }
+    requires graph { shared.now.run.csr.now ≡ seat.old.known.graph }
     requires fresh { seat.old.known.view.hand ≡ Fresh u }
     requires credit { 1 ≤ seat.old.known.view.credits }
-    requires vertex { u < shared.now.csr.now.n }
-    requires side { P.is_side shared.now.pool.now side.old }
+    requires vertex { u < shared.now.run.csr.now.n }
+    requires side { P.is_side shared.now.run.pool.now side.old }
     ensures stays { Stays seat.old seat.new }
     ensures no_vertex { HasNoVertex seat.new }
-    ensures side { P.is_side shared.now.pool.now side.new }
+    ensures side { P.is_side shared.now.run.pool.now side.new }
 {
-    shared.gate.pass(rt, worker, u);
-    let (words, csr) = (shared.words, shared.csr);
+    let run = &shared.run;
+    run.gate.pass(rt, worker, u);
+    let (words, csr) = (shared.words, run.csr);
     words.read(seat, csr);
     let end = csr.end(u);
     words.prefetch_labels(seat, csr, u);
     while let Some((head, label)) = next_lowered(words, csr, seat, u, end) {
         mark(words, seat, u);
-        let metric = label >> shared.settings.shift;
-        let pushed = shared.pool.push_now(side, head, metric)
-            || shared.pool.push(rt, side, head, metric);
+        let metric = run.metric_of(label);
+        let pushed = run.pool.push_now(side, head, metric) || run.pool.push(rt, side, head, metric);
         // Where the pool refuses the head, it stays marked all the same.
         if !pushed {
             shared.pace.lose();

@@ -1,16 +1,16 @@
 -- What a look into one bag and a vertex taken out of it do.
 use Rattle.std.proofs.Common.{◌≡◌, ◌≢◌, ◌∙◌, ap, refl, subst, sym, ℕ, ◌<◌, List, [], ◌∷◌, ◌++◌, length, length-append}
 use Rattle.std.proofs.Common.{Some, None, arith}
-use Rattle.std.specs.Prelude.{Option, Box, IfNone, IfSome, sum_by}
+use Rattle.std.specs.Prelude.{Option, Box, IfNone, sum_by}
 use Rattle.std.specs.declared.alloc.Global.{Global}
 use Rattle.std.proofs.lemmas.List.{append-nil, nil_from_length}
 use Rattle.std.proofs.lemmas.List.Sums.{sum_by-cons}
-use Rattle.obim_bags.proofs.Facts.{some_same}
+use Rattle.obim_bags.proofs.Facts.{at_set, some_same}
 use Rattle.obim_bags.specs.BagRule.{WasEmptyIfAlone}
 use Rattle.obim_bags.specs.Chunks.{ChunkSeen}
 use Rattle.obim_bags.specs.Logs.{MirrorSeen, AccessSeen, ChangesAt, WasEmptyIfAloneAt, access_after_empty_find}
 use Rattle.obim_pool.specs.declared.chunks.BagChunks.{BagChunks}
-use Rattle.obim_pool.proofs.Lifting.{at_set, one_of_held}
+use Rattle.obim_pool.proofs.Lifting.{one_of_held}
 use Rattle.obim_pool.specs.Accounts.{AreSame, Gets}
 use Rattle.obim_pool.specs.Held.{held_of, vertices_in}
 use Rattle.obim_pool.specs.Steps.{FindsEmpty, OneBag}

@@ -4,7 +4,7 @@ use Rattle.std.proofs.Common.{get_or, Some, arith, length-set}
 use Rattle.std.specs.Prelude.{slice_get}
 use Rattle.std.proofs.lemmas.List.{get_or-set_other, map-set}
 use Rattle.std.proofs.lemmas.Option.{get_or_from_slice_get, slice_get-get_or, slice_get_within}
-use Rattle.obim_bags.proofs.Facts.{found_at, at_map, at_set_else, map_kept}
+use Rattle.obim_bags.proofs.Facts.{found_at, at_map, at_set, at_set_else, map_kept, set_twice}
 use Rattle.obim_bags.specs.Logs.{MirrorSeen, AccessSeen, metrics_in, metrics_of}
 use Rattle.obim_pool.specs.declared.chunks.BagChunks.{BagChunks}
 use Rattle.obim_pool.specs.declared.order.OwnBag.{OwnBag}
@@ -13,18 +13,6 @@ use Rattle.obim_pool.specs.Held.{all_held, held_of}
 use Rattle.obim_pool.specs.Orders.{IsOrder}
 use Rattle.obim_pool.specs.Sides.{account_in}
 use Rattle.obim_pool.specs.Steps.{OneBag}
-
--- what was written at a place stands there
-pub at_set : {A : Type 0} (xs : List A) (i : ℕ) (x y : A) → slice_get xs i ≡ Some x → slice_get (set xs i y) i ≡ Some y
-at_set [] i x y at = absurd cc
-at_set (z ∷ zs) zero x y at = refl
-at_set (z ∷ zs) (suc i) x y at = at_set zs i x y at
-
--- of two values written at a place the second counts
-pub set_twice : {A : Type 0} (xs : List A) (i : ℕ) (x y : A) → set (set xs i x) i y ≡ set xs i y
-set_twice [] i x y = refl
-set_twice (z ∷ zs) zero x y = refl
-set_twice (z ∷ zs) (suc i) x y = ap (λ rest. z ∷ rest) (set_twice zs i x y)
 
 -- to write what stands there changes nothing
 pub set_same : {A : Type 0} (xs : List A) (i : ℕ) (x : A) → slice_get xs i ≡ Some x → set xs i x ≡ xs

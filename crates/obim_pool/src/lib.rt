@@ -37,6 +37,7 @@
 #![tactic(auto)]
 
 mod bags;
+mod bucket;
 mod chunk_maker;
 mod chunks;
 pub mod laws;
@@ -52,10 +53,11 @@ mod side;
 mod widening;
 mod worklist;
 
+pub use bucket::{BUCKETS, bucket_of};
 pub use locked::{LockedPool, LockedSide};
 pub use obim::ObimPool;
 pub use pool::WorkPool;
 pub use scale::{MOST_BUCKETS, Scale};
 pub use side::ObimSide;
-pub use widening::{BUCKETS, WideningPool, bucket_of};
+pub use widening::WideningPool;
 pub use worklist::Worklist;

@@ -4,7 +4,7 @@ ghost use Rattle.std.specs.Prelude.{◌≡◌, ◌<◌, min};
 ghost use Rattle.obim_pool.specs.Scales.{scale_bucket};
 ghost use Rattle.obim_pool.specs.declared.scale.TheConstants.{MOST_BUCKETS};
 
-use crate::widening::bucket_of;
+use crate::bucket::bucket_of;
 use std::marker::Model;
 
 /// No scale makes more buckets of labels of 64 bits.

@@ -274,3 +274,21 @@ impl ObimSide {
         }
     }
 }
+
+impl Worklist {
+    /// The figures of these sides together.
+    pub fn of(sides: &[ObimSide]) -> Worklist {
+        let mut all = Worklist {
+            buckets: 0,
+            looks: 0,
+            chunks: 0,
+        };
+        for side in sides {
+            let one = side.worklist();
+            all.buckets = all.buckets.max(one.buckets);
+            all.looks = all.looks.saturating_add(one.looks);
+            all.chunks = all.chunks.saturating_add(one.chunks);
+        }
+        all
+    }
+}

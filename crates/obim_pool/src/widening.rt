@@ -3,9 +3,8 @@
 ghost use Rattle.std.specs.Prelude.{◌≡◌, ◌≤◌, ◌<◌, replicate, IfNone, IfOk, IfSome};
 ghost use Rattle.std.specs.Bool.{OnFalse, OnTrue};
 ghost use Rattle.obim_bags.specs.declared.chunk.TheConstants.{MAX_SIZE};
-ghost use Rattle.obim_pool.specs.Scales.{scale_bucket, widening_bucket};
+ghost use Rattle.obim_pool.specs.Scales.{scale_bucket};
 ghost use Rattle.obim_pool.specs.Sides.{IsSideOf, Pops, PopsNone, PushesTo, PushesNone, new_side};
-ghost use Rattle.obim_pool.specs.declared.widening.TheConstants.{BUCKETS};
 
 use crate::obim::ObimPool;
 use crate::pool::WorkPool;
@@ -17,30 +16,6 @@ use std::alloc::Global;
 use std::fmt;
 use std::marker::Model;
 use std::sync::Wait;
-
-/// Labels below this have a bucket each; of a larger one the bucket keeps as many leading bits as this has.
-const NARROW: u64 = 1 << 8;
-
-/// There are this many buckets for all labels of 64 bits.
-pub const BUCKETS: u64 = 7424;
-
-/// The bucket of a label: a label below 256 itself, and a larger one rounded down to its leading eight
-/// bits, so that it is wider than no 128th of its labels. Buckets rise with labels and leave no number
-/// out. There are 128 of them for each doubling of the label, so a thousand or two for most graphs.
-///
-/// It is the rounding of a floating-point number with seven bits of fraction, and of the buckets of
-/// [HdrHistogram](http://hdrhistogram.org).
-pub fn bucket_of(label: u64) -> u64
-    ensures exact { result ≡ widening_bucket label }
-    ensures narrow { label < 256 → result ≡ label }
-    ensures few { result < BUCKETS }
-{
-    if label < NARROW {
-        return label;
-    }
-    let bits = 56_u32.saturating_sub(label.leading_zeros());
-    u64::from(bits) * (NARROW / 2) + (label >> bits)
-}
 
 /// An `ObimPool` with a bag for each bucket of metrics by a scale: it needs no shift to be chosen,
 /// whatever the labels are. Handed metrics that are labels, it has at most `MOST_BUCKETS` bags.

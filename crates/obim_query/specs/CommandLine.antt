@@ -2,8 +2,8 @@
 --
 -- Which words are values of which option is a matter of clap, whose `matches_of` says it of a command with these
 -- arguments: long and short options, bundles of short ones, `=`, `--`, and the last use of an option counts.
-use Rattle.std.specs.Prelude.{◌≡◌, ◌⊎◌, ℕ, ⊤, Bool, true, false, List, [], ◌∷◌, codes, Option, Some, None, is_some}
-use Rattle.std.specs.Prelude.{not, unwrap_or, ◌==◌, if◌then◌else◌}
+use Rattle.std.specs.Prelude.{◌≡◌, ◌⊎◌, ℕ, ⊤, Bool, true, false, List, [], ◌∷◌, codes, Option, Some, None}
+use Rattle.std.specs.Prelude.{unwrap_or, ◌==◌, if◌then◌else◌}
 use Rattle.std.specs.Str.Parse.{IsNumeral, digits_value, without_leading_plus}
 use Rattle.clap.specs.Lexer.{usize_max}
 use Rattle.clap.specs.Simple.{new_shape}
@@ -11,6 +11,8 @@ use Rattle.clap.specs.Words.{App, IsAmong, Row, Rule, Text, fault_of, first_of, 
 use Rattle.clap.specs.declared.error.kind.ErrorKind.{ErrorKind}
 use Rattle.clap.specs.declared.error.kind.ErrorKind.TheVariants.{DisplayHelp, DisplayVersion}
 use Rattle.clap.specs.declared.builder.action.ArgAction.TheVariants.{Append, SetTrue}
+use Rattle.obim_engine.specs.declared.settings.Buckets.{Buckets}
+use Rattle.obim_engine.specs.declared.settings.Buckets.TheVariants.{Even, Widening}
 use Rattle.obim_engine.specs.declared.settings.TheConstants.{MAX_CHUNK}
 use Rattle.obim_engine.specs.declared.settings.Settings.{Settings}
 use Rattle.job_answer.specs.declared.asked.TheConstants.{MAX_BYTES}
@@ -110,6 +112,11 @@ AsksAtOnce text (at_once.Most number) = AsksNumber text (Some number)
 abbrev pub usual_chunk : ℕ → ℕ
 usual_chunk workers = if workers == 1 then MAX_CHUNK else SHARED_CHUNK
 
+-- even buckets where a shift is asked for, and else widening ones
+abbrev pub buckets_for : Option ℕ → Buckets
+buckets_for None = Widening
+buckets_for (Some shift) = Even shift
+
 -- The settings: of the values of `--workers`, `--shift` and `--chunk`.
 pub record AsksSettings (workers shift chunk : Option Text) (settings : Settings) : Type 0 where
   pub worker_count : Option ℕ
@@ -117,8 +124,7 @@ pub record AsksSettings (workers shift chunk : Option Text) (settings : Settings
   pub workers_are : settings.workers ≡ unwrap_or worker_count 2
   pub shift_bits : Option ℕ
   pub asks_shift : AsksNumber shift shift_bits
-  pub shift_is : settings.shift ≡ unwrap_or shift_bits 0
-  pub widening_is : settings.widening ≡ not (is_some shift_bits)
+  pub buckets_are : settings.buckets ≡ buckets_for shift_bits
   pub chunk_size : Option ℕ
   pub asks_chunk : AsksNumber chunk chunk_size
   pub chunk_is : settings.chunk ≡ unwrap_or chunk_size (usual_chunk settings.workers)

@@ -2,7 +2,7 @@
 use Rattle.std.proofs.Common.{◌≡◌, ℕ, List, [], ◌∷◌, ◌++◌, inl, inr}
 use Rattle.std.proofs.lemmas.Grind.{flat_map-append}
 use Rattle.std.proofs.lemmas.List.{map-append}
-use Rattle.std.proofs.lemmas.List.Elements.{All-append}
+use Rattle.std.proofs.lemmas.List.Elements.{All-append, All-cons, All-head, All-tail}
 use Rattle.std.proofs.lemmas.List.Elements.{Contains-append_left, Contains-append_right, Contains-append_cases}
 use Rattle.route_walks.specs.declared.graph.ArcRec.{ArcRec}
 use Rattle.route_walks.specs.declared.graph.Seed.{Seed}
@@ -19,6 +19,15 @@ unit_weights-append arcs added = map-append unit_weight arcs added
 -- so are the arcs both ways
 pub both_ways-append : (arcs added : List ArcRec) → both_ways (arcs ++ added) ≡ both_ways arcs ++ both_ways added
 both_ways-append arcs added = flat_map-append (λ (arc : ArcRec). along arc ∷ against arc ∷ []) arcs added
+
+-- arcs both ways have the same ends
+pub both_ways-graph : (n : ℕ) (arcs : List ArcRec) → IsGraph n arcs → IsGraph n (both_ways arcs)
+both_ways-graph n [] graph = graph
+both_ways-graph n (arc ∷ arcs) graph =
+    let ends = All-head (IsArcBelow n) arc arcs graph in
+    let rest = both_ways-graph n arcs (All-tail (IsArcBelow n) arc arcs graph) in
+    All-cons (IsArcBelow n) (along arc) (against arc ∷ both_ways arcs) ends
+    (All-cons (IsArcBelow n) (against arc) (both_ways arcs) (ends.1, ends.0) rest)
 
 -- the ends of all are vertices where those of both lists are
 pub graph-append : (n : ℕ) (arcs added : List ArcRec) → IsGraph n arcs → IsGraph n added → IsGraph n (arcs ++ added)
@@ -39,6 +48,10 @@ same_arcs-append one other more added first second arc = (
   among-append one other more added (λ a. (first a).0) (λ a. (second a).0) arc,
   among-append other one added more (λ a. (first a).1) (λ a. (second a).1) arc,
 )
+
+-- the other way round
+pub same_arcs-sym : (one other : List ArcRec) → HaveSameArcs one other → HaveSameArcs other one
+same_arcs-sym one other same arc = ((same arc).1, (same arc).0)
 
 -- lists that have the same arcs as a third have the same arcs
 pub same_arcs-trans : (one middle other : List ArcRec) → HaveSameArcs one middle → HaveSameArcs middle other

@@ -98,7 +98,8 @@ start-below n arcs graph u v (arc ∷ path) joins below =
       | inr backward ↦ subst (λ (x : ℕ). x < n) backward.0 ends.1
     ]
 
-seed-within : (n v : ℕ) → v < n → Contains (seeds_all n) (seed_at v)
+-- each vertex is a seed
+pub seed-within : (n v : ℕ) → v < n → Contains (seeds_all n) (seed_at v)
 seed-within n v below = (
   v,
   omega (arith, length-map-range_with_len seed_at 0 n),

@@ -7,11 +7,14 @@ pub use Rattle.route_walks.proofs.Attained.{attained-by_walk, walk-of_attained}
 pub use Rattle.route_walks.proofs.Cuts.{walks_can_be_cut}
 -- labels that are settled and sound are least, and the other way round
 pub use Rattle.route_walks.proofs.Labels.{settled_and_sound_are_least, least_labels_are_settled}
+-- where every vertex is a seed, each is
+pub use Rattle.route_walks.proofs.Components.{seed-within}
 -- what is attained along some arcs is attained along more
 pub use Rattle.route_walks.proofs.SameArcs.{attained-among}
 -- lists of arcs, and other arcs after them
-pub use Rattle.route_walks.proofs.Added.{unit_weights-append, both_ways-append, graph-append}
-pub use Rattle.route_walks.proofs.Added.{same_arcs-append, same_arcs-trans, same_arcs-grown, least_labels-grown}
+pub use Rattle.route_walks.proofs.Added.{unit_weights-append, both_ways-append, both_ways-graph, graph-append}
+pub use Rattle.route_walks.proofs.Added.{same_arcs-append, same_arcs-sym, same_arcs-trans, same_arcs-grown}
+pub use Rattle.route_walks.proofs.Added.{least_labels-grown}
 -- labels as seeds: which they are, and that what is attained and least from them is so from the seeds
 -- that they meet
 pub use Rattle.route_walks.proofs.Reseeding.{labels-have_seed, labels-meet_their_seeds}

@@ -4,10 +4,10 @@ mod explanations;
 mod refusals;
 mod several;
 
-use dimacs_text::{
-    Ask, Job, JobReader, LineKind, TextFault, put_components, put_distances, put_grown, put_label,
-    put_labels, put_pair, put_source, put_walk, read_job,
+use answer_lines::{
+    put_components, put_distances, put_grown, put_label, put_labels, put_pair, put_source, put_walk,
 };
+use dimacs_text::{Ask, Job, JobReader, LineKind, TextFault, read_job};
 use route_walks::{ArcRec, INF};
 use std::alloc::Global;
 use std::process::Abort;

@@ -7,11 +7,9 @@ use Rattle.route_walks.specs.declared.graph.TheConstants.{INF}
 use Rattle.route_walks.specs.Walk.{IsWalk, HaveSameArcs}
 use Rattle.route_walks.specs.Label.{AreLeastLabels}
 use Rattle.route_walks.specs.Operators.{seeds_from}
+use Rattle.route_walks.proofs.Facts.{same_arcs-sym}
 use Rattle.walk_report.specs.Hop.{IsHop, AreHops}
 use Rattle.walk_report.specs.Parent.{Leads, IsParent, AreParents, HopsAndParentsFollowTheArcs, HopsAndParentsAreUnique}
-
-same-back : (one other : List ArcRec) → HaveSameArcs one other → HaveSameArcs other one
-same-back one other same arc = ((same arc).1, (same arc).0)
 
 walk-over : (one other : List ArcRec) → HaveSameArcs one other → (u v : ℕ) (walk : List ArcRec)
     → IsWalk one u walk v → IsWalk other u walk v
@@ -31,14 +29,14 @@ hop-over {one = one} {other = other} same {s = s} {v = v} hop = record {
     costs = hop.walk.costs;
     count = hop.walk.count;
   };
-  fewest = λ walk walks. hop.fewest walk (walk-over other one (same-back one other same) s v walk walks);
+  fewest = λ walk walks. hop.fewest walk (walk-over other one (same_arcs-sym one other same) s v walk walks);
 }
 
 parent-over : {one other : List ArcRec} → HaveSameArcs one other → {label hop : ℕ → ℕ} {v u : ℕ}
     → IsParent one label hop v u → IsParent other label hop v u
 parent-over {one = one} {other = other} same parent = record {
   leads = leads-over same parent.leads;
-  least = λ w leads. parent.least w (leads-over (same-back one other same) leads);
+  least = λ w leads. parent.least w (leads-over (same_arcs-sym one other same) leads);
 }
 
 pub hops_and_parents_follow_the_arcs : HopsAndParentsFollowTheArcs

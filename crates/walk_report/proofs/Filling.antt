@@ -5,7 +5,7 @@ use Rattle.std.proofs.lemmas.Grind.{get_or-set_at}
 use Rattle.std.proofs.lemmas.List.{get_or-set_other}
 use Rattle.std.proofs.lemmas.List.Elements.{All-more, All-weaker}
 use Rattle.route_walks.specs.declared.graph.ArcRec.{ArcRec}
-use Rattle.csr_graph.specs.declared.csr.Target.{Target}
+use Rattle.csr_graph.specs.declared.target.Target.{Target}
 use Rattle.csr_graph.specs.Graph.{arc_to, targets_of}
 use Rattle.csr_graph.proofs.Facts.{no_target, row_all}
 use Rattle.walk_report.specs.declared.hop.TheConstants.{NONE}

@@ -8,7 +8,7 @@ use Rattle.std.proofs.lemmas.List.Elements.{All-contains}
 use Rattle.route_walks.specs.declared.graph.ArcRec.{ArcRec}
 use Rattle.route_walks.specs.declared.graph.TheConstants.{MAX_VERTICES}
 use Rattle.route_walks.specs.Walk.{IsArcBelow, IsGraph}
-use Rattle.csr_graph.specs.declared.csr.Target.{Target}
+use Rattle.csr_graph.specs.declared.target.Target.{Target}
 use Rattle.csr_graph.specs.Graph.{arc_to}
 use Rattle.walk_report.specs.declared.hop.TheConstants.{NONE}
 use Rattle.walk_report.specs.Hop.{AreFromOneSource}

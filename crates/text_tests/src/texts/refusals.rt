@@ -6,10 +6,11 @@ ghost use Rattle.dimacs_text.specs.Reading.{IsReadAhead};
 
 use crate::texts::several::large;
 use crate::texts::{GRAPH, SHORT, assert_added, assert_job, joined};
+use answer_lines::{
+    put_components, put_distances, put_grown, put_label, put_labels, put_pair, put_source, put_walk,
+};
 use dimacs_text::{
-    ExplainedFault, JobReader, LineKind, Parts, ReadAhead, TextFault, put_components,
-    put_distances, put_grown, put_label, put_labels, put_pair, put_source, put_walk, read_job,
-    read_side_by_side,
+    ExplainedFault, JobReader, LineKind, Parts, ReadAhead, TextFault, read_job, read_side_by_side,
 };
 use route_walks::{ArcRec, INF, Memory, refusable, tried_again};
 use std::alloc::Global;

@@ -1,6 +1,6 @@
 use Rattle.std.proofs.Common.{None, refl, arith, slice_index}
 use Rattle.std.proofs.lemmas.Result.{on_err_weaker}
-use Rattle.dimacs_text.specs.AnswerLines.{components_text, distances_text}
+use Rattle.answer_lines.specs.Lines.{components_text, distances_text}
 use Rattle.job_answer.specs.AnswerText.{IsBlock, IsComponentsBlock, walks_text}
 use Rattle.job_answer.proofs.Prefixes.{at-err, only-text, puts-nothing}
 use Rattle.job_answer.proofs.Starts.{labels-finite}

@@ -1,7 +1,7 @@
 use Rattle.std.proofs.Common.{◌+◌, ◌<◌, ◌++◌, length, length-append, ap, ◌∙◌, subst, arith}
 use Rattle.route_walks.specs.declared.graph.TheConstants.{INF}
-use Rattle.dimacs_text.specs.AnswerLines.{component_lines, components_text}
-use Rattle.dimacs_text.proofs.Facts.{component_lines-append, All-rest}
+use Rattle.answer_lines.specs.Lines.{component_lines, components_text}
+use Rattle.answer_lines.proofs.Facts.{component_lines-append, All-rest}
 use Rattle.job_answer.specs.Bytes.{GivesPrefix, Waits}
 use Rattle.job_answer.proofs.Sending.{put-more}
 use Rattle.job_answer.proofs.Prefixes.{at-err, put-cut, put-left}

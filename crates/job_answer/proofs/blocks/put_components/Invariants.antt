@@ -3,7 +3,7 @@ use Rattle.std.specs.Slice.Iter.{chunks_rest}
 use Rattle.job_answer.specs.declared.output_buffer.TheConstants.{PIECE}
 use Rattle.std.specs.Prelude.{All}
 use Rattle.route_walks.specs.declared.graph.TheConstants.{INF}
-use Rattle.dimacs_text.specs.AnswerLines.{component_lines, components_text}
+use Rattle.answer_lines.specs.Lines.{component_lines, components_text}
 use Rattle.job_answer.proofs.Sending.{IsPut}
 use Rattle.job_answer.proofs.blocks.put_components.Given as goal
 

@@ -1,8 +1,8 @@
 use Rattle.std.proofs.Common.{◌≡◌, ◌+◌, List, ℕ, ◌++◌, length, length-append, [], refl, ap, ap₂, ◌∙◌, append_assoc}
 use Rattle.std.proofs.Common.{subst, arith, rules}
 use Rattle.std.specs.Slice.Iter.{chunks_rest}
-use Rattle.dimacs_text.specs.AnswerLines.{source_text, label_lines, distances_text}
-use Rattle.dimacs_text.proofs.Facts.{label_lines-append}
+use Rattle.answer_lines.specs.Lines.{source_text, label_lines, distances_text}
+use Rattle.answer_lines.proofs.Facts.{label_lines-append}
 use Rattle.job_answer.specs.Bytes.{GivesPrefix, Waits}
 use Rattle.job_answer.proofs.Sending.{put-more}
 use Rattle.job_answer.proofs.Prefixes.{appends-nothing, at-err, put-cut, put-left}

@@ -1,7 +1,7 @@
 use Rattle.std.proofs.Common.{◌≡◌, ◌+◌, ◌<◌, ◌++◌, length}
 use Rattle.std.specs.Slice.Iter.{chunks_rest}
 use Rattle.job_answer.specs.declared.output_buffer.TheConstants.{PIECE}
-use Rattle.dimacs_text.specs.AnswerLines.{label_lines, distances_text}
+use Rattle.answer_lines.specs.Lines.{label_lines, distances_text}
 use Rattle.job_answer.proofs.Sending.{IsPut}
 use Rattle.job_answer.proofs.blocks.put_labels.Given as goal
 

@@ -1,6 +1,6 @@
 use Rattle.std.proofs.Common.{false, get_or, subst}
 use Rattle.std.proofs.lemmas.Result.{on_err_weaker, on_ok_weaker}
-use Rattle.dimacs_text.specs.AnswerLines.{pair_text}
+use Rattle.answer_lines.specs.Lines.{pair_text}
 use Rattle.job_answer.specs.AnswerText.{IsGrownPair}
 use Rattle.job_answer.specs.Bytes.{GivesPrefix, Waits}
 use Rattle.job_answer.specs.Graphs.{growth_of}

@@ -1,18 +1,17 @@
 -- What is least from the labels of a pause is least from its seeds.
 use Rattle.std.proofs.Common.{ap, subst, List, IfOk}
 use Rattle.std.proofs.lemmas.Result.{IfOk-weaker}
-use Rattle.std.specs.Prelude.{Vec, ℕ}
 use Rattle.route_walks.specs.declared.graph.Seed.{Seed}
 use Rattle.route_walks.specs.Label.{AreLeastLabels}
 use Rattle.route_walks.specs.Operators.{seeds_of}
 use Rattle.label_words.specs.declared.closed.Closed.TheVariants.{Settled}
-use Rattle.label_words.specs.Known.{Held}
+use Rattle.label_words.specs.declared.known.Known.{Known}
 use Rattle.obim_engine.proofs.operators.least_labels_resumed.Goals as goal
 
 pub returns : goal.returns
 returns g c seeds within pause =
     let graph = c.args.csr.now in
-    let from = ap (λ (s : Held). s.known.seeds) c.in_ok-words.ensures.seat in
+    let from = ap (λ (k : Known). k.seeds) c.in_ok-opened.ensures in
     let least =
     subst (λ (s : List Seed). IfOk c.solve_alone.result
     (λ labels. AreLeastLabels graph.n graph.arcs s labels.items))

@@ -4,14 +4,14 @@ use Rattle.std.proofs.lemmas.Result.{IfOk-weaker}
 use Rattle.route_walks.specs.declared.graph.Seed.{Seed}
 use Rattle.route_walks.specs.Operators.{seeds_of}
 use Rattle.label_words.specs.declared.closed.Closed.{Closed}
-use Rattle.label_words.specs.Known.{Held}
+use Rattle.label_words.specs.declared.known.Known.{Known}
 use Rattle.label_words.specs.Closed.{IsEnd, AreNoHigher, closed_labels}
 use Rattle.obim_engine.proofs.runs.resume.Goals as goal
 
 pub returns-clause-lower : goal.returns-clause-lower
 returns-clause-lower g c =
     let graph = c.args.csr.now in
-    let seeds = ap (λ (s : Held). s.known.seeds) c.in_ok-words.ensures.seat in
+    let seeds = ap (λ (k : Known). k.seeds) c.in_ok-opened.ensures in
     let end = subst (λ (s : List Seed). IfOk c.run_workers.result (λ (closed : Closed). IsEnd graph s closed)) seeds
     c.run_workers.ensures.end in
     IfOk-weaker c.run_workers.result (IsEnd graph (seeds_of c.args.rest.labels))

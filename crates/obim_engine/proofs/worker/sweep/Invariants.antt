@@ -8,4 +8,4 @@ invariant-loop-v g l =
     Stays l.fn.seat l.seat
     × HasNoVertex l.seat
     × (l.budget.has_limit ≡ l.fn.budget.has_limit)
-    × g.P.WorkPool.is_side l.shared.pool.now l.side
+    × g.P.WorkPool.is_side l.shared.run.pool.now l.side

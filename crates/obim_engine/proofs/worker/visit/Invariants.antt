@@ -8,7 +8,7 @@ abbrev pub invariant-loop-head : goal.invariant-loop-head
 invariant-loop-head g l =
     Stays l.fn.seat l.seat
     × HasRowOpen l.u l.seat.known.view
-    × g.P.WorkPool.is_side l.shared.pool.now l.side
+    × g.P.WorkPool.is_side l.shared.run.pool.now l.side
 
 abbrev pub decreases-loop-head : goal.decreases-loop-head
-decreases-loop-head g l = end_place l.shared.csr.now.arcs l.u - place_of l.seat.known.view.hand
+decreases-loop-head g l = end_place l.shared.run.csr.now.arcs l.u - place_of l.seat.known.view.hand

@@ -7,6 +7,6 @@ abbrev pub invariant-loop : goal.invariant-loop
 invariant-loop g l =
     Stays l.fn.seat l.seat
     × HasNoVertex l.seat
-    × (l.shared.budget ≡ None → l.budget.has_limit ≡ false)
+    × (l.shared.run.budget ≡ None → l.budget.has_limit ≡ false)
     × (0 < l.watch.left)
-    × g.P.WorkPool.is_side l.shared.pool.now l.side
+    × g.P.WorkPool.is_side l.shared.run.pool.now l.side

@@ -5,7 +5,7 @@ use Rattle.std.proofs.lemmas.List.{get_or_read, get_or-set_other, get_or_append_
 use Rattle.std.proofs.lemmas.List.Elements.{All-contains}
 use Rattle.std.proofs.lemmas.Bool.{false≢true}
 use Rattle.route_walks.specs.Walk.{IsArcBelow}
-use Rattle.csr_graph.specs.declared.csr.Target.{Target}
+use Rattle.csr_graph.specs.declared.target.Target.{Target}
 use Rattle.csr_graph.specs.Graph.{Graph, IsInRows, arc_to}
 use Rattle.csr_graph.proofs.Facts.{row_arcs, no_target}
 use Rattle.walk_report.specs.declared.hop.TheConstants.{NONE}

@@ -2,7 +2,7 @@
 use Rattle.std.proofs.Common.{◌<◌, ap, arith}
 use Rattle.std.specs.Prelude.{All}
 use Rattle.std.proofs.lemmas.List.Elements.{All-take}
-use Rattle.csr_graph.specs.declared.csr.Target.{Target}
+use Rattle.csr_graph.specs.declared.target.Target.{Target}
 use Rattle.csr_graph.proofs.Facts.{row_heads}
 use Rattle.label_words.proofs.words.Words.prefetch_labels.Goals as goal
 

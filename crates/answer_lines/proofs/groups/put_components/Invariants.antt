@@ -1,0 +1,19 @@
+use Rattle.std.proofs.Common.{◌≡◌, ◌+◌, ◌<◌, ◌≤◌, ◌++◌, length}
+use Rattle.std.specs.Prelude.{All}
+use Rattle.route_walks.specs.declared.graph.TheConstants.{INF}
+use Rattle.answer_lines.specs.Lines.{component_lines}
+use Rattle.answer_lines.specs.declared.groups.TheConstants.{GROUP_ROOM}
+use Rattle.answer_lines.proofs.groups.put_components.Given as goal
+
+abbrev pub invariant-loop-rest : goal.invariant-loop-rest
+invariant-loop-rest l = record {
+  count : l.v + length l.rest ≡ l.first + length l.labels;
+  finite : All (λ label. label < INF) l.rest;
+  whole : l.out.items ++ component_lines l.v l.rest ≡ l.fn.out.items ++ component_lines l.first l.labels;
+  longer : length l.fn.out.items ≤ length l.out.items;
+  before : l.start ≡ length l.fn.out.items;
+  room : length l.lines ≡ GROUP_ROOM;
+}
+
+abbrev pub decreases-loop-rest : goal.decreases-loop-rest
+decreases-loop-rest l = length l.rest

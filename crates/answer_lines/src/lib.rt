@@ -1,0 +1,24 @@
+//! Which bytes is this line of an answer?
+//!
+//! Each `put_` call appends exactly the bytes of its lines to a vector, or leaves the vector as it was and returns
+//! `Memory`. Vertices are counted from 0 in the calls, and from 1 in the lines. For example, by
+//! `put_distances(&mut out, 0, &[0, 7, INF])` a vector gets
+//!
+//! ```text
+//! s 1
+//! d 1 0
+//! d 2 7
+//! d 3 inf
+//! ```
+//!
+//! It stands on `route_walks`, whose `INF` and `Memory` it knows, and on `itoa` for digits.
+#![tactic(auto)]
+
+mod digits;
+mod groups;
+mod lines;
+mod walks;
+
+pub use groups::{put_components, put_distances, put_labels};
+pub use lines::{put_grown, put_label, put_pair, put_source};
+pub use walks::put_walk;

@@ -1,0 +1,68 @@
+//! One line at a time.
+//!
+//! A line goes out at once, when it is made: so a refusal of memory leaves the vector as it was.
+
+ghost use Rattle.std.specs.Prelude.{◌≡◌, ◌<◌, ◌++◌, OnOk, OnErr};
+ghost use Rattle.answer_lines.specs.Lines.{grown_text, label_text, pair_text, source_text};
+
+use crate::digits::{ROOM, put_byte, put_cost, put_number, put_start};
+use route_walks::{MAX_VERTICES, Memory};
+
+/// Appends the line `s V` of a source, where vertices are counted from 1.
+pub fn put_source(out: &mut Vec<u8>, s: u32) -> Result<(), Memory>
+    requires { s < MAX_VERTICES }
+    ensures ok { OnOk result (out.new.items ≡ out.old.items ++ source_text s) }
+    ensures err { OnErr result (out.new.items ≡ out.old.items) }
+{
+    let mut line = [0u8; ROOM];
+    let end = put_byte(&mut line, ROOM, b'\n');
+    let start = put_start(&mut line, end, b's', u64::from(s) + 1);
+    out.extend_from_slice(&line[start..])?;
+    Ok(())
+}
+
+/// Appends the line `d V COST` of a vertex, where the cost of `INF` is `inf`.
+pub fn put_label(out: &mut Vec<u8>, v: u32, label: u64) -> Result<(), Memory>
+    requires { v < MAX_VERTICES }
+    ensures ok { OnOk result (out.new.items ≡ out.old.items ++ label_text v label) }
+    ensures err { OnErr result (out.new.items ≡ out.old.items) }
+{
+    let mut line = [0u8; ROOM];
+    let end = put_byte(&mut line, ROOM, b'\n');
+    let end = put_cost(&mut line, end, label);
+    let end = put_byte(&mut line, end, b' ');
+    let start = put_start(&mut line, end, b'd', u64::from(v) + 1);
+    out.extend_from_slice(&line[start..])?;
+    Ok(())
+}
+
+/// Appends the line `q S T COST` of a pair, for the label of its target `t` from its source `s`, where the
+/// cost of `INF` is `inf`.
+pub fn put_pair(out: &mut Vec<u8>, s: u32, t: u32, label: u64) -> Result<(), Memory>
+    requires source { s < MAX_VERTICES }
+    requires target { t < MAX_VERTICES }
+    ensures ok { OnOk result (out.new.items ≡ out.old.items ++ pair_text s t label) }
+    ensures err { OnErr result (out.new.items ≡ out.old.items) }
+{
+    let mut line = [0u8; ROOM];
+    let end = put_byte(&mut line, ROOM, b'\n');
+    let end = put_cost(&mut line, end, label);
+    let end = put_byte(&mut line, end, b' ');
+    let end = put_number(&mut line, end, u64::from(t) + 1);
+    let end = put_byte(&mut line, end, b' ');
+    let start = put_start(&mut line, end, b'q', u64::from(s) + 1);
+    out.extend_from_slice(&line[start..])?;
+    Ok(())
+}
+
+/// Appends the line `g K` for the number of arcs that were added, which is that number itself.
+pub fn put_grown(out: &mut Vec<u8>, k: u32) -> Result<(), Memory>
+    ensures ok { OnOk result (out.new.items ≡ out.old.items ++ grown_text k) }
+    ensures err { OnErr result (out.new.items ≡ out.old.items) }
+{
+    let mut line = [0u8; ROOM];
+    let end = put_byte(&mut line, ROOM, b'\n');
+    let start = put_start(&mut line, end, b'g', u64::from(k));
+    out.extend_from_slice(&line[start..])?;
+    Ok(())
+}

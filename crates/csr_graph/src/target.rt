@@ -1,0 +1,8 @@
+//! What does an arc lead to?
+
+/// What an arc leads to: the vertex at its head, counted from 0, and its weight.
+#[derive(Clone, Copy, Debug, PartialEq, Eq)]
+pub struct Target {
+    pub head: u32,
+    pub weight: u32,
+}

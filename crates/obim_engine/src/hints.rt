@@ -1,0 +1,9 @@
+//! Hints: how wide buckets are, what is asked of memory ahead of a visit, and when a worker waits, naps or sweeps.
+//!
+//! No label depends on what these say, so they promise nothing of labels.
+
+pub(crate) mod pace;
+pub(crate) mod patience;
+pub(crate) mod pauses;
+pub(crate) mod prefetch;
+pub(crate) mod widths;
