@@ -1,7 +1,17 @@
 -- A loop over many sources, one entry more at each.
 use Rattle.std.proofs.Common.{◌≡◌, ◌∙◌, ℕ, ◌<◌, List, [], ◌∷◌, ◌++◌, ap, arith, drop, length, refl, slice_index, subst, sym}
 use Rattle.std.proofs.lemmas.List.{append-nil}
+use Rattle.std.proofs.Common.{IfNone, IfSome, None, Option, Some}
+use Rattle.least_costs.specs.declared.start.Start.{Start}
+use Rattle.least_costs.specs.Costs.{IsCostTo, IsLeastCost, IsUnreached}
+use Rattle.least_costs.specs.Network.{NetworkSeen}
 use Rattle.least_costs.specs.Taken.{AreFor, AreTaken}
+
+-- what `to` says where it gives a cost and where it gives none, as one
+pub cost-told : (net : NetworkSeen) (from : Start) (v : ℕ) (found : Option ℕ)
+    → IfSome found (IsLeastCost net from v) → IfNone found (IsUnreached net from v) → IsCostTo net from v found
+cost-told net from v (Some cost) some none = some
+cost-told net from v None some none = none
 
 -- an entry more
 pub for-more : {A B : Type 0} (IsFor : A → B → Type 0) (xs : List A) (ys : List B) (x : A) (y : B)
