@@ -6,7 +6,6 @@ mod refusals;
 mod sources;
 
 ghost use Rattle.std.specs.Prelude.{◌≡◌, IfOk};
-ghost use Rattle.least_costs.specs.Costs.{IsFrom};
 
 use least_costs::{Cost, Costs, Network};
 use route_walks::{ArcRec, EXAMPLE_ARCS};

@@ -2,7 +2,7 @@
 
 mod refusals;
 
-ghost use Rattle.std.specs.Prelude.{⊤, ℕ};
+ghost use Rattle.std.specs.Prelude.{⊤};
 
 use least_costs::{Part, Rounds, Team};
 use std::alloc::Global;

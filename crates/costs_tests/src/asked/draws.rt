@@ -1,7 +1,5 @@
 //! Networks at random: are the costs those of the plain way?
 
-ghost use Rattle.std.specs.Prelude.{◌≡◌, IfOk};
-
 use crate::asked::network_of;
 use least_costs::{AtOnce, Cost, Network, Plan, Solver};
 use route_walks::{

@@ -1,7 +1,5 @@
 //! Which costs does a network have that is worked by hand, and why is there none?
 
-ghost use Rattle.std.specs.Prelude.{◌≡◌};
-
 use crate::asked::{expect_costs, network_of, six};
 use least_costs::{Cost, Network, NetworkFault, Plan, Solver, Start};
 use route_walks::{ArcRec, EXAMPLE_ARCS, MAX_VERTICES, arcs};

@@ -1,10 +1,11 @@
 //! Each call that takes memory, with one allocation of it refused: `Memory` then, and made once more it gives what
 //! was worked by hand. `tests/refusals` refuses each in turn; `tests/refusals.tsv` has the calls.
 
-ghost use Rattle.std.specs.Prelude.{◌≡◌, ◌<◌};
+ghost use Rattle.std.specs.Prelude.{◌≡◌};
+ghost use Rattle.least_costs.specs.Each.{AreWithin};
 
 use crate::asked::{expect_costs, six};
-use least_costs::{AtOnce, Cost, Costs, Network, NetworkFault, Plan, Runner, Solver, Start};
+use least_costs::{AtOnce, Cost, Network, NetworkFault, Plan, Runner, Solver, Start};
 use obim_engine::OpenGate;
 use route_walks::{ArcRec, EXAMPLE_ARCS, Memory, arcs, refusable, tried_again};
 use std::alloc::Global;
@@ -119,16 +120,23 @@ fn of_runner_from(rt: HostRuntime) -> Result<(), Fail> {
     Ok(())
 }
 
+/// Asks for the costs from each source, and for none of them.
+fn ask_for_each(alloc: Global, solver: &Solver<'_, OpenGate>, sources: &[u32])
+    requires { AreWithin solver.now.network.now sources.now }
+{
+    let _each = solver.each(alloc, sources);
+}
+
 #[test]
 fn of_solver_each(rt: HostRuntime) -> Result<(), Fail> {
     let alloc = rt.alloc();
     let network = six(&rt, alloc)?;
     let solver = Solver::new(&network, Plan::usual(2));
-    let mut each = refusable!(alloc, solver.each(alloc, &[0]));
-    let Some(costs) = each.next(&rt, alloc) else {
-        return Ok(());
-    };
-    expect_costs(&rt, 0, &network, &costs?, &FROM_0);
+    refusable!(alloc, ask_for_each(alloc, &solver, &[0]));
+    let mut each = solver.each(alloc, &[0]);
+    if let Some(costs) = each.next(&rt, alloc) {
+        expect_costs(&rt, 0, &network, &costs?, &FROM_0);
+    }
     Ok(())
 }
 

@@ -1,6 +1,6 @@
 //! Many sources: in which order do they come, and by which workers?
 
-ghost use Rattle.std.specs.Prelude.{◌≡◌, ◌<◌, All};
+ghost use Rattle.std.specs.Prelude.{◌≡◌};
 
 use crate::asked::{expect_costs, network_of, six};
 use least_costs::{AtOnce, Cost, Network, Plan, Solver};
