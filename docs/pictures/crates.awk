@@ -17,12 +17,14 @@ function x(crate) { return 90 + (crate in column ? column[crate] : 2) * 170 }
 function y(crate) { return 30 + (highest - layer[crate]) * 74 }
 
 BEGIN {
-    # The text, the worklist, the labels and the walks beside one another; what joins them is in the middle.
+    # The text, the worklist, the labels and the walks beside one another; above them what joins them.
     column["dimacs_text"] = column["answer_lines"] = 0
     column["obim_bags"] = column["obim_pool"] = 1.1
     column["csr_graph"] = column["relax_core"] = column["label_words"] = 2.9
     column["obim_engine"] = 2.1
     column["walk_report"] = 4.2
+    column["least_costs"] = column["cost_examples"] = 3.4
+    column["job_answer"] = column["obim_query"] = 1.4
 }
 
 /^[a-z_]+:/ && !/_tests:/ {

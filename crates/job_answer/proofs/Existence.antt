@@ -6,7 +6,7 @@ use Rattle.std.proofs.lemmas.List.Elements.{All-head, All-map, All-tail, All-wea
 use Rattle.route_walks.specs.declared.graph.ArcRec.{ArcRec}
 use Rattle.route_walks.specs.declared.graph.TheConstants.{MAX_VERTICES}
 use Rattle.route_walks.specs.Walk.{IsArcBelow, IsGraph}
-use Rattle.route_walks.specs.Operators.{both_ways, seeds_all, seeds_from, unit_weight}
+use Rattle.route_walks.specs.Operators.{seeds_all, seeds_from, unit_weight}
 use Rattle.route_walks.proofs.Facts.{both_ways-graph, graph-append}
 use Rattle.route_walks.specs.Existence.{LeastLabelsExist}
 use Rattle.walk_report.specs.Existence.{HopsAndParentsExist}

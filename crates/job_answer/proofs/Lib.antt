@@ -10,4 +10,3 @@ pub mod Starts
 pub mod Existence
 pub mod PairLabels
 pub mod Growing
-pub mod Kept

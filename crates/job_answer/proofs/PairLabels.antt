@@ -13,7 +13,7 @@ use Rattle.route_walks.specs.declared.graph.ArcRec.{ArcRec}
 use Rattle.route_walks.specs.Label.{AreLeastLabels}
 use Rattle.route_walks.specs.Operators.{seeds_from}
 use Rattle.job_answer.specs.declared.solves.Solve.{Solve}
-use Rattle.job_answer.specs.Solved.{AreLabelsAt}
+use Rattle.job_answer.specs.Tasks.{AreLabelsAt}
 use Rattle.dimacs_text.specs.Jobs.{IsPairWithin}
 use Rattle.job_answer.specs.Solves.{pair_at, AreBySource, AreFilled, ArePairLabels, IsForQueries, IsPairLabel}
 use Rattle.job_answer.specs.Solves.{IsStartWithin}

@@ -1,9 +1,8 @@
 -- The seeds of a start, and what its labels are in a graph that has grown.
 use Rattle.std.proofs.Common.{ℕ, ◌<◌, ◌^◌, List, [], length, get_or, arith}
-use Rattle.std.specs.List.{All, Contains, range_with_len}
+use Rattle.std.specs.List.{All, range_with_len}
 use Rattle.std.proofs.lemmas.List.Elements.{All-cons, All-from_get_or, All-map, All-nil}
 use Rattle.std.proofs.lemmas.List.FromFn.{get_or-range_with_len, length-range_with_len}
-use Rattle.std.proofs.lemmas.List.FromFn.{get_or-map-range_with_len, length-map-range_with_len}
 use Rattle.route_walks.proofs.Facts.{attained-start, seed-within}
 use Rattle.route_walks.specs.declared.graph.ArcRec.{ArcRec}
 use Rattle.route_walks.specs.declared.graph.Seed.{Seed}

@@ -1,4 +1,4 @@
-pub mod Solved
+pub mod Tasks
 pub mod Choices
 pub mod Bytes
 pub mod AnswerText
@@ -10,4 +10,3 @@ pub mod Parts
 pub mod Existence
 pub mod Sent
 pub mod Solves
-pub mod Teams

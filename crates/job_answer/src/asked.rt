@@ -3,6 +3,7 @@
 ghost use Rattle.std.specs.Prelude.{◌≡◌, ◌↔◌, IsSome, IfSome};
 ghost use Rattle.job_answer.specs.Choices.{IsAsked};
 
+use least_costs::AtOnce;
 use obim_engine::Settings;
 
 /// Which labels are asked for.
@@ -14,16 +15,6 @@ pub enum Answer {
     Levels,
     /// The least number of a vertex that arcs join to each vertex, whichever way they point.
     Components,
-}
-
-/// How many sources are solved at the same time, each by its own share of the workers. No byte of an
-/// answer depends on it.
-#[derive(Clone, Copy, Debug, PartialEq, Eq)]
-pub enum AtOnce {
-    /// As many as there are workers where a vertex has few arcs, and else one.
-    Auto,
-    /// At most this number, and never more than there are workers.
-    Most(u32),
 }
 
 /// The most sources that are solved at the same time.

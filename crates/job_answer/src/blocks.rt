@@ -1,7 +1,9 @@
 //! Which lines make the blocks of an answer?
 
 ghost use Rattle.std.specs.Prelude.{◌≡◌, ◌≢◌, ◌<◌, ◌≤◌, ◌++◌, ◌↔◌, [], length, slice_index};
-ghost use Rattle.std.specs.Prelude.{All, IfErr, IfOk, OnErr, OnOk, Some};
+ghost use Rattle.std.specs.Prelude.{All, IfErr, IfOk, IfSome, OnErr, OnOk, Some};
+ghost use Rattle.std.specs.Thread.{IsSync};
+ghost use Rattle.least_costs.specs.Rounds.{AreMade};
 ghost use Rattle.answer_lines.specs.Lines.{distances_text, components_text};
 ghost use Rattle.route_walks.specs.Label.{AreLeastLabels};
 ghost use Rattle.route_walks.specs.Operators.{seeds_from};
@@ -13,19 +15,19 @@ ghost use Rattle.job_answer.specs.Graphs.{AreGraphs, GrowsTo, growth_of};
 ghost use Rattle.job_answer.specs.Outcome.{IsWritingFault};
 ghost use Rattle.job_answer.specs.declared.output_buffer.TheConstants.{PIECE};
 ghost use Rattle.job_answer.specs.Solves.{IsGrownStart, IsRest, IsStartBlock, IsStartWithin, seeds_at};
+ghost use Rattle.job_answer.specs.Tasks.{AreSourceTasks, IsBlockText};
 
-use crate::ahead::Ahead;
 use crate::asked::Asked;
 use crate::fault::Fault;
 use crate::graphs::{Graphs, Grown};
 use crate::laws::blocks_are_unique;
-use crate::output_buffer::{Held, OutputBuffer};
-use crate::solved::{Queries, SolvedText, Solves, most_bytes};
+use crate::output_buffer::{Held, OutputBuffer, most_bytes};
 use crate::solves::{Solve, Start};
-use crate::teams::{TeamGate, teams_for};
+use crate::team_watch::{SolveCount, TeamWatch};
 use crate::watch::{Phase, Watch};
 use answer_lines::{put_grown, put_label, put_source, put_walk};
 use csr_graph::Csr;
+use least_costs::{Part, Rounds, Team, TeamGate};
 use obim_engine::Gate;
 use route_walks::{INF, MAX_VERTICES, Memory};
 use std::alloc::Global;
@@ -37,6 +39,25 @@ use walk_report::{NONE, hops, parents, walk_to};
 
 /// Lines put between two checks of the buffer's size.
 const LINES: usize = 512;
+
+/// The sources whose blocks are asked for. A task for each gives its block.
+#[derive(Drop)]
+pub struct SourceTasks<'a> {
+    pub graphs: &'a Graphs,
+    pub sources: &'a [u32],
+    pub asked: &'a Asked,
+    pub solves: SolveCount,
+}
+
+/// The block of a source, in memory.
+#[derive(Drop)]
+pub struct BlockText {
+    pub bytes: Vec<u8>,
+}
+
+impl<'a> Part<SourceTasks<'a>> for BlockText {
+    ghost is_part = { IsBlockText };
+}
 
 /// Writes the block of each source in turn: the least labels from it along the rows, with their walks
 /// where they are asked for. Where the rows grow, the same in the grown graph comes after each block.
@@ -63,16 +84,18 @@ pub fn write_sources<H: Threads + Wait + Clock + Sync, W: Write, G: Gate + Sync>
     // So what is a prefix of these blocks is one of the blocks that another run would write.
     blocks_are_unique();
     let mut waiting = OutputBuffer::new(alloc);
-    let solves = Solves {
+    let tasks = SourceTasks {
         graphs,
-        queries: Queries::Sources(sources),
+        sources,
         asked,
-        gate,
+        solves: SolveCount::new(),
     };
-    let mut ahead = Ahead::new(alloc, teams_for(asked, &graphs.rows));
+    let workers = asked.settings.workers;
+    let teams = asked.at_once.teams(&graphs.rows, workers);
+    let mut rounds = Rounds::new(alloc, sources.len(), teams, workers);
     for place in 0..sources.len() {
         watch.see_answered(place, sources.len());
-        if let Some(text) = ahead.take_text(rt, alloc, &solves, place, watch) {
+        if let Some(text) = take_block(rt, alloc, &mut rounds, &tasks, gate, place, watch) {
             waiting.send_with(writer, &text.bytes)?;
             watch.end(rt, Phase::Writing);
             continue;
@@ -130,8 +153,68 @@ pub fn write_start<H: Threads + Wait + Clock + Sync, W: Write, G: Gate + Sync>(
     waiting.finish(writer)
 }
 
+/// The block of the source at a place, if it was made before its turn.
+fn take_block<H: Threads + Wait + Clock + Sync, G: Gate + Sync>(
+    rt: &H,
+    alloc: Global,
+    rounds: &mut Rounds<BlockText, ()>,
+    tasks: &SourceTasks<'_>,
+    gate: &G,
+    place: usize,
+    watch: &mut impl Watch,
+) -> Option<BlockText>
+    requires tasks { AreSourceTasks tasks.now }
+    requires made { AreMade (IsBlockText tasks.now) rounds.old.made.items }
+    ensures left { AreMade (IsBlockText tasks.now) rounds.new.made.items }
+    ensures text { IfSome result (IsBlockText tasks.now place) }
+{
+    let text = rounds.take(
+        rt,
+        alloc,
+        tasks,
+        &|place, team, _kept| -> Option<BlockText>
+            requires sync { IsSync H.row × IsSync G.row }
+            requires tasks { AreSourceTasks tasks.now }
+            ensures { IfSome result (IsBlockText tasks.entry.now place) }
+        { make_block(rt, alloc, tasks, gate, place, team) },
+        &|place: usize| place.saturating_add(1),
+        place,
+    );
+    watch.see_teams(rounds.at_once());
+    watch.see_solves(tasks.solves.take());
+    watch.end(rt, Phase::Solving);
+    text
+}
+
+/// The block of the source at a place, made by a team. `None` where it was not made: where memory was refused, or
+/// where walks make it long.
+fn make_block<H: Threads + Wait + Clock + Sync, G: Gate + Sync>(
+    rt: &H,
+    alloc: Global,
+    tasks: &SourceTasks<'_>,
+    gate: &G,
+    place: usize,
+    team: Team,
+) -> Option<BlockText>
+    requires { AreSourceTasks tasks.now }
+    ensures { IfSome result (IsBlockText tasks.now place) }
+{
+    if place >= tasks.sources.len() {
+        return None;
+    }
+    let asked = tasks
+        .asked
+        .with_settings(team.settings(&tasks.asked.settings));
+    let gate = TeamGate { gate, team };
+    let mut watch = TeamWatch {
+        solves: &tasks.solves,
+    };
+    let source = tasks.sources[place];
+    held_block(rt, alloc, tasks.graphs, source, &asked, &gate, &mut watch).ok()
+}
+
 /// The block of a source, in memory, by the workers of a team. Fails where it is long, too.
-pub fn held_block<H: Threads + Wait + Clock + Sync, G: Gate + Sync>(
+fn held_block<H: Threads + Wait + Clock + Sync, G: Gate + Sync>(
     rt: &H,
     alloc: Global,
     graphs: &Graphs,
@@ -139,7 +222,7 @@ pub fn held_block<H: Threads + Wait + Clock + Sync, G: Gate + Sync>(
     asked: &Asked,
     gate: &TeamGate<'_, G>,
     watch: &mut impl Watch,
-) -> Result<SolvedText, Fault>
+) -> Result<BlockText, Fault>
     requires graphs { AreGraphs graphs.now }
     requires source { source < graphs.now.rows.n }
     requires team { asked.now.settings.workers ≡ gate.now.team.workers }
@@ -149,8 +232,7 @@ pub fn held_block<H: Threads + Wait + Clock + Sync, G: Gate + Sync>(
     let mut held = Held::new(alloc, most_bytes(graphs));
     let start = Start::At(source);
     write_start(rt, alloc, &mut held, graphs, start, asked, gate, watch)?;
-    Ok(SolvedText {
-        count: 1,
+    Ok(BlockText {
         bytes: held.into_bytes(),
     })
 }

@@ -4,7 +4,6 @@ ghost use Rattle.job_answer.specs.AnswerText.{AnswerTextsAreUnique, BlocksAreUni
 ghost use Rattle.job_answer.specs.Costs.{AnswersSayCosts, AnswersSayPairCosts, AnswersSayComponents};
 ghost use Rattle.job_answer.specs.Existence.{AskedJobsHaveAnswers};
 ghost use Rattle.job_answer.specs.Parts.{AnswersOfPartsJoin};
-ghost use Rattle.job_answer.specs.Teams.{TeamsShareWorkers};
 
 use route_walks::laws::{
     inf_means_no_walk, least_labels_are_components, least_labels_are_unique, least_labels_exist,
@@ -69,10 +68,4 @@ pub fn answers_say_components()
 /// graph and the added arcs.
 pub fn answers_of_parts_join()
     ensures { AnswersOfPartsJoin }
-{}
-
-/// Where teams share the workers, each worker is in one team, and no team is without one if there are no more teams
-/// than workers.
-pub fn teams_share_workers()
-    ensures { TeamsShareWorkers }
 {}

@@ -15,12 +15,12 @@
 //! let bytes = answer_bytes(rt, rt.alloc(), text, &asked, &OpenGate)?; // s 1, d 1 0 and d 2 7
 //! ```
 //!
-//! It stands on `dimacs_text`, which reads job texts and writes labels, on `csr_graph` for the rows, on
-//! `obim_engine`, whose workers give the labels, on `walk_report` for the walks, and on `route_walks`,
-//! which says what least labels are; on `thiserror` for the texts of faults.
+//! It stands on `dimacs_text`, which reads job texts, and `answer_lines`, which writes lines; on `csr_graph` for
+//! the rows, on `obim_engine`, whose workers give the labels, on `least_costs`, whose teams solve several sources at
+//! the same time, on `walk_report` for the walks, and on `route_walks`, which says what least labels are; on
+//! `thiserror` for the texts of faults.
 #![tactic(auto)]
 
-mod ahead;
 mod answering;
 mod asked;
 mod blocks;
@@ -34,15 +34,15 @@ mod pairs;
 mod piece;
 mod read;
 mod readers;
-mod solved;
 mod solves;
-mod teams;
+mod team_watch;
 mod walked_pairs;
 mod watch;
 
 pub use answering::{answer, answer_bytes, answer_watched};
-pub use asked::{Answer, Asked, AtOnce, MAX_AT_ONCE, MAX_BYTES};
+pub use asked::{Answer, Asked, MAX_AT_ONCE, MAX_BYTES};
 pub use counter::Counter;
 pub use fault::{Fault, status};
 pub use figures::Figures;
+pub use least_costs::AtOnce;
 pub use watch::{Phase, Watch};

@@ -6,9 +6,13 @@ ghost use Rattle.job_answer.specs.Bytes.{GivesPrefix, Waits};
 ghost use Rattle.job_answer.specs.declared.output_buffer.TheConstants.{PIECE};
 
 use crate::fault::Fault;
+use crate::graphs::Graphs;
 use std::alloc::Global;
 use std::io::{self, ErrorKind, Write};
 use std::marker::Model;
+
+/// The most bytes a vertex of a text that is made before its turn. A block without walks has fewer.
+const MOST_A_VERTEX: usize = 64;
 
 /// Bytes of a piece, which are written at once.
 pub const PIECE: usize = 1 << 16;
@@ -72,6 +76,15 @@ impl OutputBuffer {
             Ok(()) => Ok(()),
             Err(_) => Err(Fault::Write),
         }
+    }
+}
+
+/// How many bytes a text may have that is made before its turn, so that memory doesn't grow with walks.
+pub fn most_bytes(graphs: &Graphs) -> usize {
+    let once = (graphs.rows.n() as usize).saturating_mul(MOST_A_VERTEX);
+    match &graphs.grown {
+        None => once,
+        Some(_) => once.saturating_mul(2),
     }
 }
 

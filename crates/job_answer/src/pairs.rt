@@ -2,6 +2,8 @@
 
 ghost use Rattle.std.specs.Prelude.{◌≡◌, ◌+◌, ◌<◌, ◌≤◌, ◌^◌, ◌++◌, ℕ, List, length, slice_index};
 ghost use Rattle.std.specs.Prelude.{All, IfErr, IfOk, IfSome, OnErr, OnOk, false};
+ghost use Rattle.std.specs.Thread.{IsSync};
+ghost use Rattle.least_costs.specs.Rounds.{AreMade};
 ghost use Rattle.route_walks.specs.declared.graph.ArcRec.{ArcRec};
 ghost use Rattle.route_walks.specs.Label.{AreLeastLabels};
 ghost use Rattle.dimacs_text.specs.Jobs.{IsPairWithin};
@@ -10,22 +12,21 @@ ghost use Rattle.job_answer.specs.AnswerText.{ArePairBlocks};
 ghost use Rattle.job_answer.specs.Bytes.{Writes, WritesPrefix};
 ghost use Rattle.job_answer.specs.Graphs.{AreGraphs, growth_of};
 ghost use Rattle.job_answer.specs.Outcome.{IsWritingFault};
-ghost use Rattle.job_answer.specs.Solved.{AreLabelsAt, AreLabelsFrom};
 ghost use Rattle.job_answer.specs.Solves.{seeds_at, AreBySource, AreFilled, AreFilledAfter};
 ghost use Rattle.job_answer.specs.Solves.{AreLabelsAfter, ArePairLabels, HasLabelAfter, IsForQueries, with_growth};
+ghost use Rattle.job_answer.specs.Tasks.{AreLabels, AreLabelsAt, AreLabelsFrom, ArePairTasks};
 
-use crate::ahead::Ahead;
 use crate::asked::Asked;
 use crate::fault::Fault;
 use crate::graphs::Graphs;
 use crate::laws::blocks_are_unique;
 use crate::output_buffer::OutputBuffer;
-use crate::solved::{PairLabels, Queries, Solves};
-use crate::solves::{Solve, by_source};
-use crate::teams::teams_for;
+use crate::solves::{Solve, by_source, next_source};
+use crate::team_watch::{SolveCount, TeamWatch};
 use crate::walked_pairs::write_walked;
-use crate::watch::Watch;
+use crate::watch::{Phase, Watch};
 use answer_lines::{put_grown, put_pair};
+use least_costs::{Part, Rounds, Team, TeamGate};
 use obim_engine::{Gate, Settings};
 use route_walks::{INF, MAX_VERTICES, Memory};
 use std::alloc::Global;
@@ -33,6 +34,29 @@ use std::io::Write;
 use std::sync::Wait;
 use std::thread::Threads;
 use std::time::Clock;
+
+/// The pairs whose labels are asked for, and their order by source. A task for those of one source, at the place of
+/// the first in the order, gives their labels.
+#[derive(Drop)]
+pub struct PairTasks<'a> {
+    pub graphs: &'a Graphs,
+    pub pairs: &'a [(u32, u32)],
+    pub order: &'a [(u32, u32)],
+    pub settings: &'a Settings,
+    pub solves: SolveCount,
+}
+
+/// The labels of the pairs of a source, in their order.
+#[derive(Drop)]
+pub struct PairLabels {
+    pub labels: Vec<u64>,
+    /// Those in the grown graph, if there is one.
+    pub after: Vec<u64>,
+}
+
+impl<'a> Part<PairTasks<'a>> for PairLabels {
+    ghost is_part = { AreLabels };
+}
 
 /// Writes the lines of each pair in turn: the least label of its target from its source along the rows,
 /// with its walk where walks are asked for. Where the rows grow, the same in the grown graph comes after
@@ -66,15 +90,21 @@ pub fn write_pairs<H: Threads + Wait + Clock + Sync, W: Write, G: Gate + Sync>(
     let order = by_source(alloc, pairs)?;
     let mut labels = vec![in alloc; INF; pairs.len()]?;
     let mut after = room_after(alloc, graphs, pairs)?;
+    let tasks = PairTasks {
+        graphs,
+        pairs,
+        order: &order,
+        settings: &asked.settings,
+        solves: SolveCount::new(),
+    };
+    let teams = asked.at_once.teams(&graphs.rows, asked.settings.workers);
     label_pairs(
         rt,
         alloc,
-        graphs,
-        pairs,
-        &order,
+        &tasks,
+        teams,
         &mut labels,
         &mut after,
-        asked,
         gate,
         watch,
     )?;
@@ -94,51 +124,33 @@ fn room_after(alloc: Global, graphs: &Graphs, pairs: &[(u32, u32)]) -> Result<Ve
 
 /// Fills in the label of each pair's target from its source, and where the rows grow that in the grown
 /// graph. The order has the places of the pairs.
-fn label_pairs<'a, H: Threads + Wait + Clock + Sync, G: Gate + Sync>(
+fn label_pairs<H: Threads + Wait + Clock + Sync, G: Gate + Sync>(
     rt: &H,
     alloc: Global,
-    graphs: &'a Graphs,
-    pairs: &'a [(u32, u32)],
-    order: &'a [(u32, u32)],
+    tasks: &PairTasks<'_>,
+    teams: usize,
     labels: &mut [u64],
     after: &mut [u64],
-    asked: &'a Asked,
-    gate: &'a G,
+    gate: &G,
     watch: &mut impl Watch,
 ) -> Result<(), Fault>
-    requires graphs { AreGraphs graphs.now }
-    requires pairs { All (IsPairWithin graphs.now.rows.n) pairs.now }
-    requires order { AreBySource pairs.now order.now }
-    requires places { length labels.old ≡ length pairs.now }
-    requires after { IfSome graphs.now.grown (λ _. length after.old ≡ length pairs.now) }
-    ensures labels { OnOk result
-        (ArePairLabels graphs.now.rows.n graphs.now.rows.arcs pairs.now labels.new) }
-    ensures after { OnOk result (AreLabelsAfter graphs.now.grown pairs.now after.new) }
+    requires tasks { ArePairTasks tasks.now }
+    requires teams { teams ≤ tasks.now.settings.now.workers }
+    requires places { length labels.old ≡ length tasks.now.pairs.now }
+    requires after { IfSome tasks.now.graphs.now.grown (λ _. length after.old ≡ length tasks.now.pairs.now) }
+    ensures labels { OnOk result (ArePairLabels tasks.now.graphs.now.rows.n tasks.now.graphs.now.rows.arcs
+        tasks.now.pairs.now labels.new) }
+    ensures after { OnOk result (AreLabelsAfter tasks.now.graphs.now.grown tasks.now.pairs.now after.new) }
     ensures kinds { IfErr result IsWritingFault }
 {
-    let solves = Solves {
-        graphs,
-        queries: Queries::Labelled(pairs, order),
-        asked,
-        gate,
-    };
-    let mut ahead = Ahead::new(alloc, teams_for(asked, &graphs.rows));
+    let (graphs, pairs, order) = (tasks.graphs, tasks.pairs, tasks.order);
+    let mut rounds = Rounds::new(alloc, order.len(), teams, tasks.settings.workers);
     let mut first = 0;
     while first < order.len() {
         watch.see_answered(first, order.len());
-        let found = match ahead.take_labels(rt, alloc, &solves, first, watch) {
+        let found = match take_labels(rt, alloc, &mut rounds, tasks, gate, first, watch) {
             Some(found) => found,
-            None => pair_labels(
-                rt,
-                alloc,
-                graphs,
-                pairs,
-                order,
-                first,
-                &asked.settings,
-                gate,
-                watch,
-            )?,
+            None => pair_labels(rt, alloc, tasks, first, tasks.settings, gate, watch)?,
         };
         let own: &[u64] = &found.labels;
         fill(labels, order, first, own);
@@ -148,36 +160,90 @@ fn label_pairs<'a, H: Threads + Wait + Clock + Sync, G: Gate + Sync>(
     Ok(())
 }
 
-/// The labels of the pairs of the order from a place on that have one source, in both graphs.
-pub fn pair_labels<H: Threads + Wait + Clock + Sync, G: Gate + Sync>(
+/// The labels of the pairs of the order from a place on, if they were worked out before their turn.
+fn take_labels<H: Threads + Wait + Clock + Sync, G: Gate + Sync>(
     rt: &H,
     alloc: Global,
-    graphs: &Graphs,
-    pairs: &[(u32, u32)],
-    order: &[(u32, u32)],
+    rounds: &mut Rounds<PairLabels, ()>,
+    tasks: &PairTasks<'_>,
+    gate: &G,
+    place: usize,
+    watch: &mut impl Watch,
+) -> Option<PairLabels>
+    requires tasks { ArePairTasks tasks.now }
+    requires made { AreMade (AreLabels tasks.now) rounds.old.made.items }
+    ensures left { AreMade (AreLabels tasks.now) rounds.new.made.items }
+    ensures labels { IfSome result (AreLabels tasks.now place) }
+{
+    let found = rounds.take(
+        rt,
+        alloc,
+        tasks,
+        &|place, team, _kept| -> Option<PairLabels>
+            requires sync { IsSync H.row × IsSync G.row }
+            requires tasks { ArePairTasks tasks.now }
+            ensures { IfSome result (AreLabels tasks.entry.now place) }
+        { make_labels(rt, alloc, tasks, gate, place, team) },
+        &|place: usize| next_source(tasks.order, place),
+        place,
+    );
+    watch.see_teams(rounds.at_once());
+    watch.see_solves(tasks.solves.take());
+    watch.end(rt, Phase::Solving);
+    found
+}
+
+/// The labels of the pairs of the order from a place on, worked out by a team. `None` where memory was refused.
+fn make_labels<H: Threads + Wait + Clock + Sync, G: Gate + Sync>(
+    rt: &H,
+    alloc: Global,
+    tasks: &PairTasks<'_>,
+    gate: &G,
+    place: usize,
+    team: Team,
+) -> Option<PairLabels>
+    requires { ArePairTasks tasks.now }
+    ensures { IfSome result (AreLabels tasks.now place) }
+{
+    if place >= tasks.order.len() {
+        return None;
+    }
+    let settings = team.settings(tasks.settings);
+    let gate = TeamGate { gate, team };
+    let mut watch = TeamWatch {
+        solves: &tasks.solves,
+    };
+    pair_labels(rt, alloc, tasks, place, &settings, &gate, &mut watch).ok()
+}
+
+/// The labels of the pairs of the order from a place on that have one source, in both graphs.
+fn pair_labels<H: Threads + Wait + Clock + Sync, G: Gate + Sync>(
+    rt: &H,
+    alloc: Global,
+    tasks: &PairTasks<'_>,
     first: usize,
     settings: &Settings,
     gate: &G,
     watch: &mut impl Watch,
 ) -> Result<PairLabels, Fault>
-    requires graphs { AreGraphs graphs.now }
-    requires pairs { All (IsPairWithin graphs.now.rows.n) pairs.now }
-    requires order { AreBySource pairs.now order.now }
-    requires place { first < length order.now }
-    ensures labels { IfOk result (AreLabelsFrom graphs.now pairs.now order.now first) }
+    requires tasks { ArePairTasks tasks.now }
+    requires place { first < length tasks.now.order.now }
+    ensures labels { IfOk result (AreLabels tasks.now first) }
     ensures kinds { IfErr result IsWritingFault }
 {
+    let (graphs, pairs, order) = (tasks.graphs, tasks.pairs, tasks.order);
     let solve = Solve::of_queries(order, first);
     let start = solve.start;
     let rows = &graphs.rows;
     let found = start.solve(rt, alloc, rows, settings, gate, watch)?;
     let labels = picked(alloc, pairs, order, solve, &found)?;
-    let Some(grown) = &graphs.grown else {
-        let after = Vec::new(alloc);
-        return Ok(PairLabels { labels, after });
+    let after = match &graphs.grown {
+        None => Vec::new(alloc),
+        Some(grown) => {
+            let found = start.solve_grown(rt, alloc, rows, grown, found, settings, gate, watch)?;
+            picked(alloc, pairs, order, solve, &found)?
+        }
     };
-    let found = start.solve_grown(rt, alloc, rows, grown, found, settings, gate, watch)?;
-    let after = picked(alloc, pairs, order, solve, &found)?;
     Ok(PairLabels { labels, after })
 }
 

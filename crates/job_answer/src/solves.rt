@@ -133,6 +133,14 @@ impl Solve {
     }
 }
 
+/// The place of the query after one that has another source than it.
+pub fn next_source(queries: &[(u32, u32)], place: usize) -> usize {
+    if place >= queries.len() {
+        return place.saturating_add(1);
+    }
+    Solve::of_queries(queries, place).end
+}
+
 /// The source of each pair with the place of the pair, by rising source: so one solve after another
 /// answers all of them, and no source is solved twice.
 pub fn by_source(alloc: Global, pairs: &[(u32, u32)]) -> Result<Vec<(u32, u32)>, Memory>

@@ -1,7 +1,9 @@
 //! Which lines answer pairs with walks?
 
 ghost use Rattle.std.specs.Prelude.{◌≡◌, ◌<◌, ◌≤◌, ◌++◌, ◌↔◌, length, slice_index};
-ghost use Rattle.std.specs.Prelude.{All, IfErr, IfOk, OnErr, OnOk, true};
+ghost use Rattle.std.specs.Prelude.{All, IfErr, IfOk, IfSome, OnErr, OnOk, true};
+ghost use Rattle.std.specs.Thread.{IsSync};
+ghost use Rattle.least_costs.specs.Rounds.{AreMade};
 ghost use Rattle.route_walks.specs.Label.{AreLeastLabels};
 ghost use Rattle.route_walks.specs.Operators.{seeds_from};
 ghost use Rattle.walk_report.specs.Parent.{LeadBack};
@@ -12,23 +14,22 @@ ghost use Rattle.job_answer.specs.Graphs.{AreGraphs, growth_of};
 ghost use Rattle.job_answer.specs.Outcome.{IsWritingFault};
 ghost use Rattle.job_answer.specs.declared.output_buffer.TheConstants.{PIECE};
 ghost use Rattle.job_answer.specs.Sent.{IsWalkedPair, SendsOn, SendsPrefix};
-ghost use Rattle.job_answer.specs.Solved.{IsLinesText};
 ghost use Rattle.job_answer.specs.Solves.{pair_at, IsForQueries, IsWalked, IsWalkedAfter};
 ghost use Rattle.job_answer.specs.Solves.{walked_text, walked_after_text, with_growth};
+ghost use Rattle.job_answer.specs.Tasks.{AreLines, AreWalkTasks};
 
-use crate::ahead::Ahead;
 use crate::asked::Asked;
 use crate::blocks::put_walk_line;
 use crate::fault::Fault;
 use crate::graphs::Graphs;
 use crate::laws::blocks_are_unique;
-use crate::output_buffer::{Held, OutputBuffer};
-use crate::solved::{Queries, SolvedText, Solves, most_bytes};
-use crate::solves::{Solve, Start};
-use crate::teams::{TeamGate, teams_for};
+use crate::output_buffer::{Held, OutputBuffer, most_bytes};
+use crate::solves::{Solve, Start, next_source};
+use crate::team_watch::{SolveCount, TeamWatch};
 use crate::watch::{Phase, Watch};
 use answer_lines::{put_grown, put_pair};
 use csr_graph::Csr;
+use least_costs::{Part, Rounds, Team, TeamGate};
 use obim_engine::{Gate, Settings};
 use route_walks::{MAX_VERTICES, Memory};
 use std::alloc::Global;
@@ -37,6 +38,28 @@ use std::sync::Wait;
 use std::thread::Threads;
 use std::time::Clock;
 use walk_report::{NONE, hops, parents};
+
+/// The pairs whose lines are asked for with walks. A task for those that stand side by side and have one source, at
+/// the place of the first, gives their lines.
+#[derive(Drop)]
+pub struct WalkTasks<'a> {
+    pub graphs: &'a Graphs,
+    pub pairs: &'a [(u32, u32)],
+    pub settings: &'a Settings,
+    pub solves: SolveCount,
+}
+
+/// The lines of such pairs, in memory.
+#[derive(Drop)]
+pub struct LinesText {
+    /// How many pairs the lines are for.
+    pub count: usize,
+    pub bytes: Vec<u8>,
+}
+
+impl<'a> Part<WalkTasks<'a>> for LinesText {
+    ghost is_part = { AreLines };
+}
 
 /// Writes the lines of each pair in turn, each with its walk. Only pairs that stand side by side share the
 /// solve of their source.
@@ -60,17 +83,19 @@ pub fn write_walked<H: Threads + Wait + Clock + Sync, W: Write, G: Gate + Sync>(
 {
     blocks_are_unique();
     let mut waiting = OutputBuffer::new(alloc);
-    let solves = Solves {
+    let tasks = WalkTasks {
         graphs,
-        queries: Queries::Walked(pairs),
-        asked,
-        gate,
+        pairs,
+        settings: &asked.settings,
+        solves: SolveCount::new(),
     };
-    let mut ahead = Ahead::new(alloc, teams_for(asked, &graphs.rows));
+    let workers = asked.settings.workers;
+    let teams = asked.at_once.teams(&graphs.rows, workers);
+    let mut rounds = Rounds::new(alloc, pairs.len(), teams, workers);
     let mut first = 0;
     while first < pairs.len() {
         watch.see_answered(first, pairs.len());
-        if let Some(text) = ahead.take_text(rt, alloc, &solves, first, watch) {
+        if let Some(text) = take_lines(rt, alloc, &mut rounds, &tasks, gate, first, watch) {
             waiting.send_with(writer, &text.bytes)?;
             watch.end(rt, Phase::Writing);
             first += text.count;
@@ -94,24 +119,80 @@ pub fn write_walked<H: Threads + Wait + Clock + Sync, W: Write, G: Gate + Sync>(
     waiting.finish(writer)
 }
 
-/// The lines of the pairs from a place on that have one source, in memory, by the workers of a team. Fails where
-/// they are long, too.
-pub fn held_lines<H: Threads + Wait + Clock + Sync, G: Gate + Sync>(
+/// The lines of the pairs from a place on, if they were made before their turn.
+fn take_lines<H: Threads + Wait + Clock + Sync, G: Gate + Sync>(
     rt: &H,
     alloc: Global,
-    graphs: &Graphs,
-    pairs: &[(u32, u32)],
+    rounds: &mut Rounds<LinesText, ()>,
+    tasks: &WalkTasks<'_>,
+    gate: &G,
+    place: usize,
+    watch: &mut impl Watch,
+) -> Option<LinesText>
+    requires tasks { AreWalkTasks tasks.now }
+    requires made { AreMade (AreLines tasks.now) rounds.old.made.items }
+    ensures left { AreMade (AreLines tasks.now) rounds.new.made.items }
+    ensures text { IfSome result (AreLines tasks.now place) }
+{
+    let text = rounds.take(
+        rt,
+        alloc,
+        tasks,
+        &|place, team, _kept| -> Option<LinesText>
+            requires sync { IsSync H.row × IsSync G.row }
+            requires tasks { AreWalkTasks tasks.now }
+            ensures { IfSome result (AreLines tasks.entry.now place) }
+        { make_lines(rt, alloc, tasks, gate, place, team) },
+        &|place: usize| next_source(tasks.pairs, place),
+        place,
+    );
+    watch.see_teams(rounds.at_once());
+    watch.see_solves(tasks.solves.take());
+    watch.end(rt, Phase::Solving);
+    text
+}
+
+/// The lines of the pairs from a place on that have one source, made by a team. `None` where they were not made:
+/// where memory was refused, or where walks make them long.
+fn make_lines<H: Threads + Wait + Clock + Sync, G: Gate + Sync>(
+    rt: &H,
+    alloc: Global,
+    tasks: &WalkTasks<'_>,
+    gate: &G,
+    place: usize,
+    team: Team,
+) -> Option<LinesText>
+    requires { AreWalkTasks tasks.now }
+    ensures { IfSome result (AreLines tasks.now place) }
+{
+    if place >= tasks.pairs.len() {
+        return None;
+    }
+    let settings = team.settings(tasks.settings);
+    let gate = TeamGate { gate, team };
+    let mut watch = TeamWatch {
+        solves: &tasks.solves,
+    };
+    held_lines(rt, alloc, tasks, place, &settings, &gate, &mut watch).ok()
+}
+
+/// The lines of the pairs from a place on that have one source, in memory, by the workers of a team. Fails where
+/// they are long, too.
+fn held_lines<H: Threads + Wait + Clock + Sync, G: Gate + Sync>(
+    rt: &H,
+    alloc: Global,
+    tasks: &WalkTasks<'_>,
     first: usize,
     settings: &Settings,
     gate: &TeamGate<'_, G>,
     watch: &mut impl Watch,
-) -> Result<SolvedText, Fault>
-    requires graphs { AreGraphs graphs.now }
-    requires pairs { All (IsPairWithin graphs.now.rows.n) pairs.now }
-    requires place { first < length pairs.now }
+) -> Result<LinesText, Fault>
+    requires tasks { AreWalkTasks tasks.now }
+    requires place { first < length tasks.now.pairs.now }
     requires team { settings.now.workers ≡ gate.now.team.workers }
-    ensures { IfOk result (IsLinesText graphs.now pairs.now first) }
+    ensures { IfOk result (AreLines tasks.now first) }
 {
+    let (graphs, pairs) = (tasks.graphs, tasks.pairs);
     let rest = &pairs[first..];
     let solve = Solve::of_queries(rest, 0);
     let mut held = Held::new(alloc, most_bytes(graphs));
@@ -129,7 +210,7 @@ pub fn held_lines<H: Threads + Wait + Clock + Sync, G: Gate + Sync>(
         watch,
     )?;
     waiting.finish(&mut held)?;
-    Ok(SolvedText {
+    Ok(LinesText {
         count: solve.end,
         bytes: held.into_bytes(),
     })

@@ -18,8 +18,8 @@ use Rattle.obim_engine.specs.declared.settings.Settings.{Settings}
 use Rattle.job_answer.specs.declared.asked.TheConstants.{MAX_BYTES}
 use Rattle.job_answer.specs.declared.asked.Answer.{Answer}
 use Rattle.job_answer.specs.declared.asked.Answer.TheVariants.{Distances, Levels, Components}
-use Rattle.job_answer.specs.declared.asked.AtOnce.{AtOnce}
-use Rattle.job_answer.specs.declared.asked.AtOnce.TheVariants as at_once
+use Rattle.least_costs.specs.declared.plan.AtOnce.{AtOnce}
+use Rattle.least_costs.specs.declared.plan.AtOnce.TheVariants as at_once
 use Rattle.obim_query.specs.declared.command_line.Options.{Options}
 use Rattle.obim_query.specs.declared.refusals.Refusal.{Refusal}
 use Rattle.obim_query.specs.declared.refusals.Refusal.TheVariants as refusal

@@ -14,7 +14,7 @@ loop-place-preserved g c =
           sent-more (IsGrownBlock c.args.asked.now.walks graphs.rows.n graphs.rows.arcs growth) c.args.sources.now
           c.loop-place.place 0 _ _ _ _ c.put_solved.new.waiting.bytes.items c.loop-place-test.true
           c.loop-place.invariant.sent (rw c.of_source-solve.ensures at c.in_ok-put_solved.ensures.block);
-      made = c.take_text.ensures.left;
+      made = c.take_block.ensures.left;
     }
 
 pub loop-place-preserved-in-Some : goal.loop-place-preserved-in-Some
@@ -28,10 +28,10 @@ loop-place-preserved-in-Some g c =
           c.loop-place.invariant.sent
           (record {
             text = c.in-Some.text.bytes.items;
-            is_text = c.in-Some.ensures.solved;
+            is_text = c.in-Some.ensures.text;
             waits = rw c.deref.ensures.value at c.in_ok-send_with.ensures.sent;
           });
-      made = c.take_text.ensures.left;
+      made = c.take_block.ensures.left;
     }
 
 pub returns-in_err-send_with-clause-prefix : goal.returns-in_err-send_with-clause-prefix
@@ -45,7 +45,7 @@ returns-in_err-send_with-clause-prefix g c =
     (block-cut (IsGrownBlock walks graphs.rows.n graphs.rows.arcs growth) only sources c.loop-place.place 0 _ _ _ _
     c.loop-place-test.true c.loop-place.invariant.sent
     (only-text _ _ _ _ c.in-Some.text.bytes.items
-    (λ other is. only _ c.in-Some.text.bytes.items other c.in-Some.ensures.solved is)
+    (λ other is. only _ c.in-Some.text.bytes.items other c.in-Some.ensures.text is)
     (rw c.deref.ensures.value at c.in_err-send_with.ensures.prefix)))
 
 pub returns-in_err-put_solved-clause-prefix : goal.returns-in_err-put_solved-clause-prefix

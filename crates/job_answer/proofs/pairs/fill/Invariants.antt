@@ -1,6 +1,6 @@
 use Rattle.std.proofs.Common.{◌≡◌, ◌+◌, ℕ, List, length}
 use Rattle.route_walks.specs.declared.graph.ArcRec.{ArcRec}
-use Rattle.job_answer.specs.Solved.{AreLabelsAt}
+use Rattle.job_answer.specs.Tasks.{AreLabelsAt}
 use Rattle.job_answer.specs.Solves.{AreFilled}
 use Rattle.job_answer.proofs.pairs.fill.Given as goal
 

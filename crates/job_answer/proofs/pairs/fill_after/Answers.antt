@@ -1,5 +1,5 @@
 use Rattle.std.proofs.Common.{◌+◌, Some, subst}
-use Rattle.job_answer.specs.Solved.{AreGrownLabelsAt}
+use Rattle.job_answer.specs.Tasks.{AreGrownLabelsAt}
 use Rattle.job_answer.specs.Solves.{AreFilled, AreFilledAfter}
 use Rattle.job_answer.proofs.pairs.fill_after.Goals as goal
 

@@ -1,7 +1,7 @@
 use Rattle.std.proofs.Common.{◌≡◌, ◌+◌, ℕ, List, length}
 use Rattle.route_walks.specs.declared.graph.ArcRec.{ArcRec}
 use Rattle.route_walks.specs.Label.{AreLeastLabels}
-use Rattle.job_answer.specs.Solved.{AreLabelsAt}
+use Rattle.job_answer.specs.Tasks.{AreLabelsAt}
 use Rattle.job_answer.specs.Solves.{seeds_at}
 use Rattle.job_answer.proofs.pairs.picked.Given as goal
 

@@ -7,8 +7,8 @@ use Rattle.job_answer.proofs.walked_pairs.held_lines.Goals as goal
 
 pub returns : goal.returns
 returns g c =
-    let graphs = c.args.graphs.now in
-    let pairs = c.args.pairs.now in
+    let graphs = c.args.tasks.now.graphs.now in
+    let pairs = c.args.tasks.now.pairs.now in
     let first = c.args.first in
     let rest = take (length pairs - first) (drop first pairs) in
     let solve = c.of_queries-solve.result in

@@ -16,8 +16,8 @@ loop-first-preserved-in-Some g c =
       sent =
           sent-given is_block pairs _ _ (g.W.Write.contents c.loop-first.writer) _ _ _
           (sent-on is_block pairs c.loop-first.first text.count _ _ _ text.bytes.items c.loop-first.invariant.sent
-          c.in-Some.ensures.solved.lines) (rw c.deref.ensures.value at c.in_ok-send_with.ensures.sent);
-      made = c.take_text.ensures.left;
+          c.in-Some.ensures.text.lines) (rw c.deref.ensures.value at c.in_ok-send_with.ensures.sent);
+      made = c.take_lines.ensures.left;
     }
 
 pub returns-in_err-send_with-clause-prefix : goal.returns-in_err-send_with-clause-prefix
@@ -31,7 +31,7 @@ returns-in_err-send_with-clause-prefix g c =
     (sent-cut is_block (c.blocks_are_unique.ensures true graphs.rows.n graphs.rows.arcs growth).1 pairs _ (0, 0) _
     (g.W.Write.contents c.loop-first.writer) _ _
     (sent-on is_block pairs c.loop-first.first text.count _ _ _ text.bytes.items c.loop-first.invariant.sent
-    c.in-Some.ensures.solved.lines) (rw c.deref.ensures.value at c.in_err-send_with.ensures.prefix))
+    c.in-Some.ensures.text.lines) (rw c.deref.ensures.value at c.in_err-send_with.ensures.prefix))
 
 pub returns-in_err-put_solved_pairs-clause-prefix : goal.returns-in_err-put_solved_pairs-clause-prefix
 returns-in_err-put_solved_pairs-clause-prefix g c =

@@ -1,0 +1,48 @@
+//! Tables of networks with their costs, beside the plain way at random, and sources side by side.
+
+mod draws;
+mod networks;
+mod refusals;
+mod sources;
+
+ghost use Rattle.std.specs.Prelude.{◌≡◌, IfOk};
+
+use least_costs::{Cost, Costs, Network};
+use route_walks::{ArcRec, EXAMPLE_ARCS};
+use std::alloc::Global;
+use std::process::Abort;
+use std::test::Fail;
+use std::thread::Threads;
+
+/// A network of so many vertices.
+fn network_of<H: Threads + Abort + Sync>(
+    rt: &H,
+    alloc: Global,
+    n: u32,
+    arcs: &[ArcRec],
+    cost: Cost,
+) -> Result<Network, Fail>
+    ensures { IfOk result (λ network. network.n ≡ n) }
+{
+    Ok(Network::new(rt, alloc, n, arcs.to_vec(alloc)?, cost, 2)?)
+}
+
+/// The network of the six vertices.
+fn six<H: Threads + Abort + Sync>(rt: &H, alloc: Global) -> Result<Network, Fail>
+    ensures { IfOk result (λ network. network.n ≡ 6) }
+{
+    network_of(rt, alloc, 6, &EXAMPLE_ARCS, Cost::Weight)
+}
+
+/// Asserts that these are the costs of a row of a table.
+fn expect_costs(rt: &impl Abort, row: usize, network: &Network, costs: &Costs, want: &[Option<u64>])
+    requires { costs.now.net ≡ network.now }
+{
+    assert!(rt; want.len() == network.n() as usize, "row {row}");
+    for v in 0..network.n() {
+        assert!(rt;
+            want.get(v as usize) == Some(&costs.to(v)),
+            "row {row}, vertex {v}"
+        );
+    }
+}

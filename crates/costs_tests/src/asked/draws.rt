@@ -1,0 +1,114 @@
+//! Networks at random: are the costs those of the plain way?
+
+use crate::asked::network_of;
+use least_costs::{AtOnce, Cost, Network, Plan, Solver};
+use route_walks::{
+    ArcRec, INF, Memory, Seed, are_seeds, both_ways, is_graph, plain_labels, unit_weights,
+};
+use std::alloc::Global;
+use std::process::Abort;
+use std::sync::Wait;
+use std::test::Fail;
+use std::thread::Threads;
+use std::time::Clock;
+
+/// Marsaglia's xorshift.
+#[derive(Drop)]
+struct Draws {
+    state: u64,
+}
+
+impl Draws {
+    /// A number below `end`, which isn't 0.
+    fn below(&mut self, end: u32) -> u32 {
+        self.state ^= self.state << 13;
+        self.state ^= self.state >> 7;
+        self.state ^= self.state << 17;
+        (self.state >> 40) as u32 % end.max(1)
+    }
+
+    fn arcs(&mut self, alloc: Global, n: u32, count: u32) -> Result<Vec<ArcRec>, Memory> {
+        let mut arcs = Vec::new(alloc);
+        for _ in 0..count {
+            let (tail, head) = (self.below(n), self.below(n));
+            arcs.push(ArcRec::new(tail, head, self.below(50)))?;
+        }
+        Ok(arcs)
+    }
+}
+
+/// The arcs along which the plain way is gone.
+fn arcs_of(alloc: Global, cost: Cost, arcs: &[ArcRec]) -> Result<Vec<ArcRec>, Memory> {
+    match cost {
+        Cost::Weight => Ok(arcs.to_vec(alloc)?),
+        Cost::One => unit_weights(alloc, arcs),
+        Cost::FreeBothWays => both_ways(alloc, arcs),
+    }
+}
+
+/// The label of a vertex from a source, by rounds over all arcs.
+fn plain_label(
+    rt: &impl Abort,
+    alloc: Global,
+    n: u32,
+    arcs: &[ArcRec],
+    source: u32,
+    v: u32,
+) -> Result<Option<u64>, Fail> {
+    let seeds = [Seed::new(source, 0)];
+    let within = is_graph(n, arcs) && are_seeds(n, &seeds) && v < n;
+    assert!(rt; within);
+    let label = plain_labels(alloc, n, arcs, &seeds)?[v as usize];
+    Ok(if label == INF { None } else { Some(label) })
+}
+
+/// Asks for the costs from two sources at once, and compares each with the plain way.
+fn expect_plain<H: Threads + Wait + Clock + Abort + Sync>(
+    rt: &H,
+    alloc: Global,
+    network: &Network,
+    along: &[ArcRec],
+    sources: &[u32],
+    workers: u32,
+) -> Result<(), Fail> {
+    let plan = Plan {
+        settings: Plan::usual(workers).settings,
+        at_once: AtOnce::Most(2),
+    };
+    let n = network.n();
+    assert!(rt; sources.iter().all(|&source| source < n));
+    let solver = Solver::new(network, plan);
+    let mut each = solver.each(alloc, sources);
+    for &source in sources {
+        let Some(costs) = each.next(rt, alloc) else {
+            break;
+        };
+        let costs = costs?;
+        for v in 0..n {
+            let want = plain_label(rt, alloc, n, along, source, v)?;
+            assert!(rt; costs.to(v) == want, "from {source} to {v}");
+        }
+    }
+    Ok(())
+}
+
+const COSTS: [Cost; 3] = [Cost::Weight, Cost::One, Cost::FreeBothWays];
+
+#[test]
+fn random_networks(rt: HostRuntime) -> Result<(), Fail> {
+    let alloc = rt.alloc();
+    let mut draws = Draws {
+        state: 88172645463325252,
+    };
+    for workers in 1..5_u32 {
+        for cost in COSTS {
+            let n = 2 + draws.below(8) % 8;
+            let count = draws.below(24);
+            let arcs = draws.arcs(alloc, n, count)?;
+            let network = network_of(&rt, alloc, n, &arcs, cost)?;
+            let along = arcs_of(alloc, cost, &arcs)?;
+            expect_plain(&rt, alloc, &network, &along, &[1, 0, 1], workers)?;
+        }
+    }
+    Ok(())
+}

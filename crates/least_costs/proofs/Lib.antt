@@ -1,0 +1,6 @@
+pub mod Networks
+pub mod Starts
+pub mod Unreached
+pub mod LeastWalks
+pub mod Taken
+pub mod Facts

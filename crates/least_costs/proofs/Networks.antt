@@ -1,0 +1,59 @@
+-- What is so of the arcs along which costs are least, and of a network that grows.
+use Rattle.std.proofs.Common.{◌≡◌, ◌∙◌, ℕ, ◌<◌, ◌^◌, List, [], ◌∷◌, ◌++◌, sym, subst, arith, refl}
+use Rattle.std.specs.List.{All, Contains}
+use Rattle.std.proofs.lemmas.List.Elements.{All-cons, All-contains, All-contains_itself, All-head, All-map}
+use Rattle.std.proofs.lemmas.List.Elements.{All-tail, All-weaker}
+use Rattle.route_walks.proofs.Facts.{both_ways-append, same_arcs-grown, unit_weights-append}
+use Rattle.route_walks.specs.declared.graph.ArcRec.{ArcRec}
+use Rattle.route_walks.specs.Operators.{against, along, unit_weight}
+use Rattle.route_walks.specs.Walk.{HaveSameArcs, IsArcBelow, IsGraph}
+use Rattle.least_costs.specs.declared.cost.Cost.{Cost}
+use Rattle.least_costs.specs.declared.cost.Cost.TheVariants.{Weight, One, FreeBothWays}
+use Rattle.least_costs.specs.Laws.{NetworksGrow}
+use Rattle.least_costs.specs.Network.{AreLight, arcs_of}
+
+-- what is so of each arc of a list is so of each arc of a list with the same arcs
+pub over-same : (P : ArcRec → Type 0) (one other : List ArcRec) → HaveSameArcs one other → All P other → All P one
+over-same P one other same all =
+    All-weaker (Contains one) P (λ arc here. All-contains P other arc all ((same arc).0 here)) one (All-contains_itself one)
+
+-- weights stay below 2^32, whatever an arc costs
+pub light-along : (kind : Cost) (arcs : List ArcRec) → AreLight arcs → AreLight (arcs_of kind arcs)
+light-along Weight arcs light = light
+light-along One arcs light =
+    let IsLight = λ (arc : ArcRec). arc.weight < 2 ^ 32 in
+    All-map IsLight unit_weight arcs (All-weaker IsLight (λ arc. 1 < 2 ^ 32) (λ arc _. omega arith) arcs light)
+light-along FreeBothWays [] light = light
+light-along FreeBothWays (arc ∷ arcs) light =
+    let IsLight = λ (arc : ArcRec). arc.weight < 2 ^ 32 in
+    let rest = arcs_of FreeBothWays arcs in
+    All-cons IsLight (along arc) (against arc ∷ rest) (omega arith)
+    (All-cons IsLight (against arc) rest (omega arith) (light-along FreeBothWays arcs (All-tail IsLight arc arcs light)))
+
+-- and ends stay vertices
+pub graph-along : (n : ℕ) (kind : Cost) (arcs : List ArcRec) → IsGraph n arcs → IsGraph n (arcs_of kind arcs)
+graph-along n Weight arcs graph = graph
+graph-along n One arcs graph = All-map (IsArcBelow n) unit_weight arcs graph
+graph-along n FreeBothWays [] graph = graph
+graph-along n FreeBothWays (arc ∷ arcs) graph =
+    let here = All-head (IsArcBelow n) arc arcs graph in
+    let rest = arcs_of FreeBothWays arcs in
+    All-cons (IsArcBelow n) (along arc) (against arc ∷ rest) here
+    (All-cons (IsArcBelow n) (against arc) rest (here.1, here.0)
+    (graph-along n FreeBothWays arcs (All-tail (IsArcBelow n) arc arcs graph)))
+
+arcs_of-append : (kind : Cost) (arcs added : List ArcRec)
+    → arcs_of kind (arcs ++ added) ≡ arcs_of kind arcs ++ arcs_of kind added
+arcs_of-append Weight arcs added = refl
+arcs_of-append One arcs added = unit_weights-append arcs added
+arcs_of-append FreeBothWays arcs added = both_ways-append arcs added
+
+pub networks_grow : NetworksGrow
+networks_grow n kind arcs added net grown are grows cost is = record {
+  vertices = grows.vertices ∙ are.vertices;
+  kind_is = cost ∙ are.kind_is;
+  along =
+      subst (HaveSameArcs grown.arcs) (sym (arcs_of-append kind arcs added))
+      (same_arcs-grown grown.arcs net.arcs (arcs_of kind arcs) (arcs_of kind added)
+      (subst (λ (xs : List ArcRec). HaveSameArcs grown.arcs (net.arcs ++ xs)) is grows.along) are.along);
+}

@@ -1,0 +1,19 @@
+use Rattle.std.proofs.Common.{◌<◌, ◌^◌, subst, sym}
+use Rattle.std.proofs.lemmas.List.Elements.{All-nil}
+use Rattle.route_walks.specs.declared.graph.ArcRec.{ArcRec}
+use Rattle.route_walks.specs.Walk.{IsArcBelow, IsGraph}
+use Rattle.least_costs.proofs.Networks.{light-along, over-same}
+use Rattle.least_costs.proofs.network.Network.new.Goals as goal
+
+pub invariant_of-result : goal.invariant_of-result
+invariant_of-result g c =
+    let rows = c.in_ok-rows.rows in
+    let light = rw c.deref.ensures.value at c.in-None.ensures.light in
+    record {
+      few = c.in_ok-rows.ensures.in_rows.vertices;
+      ends = c.in_ok-rows.ensures.in_rows.ends;
+      light =
+          over-same (λ (arc : ArcRec). arc.weight < 2 ^ 32) rows.arcs _ c.in_ok-rows.ensures.arcs
+          (light-along c.args.cost c.args.arcs.items light);
+      added_ends = subst (IsGraph rows.n) (sym c.new-added.ensures.items) (All-nil (IsArcBelow rows.n));
+    }

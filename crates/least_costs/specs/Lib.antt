@@ -1,0 +1,9 @@
+pub mod Network
+pub mod Faults
+pub mod Costs
+pub mod Walks
+pub mod Teams
+pub mod Rounds
+pub mod Each
+pub mod Taken
+pub mod Laws

@@ -1,0 +1,12 @@
+//! What does an arc cost?
+
+/// What an arc of a network costs.
+#[derive(Clone, Copy, Debug, PartialEq, Eq)]
+pub enum Cost {
+    /// Its weight.
+    Weight,
+    /// One: a least cost is the fewest arcs of a walk.
+    One,
+    /// Nothing, and it leads both ways: from everywhere, a least cost is the least vertex of a component.
+    FreeBothWays,
+}

@@ -1,0 +1,83 @@
+//! What does it cost at least to get to each vertex, in which network and from which start?
+
+ghost use Rattle.std.specs.Prelude.{◌≡◌, ◌<◌, IfNone, IfSome};
+ghost use Rattle.least_costs.specs.Costs.{AreCosts, AreLeastFrom, IsLeastCost, IsUnreached};
+ghost use Rattle.least_costs.specs.Network.{IsStartWithin};
+
+use crate::network::Network;
+use crate::start::Start;
+use route_walks::INF;
+use route_walks::laws::inf_means_no_walk;
+use std::marker::Model;
+use std::snapshot::Snapshot;
+
+/// The least cost of each vertex from a start. Contracts see in which network; of that it keeps nothing.
+/// It takes 8 bytes a vertex.
+#[derive(Drop)]
+pub struct Costs {
+    labels: Vec<u64>,
+    start: Start,
+    of: Snapshot<Network>,
+}
+
+impl Model for Costs {
+    ghost use Rattle.least_costs.specs.Costs.{AreCosts, CostsSeen};
+
+    ghost Value = { CostsSeen };
+
+    ghost view = { λ c. record { net = c.of.value; start = c.start; labels = c.labels.items } };
+
+    ghost invariant = { λ c. AreCosts
+        (record { net = c.of.value; start = c.start; labels = c.labels.items }) };
+}
+
+impl Costs {
+    pub(crate) fn new(network: &Network, start: Start, labels: Vec<u64>) -> Costs
+        requires start { IsStartWithin network.now.n start }
+        requires least { AreLeastFrom network.now start labels.items }
+        ensures { result ≡ record { net = network.now; start = start; labels = labels.items } }
+    {
+        let _ = network.n();
+        Costs {
+            labels,
+            start,
+            of: Snapshot::of(network),
+        }
+    }
+
+    /// The least cost of a walk to `v`; `None` if there is no walk.
+    pub fn to(&self, v: u32) -> Option<u64>
+        requires { v < self.now.net.n }
+        ensures some { IfSome result (IsLeastCost self.now.net self.now.start v) }
+        ensures none { IfNone result (IsUnreached self.now.net self.now.start v) }
+    {
+        // A walk costs less than `INF`, so a label of `INF` means that there is none.
+        inf_means_no_walk();
+        let label = self.labels[v as usize];
+        if label == INF { None } else { Some(label) }
+    }
+
+    /// The least cost of each vertex, `INF` if there is no walk to it.
+    pub fn labels(&self) -> &[u64]
+        ensures labels { result.now ≡ self.now.labels }
+        ensures least { AreLeastFrom self.now.net self.now.start self.now.labels }
+    {
+        &self.labels
+    }
+
+    /// Where the walks begin.
+    pub fn start(&self) -> Start
+        ensures start { result ≡ self.now.start }
+        ensures costs { AreCosts self.now }
+    {
+        self.start
+    }
+
+    /// The labels, given up.
+    pub fn into_labels(self) -> Vec<u64>
+        ensures labels { result.items ≡ self.labels }
+        ensures least { AreLeastFrom self.net self.start self.labels }
+    {
+        self.labels
+    }
+}

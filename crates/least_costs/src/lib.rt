@@ -1,0 +1,56 @@
+//! What does it cost at least to get from here to there?
+//!
+//! A `Network` is made once, of arcs and of what an arc costs: its weight, one, or nothing and both ways. A
+//! `Solver` asks it, as often as one likes: `from` one source, from `each` of many, which are worked out side by
+//! side and handed over in their order, from everywhere for components, and after arcs were added. It gives
+//! `Costs`, of which contracts know in which network and from which start they are: `to` a vertex is the least
+//! cost of a walk, and `None` exactly if there is no walk. `Costs::walks` gives the vertices of least walks with
+//! the fewest arcs. The only fault is that memory is refused. How many workers there are, and how they share
+//! the work, is a `Plan`, on which no cost depends.
+//!
+//! ```text
+//! let network = Network::new(&rt, alloc, 3, arcs, Cost::Weight, 2)?; // 0 to 1 costs 7, 1 to 2 costs 5
+//! let solver = Solver::new(&network, Plan::usual(2));
+//! let costs = solver.from(&rt, alloc, 0)?;
+//! costs.to(2); // Some(12)
+//! let mut each = solver.each(alloc, &[1, 2]);
+//! while let Some(found) = each.next(&rt, alloc) {
+//!     found?.to(2); // Some(5), and then Some(0)
+//! }
+//! ```
+//!
+//! `Rounds` is what `Each` stands on: tasks of any kind that are done side by side before their turn, by teams
+//! that keep what they need from one to the next, as a `Runner` keeps its pool.
+//!
+//! Stands on `obim_engine`, whose workers give the costs, and on its pools in `obim_pool`, on `walk_report` for
+//! walks, on `csr_graph` for the rows, on `label_words` for what a pause is, and on `route_walks`, which says
+//! what walks cost. It starts threads and waits: a call returns only if its workers do, which no contract
+//! promises.
+#![tactic(auto)]
+
+mod cost;
+mod costs;
+mod each;
+mod fault;
+pub mod laws;
+mod network;
+mod plan;
+mod rounds;
+mod runner;
+mod solver;
+mod start;
+mod teams;
+mod walks;
+
+pub use cost::Cost;
+pub use costs::Costs;
+pub use each::{Each, Sources};
+pub use fault::NetworkFault;
+pub use network::{MOST_ARCS, Network};
+pub use plan::{AtOnce, Plan};
+pub use rounds::{Made, Part, Rounds};
+pub use runner::Runner;
+pub use solver::Solver;
+pub use start::Start;
+pub use teams::{Team, TeamGate};
+pub use walks::Walks;

@@ -1,0 +1,185 @@
+//! Along which arcs are costs least?
+
+ghost use Rattle.std.specs.Prelude.{◌≡◌, ◌+◌, ◌≤◌, ◌<◌, ◌^◌, ◌↔◌, ◌++◌, length, All};
+ghost use Rattle.std.specs.Prelude.{IfErr, IfNone, IfOk, IfSome, IsTrue};
+ghost use Rattle.csr_graph.specs.Graph.{IsInRows};
+ghost use Rattle.route_walks.specs.Walk.{IsArcBelow, IsGraph, HaveSameArcs};
+ghost use Rattle.least_costs.specs.Faults.{IsFirstOutside, IsNetworkFault, IsGrowthFault};
+ghost use Rattle.least_costs.specs.Network.{AreLight, GrowsTo, IsNetwork, IsNetworkOf, arcs_of};
+
+use crate::cost::Cost;
+use crate::fault::NetworkFault;
+use csr_graph::Csr;
+use route_walks::{ArcRec, MAX_ARCS, MAX_VERTICES, Memory, both_ways, unit_weights};
+use std::alloc::Global;
+use std::marker::Model;
+use std::thread::Threads;
+
+/// A network is made of at most this many arcs: 2^30.
+pub const MOST_ARCS: usize = 1 << 30;
+
+/// A directed graph along whose arcs costs are least: made once, and asked as often as one likes. It keeps
+/// 8 bytes a vertex and 8 an arc, 16 if arcs are free both ways.
+#[derive(Debug, Drop)]
+pub struct Network {
+    pub(crate) rows: Csr,
+    cost: Cost,
+    // Of the rows' arcs those that `with_arcs` added last.
+    pub(crate) added: Vec<ArcRec>,
+}
+
+impl Model for Network {
+    ghost use Rattle.least_costs.specs.Network.{IsNetwork, NetworkSeen};
+
+    ghost Value = { NetworkSeen };
+
+    ghost view = { λ w. record { n = w.rows.n; cost = w.cost; arcs = w.rows.arcs; added = w.added.items } };
+
+    ghost invariant = { λ w. IsNetwork
+        (record { n = w.rows.n; cost = w.cost; arcs = w.rows.arcs; added = w.added.items }) };
+}
+
+impl Network {
+    /// The network of these arcs among `n` vertices, each of which costs what `cost` says. The list is given
+    /// back on the way. Up to `threads` threads make the rows.
+    pub fn new<H: Threads + Sync>(
+        rt: &H,
+        alloc: Global,
+        n: u32,
+        arcs: Vec<ArcRec>,
+        cost: Cost,
+        threads: usize,
+    ) -> Result<Network, NetworkFault>
+        ensures network { IfOk result (IsNetworkOf n cost arcs.items) }
+        ensures fault { IfErr result (IsNetworkFault n arcs.items) }
+    {
+        if n > MAX_VERTICES {
+            return Err(NetworkFault::Vertices);
+        }
+        if arcs.len() > MOST_ARCS {
+            return Err(NetworkFault::Arcs);
+        }
+        match first_outside(n, &arcs) {
+            Some(place) => return Err(NetworkFault::Outside(place)),
+            None => {}
+        }
+        let rows = rows_of(rt, alloc, n, arcs, cost, threads)?;
+        let added = Vec::new(alloc);
+        Ok(Network { rows, cost, added })
+    }
+
+    /// The network with more arcs, each of which costs the same. Nothing of this one changes, and nothing is
+    /// shared. Needs 12 bytes an arc for a while, and keeps them for the added ones.
+    pub fn with_arcs<H: Threads + Sync>(
+        &self,
+        rt: &H,
+        alloc: Global,
+        added: &[ArcRec],
+        threads: usize,
+    ) -> Result<Network, NetworkFault>
+        ensures grown { IfOk result (GrowsTo self.now) }
+        ensures kind { IfOk result (λ grown. grown.cost ≡ self.now.cost) }
+        ensures added { IfOk result (λ grown. grown.added ≡ arcs_of self.now.cost added.now) }
+        ensures fault { IfErr result (IsGrowthFault self.now added.now) }
+    {
+        let cost = self.cost;
+        match first_outside(self.rows.n(), added) {
+            Some(place) => return Err(NetworkFault::Outside(place)),
+            None => {}
+        }
+        let added = arcs_along(alloc, cost, added)?;
+        if self.rows.arc_count().saturating_add(added.len()) > MAX_ARCS {
+            return Err(NetworkFault::Arcs);
+        }
+        let rows = grown_rows(rt, alloc, &self.rows, &added, threads)?;
+        Ok(Network { rows, cost, added })
+    }
+
+    /// The number of vertices.
+    pub fn n(&self) -> u32
+        ensures vertices { result ≡ self.now.n }
+        ensures network { IsNetwork self.now }
+    {
+        self.rows.n()
+    }
+}
+
+/// The place of the first arc that has an end which is none of `n` vertices.
+fn first_outside(n: u32, arcs: &[ArcRec]) -> Option<usize>
+    ensures none { IfNone result (IsGraph n arcs.now) }
+    ensures light { IfNone result (AreLight arcs.now) }
+    ensures some { IfSome result (IsFirstOutside n arcs.now) }
+{
+    for (place, arc) in arcs.iter().enumerate() {
+        if !is_within(n, *arc) {
+            return Some(place);
+        }
+    }
+    None
+}
+
+/// Whether the ends of an arc are among `n` vertices.
+fn is_within(n: u32, arc: ArcRec) -> bool
+    ensures within { IsTrue result ↔ IsArcBelow n arc }
+    ensures light { arc.weight < 2 ^ 32 }
+{
+    arc.tail < n && arc.head < n
+}
+
+/// The rows of the arcs along which costs are least. The list of arcs is given back.
+fn rows_of<H: Threads + Sync>(
+    rt: &H,
+    alloc: Global,
+    n: u32,
+    arcs: Vec<ArcRec>,
+    cost: Cost,
+    threads: usize,
+) -> Result<Csr, Memory>
+    requires vertices { n ≤ MAX_VERTICES }
+    requires count { length arcs.items ≤ MOST_ARCS }
+    requires graph { IsGraph n arcs.items }
+    ensures vertices { IfOk result (λ rows. rows.n ≡ n) }
+    ensures in_rows { IfOk result IsInRows }
+    ensures arcs { IfOk result (λ rows. HaveSameArcs rows.arcs (arcs_of cost arcs.items)) }
+{
+    match cost {
+        Cost::Weight => Csr::build_from(rt, alloc, n, arcs, threads),
+        Cost::One => {
+            let units = unit_weights(alloc, &arcs)?;
+            drop(arcs);
+            Csr::build_from(rt, alloc, n, units, threads)
+        }
+        Cost::FreeBothWays => Csr::build_both_ways(rt, alloc, n, arcs, threads),
+    }
+}
+
+/// The arcs along which costs are least.
+fn arcs_along(alloc: Global, cost: Cost, arcs: &[ArcRec]) -> Result<Vec<ArcRec>, Memory>
+    ensures exact { IfOk result (λ along. along.items ≡ arcs_of cost arcs.now) }
+{
+    match cost {
+        Cost::Weight => Ok(arcs.to_vec(alloc)?),
+        Cost::One => unit_weights(alloc, arcs),
+        Cost::FreeBothWays => both_ways(alloc, arcs),
+    }
+}
+
+/// The rows of the arcs of some rows and of added ones.
+fn grown_rows<H: Threads + Sync>(
+    rt: &H,
+    alloc: Global,
+    rows: &Csr,
+    added: &[ArcRec],
+    threads: usize,
+) -> Result<Csr, Memory>
+    requires ends { IsGraph rows.now.n added.now }
+    requires count { length rows.now.arcs + length added.now ≤ MAX_ARCS }
+    ensures vertices { IfOk result (λ grown. grown.n ≡ rows.now.n) }
+    ensures in_rows { IfOk result IsInRows }
+    ensures arcs { IfOk result (λ grown. HaveSameArcs grown.arcs (rows.now.arcs ++ added.now)) }
+{
+    let n = rows.n();
+    let mut arcs = rows.arcs(alloc)?;
+    arcs.extend_from_slice(added)?;
+    Csr::build_from(rt, alloc, n, arcs, threads)
+}
