@@ -46,7 +46,7 @@ impl<'a, C: Clock> Gate for Holding<'a, C> {
         }
         let before = self.visits_of_held.fetch_add(1, Ordering::Relaxed);
         if before.wrapping_add(1) == self.at {
-            sleep(self.clock, Duration::from_millis(100));
+            sleep(self.clock, Duration::from_millis(50));
         }
     }
 
@@ -63,7 +63,7 @@ struct Counted {
     chunks: u64,
 }
 
-/// Counts over a run of which the worker `held` is held at its visit `at` for a tenth of a second.
+/// Counts over a run of which a worker is held at one of its visits for a twentieth of a second.
 fn count<H: Threads + Wait + Clock + Abort + Sync>(
     rt: &H,
     alloc: Global,
@@ -196,10 +196,10 @@ fn a_worker_that_is_held(rt: HostRuntime) -> Result<(), Fail> {
     let alloc = rt.alloc();
     let csr = grid(&rt, alloc)?;
     let alone = count_in_grid(&rt, alloc, &csr, 1, (0, 0))?;
-    for round in 0..5_u32 {
+    for round in 0..4_u32 {
         for (row, &(workers, at)) in HELD.iter().enumerate() {
-            let held = (round % workers.max(1), at);
-            let counted = count_in_grid(&rt, alloc, &csr, workers, held)?;
+            let held = (round + row as u32) % workers.max(1);
+            let counted = count_in_grid(&rt, alloc, &csr, workers, (held, at))?;
             expect_like(&rt, row, &counted, &alone);
         }
     }

@@ -280,7 +280,7 @@ fn growths_at_random(rt: HostRuntime) -> Result<(), Fail> {
     let alloc = rt.alloc();
     let arcs = random_arcs(alloc, 3_000, 12_000)?;
     let mut draws = Draws::new();
-    for _ in 0..200_u32 {
+    for _ in 0..50_u32 {
         let count = 6_000 + draws.below(6_000) as usize % 6_000;
         let added = draws.below(60) as usize;
         let mut plan = Plan::Drawn(draws.other());

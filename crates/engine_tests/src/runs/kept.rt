@@ -15,17 +15,20 @@ use std::sync::{Mutex, Wait};
 use std::test::Fail;
 use std::thread::yield_now;
 
-/// A worker is held for this many turns at most.
-const TURNS: u32 = 10_000;
+/// A worker is held for this many turns at most: a turn takes as long as other processes like.
+const TURNS: u32 = 1_000;
 
 /// A worker is held until others have popped in vain this many times.
 const POPS: u64 = 8;
 
 /// Gives what was pushed last to whoever asks first. A worker that finds nothing after it has visited, and keeps credits
-/// therefore, is held until others have looked for vertices in vain, and at the total.
+/// therefore, is held until others have looked for vertices in vain, and at the total; but for the last one that isn't.
 #[derive(Drop)]
 struct HoldsInPop {
     waiting: Mutex<Vec<u32>>,
+    /// How many workers aren't held.
+    free: AtomicU64,
+    /// Pops in vain of these.
     in_vain: AtomicU64,
 }
 
@@ -39,8 +42,26 @@ impl HoldsInPop {
     {
         let sides = vec![in alloc; Asking(false); workers as usize]?;
         let waiting = Mutex::new(Vec::new(alloc));
-        let in_vain = AtomicU64::new(0);
-        Ok((HoldsInPop { waiting, in_vain }, sides))
+        let pool = HoldsInPop {
+            waiting,
+            free: AtomicU64::new(u64::from(workers)),
+            in_vain: AtomicU64::new(0),
+        };
+        Ok((pool, sides))
+    }
+
+    /// Holds a worker, unless all others are held.
+    fn hold(&self) {
+        let before = self.in_vain.load(Ordering::SeqCst);
+        if self.free.fetch_sub(1, Ordering::SeqCst) > 1 {
+            for _ in 0..TURNS {
+                if self.in_vain.load(Ordering::SeqCst) >= before.saturating_add(POPS) {
+                    break;
+                }
+                yield_now();
+            }
+        }
+        self.free.fetch_add(1, Ordering::SeqCst);
     }
 }
 
@@ -55,14 +76,8 @@ impl WorkPool for HoldsInPop {
 
     fn pop<H: Wait>(&self, rt: &H, side: &mut Asking) -> Option<u32> {
         let found = self.waiting.lock(rt).pop();
-        let before = self.in_vain.load(Ordering::SeqCst);
         if found.is_none() && side.0 {
-            for _ in 0..TURNS {
-                if self.in_vain.load(Ordering::SeqCst) >= before.saturating_add(POPS) {
-                    break;
-                }
-                yield_now();
-            }
+            self.hold();
         } else if found.is_none() {
             self.in_vain.fetch_add(1, Ordering::SeqCst);
         }
@@ -103,7 +118,7 @@ const PIECES: &[(Kind, u64)] = &[
 fn pieces_that_end_with_kept_credits(rt: HostRuntime) -> Result<(), Fail> {
     let alloc = rt.alloc();
     let csr = star(&rt, alloc, 300, 1)?;
-    for workers in 1..9_u32 {
+    for workers in [1, 2, 4, 8] {
         for &(kind, budget) in PIECES {
             let settings = settings(&rt, workers, 0, false);
             let mut plan = Plan::Same(Piece {
