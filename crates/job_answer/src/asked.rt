@@ -20,7 +20,7 @@ pub enum Answer {
 /// answer depends on it.
 #[derive(Clone, Copy, Debug, PartialEq, Eq)]
 pub enum AtOnce {
-    /// As many as there are workers where a vertex has few arcs, and else one.
+    /// As many as there are workers, and one in a large graph whose vertices have many arcs.
     Auto,
     /// At most this number, and never more than there are workers.
     Most(u32),

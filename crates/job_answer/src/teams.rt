@@ -9,8 +9,11 @@ use csr_graph::Csr;
 use obim_engine::{Gate, MAX_WORKERS, Settings, Worklist};
 use std::sync::Wait;
 
-/// With fewer arcs a vertex than these, workers gain more from a source each than from one source.
-const FEW_ARCS: usize = 20;
+/// In a graph with at least so many vertices, and so many arcs a vertex, workers mostly gain more from one source than
+/// from a source each.
+const MANY_VERTICES: u32 = 1 << 17;
+
+const MANY_ARCS: usize = 8;
 
 /// How many teams the workers make, each of which solves a source.
 pub fn teams_for(asked: &Asked, rows: &Csr) -> usize
@@ -19,10 +22,15 @@ pub fn teams_for(asked: &Asked, rows: &Csr) -> usize
 {
     let most = match asked.at_once {
         AtOnce::Most(count) => count,
-        AtOnce::Auto if rows.arc_count() / FEW_ARCS < rows.n() as usize => asked.settings.workers,
-        AtOnce::Auto => 1,
+        AtOnce::Auto if is_large(rows) => 1,
+        AtOnce::Auto => asked.settings.workers,
     };
     most.min(asked.settings.workers) as usize
+}
+
+/// Whether the graph has many vertices, and many arcs a vertex.
+fn is_large(rows: &Csr) -> bool {
+    rows.n() >= MANY_VERTICES && rows.arc_count() / MANY_ARCS >= rows.n() as usize
 }
 
 /// The workers of one source, numbered after those of the teams before.

@@ -20,11 +20,12 @@ const AFTER: &str = "\
 Workers, sources at once, shift and chunk change how long an answer takes, and
 no byte of it. The defaults serve every kind of graph, from paths to maps of 24
 million vertices. With --at-once auto sources are solved side by side, up to one
-for each worker, if vertices have few arcs, and else one by one; each source at
-once takes memory of its own. With --shift auto the buckets of vertices get
-wider as costs rise, up to a width that fits the graph; with --shift BITS each
-spans 2^BITS costs. Without --chunk a chunk has 256 vertices with one worker,
-and 64 with several. If an option is given twice, the last one counts.
+for each worker, and one by one if the graph is large and vertices have many
+arcs; each source at once takes memory of its own. With --shift auto the buckets
+of vertices get wider as costs rise, up to a width that fits the graph; with
+--shift BITS each spans 2^BITS costs. Without --chunk a chunk has 256 vertices
+with one worker, and 64 with several. If an option is given twice, the last one
+counts.
 
 A job is one text on standard input (which the argument - stands for): a graph
 in the .gr format of the 9th DIMACS Implementation Challenge, and after it its
