@@ -38,7 +38,7 @@ BEGIN {
     # A circle, a square and a triangle.
     split("m-5 0a5 5 0 1 0 10 0a5 5 0 1 0 -10 0;m-4.5 -4.5h9v9h-9z;m0 -6l5.5 9.5h-11z", shape, ";")
 }
-/^## / { is_there = $0 == "## Whole jobs" }
+/^##/ { is_there = $0 == "## Whole jobs" }
 is_there && ($3 == 1 || $3 == 10) && $6 ~ /^[0-9.]+$/ {
     if (!($2 in at)) { at[$2] = ++graphs; name[graphs] = $2 }
     ratios[at[$2], $3, 1] = $6; ratios[at[$2], $3, 2] = $8; ratios[at[$2], $3, 4] = $10

@@ -22,7 +22,7 @@ const TURNS: u32 = 1_000;
 const POPS: u64 = 8;
 
 /// Gives what was pushed last to whoever asks first. A worker that finds nothing after it has visited, and keeps credits
-/// therefore, is held until others have looked for vertices in vain, and at the total; but for the last one that isn't.
+/// therefore, is held until others have looked for vertices in vain, and at the total. One worker at least isn't held.
 #[derive(Drop)]
 struct HoldsInPop {
     waiting: Mutex<Vec<u32>>,
