@@ -159,11 +159,11 @@ fn refused_of_each<H: Threads + Wait + Clock + Abort + Sync>(
     };
     let solver = Solver::new(network, plan);
     let mut each = solver.each(alloc, &[0, 0, 0, 0]);
-    let mut refused = 0;
+    let mut refused = 0_u32;
     for row in 0..4_usize {
         match each.next(rt, alloc) {
             Some(Ok(costs)) => expect_costs(rt, row, network, &costs, &FROM_0),
-            Some(Err(Memory)) => refused += 1,
+            Some(Err(Memory)) => refused = refused.saturating_add(1),
             None => {}
         }
     }
