@@ -56,6 +56,6 @@ abbrev pub IsStartWithin : ℕ → Start → Type 0
 IsStartWithin n (start.At source) = source < n
 IsStartWithin n start.Everywhere = ⊤
 
--- some walk from the start to v costs c: from every vertex, at the number of the vertex where it begins
+-- some walk from the start to v costs c; from everywhere, the number of the vertex where it begins is counted in
 abbrev pub HasWalk : NetworkSeen → Start → ℕ → ℕ → Type 0
 HasWalk net from v c = IsAttained net.arcs (seeds_at net.n from) v c

@@ -5,8 +5,8 @@
 //! side and handed over in their order, from everywhere for components, and after arcs were added. It gives
 //! `Costs`, of which contracts know in which network and from which start they are: `to` a vertex is the least
 //! cost of a walk, and `None` exactly if there is no walk. `Costs::walks` gives the vertices of least walks with
-//! the fewest arcs. The only fault is that memory is refused. How many workers there are, and how they share
-//! the work, is a `Plan`, on which no cost depends.
+//! the fewest arcs. The only fault of a call that solves is that memory is refused. How many workers
+//! there are, and how they share the work, is a `Plan`, on which no cost depends.
 //!
 //! ```text
 //! let network = Network::new(&rt, alloc, 3, arcs, Cost::Weight, 2)?; // 0 to 1 costs 7, 1 to 2 costs 5

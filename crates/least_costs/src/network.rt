@@ -69,7 +69,7 @@ impl Network {
     }
 
     /// The network with more arcs, each of which costs the same. Nothing of this one changes, and nothing is
-    /// shared. Needs 12 bytes an arc for a while, and keeps them for the added ones.
+    /// shared. Needs a list of all arcs for a while, and keeps that of the added ones.
     pub fn with_arcs<H: Threads + Sync>(
         &self,
         rt: &H,
