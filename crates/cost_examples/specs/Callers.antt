@@ -1,5 +1,5 @@
 -- What callers know of what they asked.
-use Rattle.std.specs.Prelude.{◌≡◌, ℕ, ◌≤◌, List, Option, Some, None, All, Contains}
+use Rattle.std.specs.Prelude.{ℕ, ◌≤◌, List, Option, Some, None, All, Contains}
 use Rattle.least_costs.specs.Costs.{IsCostTo, IsLeastCost, IsUnreached}
 use Rattle.least_costs.specs.Network.{HasWalk, NetworkSeen}
 use Rattle.least_costs.specs.Taken.{AreFor}
