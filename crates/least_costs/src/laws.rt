@@ -1,6 +1,7 @@
-//! Which laws hold of networks and costs? Each is the contract of a function that does nothing.
+//! Which laws hold of networks, costs and teams? Each is the contract of a function that does nothing.
 
 ghost use Rattle.least_costs.specs.Laws.{CostsFollowTheArcs, NetworksGrow};
+ghost use Rattle.least_costs.specs.Teams.{TeamsShareWorkers};
 
 /// A network that grew by added arcs is the network of the arcs before and the added ones, whatever an arc
 /// costs.
@@ -12,4 +13,10 @@ pub fn networks_grow()
 /// network counts. So costs after added arcs are those of a network that is made of all arcs at once.
 pub fn costs_follow_the_arcs()
     ensures { CostsFollowTheArcs }
+{}
+
+/// The teams of `Team::at` have each worker once, and none is without one if there are no more teams than
+/// workers.
+pub fn teams_share_workers()
+    ensures { TeamsShareWorkers }
 {}
