@@ -6,4 +6,5 @@ pub mod Teams
 pub mod Rounds
 pub mod Each
 pub mod Taken
+pub mod Pairs
 pub mod Laws

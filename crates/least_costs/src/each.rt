@@ -11,10 +11,10 @@ use crate::costs::Costs;
 use crate::network::Network;
 use crate::plan::Plan;
 use crate::rounds::{Part, Rounds};
-use crate::runner::Runner;
+use crate::runner::{Runner, solved};
 use crate::solver::Solver;
 use crate::teams::{Team, TeamGate};
-use obim_engine::{Gate, Settings};
+use obim_engine::Gate;
 use route_walks::Memory;
 use std::alloc::Global;
 use std::marker::Model;
@@ -168,27 +168,4 @@ fn solved_by<H: Threads + Wait + Clock + Sync, G: Gate + Sync>(
     let gate = TeamGate { gate, team };
     let source = asked.sources[place];
     solved(rt, alloc, asked.network, source, &settings, kept, &gate).ok()
-}
-
-/// The costs from a source over the pool that was kept, or a new one where it is for another number of
-/// workers. The pool is kept, but where memory is refused.
-fn solved<H: Threads + Wait + Clock + Sync, G: Gate + Sync>(
-    rt: &H,
-    alloc: Global,
-    network: &Network,
-    source: u32,
-    settings: &Settings,
-    kept: &mut Option<Runner>,
-    gate: &G,
-) -> Result<Costs, Memory>
-    requires { source < network.now.n }
-    ensures { IfOk result (IsFrom network.now source) }
-{
-    let mut runner = match kept.take() {
-        Some(runner) if runner.workers() == settings.workers => runner,
-        _ => Runner::open(alloc, network, settings)?,
-    };
-    let costs = runner.from(rt, alloc, network, source, gate)?;
-    *kept = Some(runner);
-    Ok(costs)
 }

@@ -1,4 +1,4 @@
-//! Which laws hold of networks and costs? Each is the contract of a function that does nothing.
+//! Which laws hold of networks, costs and teams? Each is the contract of a function that does nothing.
 
 ghost use Rattle.least_costs.specs.Laws.{CostsFollowTheArcs, NetworksGrow};
 ghost use Rattle.least_costs.specs.Teams.{TeamsShareWorkers};

@@ -2,11 +2,11 @@
 //!
 //! A `Network` is made once, of arcs and of what an arc costs: its weight, one, or nothing and both ways. A
 //! `Solver` asks it, as often as one likes: `from` one source, from `each` of many, which are worked out side by
-//! side and handed over in their order, from everywhere for components, and after arcs were added. It gives
-//! `Costs`, of which contracts know in which network and from which start they are: `to` a vertex is the least
-//! cost of a walk, and `None` exactly if there is no walk. `Costs::walks` gives the vertices of least walks with
-//! the fewest arcs. The only fault of a call that solves is that memory is refused. How many workers
-//! there are, and how they share the work, is a `Plan`, on which no cost depends.
+//! side and handed over in their order, `between` pairs, from everywhere for components, and after arcs were
+//! added. It gives `Costs`, of which contracts know in which network and from which start they are: `to` a
+//! vertex is the least cost of a walk, and `None` exactly if there is no walk. `Costs::walks` gives the vertices
+//! of least walks with the fewest arcs. The only fault of a call that solves is that memory is refused. How many
+//! workers there are, and how they share the work, is a `Plan`, on which no cost depends.
 //!
 //! ```text
 //! let network = Network::new(&rt, alloc, 3, arcs, Cost::Weight, 2)?; // 0 to 1 costs 7, 1 to 2 costs 5
@@ -34,6 +34,7 @@ mod each;
 mod fault;
 pub mod laws;
 mod network;
+mod pairs;
 mod plan;
 mod rounds;
 mod runner;
@@ -44,7 +45,7 @@ mod walks;
 
 pub use cost::Cost;
 pub use costs::Costs;
-pub use each::{Each, Sources};
+pub use each::Each;
 pub use fault::NetworkFault;
 pub use network::{MOST_ARCS, Network};
 pub use plan::{AtOnce, Plan};

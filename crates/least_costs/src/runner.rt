@@ -109,6 +109,29 @@ fn run_over<H: Threads + Wait + Clock + Sync, G: Gate + Sync>(
     }
 }
 
+/// The costs from a source over the pool that was kept, or a new one where it is for another number of
+/// workers. The pool is kept, but where memory is refused.
+pub(crate) fn solved<H: Threads + Wait + Clock + Sync, G: Gate + Sync>(
+    rt: &H,
+    alloc: Global,
+    network: &Network,
+    source: u32,
+    settings: &Settings,
+    kept: &mut Option<Runner>,
+    gate: &G,
+) -> Result<Costs, Memory>
+    requires { source < network.now.n }
+    ensures { IfOk result (IsFrom network.now source) }
+{
+    let mut runner = match kept.take() {
+        Some(runner) if runner.workers() == settings.workers => runner,
+        _ => Runner::open(alloc, network, settings)?,
+    };
+    let costs = runner.from(rt, alloc, network, source, gate)?;
+    *kept = Some(runner);
+    Ok(costs)
+}
+
 fn open_even(alloc: Global, settings: &Settings) -> Result<Even, Memory> {
     let (pool, sides) = ObimPool::open(alloc, settings.workers, settings.chunk)?;
     Ok(Even {

@@ -159,3 +159,20 @@ fn walks_to_vertices(rt: HostRuntime) -> Result<(), Fail> {
     }
     Ok(())
 }
+
+/// Pairs in no order, and the cost of each.
+const PAIRS: [(u32, u32); 6] = [(3, 1), (0, 5), (5, 0), (0, 3), (3, 5), (0, 5)];
+
+const PAIR_COSTS: [Option<u64>; 6] = [Some(0), Some(15), None, Some(12), Some(3), Some(15)];
+
+#[test]
+fn costs_between_pairs(rt: HostRuntime) -> Result<(), Fail> {
+    let network = six(&rt, rt.alloc())?;
+    for workers in [1, 2] {
+        let solver = Solver::new(&network, Plan::usual(workers));
+        let costs = solver.between(&rt, rt.alloc(), &PAIRS)?;
+        assert!(rt; costs.as_slice() == PAIR_COSTS.as_slice());
+        assert!(rt; solver.between(&rt, rt.alloc(), &[])?.is_empty());
+    }
+    Ok(())
+}

@@ -186,6 +186,19 @@ fn of_each_next(rt: HostRuntime) -> Result<(), Fail> {
 }
 
 #[test]
+fn of_solver_between(rt: HostRuntime) -> Result<(), Fail> {
+    let alloc = rt.alloc();
+    let network = six(&rt, alloc)?;
+    for workers in [1, 2] {
+        let solver = Solver::new(&network, Plan::usual(workers));
+        let pairs = [(3, 1), (0, 5)];
+        let costs = tried_again!(rt, alloc, Memory, solver.between(&rt, alloc, &pairs));
+        assert!(rt; costs.as_slice() == [Some(0), Some(15)].as_slice());
+    }
+    Ok(())
+}
+
+#[test]
 fn of_costs_walks(rt: HostRuntime) -> Result<(), Fail> {
     let alloc = rt.alloc();
     let network = six(&rt, alloc)?;

@@ -1,0 +1,5 @@
+use Rattle.least_costs.proofs.PairCosts.{ArePlaced}
+use Rattle.least_costs.proofs.pairs.by_source.Given as goal
+
+abbrev pub invariant-loop-place : goal.invariant-loop-place
+invariant-loop-place l = ArePlaced l.pairs l.place l.order.items
