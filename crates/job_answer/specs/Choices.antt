@@ -2,8 +2,6 @@
 use Rattle.std.specs.Prelude.{◌≡◌, ◌≢◌, ℕ, ◌^◌, ◌≤◌, Bool, true}
 use Rattle.dimacs_text.specs.declared.fault.TextFault.{TextFault}
 use Rattle.dimacs_text.specs.declared.fault.TextFault.TheVariants as refused
-use Rattle.obim_engine.specs.declared.runs.RunFault.{RunFault}
-use Rattle.obim_engine.specs.declared.runs.RunFault.TheVariants as stopped
 use Rattle.job_answer.specs.declared.asked.Answer.{Answer}
 use Rattle.job_answer.specs.declared.asked.Answer.TheVariants.{Components}
 use Rattle.job_answer.specs.declared.fault.Fault.{Fault}
@@ -28,8 +26,3 @@ status_of fault.Write = 4
 abbrev pub fault_of : TextFault → Fault
 fault_of refused.Memory = fault.Memory
 fault_of (refused.Line line kind) = fault.Text line kind
-
--- why a run gave no labels, as a fault of the program
-abbrev pub fault_of_run : RunFault → Fault
-fault_of_run stopped.Memory = fault.Memory
-fault_of_run stopped.Spawn = fault.Spawn

@@ -2,10 +2,9 @@
 
 ghost use Rattle.std.specs.Prelude.{◌≡◌};
 ghost use Rattle.job_answer.specs.declared.fault.Fault.TheVariants as fault;
-ghost use Rattle.job_answer.specs.Choices.{fault_of, fault_of_run, status_of};
+ghost use Rattle.job_answer.specs.Choices.{fault_of, status_of};
 
 use dimacs_text::{LineKind, TextFault};
-use obim_engine::RunFault;
 use std::alloc::AllocError;
 use thiserror::Error;
 
@@ -42,17 +41,6 @@ impl From<TextFault> for Fault {
         match refused {
             TextFault::Memory => Fault::Memory,
             TextFault::Line { line, kind } => Fault::Text { line, kind },
-        }
-    }
-}
-
-impl From<RunFault> for Fault {
-    ghost from_gives = { λ refused given. given ≡ fault_of_run refused };
-
-    fn from(refused: RunFault) -> Fault {
-        match refused {
-            RunFault::Memory => Fault::Memory,
-            RunFault::Spawn => Fault::Spawn,
         }
     }
 }

@@ -3,5 +3,5 @@ pub mod Starts
 pub mod Unreached
 pub mod LeastWalks
 pub mod Taken
-pub mod PairCosts
+pub mod Filling
 pub mod Facts

@@ -1,5 +1,6 @@
 -- Costs as contracts see them.
 use Rattle.std.specs.Prelude.{◌≡◌, ℕ, ◌≤◌, List, Option, Some, None}
+use Rattle.route_walks.specs.declared.graph.TheConstants.{INF}
 use Rattle.route_walks.specs.Label.{AreLeastLabels}
 use Rattle.least_costs.specs.Network.{IsNetwork, IsStartWithin, HasWalk, NetworkSeen, seeds_at}
 use Rattle.least_costs.specs.declared.start.Start.{Start}
@@ -24,6 +25,11 @@ IsUnreached net from v = (cost : ℕ) → ¬ (HasWalk net from v cost)
 abbrev pub IsCostTo : NetworkSeen → Start → ℕ → Option ℕ → Type 0
 IsCostTo net from v (Some cost) = IsLeastCost net from v cost
 IsCostTo net from v None = IsUnreached net from v
+
+-- a cost as a label
+abbrev pub label_of : Option ℕ → ℕ
+label_of (Some cost) = cost
+label_of None = INF
 
 -- each vertex has its least label from the start
 abbrev pub AreLeastFrom : NetworkSeen → Start → List ℕ → Type 0

@@ -1,13 +1,14 @@
 //! What does it cost at least to get to each vertex, in which network and from which start?
 
-ghost use Rattle.std.specs.Prelude.{◌≡◌, ◌<◌, IfNone, IfSome};
+ghost use Rattle.std.specs.Prelude.{◌≡◌, ◌<◌, IfNone, IfOk, IfSome};
 ghost use Rattle.least_costs.specs.Costs.{AreCosts, AreLeastFrom, IsLeastCost, IsUnreached};
 ghost use Rattle.least_costs.specs.Network.{IsStartWithin};
 
 use crate::network::Network;
 use crate::start::Start;
-use route_walks::INF;
 use route_walks::laws::inf_means_no_walk;
+use route_walks::{INF, Memory};
+use std::alloc::Global;
 use std::marker::Model;
 use std::snapshot::Snapshot;
 
@@ -71,6 +72,14 @@ impl Costs {
         ensures costs { AreCosts self.now }
     {
         self.start
+    }
+
+    /// The same costs once more. They are of this network.
+    pub fn copied(&self, alloc: Global, network: &Network) -> Result<Costs, Memory>
+        requires { network.now ≡ self.now.net }
+        ensures { IfOk result (λ copy. copy ≡ self.now) }
+    {
+        Ok(Costs::new(network, self.start, self.labels.to_vec(alloc)?))
     }
 
     /// The labels, given up.

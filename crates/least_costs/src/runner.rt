@@ -1,10 +1,10 @@
 //! Which pool serves one source after another?
 
-ghost use Rattle.std.specs.Prelude.{◌≡◌, ◌<◌, All, IfOk, length};
+ghost use Rattle.std.specs.Prelude.{◌≡◌, All, IfOk, length};
 ghost use Rattle.route_walks.specs.Label.{AreLeastLabels};
 ghost use Rattle.route_walks.specs.Walk.{AreSeeds};
 ghost use Rattle.obim_pool.specs.Sides.{IsSideOf};
-ghost use Rattle.least_costs.specs.Costs.{IsFrom};
+ghost use Rattle.least_costs.specs.Network.{IsStartWithin, seeds_at};
 
 use crate::costs::Costs;
 use crate::network::Network;
@@ -12,7 +12,7 @@ use crate::start::Start;
 use csr_graph::Csr;
 use obim_engine::{Buckets, Gate, MAX_SHIFT, RunFault, Settings, Worklist, run, widths_of};
 use obim_pool::{ObimPool, ObimSide, WideningPool};
-use route_walks::{Memory, Seed, seeds_from};
+use route_walks::{Memory, Seed, seeds_all, seeds_from};
 use std::alloc::Global;
 use std::sync::Wait;
 use std::thread::Threads;
@@ -69,24 +69,36 @@ impl Runner {
         }
     }
 
-    /// The least costs of a network from a source.
-    pub fn from<H: Threads + Wait + Clock + Sync, G: Gate + Sync>(
+    /// The least costs of a network from a start.
+    pub fn costs_from<H: Threads + Wait + Clock + Sync, G: Gate + Sync>(
         &mut self,
         rt: &H,
         alloc: Global,
         network: &Network,
-        source: u32,
+        start: Start,
         gate: &G,
     ) -> Result<Costs, Memory>
-        requires { source < network.now.n }
-        ensures { IfOk result (IsFrom network.now source) }
+        requires { IsStartWithin network.now.n start }
+        ensures net { IfOk result (λ costs. costs.net ≡ network.now) }
+        ensures start { IfOk result (λ costs. costs.start ≡ start) }
     {
-        let seeds = seeds_from(alloc, source)?;
-        let found = run_over(rt, alloc, &network.rows, &seeds, &mut self.kind, gate);
-        match found {
-            Ok(labels) => Ok(Costs::new(network, Start::At(source), labels)),
+        let seeds = seeds_of(alloc, network, start)?;
+        match run_over(rt, alloc, &network.rows, &seeds, &mut self.kind, gate) {
+            Ok(labels) => Ok(Costs::new(network, start, labels)),
             Err(_) => Err(Memory),
         }
+    }
+}
+
+/// The seeds of a start.
+fn seeds_of(alloc: Global, network: &Network, start: Start) -> Result<Vec<Seed>, Memory>
+    requires { IsStartWithin network.now.n start }
+    ensures exact { IfOk result (λ seeds. seeds.items ≡ seeds_at network.now.n start) }
+    ensures within { IfOk result (λ seeds. AreSeeds network.now.n seeds.items) }
+{
+    match start {
+        Start::At(source) => seeds_from(alloc, source),
+        Start::Everywhere => seeds_all(alloc, network.n()),
     }
 }
 
@@ -107,29 +119,6 @@ fn run_over<H: Threads + Wait + Clock + Sync, G: Gate + Sync>(
         Kind::Even(even) => run_even(rt, alloc, rows, seeds, even, gate),
         Kind::Fitted(fitted) => run_fitted(rt, alloc, rows, seeds, fitted, gate),
     }
-}
-
-/// The costs from a source over the pool that was kept, or a new one where it is for another number of
-/// workers. The pool is kept, but where memory is refused.
-pub(crate) fn solved<H: Threads + Wait + Clock + Sync, G: Gate + Sync>(
-    rt: &H,
-    alloc: Global,
-    network: &Network,
-    source: u32,
-    settings: &Settings,
-    kept: &mut Option<Runner>,
-    gate: &G,
-) -> Result<Costs, Memory>
-    requires { source < network.now.n }
-    ensures { IfOk result (IsFrom network.now source) }
-{
-    let mut runner = match kept.take() {
-        Some(runner) if runner.workers() == settings.workers => runner,
-        _ => Runner::open(alloc, network, settings)?,
-    };
-    let costs = runner.from(rt, alloc, network, source, gate)?;
-    *kept = Some(runner);
-    Ok(costs)
 }
 
 fn open_even(alloc: Global, settings: &Settings) -> Result<Even, Memory> {

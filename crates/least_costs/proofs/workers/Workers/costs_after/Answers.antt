@@ -4,7 +4,7 @@ use Rattle.route_walks.specs.Walk.{AreSeeds}
 use Rattle.least_costs.specs.Costs.{AreLeastFrom}
 use Rattle.least_costs.specs.Network.{IsStartWithin, NetworkSeen, seeds_at}
 use Rattle.least_costs.proofs.Starts.{start-seeds}
-use Rattle.least_costs.proofs.solver.Solver.costs_after.Goals as goal
+use Rattle.least_costs.proofs.workers.Workers.costs_after.Goals as goal
 
 pub least_labels_resumed-requires-after_bounds : goal.least_labels_resumed-requires-after_bounds
 least_labels_resumed-requires-after_bounds g c κs within =

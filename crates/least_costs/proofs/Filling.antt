@@ -1,5 +1,5 @@
 -- How the costs of pairs are filled in.
-use Rattle.std.proofs.Common.{◌≡◌, ◌∙◌, ℕ, ◌+◌, ◌<◌, ◌≤◌, List, [], ◌∷◌, ◌++◌, Option, None, ap, arith, get_or, inl, inr}
+use Rattle.std.proofs.Common.{◌≡◌, ◌∙◌, ℕ, ◌+◌, ◌<◌, ◌≤◌, List, [], ◌∷◌, ◌++◌, Option, None, Some, ap, arith, get_or, inl, inr}
 use Rattle.std.proofs.Common.{length, refl, set, slice_index_or, subst, sym, take}
 use Rattle.std.specs.List.{All, Contains}
 use Rattle.std.specs.List.Sorted.{IsPermutation}
@@ -10,7 +10,9 @@ use Rattle.std.proofs.lemmas.List.Elements.{Contains-append_left, Contains-push}
 use Rattle.std.proofs.lemmas.List.Sorted.{All-permutation, Contains-permutation, length_permutation}
 use Rattle.std.proofs.lemmas.Bool.{cases_eq, cases_lt}
 use Rattle.least_costs.specs.Network.{NetworkSeen}
-use Rattle.least_costs.specs.Pairs.{pair_at, AreBySource, AreFilled, ArePairCosts, ArePairsWithin, IsPairCost}
+use denote.Ref.{Bor}
+use Rattle.least_costs.specs.Pairs.{pair_at, AreBySource, AreCostsAfter, AreCostsAt, AreFilled, AreFilledAfter}
+use Rattle.least_costs.specs.Pairs.{ArePairCosts, IsPairCost}
 
 -- the first pairs are in the order, with their sources
 pub record ArePlaced (pairs : List (ℕ × ℕ)) (count : ℕ) (order : List (ℕ × ℕ)) : Type 0 where
@@ -43,8 +45,10 @@ placed_more pairs i order placed =
 -- they are in it however it is sorted
 pub all_placed : (pairs : List (ℕ × ℕ)) (i : ℕ) (order sorted : List (ℕ × ℕ))
     → i ≡ length pairs → ArePlaced pairs i order → IsPermutation order sorted
+    → ((k : ℕ) → k + 1 < length sorted → (pair_at sorted k).0 ≤ (pair_at sorted (k + 1)).0)
     → AreBySource pairs sorted
-all_placed pairs i order sorted all placed moved = record {
+all_placed pairs i order sorted all placed moved rise = record {
+  rise = rise;
   once = length_permutation order sorted moved ∙ placed.once ∙ all;
   each =
       subst (λ (k : ℕ). All (λ (entry : ℕ × ℕ). (entry.1 < k) × (entry.0 ≡ (pair_at pairs entry.1).0)) sorted) all
@@ -59,23 +63,12 @@ pub entry_of : (pairs order : List (ℕ × ℕ)) (i : ℕ) → i < length order 
 entry_of pairs order i here by =
     All-get_or (λ e. (e.1 < length pairs) × (e.0 ≡ (pair_at pairs e.1).0)) order i (0, 0) here by.each
 
--- the source and the target of an entry are vertices
-pub within_of : (n : ℕ) (pairs order : List (ℕ × ℕ)) (i : ℕ) → i < length order → AreBySource pairs order
-    → ArePairsWithin n pairs
-    → ((pair_at order i).0 < n) × ((pair_at pairs (pair_at order i).1).1 < n)
-within_of n pairs order i here by within =
-    let entry = entry_of pairs order i here by in
-    let pair = All-get_or (λ p. (p.0 < n) × (p.1 < n)) pairs (pair_at order i).1 (0, 0) entry.0 within in
-    (subst (λ (source : ℕ). source < n) (sym entry.1) pair.0, pair.1)
-
 -- one cost more is picked
 pub picked_more : (net : NetworkSeen) (pairs order : List (ℕ × ℕ)) (first : ℕ) (picked : List (Option ℕ))
     (cost : Option ℕ)
-    → ((k : ℕ) → k < length picked
-    → IsPairCost net (pair_at pairs (pair_at order (first + k)).1) (slice_index_or picked k None))
+    → AreCostsAt net pairs order first picked
     → IsPairCost net (pair_at pairs (pair_at order (first + length picked)).1) cost
-    → (k : ℕ) → k < length (picked ++ cost ∷ [])
-    → IsPairCost net (pair_at pairs (pair_at order (first + k)).1) (slice_index_or (picked ++ cost ∷ []) k None)
+    → AreCostsAt net pairs order first (picked ++ cost ∷ [])
 picked_more net pairs order first picked cost before now k below =
     let pair : ℕ → ℕ × ℕ = λ i. pair_at pairs (pair_at order (first + i)).1 in
     elim (cases_lt k (length picked)) [
@@ -128,3 +121,11 @@ all_filled net pairs order i costs past by filled = record {
       (subst (All (λ (e : ℕ × ℕ). IsPairCost net (pair_at pairs e.1) (get_or costs e.1 None))) (take_all i order past)
       filled.filled) (by.all k below);
 }
+
+-- the same in the grown network, if there is one
+pub all_filled_after : (grown : Option (Bor NetworkSeen)) (pairs order : List (ℕ × ℕ)) (i : ℕ) (costs : List (Option ℕ))
+    → length order ≤ i → AreBySource pairs order → AreFilledAfter grown pairs order i costs
+    → AreCostsAfter grown pairs costs
+all_filled_after None pairs order i costs past by filled = tt
+all_filled_after (Some grown) pairs order i costs past by filled =
+    all_filled grown.now pairs order i costs past by filled

@@ -1,4 +1,4 @@
-use Rattle.least_costs.proofs.solver.pause_of.Goals as goal
+use Rattle.least_costs.proofs.workers.pause_of.Goals as goal
 
 pub returns : goal.returns
 returns c = record {

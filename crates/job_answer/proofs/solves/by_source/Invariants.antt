@@ -1,5 +1,0 @@
-use Rattle.job_answer.proofs.PairLabels.{ArePlaced}
-use Rattle.job_answer.proofs.solves.by_source.Given as goal
-
-abbrev pub invariant-loop-place : goal.invariant-loop-place
-invariant-loop-place l = ArePlaced l.pairs l.place l.order.items
