@@ -43,7 +43,7 @@ pub fn costs_after<H: Threads + Wait + Clock + Sync, G: Gate + Sync>(
     network: &Network,
     grown: &Network,
     costs: Costs,
-    workers: &Workers<'_, G>,
+    workers: &mut Workers<'_, G>,
     watch: &mut impl Watch,
 ) -> Result<Costs, Fault>
     requires net { costs.net ≡ network.now }

@@ -289,7 +289,7 @@ fn walked_after<H: Threads + Wait + Clock + Sync, G: Gate + Sync>(
     graphs: &Graphs,
     source: u32,
     costs: &Costs,
-    workers: &Workers<'_, G>,
+    workers: &mut Workers<'_, G>,
     watch: &mut impl Watch,
 ) -> Result<Option<Walked>, Fault>
     requires graphs { AreGraphs graphs.now }

@@ -1,6 +1,6 @@
 -- How the costs of pairs are filled in.
 use Rattle.std.proofs.Common.{◌≡◌, ◌∙◌, ℕ, ◌+◌, ◌<◌, ◌≤◌, List, [], ◌∷◌, ◌++◌, Option, None, Some, ap, arith, get_or, inl, inr}
-use Rattle.std.proofs.Common.{length, refl, set, slice_index_or, subst, sym, take}
+use Rattle.std.proofs.Common.{length, refl, set, subst, sym, take}
 use Rattle.std.specs.List.{All, Contains}
 use Rattle.std.specs.List.Sorted.{IsPermutation}
 use Rattle.std.proofs.lemmas.List.{get_or-set_same, get_or-set_other, get_or_append_left, get_or_push}

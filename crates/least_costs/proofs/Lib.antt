@@ -4,4 +4,5 @@ pub mod Unreached
 pub mod LeastWalks
 pub mod Taken
 pub mod Filling
+pub mod Reaching
 pub mod Facts

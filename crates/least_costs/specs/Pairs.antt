@@ -1,11 +1,12 @@
 -- The least costs of pairs.
 use Rattle.std.specs.Prelude.{◌≡◌, ◌≢◌, ℕ, ◌+◌, ◌<◌, ◌≤◌, List, Option, All, Contains, length, slice_index_or, take}
-use Rattle.std.specs.Prelude.{None, Some, ⊤}
+use Rattle.std.specs.Prelude.{None, Some, ⊤, slice_index}
 use denote.Ref.{Bor}
-use Rattle.least_costs.specs.Costs.{IsCostTo}
+use Rattle.least_costs.specs.Costs.{AreCostsTo, IsCostTo}
 use Rattle.least_costs.specs.Network.{GrowsTo, NetworkSeen}
 use Rattle.least_costs.specs.declared.pairs.PairCosts.{PairCosts}
 use Rattle.least_costs.specs.declared.pairs.Pairs.{Pairs}
+use Rattle.least_costs.specs.declared.start.Start.{Start}
 use Rattle.least_costs.specs.declared.start.Start.TheVariants as start
 
 -- the source and the target at a place of a list of pairs
@@ -87,3 +88,15 @@ pub record AreFilled (net : NetworkSeen) (pairs order : List (ℕ × ℕ)) (coun
 abbrev pub AreFilledAfter : Option (Bor NetworkSeen) → List (ℕ × ℕ) → List (ℕ × ℕ) → ℕ → List (Option ℕ) → Type 0
 AreFilledAfter None pairs order count costs = ⊤
 AreFilledAfter (Some grown) pairs order count costs = AreFilled grown.now pairs order count costs
+
+-- the costs to some vertices in the grown network, if there is one
+abbrev pub AreGrownCostsTo : Option (Bor NetworkSeen) → Start → List ℕ → List (Option ℕ) → Type 0
+AreGrownCostsTo None from vertices costs = ⊤
+AreGrownCostsTo (Some grown) from vertices costs = AreCostsTo grown.now from vertices costs
+
+-- the targets of the pairs of the entries from one place up to another one
+pub record AreTargets (asked : Pairs) (first end : ℕ) (targets : List ℕ) : Type 0 where
+  pub count : first + length targets ≡ end
+  pub each : (k : ℕ) → k < length targets
+      → slice_index targets k ≡ (pair_at asked.pairs.now (pair_at asked.order.now (first + k)).1).1
+  pub within : All (λ t. t < asked.network.now.n) targets

@@ -2,13 +2,14 @@
 
 ghost use Rattle.std.specs.Prelude.{◌≡◌, ◌+◌, ◌<◌, ◌≤◌, ◌^◌, ℕ, List, All, IfOk, IfSome, OnOk, length};
 ghost use Rattle.std.specs.Thread.{IsSync};
-ghost use Rattle.least_costs.specs.Network.{NetworkSeen};
-ghost use Rattle.least_costs.specs.declared.start.Start.TheVariants.{At};
+ghost use Rattle.label_words.specs.Closed.{IsEnd};
+ghost use Rattle.least_costs.specs.Network.{IsStartWithin, NetworkSeen, graph_of, seeds_at};
 ghost use Rattle.least_costs.specs.Pairs.{AreAsked, AreBySource, AreCostsAfter, AreCostsAt, AreCostsFrom, AreFilled};
-ghost use Rattle.least_costs.specs.Pairs.{AreFilledAfter, ArePairCosts, ArePairsWithin, GrowsInto, IsRun, pair_at};
+ghost use Rattle.least_costs.specs.Pairs.{AreFilledAfter, AreGrownCostsTo, ArePairCosts, ArePairsWithin, AreTargets};
+ghost use Rattle.least_costs.specs.Pairs.{GrowsInto, IsRun};
 ghost use Rattle.least_costs.specs.Rounds.{AreMade};
 
-use crate::costs::Costs;
+use crate::costs::costs_at;
 use crate::network::Network;
 use crate::plan::Plan;
 use crate::progress::{Progress, Unwatched};
@@ -18,7 +19,7 @@ use crate::solver::Solver;
 use crate::start::Start;
 use crate::teams::{Team, TeamGate};
 use crate::workers::Workers;
-use obim_engine::Gate;
+use obim_engine::{Closed, Gate, Goal};
 use route_walks::Memory;
 use std::alloc::Global;
 use std::sync::Wait;
@@ -228,41 +229,58 @@ fn costs_of<H: Threads + Wait + Clock + Sync, G: Gate + Sync>(
     ensures { IfOk result (AreCostsFrom asked.now first) }
 {
     let end = run_end(asked.order, first);
-    let start = Start::At(asked.order[first].0);
-    let found = workers.costs_from(rt, alloc, asked.network, start)?;
-    let costs = picked(alloc, asked, first, end, &found)?;
-    let after = match asked.grown {
-        None => Vec::new(alloc),
-        Some(grown) => {
-            let found = workers.costs_after(rt, alloc, asked.network, grown, found)?;
-            picked(alloc, asked, first, end, &found)?
-        }
-    };
+    let targets = targets_of(alloc, asked, first, end)?;
+    let (network, start) = (asked.network, Start::At(asked.order[first].0));
+    // No run goes further than its targets.
+    let goal = Goal::Targets(&targets);
+    let reached = workers.reach(rt, alloc, network, start, goal)?;
+    let costs = costs_at(alloc, network, start, &targets, reached.closed.labels())?;
+    let closed = reached.closed;
+    let after = costs_grown(rt, alloc, asked, start, &targets, closed, workers)?;
     Ok(PairCosts { costs, after })
 }
 
-/// Of the costs from a source those of the targets of its pairs.
-fn picked(
+/// The costs to these targets in the grown network, if there is one, from what the run before it left.
+fn costs_grown<H: Threads + Wait + Clock + Sync, G: Gate + Sync>(
+    rt: &H,
+    alloc: Global,
+    asked: &Pairs<'_>,
+    start: Start,
+    targets: &[u32],
+    closed: Closed,
+    workers: &mut Workers<'_, G>,
+) -> Result<Vec<Option<u64>>, Memory>
+    requires grows { GrowsInto asked.now.network.now asked.now.grown }
+    requires start { IsStartWithin asked.now.network.now.n start }
+    requires targets { All (λ t. t < asked.now.network.now.n) targets.now }
+    requires closed { IsEnd (graph_of asked.now.network.now) (seeds_at asked.now.network.now.n start) closed }
+    ensures { IfOk result (λ after. AreGrownCostsTo asked.now.grown start targets.now after.items) }
+{
+    let Some(grown) = asked.grown else {
+        return Ok(Vec::new(alloc));
+    };
+    let (network, goal) = (asked.network, Goal::Targets(targets));
+    let after = workers.reach_after(rt, alloc, network, grown, start, closed, goal)?;
+    costs_at(alloc, grown, start, targets, after.closed.labels())
+}
+
+/// The targets of the pairs from a place of the order up to another one.
+fn targets_of(
     alloc: Global,
     asked: &Pairs<'_>,
     first: usize,
     end: usize,
-    found: &Costs,
-) -> Result<Vec<Option<u64>>, Memory>
+) -> Result<Vec<u32>, Memory>
     requires asked { AreAsked asked.now }
     requires run { IsRun asked.now.order.now first end }
-    requires vertices { found.now.net.n ≡ asked.now.network.now.n }
-    requires start { found.now.start ≡ At (pair_at asked.now.order.now first).0 }
-    ensures count { IfOk result (λ picked. first + length picked.items ≡ end) }
-    ensures picked { IfOk result (λ picked.
-        AreCostsAt found.now.net asked.now.pairs.now asked.now.order.now first picked.items) }
+    ensures { IfOk result (λ targets. AreTargets asked.now first end targets.items) }
 {
-    let mut costs = Vec::with_capacity(alloc, end - first)?;
+    let mut targets = Vec::with_capacity(alloc, end - first)?;
     for at in first..end {
         let place = asked.order[at].1 as usize;
-        costs.push(found.to(asked.pairs[place].1))?;
+        targets.push(asked.pairs[place].1)?;
     }
-    Ok(costs)
+    Ok(targets)
 }
 
 /// The place after the entries that have the source of the one at this place.

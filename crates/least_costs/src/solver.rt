@@ -81,7 +81,7 @@ impl<'a, G: Gate + Sync> Solver<'a, G> {
         ensures net { IfOk result (λ after. after.net ≡ grown.now) }
         ensures start { IfOk result (λ after. after.start ≡ costs.start) }
     {
-        let workers = Workers::new(self.plan.settings, &self.gate, None);
+        let mut workers = Workers::new(self.plan.settings, &self.gate, None);
         workers.costs_after(rt, alloc, self.network, grown, costs)
     }
 }

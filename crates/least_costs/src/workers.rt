@@ -1,21 +1,16 @@
 //! Who solves one start after another?
 
-ghost use Rattle.std.specs.Prelude.{◌≡◌, List, IfOk, length};
-ghost use Rattle.route_walks.specs.declared.graph.Seed.{Seed};
-ghost use Rattle.route_walks.specs.Label.{AreLeastLabels};
-ghost use Rattle.route_walks.specs.Walk.{AreSeeds, IsGraph};
-ghost use Rattle.csr_graph.specs.Graph.{Graph};
-ghost use Rattle.label_words.specs.Paused.{IsPause};
-ghost use Rattle.obim_engine.specs.Grown.{IsGrown};
-ghost use Rattle.least_costs.specs.Network.{GrowsTo, IsStartWithin};
+ghost use Rattle.std.specs.Prelude.{◌≡◌, IfOk};
+ghost use Rattle.label_words.specs.Closed.{IsEnd};
+ghost use Rattle.obim_engine.specs.Goal.{HasReached, IsGoalWithin};
+ghost use Rattle.least_costs.specs.Network.{GrowsTo, IsStartWithin, graph_of, seeds_at};
 
 use crate::costs::Costs;
 use crate::network::Network;
 use crate::runner::Runner;
 use crate::start::Start;
-use csr_graph::Csr;
-use obim_engine::{Gate, Paused, Settings, grow, least_labels_resumed};
-use route_walks::{ArcRec, Memory};
+use obim_engine::{Closed, Gate, Goal, Reached, Settings};
+use route_walks::Memory;
 use std::alloc::Global;
 use std::sync::Wait;
 use std::thread::Threads;
@@ -60,21 +55,17 @@ impl<'a, G: Gate + Sync> Workers<'a, G> {
         requires { IsStartWithin network.now.n start }
         ensures net { IfOk result (λ costs. costs.net ≡ network.now) }
         ensures start { IfOk result (λ costs. costs.start ≡ start) }
-        ensures settings { self.new.settings ≡ self.old.settings }
     {
-        let mut runner = match self.kept.take() {
-            Some(runner) if runner.workers() == self.settings.workers => runner,
-            _ => Runner::open(alloc, network, &self.settings)?,
-        };
+        let mut runner = self.runner(alloc, network)?;
         let costs = runner.costs_from(rt, alloc, network, start, self.gate)?;
         self.kept = Some(runner);
         Ok(costs)
     }
 
     /// The least costs in a network that another one grew to by `with_arcs`, from the same start, from the costs
-    /// there. Only what the added arcs change is visited. This opens a pool of its own.
+    /// there. Only what the added arcs change is visited.
     pub fn costs_after<H: Threads + Wait + Clock + Sync>(
-        &self,
+        &mut self,
         rt: &H,
         alloc: Global,
         network: &Network,
@@ -87,26 +78,60 @@ impl<'a, G: Gate + Sync> Workers<'a, G> {
         ensures start { IfOk result (λ after. after.start ≡ costs.start) }
     {
         let start = costs.start();
-        let labels = costs.into_labels();
-        let rest = pause_of(alloc, &network.rows, &grown.added, labels)?;
-        match least_labels_resumed(rt, alloc, &grown.rows, rest, &self.settings, self.gate) {
-            Ok(labels) => Ok(Costs::new(grown, start, labels)),
-            Err(_) => Err(Memory),
+        let closed = Closed::Settled(costs.into_labels());
+        let goal = Goal::EachVertex;
+        let reached = self.reach_after(rt, alloc, network, grown, start, closed, goal)?;
+        Ok(Costs::new(grown, start, reached.closed.into_labels()))
+    }
+
+    /// What a run from a start reaches in a network that goes no further than its goal.
+    pub fn reach<H: Threads + Wait + Clock + Sync>(
+        &mut self,
+        rt: &H,
+        alloc: Global,
+        network: &Network,
+        start: Start,
+        goal: Goal<'_>,
+    ) -> Result<Reached, Memory>
+        requires start { IsStartWithin network.now.n start }
+        requires goal { IsGoalWithin network.now.n goal }
+        ensures { IfOk result (HasReached goal.entry (graph_of network.now) (seeds_at network.now.n start)) }
+    {
+        let mut runner = self.runner(alloc, network)?;
+        let reached = runner.reach(rt, alloc, network, start, goal, self.gate)?;
+        self.kept = Some(runner);
+        Ok(reached)
+    }
+
+    /// The same in a network that another one grew to by `with_arcs`, from what a run from this start left there.
+    pub fn reach_after<H: Threads + Wait + Clock + Sync>(
+        &mut self,
+        rt: &H,
+        alloc: Global,
+        network: &Network,
+        grown: &Network,
+        start: Start,
+        closed: Closed,
+        goal: Goal<'_>,
+    ) -> Result<Reached, Memory>
+        requires start { IsStartWithin network.now.n start }
+        requires grown { GrowsTo network.now grown.now }
+        requires closed { IsEnd (graph_of network.now) (seeds_at network.now.n start) closed }
+        requires goal { IsGoalWithin grown.now.n goal }
+        ensures { IfOk result (HasReached goal.entry (graph_of grown.now) (seeds_at grown.now.n start)) }
+    {
+        let mut runner = self.runner(alloc, network)?;
+        let gate = self.gate;
+        let reached = runner.reach_after(rt, alloc, network, grown, start, closed, goal, gate)?;
+        self.kept = Some(runner);
+        Ok(reached)
+    }
+
+    /// The pool that they kept, or another one.
+    fn runner(&mut self, alloc: Global, network: &Network) -> Result<Runner, Memory> {
+        match self.kept.take() {
+            Some(runner) if runner.workers() == self.settings.workers => Ok(runner),
+            _ => Runner::open(alloc, network, &self.settings),
         }
     }
-}
-
-/// Labels that are least along the rows, as a pause of the rows with more arcs.
-fn pause_of(alloc: Global, rows: &Csr, added: &[ArcRec], labels: Vec<u64>) -> Result<Paused, Memory>
-    requires ends { IsGraph rows.now.n added.now }
-    requires count { length labels.items ≡ rows.now.n }
-    ensures pause { IfOk result (λ rest. (grown : Graph) (seeds : List Seed)
-        → AreSeeds rows.now.n seeds
-        → AreLeastLabels rows.now.n rows.now.arcs seeds labels.items
-        → IsGrown rows.now added.now grown
-        → IsPause grown seeds rest) }
-{
-    // The rows are by tail, so that labels which are least along them are a pause of their graph.
-    let _ = rows.n();
-    Ok(grow(Paused::settled(alloc, labels)?, added))
 }
