@@ -120,13 +120,13 @@ struct Named {
 fn at_place(alloc: Global, whole: &[u64], place: usize) -> Result<(u64, u32), Memory> {
     let mut ranked = Vec::with_capacity(alloc, whole.len())?;
     for (v, label) in whole.iter().enumerate() {
-        ranked.push((*label, v as u32))?;
+        ranked.push((*label, u32::try_from(v).unwrap_or(0)))?;
     }
     ranked.sort()?;
     Ok(ranked.get(place).copied().unwrap_or((0, 0)))
 }
 
-fn named(alloc: Global, whole: &[u64], wanted: Wanted) -> Result<Named, Memory> {
+fn names_of(alloc: Global, whole: &[u64], wanted: Wanted) -> Result<Named, Memory> {
     let mut targets = Vec::new(alloc);
     let mut bound = 0;
     match wanted {
@@ -180,7 +180,7 @@ fn count_until<H: Threads + Wait + Clock + Abort + Sync>(
     wanted: Wanted,
     settings: &Settings,
 ) -> Result<(u64, bool), Fail> {
-    let named = named(alloc, whole, wanted)?;
+    let named = names_of(alloc, whole, wanted)?;
     let goal = named.goal(wanted);
     let gate = Counting {
         visits: AtomicU64::new(0),
@@ -321,40 +321,33 @@ fn over_pool<H: Threads + Wait + Clock + Sync>(
     }
 }
 
-/// What is wanted of the six vertices.
-const OF_SIX: [Goal<'static>; 5] = [
-    Goal::Targets(&[1]),
-    Goal::Targets(&[5, 0]),
-    Goal::WalksTo(&[4]),
-    Goal::Within(9),
-    Goal::Within(INF),
-];
-
-/// Pools, of which some keep nothing.
-const POOLS: [Kind; 8] = [
-    Kind::Locked,
-    Kind::Obim,
-    Kind::Widening,
-    Kind::Misleading,
-    Kind::Useless(false, None),
-    Kind::Useless(true, None),
-    Kind::Useless(true, Some(0)),
-    Kind::Useless(false, Some(6)),
+/// Pools, of which some keep nothing, how many workers there are, and what is wanted of the six vertices.
+const POOLS: &[(Kind, u32, Goal<'static>)] = &[
+    (Kind::Locked, 1, Goal::Targets(&[1])),
+    (Kind::Locked, 4, Goal::Targets(&[5, 0])),
+    (Kind::Obim, 1, Goal::WalksTo(&[4])),
+    (Kind::Obim, 4, Goal::Within(9)),
+    (Kind::Widening, 2, Goal::Within(INF)),
+    (Kind::Widening, 4, Goal::Targets(&[])),
+    (Kind::Misleading, 1, Goal::Targets(&[1])),
+    (Kind::Misleading, 2, Goal::Within(9)),
+    (Kind::Misleading, 4, Goal::WalksTo(&[1, 2])),
+    (Kind::Useless(false, None), 1, Goal::Within(11)),
+    (Kind::Useless(true, None), 1, Goal::Targets(&[1])),
+    (Kind::Useless(true, None), 2, Goal::Within(11)),
+    (Kind::Useless(true, Some(0)), 2, Goal::Targets(&[4])),
+    (Kind::Useless(false, Some(6)), 4, Goal::WalksTo(&[4])),
 ];
 
 #[test]
 fn stops_over_each_pool(rt: HostRuntime) -> Result<(), Fail> {
     let alloc = rt.alloc();
     let csr = six(alloc)?;
-    for kind in POOLS {
-        for workers in [1, 2, 4] {
-            for (row, goal) in OF_SIX.iter().enumerate() {
-                let settings = settings(&rt, workers, 2, false);
-                assert!(rt; goal.is_within(6));
-                let labels = over_pool(&rt, alloc, &csr, *goal, &settings, kind)?;
-                same_labels(&rt, row, &labels, &SIX_LABELS);
-            }
-        }
+    for (row, &(kind, workers, goal)) in POOLS.iter().enumerate() {
+        let settings = settings(&rt, workers, 2, false);
+        assert!(rt; goal.is_within(6));
+        let labels = over_pool(&rt, alloc, &csr, goal, &settings, kind)?;
+        same_labels(&rt, row, &labels, &SIX_LABELS);
     }
     Ok(())
 }
