@@ -1,12 +1,11 @@
 -- How the labels of pairs are filled in, and which lines they make.
 use Rattle.std.proofs.Common.{◌≡◌, ℕ, ◌+◌, ◌<◌, ◌≤◌, List, [], ◌∷◌, ◌++◌, length, get_or, set, take}
-use Rattle.std.proofs.Common.{Option, Some, None, refl, ap, sym, subst, ◌∙◌, inl, inr, arith}
-use Rattle.std.specs.List.{All, Contains}
+use Rattle.std.proofs.Common.{Option, Some, None, refl, sym, subst, ◌∙◌, inl, inr, arith}
+use Rattle.std.specs.List.{All}
 use Rattle.std.specs.List.Sorted.{IsPermutation}
 use Rattle.std.proofs.lemmas.List.{get_or-set_same, get_or-set_other, get_or_append_left, get_or_push}
 use Rattle.std.proofs.lemmas.List.{length-set, length_push, take_all, take_more}
 use Rattle.std.proofs.lemmas.List.Elements.{All-append, All-cons, All-contains, All-get_or, All-nil, All-weaker}
-use Rattle.std.proofs.lemmas.List.Elements.{Contains-append_left, Contains-push}
 use Rattle.std.proofs.lemmas.List.Sorted.{All-permutation, Contains-permutation, length_permutation}
 use Rattle.std.proofs.lemmas.Bool.{cases_eq, cases_lt}
 use Rattle.route_walks.specs.declared.graph.ArcRec.{ArcRec}
@@ -15,40 +14,13 @@ use Rattle.route_walks.specs.Operators.{seeds_from}
 use Rattle.job_answer.specs.declared.solves.Solve.{Solve}
 use Rattle.job_answer.specs.Tasks.{AreLabelsAt}
 use Rattle.dimacs_text.specs.Jobs.{IsPairWithin}
+use Rattle.least_costs.proofs.Facts.{ArePlaced}
 use Rattle.job_answer.specs.Solves.{pair_at, AreBySource, AreFilled, ArePairLabels, IsForQueries, IsPairLabel}
 use Rattle.job_answer.specs.Solves.{IsStartWithin}
 use Rattle.job_answer.specs.Solves.{AreFilledAfter, AreLabelsAfter, HasLabelAfter}
 use Rattle.job_answer.specs.declared.graphs.Grown.{Grown}
 
--- the first pairs are in the order, with their sources
-pub record ArePlaced (pairs : List (ℕ × ℕ)) (count : ℕ) (order : List (ℕ × ℕ)) : Type 0 where
-  pub each : All (λ entry. (entry.1 < count) × (entry.0 ≡ (pair_at pairs entry.1).0)) order
-  pub all : (k : ℕ) → k < count → Contains order ((pair_at pairs k).0, k)
-  pub once : length order ≡ count
-
-pub placed_more : (pairs : List (ℕ × ℕ)) (i : ℕ) (order : List (ℕ × ℕ))
-    → ArePlaced pairs i order
-    → ArePlaced pairs (i + 1) (order ++ ((pair_at pairs i).0, i) ∷ [])
-placed_more pairs i order placed =
-    let within : ℕ × ℕ → Type 0 = λ entry. (entry.1 < i + 1) × (entry.0 ≡ (pair_at pairs entry.1).0) in record {
-      each =
-          All-append within order (((pair_at pairs i).0, i) ∷ [])
-          (All-weaker (λ entry. (entry.1 < i) × (entry.0 ≡ (pair_at pairs entry.1).0)) within
-          (λ entry is. (omega (arith, is.0), is.1)) order placed.each)
-          (All-cons within ((pair_at pairs i).0, i) [] (omega arith, refl) (All-nil within));
-      all = λ k below.
-          elim (cases_eq k i) [
-            | inl is ↦
-                subst (λ (j : ℕ). Contains (order ++ ((pair_at pairs i).0, i) ∷ []) ((pair_at pairs j).0, j)) (sym is)
-                (Contains-push order ((pair_at pairs i).0, i))
-            | inr other ↦
-                Contains-append_left order (((pair_at pairs i).0, i) ∷ []) ((pair_at pairs k).0, k)
-                (placed.all k (omega (arith, other)))
-          ];
-      once = length_push order ((pair_at pairs i).0, i) ∙ ap (λ k. k + 1) placed.once;
-    }
-
--- they are in it however it is sorted
+-- all pairs are in the order however it is sorted
 pub all_placed : (pairs : List (ℕ × ℕ)) (i : ℕ) (order sorted : List (ℕ × ℕ))
     → i ≡ length pairs → ArePlaced pairs i order → IsPermutation order sorted
     → ((k : ℕ) → k + 1 < length sorted → (pair_at sorted k).0 ≤ (pair_at sorted (k + 1)).0)

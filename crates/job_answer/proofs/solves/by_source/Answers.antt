@@ -4,7 +4,8 @@ use Rattle.std.specs.declared.cmp.Ordering.{Ordering}
 use Rattle.std.specs.declared.cmp.Ordering.TheVariants.{Less, Equal, Greater}
 use Rattle.std.proofs.lemmas.Map.Keys.{ge_from_not_lt}
 use Rattle.job_answer.specs.Solves.{pair_at}
-use Rattle.job_answer.proofs.PairLabels.{placed_more, all_placed}
+use Rattle.least_costs.proofs.Facts.{placed_more}
+use Rattle.job_answer.proofs.PairLabels.{all_placed}
 use Rattle.job_answer.proofs.solves.by_source.Goals as goal
 
 pub loop-place-preserved : goal.loop-place-preserved

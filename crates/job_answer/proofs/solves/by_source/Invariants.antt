@@ -1,4 +1,4 @@
-use Rattle.job_answer.proofs.PairLabels.{ArePlaced}
+use Rattle.least_costs.proofs.Facts.{ArePlaced}
 use Rattle.job_answer.proofs.solves.by_source.Given as goal
 
 abbrev pub invariant-loop-place : goal.invariant-loop-place
