@@ -1,17 +1,8 @@
--- Known bytes taken, or given, one piece after another.
+-- Known bytes given, one piece after another.
 use Rattle.std.proofs.Common.{ℕ, List, [], ◌++◌, take, drop, Option, Some, None, sym, ap, ◌∙◌, append_assoc}
 use Rattle.std.proofs.lemmas.List.{append-nil, take-append-drop}
-use Rattle.std.specs.Io.KnownBytes.{Consumes, Appends}
+use Rattle.std.specs.Io.KnownBytes.{Appends}
 use Rattle.job_answer.specs.Bytes.{Waits}
-
-pub consumes-then : (first second third : Option (List ℕ)) (some more : List ℕ)
-    → Consumes first second some → Consumes second third more
-    → Consumes first third (some ++ more)
-consumes-then None second third some more one two = tt
-consumes-then (Some xs) None third some more one two = absurd one
-consumes-then (Some xs) (Some ys) None some more one two = absurd two
-consumes-then (Some xs) (Some ys) (Some zs) some more one two =
-    one ∙ ap (λ (rest : List ℕ). some ++ rest) two ∙ sym (append_assoc some more zs)
 
 pub appends-then : (first second third : Option (List ℕ)) (some more : List ℕ)
     → Appends first second some → Appends second third more

@@ -1,5 +1,4 @@
 pub mod Known
-pub mod Feeding
 pub mod Sending
 pub mod Replies
 pub mod Costs

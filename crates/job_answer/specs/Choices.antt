@@ -1,7 +1,7 @@
 -- What may be asked, which fault the program makes of one below it, and which status a fault has.
 use Rattle.std.specs.Prelude.{◌≡◌, ◌≢◌, ℕ, ◌^◌, ◌≤◌, Bool, true}
-use Rattle.dimacs_text.specs.declared.fault.TextFault.{TextFault}
-use Rattle.dimacs_text.specs.declared.fault.TextFault.TheVariants as refused
+use Rattle.job_reader.specs.declared.fault.ReadFault.{ReadFault}
+use Rattle.job_reader.specs.declared.fault.ReadFault.TheVariants as refused
 use Rattle.job_answer.specs.declared.asked.Answer.{Answer}
 use Rattle.job_answer.specs.declared.asked.Answer.TheVariants.{Components}
 use Rattle.job_answer.specs.declared.fault.Fault.{Fault}
@@ -22,7 +22,9 @@ status_of fault.Memory = 3
 status_of fault.Spawn = 5
 status_of fault.Write = 4
 
--- what the reader of the text refused, as a fault of the program
-abbrev pub fault_of : TextFault → Fault
-fault_of refused.Memory = fault.Memory
-fault_of (refused.Line line kind) = fault.Text line kind
+-- why a reader gave no job, as a fault of the program
+abbrev pub fault_of_reading : ReadFault → Fault
+fault_of_reading refused.Read = fault.Read
+fault_of_reading refused.TooLong = fault.TooLong
+fault_of_reading (refused.Text line kind) = fault.Text line kind
+fault_of_reading refused.Memory = fault.Memory

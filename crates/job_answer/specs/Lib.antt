@@ -3,7 +3,6 @@ pub mod Choices
 pub mod Bytes
 pub mod AnswerText
 pub mod Graphs
-pub mod Pieces
 pub mod Outcome
 pub mod Costs
 pub mod Parts

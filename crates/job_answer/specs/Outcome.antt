@@ -1,24 +1,17 @@
 -- What a run of the program has read and written, for each outcome.
-use Rattle.std.specs.Prelude.{◌≡◌, ◌≢◌, ◌<◌, ◌≤◌, ◌⊎◌, ℕ, Bool, true, false, List, length, Option, Result, ⊤}
+use Rattle.std.specs.Prelude.{◌≡◌, ◌≢◌, ◌<◌, ◌⊎◌, ℕ, Bool, true, false, List, length, Option, Result, ⊤}
 use Rattle.std.specs.Result.{OnOk, IfErr}
 use Rattle.std.specs.Io.KnownBytes.{Keeps}
-use Rattle.dimacs_text.specs.declared.fault.LineKind.{LineKind}
-use Rattle.dimacs_text.specs.Jobs.{Content, Question, absent, from_sources, of_pairs, IsJobText, IsWithinLimits}
+use Rattle.dimacs_text.specs.Jobs.{Content, Question, absent, from_sources, of_pairs, IsJobText}
 use Rattle.dimacs_text.specs.Faults.{IsFirstFault}
 use Rattle.job_answer.specs.declared.asked.Answer.{Answer}
 use Rattle.job_answer.specs.declared.asked.Answer.TheVariants as answer
 use Rattle.job_answer.specs.declared.fault.Fault.{Fault}
 use Rattle.job_answer.specs.declared.fault.Fault.TheVariants as fault
-use Rattle.job_answer.specs.Bytes.{TakesAtMost, TakesOneMore, TakesWhole, Writes, WritesPrefix}
+use Rattle.job_reader.specs.Request.{IsFaulty, IsRequest}
+use Rattle.job_reader.specs.Taken.{TakesAtMost, TakesOneMore}
+use Rattle.job_answer.specs.Bytes.{Writes, WritesPrefix}
 use Rattle.job_answer.specs.AnswerText.{IsAnswerText}
-
--- the whole text was taken, within the limit, and it is the job's
-pub record IsRequest (limit : ℕ) (before after : Option (List ℕ)) (job : Content) : Type 0 where
-  pub text : List ℕ
-  pub whole : TakesWhole before after text
-  pub few : length text ≤ limit
-  pub is_job : IsJobText text job
-  pub limits : IsWithinLimits job
 
 -- the whole text was taken, it is a job's, and the job's answer was written and nothing else
 pub record IsAnswered (limit : ℕ) (kind : Answer) (walks : Bool)
@@ -61,12 +54,6 @@ pub record IsAnswerOf (kind : Answer) (walks : Bool) (text bytes : List ℕ) : T
   pub job : Content
   pub is_job : IsJobText text job
   pub is_answer : IsAnswerText kind walks job bytes
-
--- the whole text was taken, and its first fault is this one
-pub record IsFaulty (before after : Option (List ℕ)) (line : ℕ) (kind : LineKind) : Type 0 where
-  pub text : List ℕ
-  pub whole : TakesWhole before after text
-  pub first : IsFirstFault text line kind
 
 -- the whole text was taken, and it is a job's without a section of queries
 pub record IsRequestUnasked (limit : ℕ) (kind : Answer) (before after : Option (List ℕ)) : Type 0 where
@@ -131,14 +118,6 @@ IsTrueOfBytes limit kind text (fault.Text line what) = IsFirstFault text line wh
 IsTrueOfBytes limit kind text fault.NoAsk = IsTextUnasked kind text
 IsTrueOfBytes limit kind text fault.Write = ⊥
 IsTrueOfBytes limit kind text _ = ⊤
-
--- the faults of reading a job: a fault of its text is the first one
-abbrev pub IsRequestFault : Option (List ℕ) → Option (List ℕ) → Fault → Type 0
-IsRequestFault before after (fault.Text line kind) = IsFaulty before after line kind
-IsRequestFault before after fault.NoAsk = ⊥
-IsRequestFault before after fault.Spawn = ⊥
-IsRequestFault before after fault.Write = ⊥
-IsRequestFault before after _ = ⊤
 
 -- the faults of working out blocks and writing them
 abbrev pub IsWritingFault : Fault → Type 0

@@ -14,9 +14,9 @@ use crate::fault::Fault;
 use crate::figures::Figures;
 use crate::graphs::{Graphs, graphs_for};
 use crate::pairs::write_pairs;
-use crate::read::read_request;
 use crate::watch::{Phase, Watch};
 use dimacs_text::{Ask, Job};
+use job_reader::{ReadWatch, read_job_from};
 use least_costs::{Start, Workers};
 use obim_engine::Gate;
 use route_walks::laws::least_labels_follow_the_arcs;
@@ -54,14 +54,14 @@ pub fn answer_watched<H: Threads + Wait + Clock + Sync, R: Read, W: Write, G: Ga
     writer: &mut W,
     asked: &Asked,
     gate: &G,
-    watch: &mut impl Watch,
+    watch: &mut (impl ReadWatch + Watch),
 ) -> Result<(), Fault>
     ensures { IsReply asked.now.limit asked.now.answer asked.now.walks
         (R.remaining reader.old) (R.remaining reader.new)
         (W.contents writer.old) (W.contents writer.new) result }
 {
     let threads = asked.settings.workers as usize;
-    let job = read_request(rt, alloc, reader, asked.limit, threads, watch)?;
+    let job = read_job_from(rt, alloc, reader, asked.limit, threads, watch)?;
     watch.end(rt, Phase::Reading);
     answer_job(rt, alloc, writer, asked, job, gate, watch)
 }

@@ -2,9 +2,10 @@
 
 ghost use Rattle.std.specs.Prelude.{◌≡◌};
 ghost use Rattle.job_answer.specs.declared.fault.Fault.TheVariants as fault;
-ghost use Rattle.job_answer.specs.Choices.{fault_of, status_of};
+ghost use Rattle.job_answer.specs.Choices.{fault_of_reading, status_of};
 
-use dimacs_text::{LineKind, TextFault};
+use dimacs_text::LineKind;
+use job_reader::ReadFault;
 use std::alloc::AllocError;
 use thiserror::Error;
 
@@ -34,13 +35,15 @@ pub enum Fault {
     Write,
 }
 
-impl From<TextFault> for Fault {
-    ghost from_gives = { λ refused given. given ≡ fault_of refused };
+impl From<ReadFault> for Fault {
+    ghost from_gives = { λ refused given. given ≡ fault_of_reading refused };
 
-    fn from(refused: TextFault) -> Fault {
+    fn from(refused: ReadFault) -> Fault {
         match refused {
-            TextFault::Memory => Fault::Memory,
-            TextFault::Line { line, kind } => Fault::Text { line, kind },
+            ReadFault::Read => Fault::Read,
+            ReadFault::TooLong => Fault::TooLong,
+            ReadFault::Text { line, kind } => Fault::Text { line, kind },
+            ReadFault::Memory => Fault::Memory,
         }
     }
 }

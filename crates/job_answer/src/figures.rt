@@ -1,6 +1,7 @@
 //! What a job is made of, and where the time of its answer went: for `--stats`.
 
 use crate::watch::{Phase, Watch};
+use job_reader::ReadWatch;
 use std::time::{Clock, Duration};
 
 /// Figures of a job and of how it was answered. No byte of the answer depends on them.
@@ -37,6 +38,8 @@ impl Figures {
         }
     }
 }
+
+impl ReadWatch for Figures {}
 
 impl Watch for Figures {
     fn see_rows(&mut self, vertices: u32, arcs: usize) {

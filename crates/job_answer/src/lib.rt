@@ -15,10 +15,10 @@
 //! let bytes = answer_bytes(rt, rt.alloc(), text, &asked, &OpenGate)?; // s 1, d 1 0 and d 2 7
 //! ```
 //!
-//! It stands on `dimacs_text`, which reads job texts, and `answer_lines`, which writes lines; on `csr_graph` for
-//! the rows, on `obim_engine`, whose workers give the labels, on `least_costs`, whose teams solve several sources at
-//! the same time, on `walk_report` for the walks, and on `route_walks`, which says what least labels are; on
-//! `thiserror` for the texts of faults.
+//! It stands on `job_reader`, which reads a job by several threads, on `dimacs_text` for what a job is, and on
+//! `answer_lines`, which writes lines; on `csr_graph` for the rows, on `obim_engine`, whose workers give the labels,
+//! on `least_costs`, whose teams solve several sources at the same time, on `walk_report` for the walks, and on
+//! `route_walks`, which says what least labels are; on `thiserror` for the texts of faults.
 #![tactic(auto)]
 
 mod answering;
@@ -31,9 +31,6 @@ mod graphs;
 pub mod laws;
 mod output_buffer;
 mod pairs;
-mod piece;
-mod read;
-mod readers;
 mod solves;
 mod team_watch;
 mod walked_pairs;
@@ -44,5 +41,6 @@ pub use asked::{Answer, Asked, MAX_AT_ONCE, MAX_BYTES};
 pub use counter::Counter;
 pub use fault::{Fault, status};
 pub use figures::Figures;
+pub use job_reader::ReadWatch;
 pub use least_costs::AtOnce;
 pub use watch::{Phase, Watch};

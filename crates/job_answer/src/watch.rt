@@ -1,6 +1,5 @@
 //! What is a caller told while a job is answered?
 
-use dimacs_text::Explanation;
 use std::time::Clock;
 
 /// What the time is spent on, in turn.
@@ -13,12 +12,9 @@ pub enum Phase {
     Writing,
 }
 
-/// Told by `answer_watched` how far it is, by the caller's own thread. No byte of an answer depends on it.
+/// Told by `answer_watched` how far it is once the job is read, by the caller's own thread. No byte of an answer depends
+/// on it.
 pub trait Watch {
-    /// `count` bytes more of the text were read; of the graph's arcs the first number is read now, and the
-    /// second is counted, once the problem line is read.
-    fn see_text(&mut self, _count: usize, _arcs: Option<(usize, usize)>) {}
-
     /// The rows have this number of vertices and of arcs. For components each arc is there both ways.
     fn see_rows(&mut self, vertices: u32, arcs: usize);
 
@@ -30,9 +26,6 @@ pub trait Watch {
 
     /// Of all the sources or pairs, in the order in which they are solved, `done` are answered.
     fn see_answered(&mut self, _done: usize, _all: usize) {}
-
-    /// The text is refused, and this is what a person needs to mend it. Told once, before the fault is returned.
-    fn see_fault(&mut self, _explanation: &Explanation) {}
 
     /// The time since the last phase ended was spent on this one.
     fn end<C: Clock>(&mut self, clock: &C, phase: Phase);

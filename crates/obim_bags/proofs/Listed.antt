@@ -1,6 +1,6 @@
 -- What stands at a place of a list.
 use Rattle.std.proofs.Common.{Result, Ok, Err, ◌≡◌, ◌≢◌, ◌∙◌, ap, refl, subst, sym, ℕ, zero, suc, ◌<◌, List, [], ◌∷◌}
-use Rattle.std.proofs.Common.{◌++◌, map, reverse, set, length, get_or, Some, None, inl, inr, ⊎_elim, ◌⊎◌}
+use Rattle.std.proofs.Common.{◌++◌, map, reverse, set, length, get_or, Some, None, inl, inr, ⊎_elim, ◌⊎◌, arith}
 use Rattle.std.specs.Prelude.{slice_get, option_map, Option, IfNone, MatchOption, All, Bool, true, false}
 use Rattle.std.specs.Bool.{OnTrue}
 use Rattle.std.specs.Result.{IfErr, IsErrAnd}
@@ -12,6 +12,12 @@ use Rattle.std.proofs.Math.Seq.{map-set_same}
 -- what a read within the list found stands there
 pub found_at : {A : Type 0} (xs : List A) (i : ℕ) (x : A) → i < length xs → x ≡ get_or xs i x → slice_get xs i ≡ Some x
 found_at xs i x within is = slice_get-get_or xs i x within ∙ ap Some (sym is)
+
+-- there is something at a place within a list
+pub some_at : {A : Type 0} (xs : List A) (i : ℕ) → i < length xs → (x : A) × (slice_get xs i ≡ Some x)
+some_at [] i within = absurd (omega (arith, within))
+some_at (x ∷ xs) zero within = (x, refl)
+some_at (x ∷ xs) (suc i) within = some_at xs i (omega (arith, within))
 
 pub at_map : {A B : Type 0} (f : A → B) (xs : List A) (i : ℕ) (x : A) → slice_get xs i ≡ Some x
     → slice_get (map f xs) i ≡ Some (f x)

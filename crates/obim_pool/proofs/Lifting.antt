@@ -1,10 +1,10 @@
 -- A change of one bag of a side, seen from all its bags.
 use Rattle.std.proofs.Common.{◌≡◌, ◌≢◌, ◌∙◌, ap, refl, subst, sym, ℕ, zero, suc, ◌<◌, List, [], ◌∷◌, set, length}
-use Rattle.std.proofs.Common.{get_or, Some, arith, length-set}
+use Rattle.std.proofs.Common.{get_or, Some, length-set}
 use Rattle.std.specs.Prelude.{slice_get}
 use Rattle.std.proofs.lemmas.List.{get_or-set_other, map-set}
 use Rattle.std.proofs.lemmas.Option.{get_or_from_slice_get, slice_get-get_or, slice_get_within}
-use Rattle.obim_bags.proofs.Facts.{found_at, at_map, at_set, at_set_else, map_kept, set_twice}
+use Rattle.obim_bags.proofs.Facts.{found_at, some_at, at_map, at_set, at_set_else, map_kept, set_twice}
 use Rattle.obim_bags.specs.Logs.{MirrorSeen, AccessSeen, metrics_in, metrics_of}
 use Rattle.obim_pool.specs.declared.chunks.BagChunks.{BagChunks}
 use Rattle.obim_pool.specs.declared.order.OwnBag.{OwnBag}
@@ -124,19 +124,13 @@ one_then {P} {Q} {R} {place} {m1} {m2} {m3} {k1} {k2} {k3} joins first second =
       change = joins _ _ _ first.change change;
     }
 
--- a place within a list has an element
-pub here : {A : Type 0} (xs : List A) (i : ℕ) → i < length xs → (x : A) × (slice_get xs i ≡ Some x)
-here [] i within = absurd (omega arith)
-here (x ∷ xs) zero within = (x, refl)
-here (x ∷ xs) (suc i) within = here xs i (omega arith)
-
 -- a change of the side's two chunks of a bag alone
 pub one_of_held : (Changes : Account → Account → Type 0) (place : ℕ) (m : MirrorSeen) (k k' : BagChunks)
     → place < length m.accesses
     → ((p : AccessSeen) → Changes (account_of (Some p) (held_of k)) (account_of (Some p) (held_of k')))
     → OneBag Changes place m k m k'
 one_of_held Changes place m k k' within change =
-    let p = here m.accesses place within in
+    let p = some_at m.accesses place within in
     record {
       was = p.0;
       is = p.0;

@@ -1,7 +1,7 @@
 //! What `--progress` prints on standard error while a job is answered.
 
 use dimacs_text::Explanation;
-use job_answer::{Figures, Phase, Watch};
+use job_answer::{Figures, Phase, ReadWatch, Watch};
 use std::fmt;
 use std::time::{Clock, Duration};
 
@@ -121,7 +121,7 @@ impl<'a, H: Eprint + Clock> Progress<'a, H> {
     }
 }
 
-impl<H: Eprint + Clock> Watch for Progress<'_, H> {
+impl<H: Eprint + Clock> ReadWatch for Progress<'_, H> {
     fn see_text(&mut self, count: usize, arcs: Option<(usize, usize)>) {
         self.bytes = self.bytes.saturating_add(count as u64);
         self.tell(match arcs {
@@ -130,6 +130,12 @@ impl<H: Eprint + Clock> Watch for Progress<'_, H> {
         });
     }
 
+    fn see_fault(&mut self, explanation: &Explanation) {
+        self.explanation = Some(*explanation);
+    }
+}
+
+impl<H: Eprint + Clock> Watch for Progress<'_, H> {
     fn see_rows(&mut self, vertices: u32, arcs: usize) {
         self.figures.see_rows(vertices, arcs);
     }
@@ -147,10 +153,6 @@ impl<H: Eprint + Clock> Watch for Progress<'_, H> {
             self.began_queries = self.rt.monotonic().ok();
         }
         self.tell(Step::Answered(done, all));
-    }
-
-    fn see_fault(&mut self, explanation: &Explanation) {
-        self.explanation = Some(*explanation);
     }
 
     fn end<C: Clock>(&mut self, clock: &C, phase: Phase) {

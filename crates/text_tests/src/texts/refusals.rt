@@ -4,6 +4,7 @@
 
 ghost use Rattle.dimacs_text.specs.Reading.{IsReadAhead};
 
+use crate::texts::readers::{NOTHING, ONE_ARC};
 use crate::texts::several::large;
 use crate::texts::{GRAPH, SHORT, assert_added, assert_job, joined};
 use answer_lines::{
@@ -12,6 +13,7 @@ use answer_lines::{
 use dimacs_text::{
     ExplainedFault, JobReader, LineKind, Parts, ReadAhead, TextFault, read_job, read_side_by_side,
 };
+use job_reader::{ReadFault, read_job_from};
 use route_walks::{ArcRec, INF, Memory, refusable, tried_again};
 use std::alloc::Global;
 use std::process::Abort;
@@ -167,6 +169,21 @@ fn of_job_reader_new(rt: HostRuntime) -> Result<(), Fail> {
         kind: LineKind::NoProblem,
     };
     assert_eq!(rt; reader.finish().err(), Some(none));
+    Ok(())
+}
+
+#[test]
+fn of_read_job_from(rt: HostRuntime) -> Result<(), Fail> {
+    let alloc = rt.alloc();
+    let (mut text, mut same, mut told) = (ONE_ARC, ONE_ARC, NOTHING);
+    let job = tried_again!(
+        rt,
+        alloc,
+        ReadFault::Memory,
+        read_job_from(&rt, alloc, &mut text, 1000, 2, &mut told),
+        read_job_from(&rt, alloc, &mut same, 1000, 2, &mut told)
+    );
+    assert_job(&rt, &job, 2, ArcRec::new(0, 1, 7), &[]);
     Ok(())
 }
 

@@ -1,5 +1,5 @@
 -- One bag more is drained.
-use Rattle.std.proofs.Common.{◌≡◌, ◌≢◌, ◌∙◌, ⊎_elim, ap, refl, sym, subst, ℕ, zero, suc, ◌+◌, ◌-◌, ◌<◌, ◌≤◌, List, []}
+use Rattle.std.proofs.Common.{◌≡◌, ◌≢◌, ◌∙◌, ⊎_elim, ap, refl, sym, subst, ℕ, zero, suc, ◌+◌, ◌-◌, ◌≤◌, List, []}
 use Rattle.std.proofs.Common.{◌∷◌, ◌++◌, map, reverse, take, drop, get_or, length, length-append, arith}
 use Rattle.std.specs.Prelude.{All, Some, slice_get}
 use Rattle.std.proofs.lemmas.Bool.{cases_eq}
@@ -15,7 +15,7 @@ use Rattle.obim_bags.specs.Bags.{AreSettled, BagSeen, PassSeen}
 use Rattle.obim_bags.specs.Logs.{AccessSeen, bags_in}
 use Rattle.obim_bags.specs.Entries.{AreAllOf, EntriesSeen, EntrySeen, bags_of}
 use Rattle.obim_bags.specs.Settling.{AreDrainedFrom, AreOf, AreWholeFrom, IsWholeAt, LackSome, lists_of, passes_in}
-use Rattle.obim_bags.proofs.Listed.{err_and}
+use Rattle.obim_bags.proofs.Listed.{err_and, some_at}
 use Rattle.obim_bags.proofs.Prefixes.{prefix_length, prefix_map, prefix_trans}
 use Rattle.obim_bags.proofs.Cuts.{passes_kept}
 use Rattle.obim_bags.proofs.settle.drain_all.Goals as goal
@@ -68,12 +68,6 @@ first_part parts new part is =
       reverse-append (lists_of parts)
           (part.items ∷ []),
     ) refl
-
--- there is something at a place within a list
-some_at : {A : Type 0} (xs : List A) (i : ℕ) → i < length xs → (x : A) × (slice_get xs i ≡ Some x)
-some_at [] i within = absurd (omega (arith, within))
-some_at (x ∷ xs) zero within = (x, refl)
-some_at (x ∷ xs) (suc i) within = some_at xs i (omega (arith, within))
 
 -- one entry more is whole
 whole_more : (n : ℕ) (held : List (List AccessSeen)) (entries : EntriesSeen)

@@ -13,20 +13,14 @@ use Rattle.obim_bags.specs.Chunks.{ChunkSeen}
 use Rattle.obim_bags.specs.BagRule.{got_by, put_by, weight_of}
 use Rattle.obim_bags.specs.Bags.{BagSeen, PassSeen, tallies_of}
 use Rattle.obim_bags.specs.Logs.{IsLogSettled, MirrorSeen, AccessSeen, bags_in, metrics_in, metrics_of, pass_in}
-use Rattle.obim_bags.proofs.Facts.{prefix_length, prefix_map}
+use Rattle.obim_bags.proofs.Facts.{prefix_length, prefix_map, some_at, some_then}
 use Rattle.obim_pool.specs.Accounts.{Account, account_of, vertices_of}
 use Rattle.obim_pool.specs.Sides.{Pops, PushesTo, SideSeen, account_at, new_side}
-use Rattle.obim_bags.proofs.Facts.{some_then}
 use Rattle.worklist_tests.proofs.pools.callers.pass_on.Goals as goal
 
 -- a number that weighs no more than another, however numbers are weighed, is that number
 same_number : (x v : ℕ) → ((f : ℕ → ℕ) → f x ≤ f v) → x ≡ v
 same_number x v less = omega (arith, less (λ y. (y - v) + (v - y)))
-
-some_at : {A : Type 0} (xs : List A) (i : ℕ) → i < length xs → (x : A) × (slice_get xs i ≡ Some x)
-some_at [] i within = absurd (omega (arith, within))
-some_at (x ∷ xs) zero within = (x, refl)
-some_at (x ∷ xs) (suc i) within = some_at xs i (omega (arith, within))
 
 module _ (f : ℕ → ℕ) where
   -- a chunk weighs what its vertices weigh

@@ -1,14 +1,11 @@
 -- What was handed on at a refused push, and what the next one did.
 use Rattle.std.proofs.Common.{ℕ, [], ◌∷◌, Bool, true, false}
-use Rattle.std.specs.Bool.{OnFalse, OnTrue}
+use Rattle.std.specs.Bool.{OnFalse}
 use Rattle.obim_pool.specs.Accounts.{Puts}
 use Rattle.obim_pool.specs.Sides.{IsOwn, PushesNone, PushesTo, SideSeen, account_at}
+use Rattle.obim_bags.proofs.Facts.{true_then}
 use Rattle.obim_pool.proofs.Facts.{puts_then}
 use Rattle.worklist_tests.proofs.pools.callers.push_stubbornly.Goals as goal
-
-true_then : (P Q : Type 0) (b : Bool) → (P → Q) → OnTrue b P → OnTrue b Q
-true_then P Q true then' was = then' was
-true_then P Q false then' was = tt
 
 false_then : (P Q : Type 0) (b : Bool) → (P → Q) → OnFalse b P → OnFalse b Q
 false_then P Q true then' was = tt
