@@ -1,13 +1,12 @@
 -- What a solve works out, and what the labels of pairs are.
-use Rattle.std.specs.Prelude.{◌≡◌, ◌≢◌, ℕ, ◌+◌, ◌<◌, ◌≤◌, Bool, List, [], ◌++◌, All, Contains, length}
-use Rattle.std.specs.Prelude.{Option, Some, None, slice_index, slice_index_or, take, ⊤}
+use Rattle.std.specs.Prelude.{◌≡◌, ◌≢◌, ℕ, ◌<◌, ◌≤◌, Bool, List, [], ◌++◌, length}
+use Rattle.std.specs.Prelude.{Option, Some, None, slice_index, ⊤}
 use Rattle.least_costs.specs.Costs.{CostsSeen}
 use Rattle.least_costs.specs.Pairs.{ArePairCosts, pair_at}
 use Rattle.least_costs.specs.Network.{NetworkSeen, seeds_at}
 use Rattle.answer_lines.specs.Lines.{grown_text}
 use Rattle.route_walks.specs.declared.graph.ArcRec.{ArcRec}
 use Rattle.route_walks.specs.Label.{AreLeastLabels}
-use Rattle.route_walks.specs.Operators.{seeds_from}
 use Rattle.least_costs.specs.declared.start.Start.{Start}
 use Rattle.least_costs.specs.declared.start.Start.TheVariants as start
 use Rattle.job_answer.specs.declared.solves.Solve.{Solve}
