@@ -7,7 +7,7 @@ mod sources;
 
 ghost use Rattle.std.specs.Prelude.{◌≡◌, IfOk};
 
-use least_costs::{Cost, Costs, Network};
+use least_costs::{Cost, Costs, CostsWithin, Network};
 use route_walks::{ArcRec, EXAMPLE_ARCS};
 use std::alloc::Global;
 use std::process::Abort;
@@ -36,6 +36,25 @@ fn six<H: Threads + Abort + Sync>(rt: &H, alloc: Global) -> Result<Network, Fail
 
 /// Asserts that these are the costs of a row of a table.
 fn expect_costs(rt: &impl Abort, row: usize, network: &Network, costs: &Costs, want: &[Option<u64>])
+    requires { costs.now.net ≡ network.now }
+{
+    assert!(rt; want.len() == network.n() as usize, "row {row}");
+    for v in 0..network.n() {
+        assert!(rt;
+            want.get(v as usize) == Some(&costs.to(v)),
+            "row {row}, vertex {v}"
+        );
+    }
+}
+
+/// The same of costs within a bound.
+fn expect_within(
+    rt: &impl Abort,
+    row: usize,
+    network: &Network,
+    costs: &CostsWithin,
+    want: &[Option<u64>],
+)
     requires { costs.now.net ≡ network.now }
 {
     assert!(rt; want.len() == network.n() as usize, "row {row}");

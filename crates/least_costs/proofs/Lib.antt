@@ -5,4 +5,5 @@ pub mod LeastWalks
 pub mod Taken
 pub mod Filling
 pub mod Reaching
+pub mod Bounds
 pub mod Facts

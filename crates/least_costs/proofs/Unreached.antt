@@ -2,13 +2,15 @@
 use Rattle.std.proofs.Common.{◌≡◌, ◌∙◌, ℕ, ◌<◌, List, Option, Some, None, ap, arith, inl, inr, refl, slice_index, subst}
 use Rattle.std.proofs.Common.{sym}
 use Rattle.std.proofs.lemmas.Bool.{cases_lt}
-use Rattle.route_walks.proofs.Facts.{attained-among, same_arcs-trans}
+use Rattle.route_walks.proofs.Facts.{attained-among, no_walk_at_inf, same_arcs-trans}
 use Rattle.route_walks.specs.declared.graph.TheConstants.{INF}
 use Rattle.route_walks.specs.Existence.{LeastLabelsExist}
 use Rattle.route_walks.specs.Label.{InfMeansNoWalk, IsLeast}
 use Rattle.route_walks.specs.Walk.{HaveSameArcs, IsAttained}
 use Rattle.least_costs.specs.declared.start.Start.{Start}
-use Rattle.least_costs.specs.Costs.{AreLeastFrom, IsCostTo, IsUnreached, label_of}
+use Rattle.route_walks.specs.Operators.{seeds_from}
+use Rattle.least_costs.specs.declared.start.Start.TheVariants.{At}
+use Rattle.least_costs.specs.Costs.{AreLeastFrom, IsCostTo, IsLeastCost, IsUnreached, label_of}
 use Rattle.least_costs.specs.Laws.{CostsAreLabels, CostsFollowTheArcs}
 use Rattle.least_costs.specs.Network.{HasWalk, IsNetwork, IsStartWithin, NetworkSeen, arcs_of, seeds_at}
 use Rattle.least_costs.proofs.Starts.{start-seeds, starts-low}
@@ -20,6 +22,18 @@ pub unreached-at : InfMeansNoWalk → (net : NetworkSeen) (from : Start) (labels
 unreached-at law net from labels is within least v below inf cost walk =
     law net.n net.arcs (seeds_at net.n from) labels is.few is.ends is.light (start-seeds net.n from within)
     (starts-low net.n from is.few) least v below inf cost walk
+
+-- a least label tells the cost, and one of INF that there is no walk
+pub reached-at : (net : NetworkSeen) (source v label : ℕ) → IsLeast net.arcs (seeds_from source) v label → label < INF
+    → IsLeastCost net (At source) v label
+reached-at net source v label is found = record { attained = is.attained found; least = is.least }
+
+pub unreached-from : (net : NetworkSeen) (source v : ℕ) → IsNetwork net → source < net.n
+    → IsLeast net.arcs (seeds_from source) v INF
+    → IsUnreached net (At source) v
+unreached-from net source v is within least cost walk =
+    no_walk_at_inf net.n net.arcs (seeds_from source) v is.few is.ends is.light
+    (start-seeds net.n (At source) within) (starts-low net.n (At source) is.few) least cost walk
 
 label-is : InfMeansNoWalk → (net : NetworkSeen) (from : Start) (labels : List ℕ)
     → IsNetwork net → IsStartWithin net.n from → AreLeastFrom net from labels

@@ -7,4 +7,5 @@ pub mod Rounds
 pub mod Each
 pub mod Taken
 pub mod Pairs
+pub mod Within
 pub mod Laws

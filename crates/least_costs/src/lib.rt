@@ -2,8 +2,8 @@
 //!
 //! A `Network` is made once, of arcs and of what an arc costs: its weight, one, or nothing and both ways. A
 //! `Solver` asks it, as often as one likes: `from` one source, from `each` of many, which are worked out side by
-//! side and handed over in their order, `between` pairs, from everywhere for components, and after arcs were
-//! added. It gives `Costs`, of which contracts know in which network and from which start they are: `to` a
+//! side and handed over in their order, `between` pairs, `within` a bound, from everywhere for components, and after
+//! arcs were added. It gives `Costs`, of which contracts know in which network and from which start they are: `to` a
 //! vertex is the least cost of a walk, and `None` exactly if there is no walk. `Costs::walks` gives the vertices
 //! of least walks with the fewest arcs. The only fault of a call that solves is that memory is refused. How many
 //! workers there are, and how they share the work, is a `Plan`, on which no cost depends.
@@ -43,6 +43,7 @@ mod solver;
 mod start;
 mod teams;
 mod walks;
+mod within;
 mod workers;
 
 pub use cost::Cost;
@@ -59,4 +60,5 @@ pub use solver::Solver;
 pub use start::Start;
 pub use teams::{Team, TeamGate};
 pub use walks::Walks;
+pub use within::CostsWithin;
 pub use workers::Workers;

@@ -94,7 +94,7 @@ impl Runner {
     }
 
     /// What a run from a start reaches in a network that goes no further than its goal.
-    pub fn reach<H: Threads + Wait + Clock + Sync, G: Gate + Sync>(
+    pub(crate) fn reach<H: Threads + Wait + Clock + Sync, G: Gate + Sync>(
         &mut self,
         rt: &H,
         alloc: Global,
@@ -116,7 +116,7 @@ impl Runner {
 
     /// The same in a network that another one grew to, from what a run from this start left there. Only what the added
     /// arcs change is visited.
-    pub fn reach_after<H: Threads + Wait + Clock + Sync, G: Gate + Sync>(
+    pub(crate) fn reach_after<H: Threads + Wait + Clock + Sync, G: Gate + Sync>(
         &mut self,
         rt: &H,
         alloc: Global,

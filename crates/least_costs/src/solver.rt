@@ -8,8 +8,9 @@ use crate::costs::Costs;
 use crate::network::Network;
 use crate::plan::Plan;
 use crate::start::Start;
+use crate::within::CostsWithin;
 use crate::workers::Workers;
-use obim_engine::{Gate, OpenGate};
+use obim_engine::{Gate, Goal, OpenGate};
 use route_walks::Memory;
 use std::alloc::Global;
 use std::sync::Wait;
@@ -50,6 +51,24 @@ impl<'a, G: Gate + Sync> Solver<'a, G> {
         ensures { IfOk result (IsFrom self.now.network.now source) }
     {
         self.costs_from(rt, alloc, Start::At(source))
+    }
+
+    /// The least costs from a source that are at most a bound. Workers go no further.
+    pub fn within<H: Threads + Wait + Clock + Sync>(
+        &self,
+        rt: &H,
+        alloc: Global,
+        source: u32,
+        bound: u64,
+    ) -> Result<CostsWithin, Memory>
+        requires { source < self.now.network.now.n }
+        ensures { IfOk result (λ costs. costs
+            ≡ record { net = self.now.network.now; source = source; bound = bound }) }
+    {
+        let mut workers = Workers::new(self.plan.settings, &self.gate, None);
+        let (network, start) = (self.network, Start::At(source));
+        let reached = workers.reach(rt, alloc, network, start, Goal::Within(bound))?;
+        Ok(CostsWithin::new(network, source, bound, reached))
     }
 
     /// The least costs from a start. From everywhere, where arcs are free both ways, they are components.

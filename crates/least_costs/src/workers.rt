@@ -85,7 +85,7 @@ impl<'a, G: Gate + Sync> Workers<'a, G> {
     }
 
     /// What a run from a start reaches in a network that goes no further than its goal.
-    pub fn reach<H: Threads + Wait + Clock + Sync>(
+    pub(crate) fn reach<H: Threads + Wait + Clock + Sync>(
         &mut self,
         rt: &H,
         alloc: Global,
@@ -104,7 +104,7 @@ impl<'a, G: Gate + Sync> Workers<'a, G> {
     }
 
     /// The same in a network that another one grew to by `with_arcs`, from what a run from this start left there.
-    pub fn reach_after<H: Threads + Wait + Clock + Sync>(
+    pub(crate) fn reach_after<H: Threads + Wait + Clock + Sync>(
         &mut self,
         rt: &H,
         alloc: Global,

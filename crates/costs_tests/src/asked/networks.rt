@@ -1,6 +1,6 @@
 //! Which costs does a network have that is worked by hand, and why is there none?
 
-use crate::asked::{expect_costs, network_of, six};
+use crate::asked::{expect_costs, expect_within, network_of, six};
 use least_costs::{Cost, Network, NetworkFault, Plan, Solver, Start};
 use route_walks::{ArcRec, EXAMPLE_ARCS, MAX_VERTICES, arcs};
 use std::test::Fail;
@@ -173,6 +173,32 @@ fn costs_between_pairs(rt: HostRuntime) -> Result<(), Fail> {
         let costs = solver.between(&rt, rt.alloc(), &PAIRS)?;
         assert!(rt; costs.as_slice() == PAIR_COSTS.as_slice());
         assert!(rt; solver.between(&rt, rt.alloc(), &[])?.is_empty());
+    }
+    Ok(())
+}
+
+/// A bound, and the costs from vertex 0 that are at most the bound.
+const BOUNDS: [(u64, [Option<u64>; 6]); 5] = [
+    (0, [Some(0), None, None, None, None, None]),
+    (9, [Some(0), None, None, None, None, None]),
+    (10, [Some(0), Some(10), Some(10), None, Some(10), None]),
+    (14, [Some(0), Some(10), Some(10), Some(12), Some(10), None]),
+    (
+        u64::MAX,
+        [Some(0), Some(10), Some(10), Some(12), Some(10), Some(15)],
+    ),
+];
+
+#[test]
+fn costs_within_bounds(rt: HostRuntime) -> Result<(), Fail> {
+    let network = six(&rt, rt.alloc())?;
+    for workers in [1, 2] {
+        let solver = Solver::new(&network, Plan::usual(workers));
+        for (row, &(bound, want)) in BOUNDS.iter().enumerate() {
+            let costs = solver.within(&rt, rt.alloc(), 0, bound)?;
+            expect_within(&rt, row, &network, &costs, &want);
+            assert!(rt; costs.source() == 0 && costs.bound() == bound);
+        }
     }
     Ok(())
 }

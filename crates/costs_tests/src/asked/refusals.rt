@@ -4,7 +4,7 @@
 ghost use Rattle.std.specs.Prelude.{◌≡◌};
 ghost use Rattle.least_costs.specs.Each.{AreWithin};
 
-use crate::asked::{expect_costs, six};
+use crate::asked::{expect_costs, expect_within, six};
 use least_costs::{AtOnce, Cost, Network, NetworkFault, Plan, Runner, Solver, Start};
 use least_costs::{Unwatched, Workers};
 use obim_engine::OpenGate;
@@ -21,6 +21,8 @@ const FROM_0: [Option<u64>; 6] = [Some(0), Some(10), Some(10), Some(12), Some(10
 const SHORTER: [ArcRec; 1] = arcs![(0, 5, 4)];
 
 const SHORTER_FROM_0: [Option<u64>; 6] = [Some(0), Some(10), Some(10), Some(12), Some(10), Some(4)];
+
+const WITHIN_12: [Option<u64>; 6] = [Some(0), Some(10), Some(10), Some(12), Some(10), None];
 
 #[test]
 fn of_network_new(rt: HostRuntime) -> Result<(), Fail> {
@@ -139,7 +141,7 @@ fn of_workers_costs_after(rt: HostRuntime) -> Result<(), Fail> {
     let network = six(&rt, alloc)?;
     let grown = network.with_arcs(&rt, alloc, &SHORTER, 1)?;
     let solver = Solver::new(&network, Plan::usual(1));
-    let workers = Workers::new(Plan::usual(1).settings, &OpenGate, None);
+    let mut workers = Workers::new(Plan::usual(1).settings, &OpenGate, None);
     let (costs, again) = (solver.from(&rt, alloc, 0)?, solver.from(&rt, alloc, 0)?);
     let after = tried_again!(
         rt,
@@ -149,6 +151,16 @@ fn of_workers_costs_after(rt: HostRuntime) -> Result<(), Fail> {
         workers.costs_after(&rt, alloc, &network, &grown, again)
     );
     expect_costs(&rt, 0, &grown, &after, &SHORTER_FROM_0);
+    Ok(())
+}
+
+#[test]
+fn of_solver_within(rt: HostRuntime) -> Result<(), Fail> {
+    let alloc = rt.alloc();
+    let network = six(&rt, alloc)?;
+    let solver = Solver::new(&network, Plan::usual(2));
+    let costs = tried_again!(rt, alloc, Memory, solver.within(&rt, alloc, 0, 12));
+    expect_within(&rt, 0, &network, &costs, &WITHIN_12);
     Ok(())
 }
 

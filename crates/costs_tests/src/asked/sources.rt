@@ -119,3 +119,41 @@ fn sources_meet(rt: HostRuntime) -> Result<(), Fail> {
     assert_eq!(rt; solver.gate.workers.load(Ordering::Relaxed), 0b11);
     Ok(())
 }
+
+/// Counts visits.
+#[derive(Drop)]
+struct Counting {
+    visits: AtomicU64,
+}
+
+impl Gate for Counting {
+    fn pass<H: Wait>(&self, _rt: &H, _worker: u32, _vertex: u32) {
+        self.visits.fetch_add(1, Ordering::Relaxed);
+    }
+}
+
+// One vertex after the other: workers go little further than to the target, or to the bound.
+#[test]
+fn few_visits_of_what_is_near(rt: HostRuntime) -> Result<(), Fail> {
+    let alloc = rt.alloc();
+    let mut arcs = Vec::new(alloc);
+    for v in 0..2_999_u32 {
+        arcs.push(ArcRec::new(v, v + 1, 1))?;
+    }
+    let network = network_of(&rt, alloc, 3_000, &arcs, Cost::Weight)?;
+    let solver = Solver {
+        network: &network,
+        plan: Plan::usual(1),
+        gate: Counting {
+            visits: AtomicU64::new(0),
+        },
+    };
+    let costs = solver.between(&rt, alloc, &[(10, 13), (10, 12)])?;
+    assert!(rt; costs.as_slice() == [Some(3), Some(2)].as_slice());
+    let of_pairs = solver.gate.visits.load(Ordering::Relaxed);
+    assert!(rt; of_pairs <= 100, "{of_pairs} visits");
+    solver.within(&rt, alloc, 10, 3)?;
+    let of_both = solver.gate.visits.load(Ordering::Relaxed);
+    assert!(rt; of_both <= 110, "{of_both} visits");
+    Ok(())
+}

@@ -1,0 +1,81 @@
+//! Which vertices cost no more than a bound from a source, and how much?
+
+ghost use Rattle.std.specs.Prelude.{◌≡◌, ◌<◌, IfNone, IfSome};
+ghost use Rattle.obim_engine.specs.Goal.{HasReached};
+ghost use Rattle.obim_engine.specs.declared.goal.Goal.TheVariants as goal;
+ghost use Rattle.route_walks.specs.Operators.{seeds_from};
+ghost use Rattle.least_costs.specs.Network.{graph_of};
+ghost use Rattle.least_costs.specs.Within.{IsBeyond, IsCostWithin};
+
+use crate::network::Network;
+use obim_engine::Reached;
+use route_walks::INF;
+use std::marker::Model;
+use std::snapshot::Snapshot;
+
+/// The least costs from a source that are at most a bound. Contracts see in which network; of that it keeps
+/// nothing. It takes 8 bytes a vertex.
+#[derive(Drop)]
+pub struct CostsWithin {
+    labels: Vec<u64>,
+    source: u32,
+    bound: u64,
+    of: Snapshot<Network>,
+}
+
+impl Model for CostsWithin {
+    ghost use Rattle.least_costs.specs.Within.{AreLabelsWithin, WithinSeen};
+
+    ghost Value = { WithinSeen };
+
+    ghost view = { λ c. record { net = c.of.value; source = c.source; bound = c.bound } };
+
+    ghost invariant = { λ c. AreLabelsWithin
+        (record { net = c.of.value; source = c.source; bound = c.bound }) c.labels.items };
+}
+
+impl CostsWithin {
+    pub(crate) fn new(network: &Network, source: u32, bound: u64, reached: Reached) -> CostsWithin
+        requires source { source < network.now.n }
+        requires reached { HasReached (goal.Within bound) (graph_of network.now) (seeds_from source) reached }
+        ensures { result ≡ record { net = network.now; source = source; bound = bound } }
+    {
+        let _ = network.n();
+        CostsWithin {
+            labels: reached.closed.into_labels(),
+            source,
+            bound,
+            of: Snapshot::of(network),
+        }
+    }
+
+    /// The least cost of a walk to `v`; `None` if no walk costs as little as the bound.
+    pub fn to(&self, v: u32) -> Option<u64>
+        requires { v < self.now.net.n }
+        ensures some { IfSome result (IsCostWithin self.now v) }
+        ensures none { IfNone result (IsBeyond self.now v) }
+    {
+        let label = self.labels[v as usize];
+        if label > self.bound {
+            return None;
+        }
+        if label == INF {
+            return None;
+        }
+        Some(label)
+    }
+
+    /// Where the walks begin.
+    pub fn source(&self) -> u32
+        ensures { result ≡ self.now.source }
+    {
+        self.source
+    }
+
+    /// The most that a walk may cost.
+    pub fn bound(&self) -> u64
+        ensures { result ≡ self.now.bound }
+    {
+        self.bound
+    }
+}
