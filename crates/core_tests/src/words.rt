@@ -304,7 +304,9 @@ fn expect_marked_labels(rt: &impl Abort, words: &Words, seat: &WorkSeat, script:
             Some(label) => script.marked.contains(&v) && label == script.labels[place],
             None => !script.marked.contains(&v),
         };
-        expect(rt, holds, "label of", place);
+        let hint = words.label_hint(seat, v);
+        let same = hint == script.labels[place];
+        expect(rt, holds && same, "label of", place);
     }
 }
 

@@ -2,6 +2,7 @@
 
 mod draws;
 mod gates;
+mod goals;
 mod graphs;
 mod growths;
 mod hostile;

@@ -20,7 +20,8 @@ use Rattle.job_answer.specs.AnswerText.{AreAskedBlocks, AreBlocks, AreWalksFrom,
 use Rattle.job_answer.specs.AnswerText.{Growth, IsComponentsBlock, IsGrownBlock, IsGrownPair, IsGrownText}
 use Rattle.job_answer.specs.AnswerText.{arcs_for, growth_for, growth_from, pair_walk_text, walks_text}
 use Rattle.job_answer.specs.Existence.{AskedJobsHaveAnswers}
-use Rattle.job_answer.proofs.Starts.{all-seeds, source-seeds}
+use Rattle.least_costs.proofs.Facts.{start-seeds}
+use Rattle.least_costs.specs.declared.start.Start.TheVariants.{At, Everywhere}
 
 -- where each query has a block, there are the blocks of all
 blocks-exist : {Query : Type 0} (IsWithin : Query → Type 0) (IsBlockOf : Query → List ℕ → Type 0)
@@ -37,7 +38,7 @@ module _ (labelled : LeastLabelsExist) (walked : HopsAndParentsExist) (n : ℕ) 
     (few : n ≤ MAX_VERTICES)
     (graph : IsGraph n arcs) where
   labels-exist : (source : ℕ) → source < n → (labels : List ℕ) × AreLeastLabels n arcs (seeds_from source) labels
-  labels-exist source within = labelled n arcs (seeds_from source) graph (source-seeds n source within)
+  labels-exist source within = labelled n arcs (seeds_from source) graph (start-seeds n (At source) within)
 
   walks-exist : (source : ℕ) → source < n
       → (labels : List ℕ) × (hops : List ℕ) × (parents : List ℕ) × AreWalksFrom n arcs source labels hops parents
@@ -72,7 +73,7 @@ module _ (labelled : LeastLabelsExist) (walked : HopsAndParentsExist) (n : ℕ) 
 components-exist : LeastLabelsExist → (n : ℕ) (arcs : List ArcRec) → IsGraph n arcs
     → (text : List ℕ) × IsComponentsBlock n arcs text
 components-exist labelled n arcs graph =
-    let found = labelled n arcs (seeds_all n) graph (all-seeds n) in
+    let found = labelled n arcs (seeds_all n) graph (start-seeds n Everywhere tt) in
     (components_text found.0, record { labels = found.0; least = found.1; written = refl })
 
 -- the graph that it grows to, if it does, is one of n vertices

@@ -2,26 +2,31 @@
 use Rattle.std.proofs.Common.{◌≡◌, Bool, ℕ, ◌<◌, ◌∙◌, List, [], ◌++◌, Option, Some, None, true, false, length, get_or}
 use Rattle.std.proofs.Common.{refl, sym, subst, ap, append_assoc}
 use Rattle.std.proofs.lemmas.List.{append-nil}
-use Rattle.csr_graph.specs.Graph.{Graph}
+use Rattle.least_costs.specs.declared.cost.Cost.{Cost}
+use Rattle.least_costs.specs.Costs.{label_of}
+use Rattle.least_costs.specs.Laws.{CostsAreLabels, NetworksGrow}
+use Rattle.least_costs.specs.Network.{GrowsTo, IsNetwork, IsNetworkOf, NetworkSeen, arcs_of}
+use Rattle.least_costs.specs.Pairs.{ArePairCosts, IsPairCost, pair_at}
+use Rattle.dimacs_text.specs.Jobs.{IsPairWithin}
+use Rattle.std.specs.List.{All}
+use Rattle.std.proofs.lemmas.List.Elements.{All-get_or}
 use Rattle.route_walks.specs.declared.graph.ArcRec.{ArcRec}
 use Rattle.answer_lines.specs.Lines.{grown_text, pair_text}
 use Rattle.job_answer.specs.declared.graphs.Grown.{Grown}
 use Rattle.job_answer.specs.declared.walked_pairs.Walked.{Walked}
-use Rattle.job_answer.specs.declared.solves.Start.{Start}
-use Rattle.job_answer.specs.declared.solves.Start.TheVariants.{At, Everywhere}
+use Rattle.least_costs.specs.declared.start.Start.{Start}
+use Rattle.least_costs.specs.declared.start.Start.TheVariants.{At, Everywhere}
 use Rattle.job_answer.specs.AnswerText.{AreBothTexts, BlocksAreUnique, Growth, IsGrownPair, IsGrownText, IsOneText}
 use Rattle.job_answer.specs.AnswerText.{IsPairBlock}
 use Rattle.job_answer.specs.Bytes.{GivesPrefix, IsPrefix, Puts, PutsPrefix, Waits}
 use Rattle.route_walks.specs.Walk.{HaveSameArcs}
-use Rattle.route_walks.proofs.Facts.{both_ways-append, same_arcs-grown, unit_weights-append}
-use Rattle.obim_engine.specs.Grown.{IsGrown}
 use Rattle.job_answer.specs.declared.asked.Answer.{Answer}
 use Rattle.job_answer.specs.declared.asked.Answer.TheVariants.{Distances, Levels, Components}
 use Rattle.job_answer.specs.AnswerText.{arcs_for, growth_from}
-use Rattle.job_answer.specs.Graphs.{GrowAlike, GrowsTo, growth_of}
-use Rattle.job_answer.specs.Solves.{AreLabelsAfter, ArePairLabels, IsGrownStart, IsRest, IsStartBlock, IsWalked}
+use Rattle.job_answer.specs.Graphs.{GrowAlike, GrowsInto, cost_for, growth_of}
+use Rattle.job_answer.specs.Solves.{AreCostsAfter, IsGrownStart, IsRest, IsStartBlock, IsWalked}
 use Rattle.job_answer.specs.Solves.{IsWalkedAfter}
-use Rattle.job_answer.specs.Solves.{pair_at, walked_text, walked_after_text, with_growth}
+use Rattle.job_answer.specs.Solves.{walked_text, walked_after_text, with_growth}
 use Rattle.job_answer.proofs.Known.{appends-then, waits-put, waits-sent}
 use Rattle.job_answer.proofs.Prefixes.{prefix-after, prefix-longer}
 
@@ -149,40 +154,44 @@ grown-start-one law walks n arcs growth Everywhere = (law walks n arcs growth).2
 
 -- ---- the lines of a pair
 
--- by its labels in both graphs
-pub plain-block : (rows : Graph) (grown : Option Grown) (pairs : List (ℕ × ℕ)) (labels after : List ℕ) (k : ℕ)
-    → GrowsTo rows grown → ArePairLabels rows.n rows.arcs pairs labels → AreLabelsAfter grown pairs after
-    → k < length pairs
-    → IsGrownPair false rows.n rows.arcs (growth_of grown) (pair_at pairs k)
-    (with_growth (growth_of grown) (pair_text (pair_at pairs k).0 (pair_at pairs k).1 (get_or labels k 0))
-    (pair_text (pair_at pairs k).0 (pair_at pairs k).1 (get_or after k 0)))
-plain-block rows None pairs labels after k grows are later here =
-    let is = are.labelled k here in record {
-      labels = is.labels;
-      least = is.least;
-      written = ap (pair_text (pair_at pairs k).0 (pair_at pairs k).1) is.is;
+-- by its cost in a network
+cost-line : CostsAreLabels → (net : NetworkSeen) (pair : ℕ × ℕ) (cost : Option ℕ) → IsNetwork net
+    → IsPairWithin net.n pair → IsPairCost net pair cost
+    → IsPairBlock false net.n net.arcs pair (pair_text pair.0 pair.1 (label_of cost))
+cost-line law net pair cost is within told =
+    let found = law net (At pair.0) pair.1 cost is within.0 within.1 told in record {
+      labels = found.0;
+      least = found.1;
+      written = ap (pair_text pair.0 pair.1) found.2;
     }
-plain-block rows (Some grown) pairs labels after k grows are later here =
-    let first = are.labelled k here in
-    let second = later.labelled k here in
-    let line : IsPairBlock false grown.rows.n grown.rows.arcs (pair_at pairs k)
-    (pair_text (pair_at pairs k).0 (pair_at pairs k).1 (get_or after k 0)) = record {
-      labels = second.labels;
-      least = second.least;
-      written = ap (pair_text (pair_at pairs k).0 (pair_at pairs k).1) second.is;
-    } in record {
-      before = pair_text (pair_at pairs k).0 (pair_at pairs k).1 (get_or labels k 0);
-      after = pair_text (pair_at pairs k).0 (pair_at pairs k).1 (get_or after k 0);
-      first = record {
-        labels = first.labels;
-        least = first.least;
-        written = ap (pair_text (pair_at pairs k).0 (pair_at pairs k).1) first.is;
-      };
+
+-- and in both
+pub plain-block : CostsAreLabels → (net : NetworkSeen) (grown : Option Grown) (pairs : List (ℕ × ℕ))
+    (costs after : List (Option ℕ)) (k : ℕ)
+    → IsNetwork net → GrowsInto net grown → All (IsPairWithin net.n) pairs
+    → ArePairCosts net pairs costs → AreCostsAfter grown pairs after
+    → k < length pairs
+    → IsGrownPair false net.n net.arcs (growth_of grown) (pair_at pairs k)
+    (with_growth (growth_of grown)
+    (pair_text (pair_at pairs k).0 (pair_at pairs k).1 (label_of (get_or costs k None)))
+    (pair_text (pair_at pairs k).0 (pair_at pairs k).1 (label_of (get_or after k None))))
+plain-block law net None pairs costs after k is grows within are later here =
+    let inside = All-get_or (IsPairWithin net.n) pairs k (0, 0) here within in
+    cost-line law net (pair_at pairs k) (get_or costs k None) is inside (are.each k here)
+plain-block law net (Some grown) pairs costs after k is grows within are later here =
+    let inside = All-get_or (IsPairWithin net.n) pairs k (0, 0) here within in
+    let pair = pair_at pairs k in
+    let there : IsPairWithin grown.network.n pair =
+    subst (λ (n : ℕ). IsPairWithin n pair) (sym grows.to.vertices) inside in
+    let line = cost-line law grown.network pair (get_or after k None) grows.is there (later.each k here) in record {
+      before = pair_text pair.0 pair.1 (label_of (get_or costs k None));
+      after = pair_text pair.0 pair.1 (label_of (get_or after k None));
+      first = cost-line law net pair (get_or costs k None) is inside (are.each k here);
       second =
           subst
           (λ (n : ℕ).
-          IsPairBlock false n grown.rows.arcs (pair_at pairs k)
-          (pair_text (pair_at pairs k).0 (pair_at pairs k).1 (get_or after k 0))) grows.1.vertices line;
+          IsPairBlock false n grown.network.arcs pair (pair_text pair.0 pair.1 (label_of (get_or after k None))))
+          grows.to.vertices line;
       written = refl;
     }
 
@@ -198,38 +207,40 @@ walked-block n arcs pair walked is = record {
 }
 
 -- and in both
-pub walked-blocks : (rows : Graph) (grown : Option Grown) (pair : ℕ × ℕ) (walked : Walked) (after : Option Walked)
-    → GrowsTo rows grown → IsWalked rows.n rows.arcs pair.0 walked → IsWalkedAfter grown pair.0 after
-    → IsGrownPair true rows.n rows.arcs (growth_of grown) pair
+pub walked-blocks : (net : NetworkSeen) (grown : Option Grown) (pair : ℕ × ℕ) (walked : Walked) (after : Option Walked)
+    → GrowsInto net grown → IsWalked net.n net.arcs pair.0 walked → IsWalkedAfter grown pair.0 after
+    → IsGrownPair true net.n net.arcs (growth_of grown) pair
     (with_growth (growth_of grown) (walked_text pair walked) (walked_after_text pair after))
-walked-blocks rows None pair walked after grows is later = walked-block rows.n rows.arcs pair walked is
-walked-blocks rows (Some grown) pair walked None grows is later = absurd later
-walked-blocks rows (Some grown) pair walked (Some after) grows is later = record {
+walked-blocks net None pair walked after grows is later = walked-block net.n net.arcs pair walked is
+walked-blocks net (Some grown) pair walked None grows is later = absurd later
+walked-blocks net (Some grown) pair walked (Some after) grows is later = record {
   before = walked_text pair walked;
   after = walked_text pair after;
-  first = walked-block rows.n rows.arcs pair walked is;
+  first = walked-block net.n net.arcs pair walked is;
   second =
-      subst (λ (n : ℕ). IsPairBlock true n grown.rows.arcs pair (walked_text pair after)) grows.1.vertices
-      (walked-block grown.rows.n grown.rows.arcs pair after later);
+      subst (λ (n : ℕ). IsPairBlock true n grown.network.arcs pair (walked_text pair after)) grows.to.vertices
+      (walked-block grown.network.n grown.network.arcs pair after later);
   written = refl;
 }
 
--- ---- the rows of a grown graph
+-- ---- the networks of a job
 
-arcs_for-append : (kind : Answer) (arcs added : List ArcRec)
-    → arcs_for kind (arcs ++ added) ≡ arcs_for kind arcs ++ arcs_for kind added
-arcs_for-append Distances arcs added = refl
-arcs_for-append Levels arcs added = unit_weights-append arcs added
-arcs_for-append Components arcs added = both_ways-append arcs added
+-- a network of an answer kind has the arcs along which its costs are least
+pub along-kind : (kind : Answer) (n : ℕ) (arcs : List ArcRec) (net : NetworkSeen)
+    → IsNetworkOf n (cost_for kind) arcs net
+    → HaveSameArcs net.arcs (arcs_for kind arcs)
+along-kind Distances n arcs net is = is.along
+along-kind Levels n arcs net is = is.along
+along-kind Components n arcs net is = is.along
 
--- rows of a job's arcs that grow by the job's added arcs grow as the job does
-pub grown-alike : (kind : Answer) (rows : Graph) (grown : Grown) (arcs added : List ArcRec)
-    → grown.count ≡ length added → grown.added.items ≡ arcs_for kind added
-    → IsGrown rows grown.added.items grown.rows → HaveSameArcs rows.arcs (arcs_for kind arcs)
+-- and it grows by the job's added arcs as the job does
+pub grown-alike : NetworksGrow → (kind : Answer) (n : ℕ) (arcs added : List ArcRec) (net : NetworkSeen) (grown : Grown)
+    → grown.count ≡ length added → IsNetworkOf n (cost_for kind) arcs net → GrowsTo net grown.network
+    → grown.network.cost ≡ net.cost → grown.network.added ≡ arcs_of net.cost added
     → GrowAlike (growth_of (Some grown)) (growth_from (arcs_for kind) arcs (Some added))
-grown-alike kind rows grown arcs added count is grows same = (
+grown-alike law kind n arcs added net grown count is grows cost more = (
   count,
-  subst (HaveSameArcs grown.rows.arcs) (sym (arcs_for-append kind arcs added))
-      (same_arcs-grown grown.rows.arcs rows.arcs (arcs_for kind arcs) (arcs_for kind added)
-      (subst (λ (xs : List ArcRec). HaveSameArcs grown.rows.arcs (rows.arcs ++ xs)) is grows.arcs) same),
+  along-kind kind n (arcs ++ added) grown.network
+      (law n (cost_for kind) arcs added net grown.network is grows cost
+      (more ∙ ap (λ (k : Cost). arcs_of k added) is.kind_is)),
 )

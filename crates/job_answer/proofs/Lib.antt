@@ -7,5 +7,5 @@ pub mod Uniqueness
 pub mod Prefixes
 pub mod Starts
 pub mod Existence
-pub mod PairLabels
+pub mod Queries
 pub mod Growing

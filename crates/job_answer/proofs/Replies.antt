@@ -138,19 +138,19 @@ module _ (law : LeastLabelsFollowTheArcs) (walked : HopsAndParentsFollowTheArcs)
     (job : Content) (graphs : Graphs) (question : Question)
     (are : AreGraphsFor kind job.n job.arcs (growth_for kind job) graphs) (asked : question ≡ job.question) where
   pub text_answered : (text : List ℕ)
-      → (IsTextFor kind walks graphs.rows.n graphs.rows.arcs (growth_of graphs.grown) question text)
+      → (IsTextFor kind walks graphs.network.n graphs.network.arcs (growth_of graphs.grown) question text)
       ↔ (IsAnswerText kind walks job text)
   text_answered text =
       rw (are.vertices, asked) (
-        text-over law walked walks job.n graphs.rows.arcs (arcs_for kind job.arcs) (growth_of graphs.grown)
+        text-over law walked walks job.n graphs.network.arcs (arcs_for kind job.arcs) (growth_of graphs.grown)
             (growth_for kind job) are.along are.alike kind job.question text,
-        text-over law walked walks job.n (arcs_for kind job.arcs) graphs.rows.arcs (growth_for kind job)
-            (growth_of graphs.grown) (same_arcs-sym graphs.rows.arcs (arcs_for kind job.arcs) are.along)
+        text-over law walked walks job.n (arcs_for kind job.arcs) graphs.network.arcs (growth_for kind job)
+            (growth_of graphs.grown) (same_arcs-sym graphs.network.arcs (arcs_for kind job.arcs) are.along)
             (alike-sym (growth_of graphs.grown) (growth_for kind job) are.alike) kind job.question text,
       )
 
   pub text_begun : (before after : Option (List ℕ))
-      → WritesPrefix (IsTextFor kind walks graphs.rows.n graphs.rows.arcs (growth_of graphs.grown) question) before
+      → WritesPrefix (IsTextFor kind walks graphs.network.n graphs.network.arcs (growth_of graphs.grown) question) before
       after
       → WritesPrefix (IsAnswerText kind walks job) before after
   text_begun before after cut = record {

@@ -2,8 +2,6 @@
 use Rattle.std.specs.Prelude.{◌≡◌, ◌≢◌, ℕ, ◌^◌, ◌≤◌, Bool, true}
 use Rattle.job_reader.specs.declared.fault.ReadFault.{ReadFault}
 use Rattle.job_reader.specs.declared.fault.ReadFault.TheVariants as refused
-use Rattle.obim_engine.specs.declared.runs.RunFault.{RunFault}
-use Rattle.obim_engine.specs.declared.runs.RunFault.TheVariants as stopped
 use Rattle.job_answer.specs.declared.asked.Answer.{Answer}
 use Rattle.job_answer.specs.declared.asked.Answer.TheVariants.{Components}
 use Rattle.job_answer.specs.declared.fault.Fault.{Fault}
@@ -30,8 +28,3 @@ fault_of_reading refused.Read = fault.Read
 fault_of_reading refused.TooLong = fault.TooLong
 fault_of_reading (refused.Text line kind) = fault.Text line kind
 fault_of_reading refused.Memory = fault.Memory
-
--- why a run gave no labels, as a fault of the program
-abbrev pub fault_of_run : RunFault → Fault
-fault_of_run stopped.Memory = fault.Memory
-fault_of_run stopped.Spawn = fault.Spawn

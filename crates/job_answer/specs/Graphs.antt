@@ -1,28 +1,39 @@
--- The rows in which the labels of an answer are least, before and after arcs are added.
-use Rattle.std.specs.Prelude.{◌≡◌, ℕ, ◌≤◌, List, Option, Some, None, option_map, ⊤}
+-- The networks in which the costs of an answer are least, before and after arcs are added.
+use Rattle.std.specs.Prelude.{◌≡◌, ℕ, List, Option, Some, None, option_map, ⊤}
 use Rattle.route_walks.specs.declared.graph.ArcRec.{ArcRec}
-use Rattle.route_walks.specs.declared.graph.TheConstants.{MAX_VERTICES}
-use Rattle.route_walks.specs.Walk.{IsGraph, HaveSameArcs}
-use Rattle.csr_graph.specs.Graph.{Graph}
-use Rattle.obim_engine.specs.Grown.{IsGrown}
+use Rattle.route_walks.specs.Walk.{HaveSameArcs}
+use Rattle.least_costs.specs.declared.cost.Cost.{Cost}
+use Rattle.least_costs.specs.declared.cost.Cost.TheVariants as cost
+use Rattle.least_costs.specs.Network.{GrowsTo, IsNetwork, NetworkSeen}
 use Rattle.job_answer.specs.declared.asked.Answer.{Answer}
+use Rattle.job_answer.specs.declared.asked.Answer.TheVariants as answer
 use Rattle.job_answer.specs.declared.graphs.Graphs.{Graphs}
 use Rattle.job_answer.specs.declared.graphs.Grown.{Grown}
 use Rattle.job_answer.specs.AnswerText.{Growth, arcs_for}
 
--- how the rows grow
+-- what an arc costs in the network of an answer kind
+abbrev pub cost_for : Answer → Cost
+cost_for answer.Distances = cost.Weight
+cost_for answer.Levels = cost.One
+cost_for answer.Components = cost.FreeBothWays
+
+-- how the network grows
 abbrev pub growth_of : Option Grown → Option Growth
-growth_of grown = option_map (λ g. record { count = g.count; arcs = g.rows.arcs }) grown
+growth_of grown = option_map (λ g. record { count = g.count; arcs = g.network.arcs }) grown
 
--- the second rows are those of the first with the added arcs, if arcs are added
-abbrev pub GrowsTo : Graph → Option Grown → Type 0
-GrowsTo rows None = ⊤
-GrowsTo rows (Some grown) = IsGraph rows.n grown.added.items × IsGrown rows grown.added.items grown.rows
+-- the second network is the first with the added arcs, if arcs are added
+pub record HasGrown (net : NetworkSeen) (grown : Grown) : Type 0 where
+  pub is : IsNetwork grown.network
+  pub to : GrowsTo net grown.network
 
--- rows of few enough vertices, and those that they grow to
+abbrev pub GrowsInto : NetworkSeen → Option Grown → Type 0
+GrowsInto net None = ⊤
+GrowsInto net (Some grown) = HasGrown net grown
+
+-- a network, and the one that it grows to
 pub record AreGraphs (graphs : Graphs) : Type 0 where
-  pub few : graphs.rows.n ≤ MAX_VERTICES
-  pub grows : GrowsTo graphs.rows graphs.grown
+  pub is : IsNetwork graphs.network
+  pub grows : GrowsInto graphs.network graphs.grown
 
 -- two graphs grow alike: by as many arcs, and to the same arcs
 abbrev pub GrowAlike : Option Growth → Option Growth → Type 0
@@ -31,10 +42,10 @@ GrowAlike None (Some other) = ⊥
 GrowAlike (Some one) None = ⊥
 GrowAlike (Some one) (Some other) = (one.count ≡ other.count) × HaveSameArcs one.arcs other.arcs
 
--- the rows are those of an answer kind for n vertices, these arcs and these added ones
+-- the networks are those of an answer kind for n vertices, these arcs and these added ones
 pub record AreGraphsFor (kind : Answer) (n : ℕ) (arcs : List ArcRec) (growth : Option Growth) (graphs : Graphs)
     : Type 0 where
   pub are : AreGraphs graphs
-  pub vertices : graphs.rows.n ≡ n
-  pub along : HaveSameArcs graphs.rows.arcs (arcs_for kind arcs)
+  pub vertices : graphs.network.n ≡ n
+  pub along : HaveSameArcs graphs.network.arcs (arcs_for kind arcs)
   pub alike : GrowAlike (growth_of graphs.grown) growth

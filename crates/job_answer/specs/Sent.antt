@@ -27,6 +27,6 @@ SendsPrefix IsBlockOf queries first between after waiting =
     (before : Option (List ℕ)) → AreSent IsBlockOf queries first before between waiting
     → WritesPrefix (AreBlocks IsBlockOf queries) before after
 
--- the lines of a pair with its walk, along the rows and those that they grow to
+-- the lines of a pair with its walk, in the network and the one that it grows to
 abbrev pub IsWalkedPair : Graphs → ℕ × ℕ → List ℕ → Type 0
-IsWalkedPair graphs = IsGrownPair true graphs.rows.n graphs.rows.arcs (growth_of graphs.grown)
+IsWalkedPair graphs = IsGrownPair true graphs.network.n graphs.network.arcs (growth_of graphs.grown)

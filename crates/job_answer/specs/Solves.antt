@@ -1,13 +1,15 @@
 -- What a solve works out, and what the labels of pairs are.
 use Rattle.std.specs.Prelude.{◌≡◌, ◌≢◌, ℕ, ◌+◌, ◌<◌, ◌≤◌, Bool, List, [], ◌++◌, All, Contains, length}
 use Rattle.std.specs.Prelude.{Option, Some, None, slice_index, slice_index_or, take, ⊤}
+use Rattle.least_costs.specs.Costs.{CostsSeen}
+use Rattle.least_costs.specs.Pairs.{ArePairCosts, pair_at}
+use Rattle.least_costs.specs.Network.{NetworkSeen, seeds_at}
 use Rattle.answer_lines.specs.Lines.{grown_text}
 use Rattle.route_walks.specs.declared.graph.ArcRec.{ArcRec}
-use Rattle.route_walks.specs.declared.graph.Seed.{Seed}
 use Rattle.route_walks.specs.Label.{AreLeastLabels}
-use Rattle.route_walks.specs.Operators.{seeds_from, seeds_all}
-use Rattle.job_answer.specs.declared.solves.Start.{Start}
-use Rattle.job_answer.specs.declared.solves.Start.TheVariants as start
+use Rattle.route_walks.specs.Operators.{seeds_from}
+use Rattle.least_costs.specs.declared.start.Start.{Start}
+use Rattle.least_costs.specs.declared.start.Start.TheVariants as start
 use Rattle.job_answer.specs.declared.solves.Solve.{Solve}
 use Rattle.job_answer.specs.declared.graphs.Grown.{Grown}
 use Rattle.job_answer.specs.declared.walked_pairs.Walked.{Walked}
@@ -15,14 +17,11 @@ use Rattle.walk_report.specs.Parent.{LeadBack}
 use Rattle.job_answer.specs.AnswerText.{AreReached, AreWalksFrom, Growth, IsBlock, IsComponentsBlock, IsGrownText}
 use Rattle.job_answer.specs.AnswerText.{pair_walk_text}
 
--- the seeds of a solve among n vertices
-abbrev pub seeds_at : ℕ → Start → List Seed
-seeds_at n (start.At source) = seeds_from source
-seeds_at n start.Everywhere = seeds_all n
-
-abbrev pub IsStartWithin : ℕ → Start → Type 0
-IsStartWithin n (start.At source) = source < n
-IsStartWithin n start.Everywhere = ⊤
+-- the costs are those of a network from a start, and least in it
+pub record AreLeastCosts (net : NetworkSeen) (from : Start) (costs : CostsSeen) : Type 0 where
+  pub net_is : costs.net ≡ net
+  pub start_is : costs.start ≡ from
+  pub least : AreLeastLabels net.n net.arcs (seeds_at net.n from) costs.labels
 
 -- the block of the labels from a start
 abbrev pub IsStartBlock : Bool → Start → ℕ → List ArcRec → List ℕ → Type 0
@@ -44,10 +43,6 @@ abbrev pub with_growth : Option Growth → List ℕ → List ℕ → List ℕ
 with_growth None before after = before
 with_growth (Some growth) before after = before ++ grown_text growth.count ++ after
 
--- the source or the target at a place of a list of pairs
-abbrev pub pair_at : List (ℕ × ℕ) → ℕ → ℕ × ℕ
-pair_at pairs k = slice_index_or pairs k (0, 0)
-
 -- the solve is for some of the queries, each of which begins with its source, and starts there
 pub record IsForQueries (queries : List (ℕ × ℕ)) (solve : Solve) : Type 0 where
   pub some : solve.first < solve.end
@@ -58,43 +53,15 @@ pub record IsForQueries (queries : List (ℕ × ℕ)) (solve : Solve) : Type 0 w
 abbrev pub EndsWithSource : List (ℕ × ℕ) → Solve → Type 0
 EndsWithSource queries solve = solve.end < length queries → solve.start ≢ start.At (pair_at queries solve.end).0
 
--- the sources of the pairs, each with the place of its pair, by rising source
-pub record AreBySource (pairs order : List (ℕ × ℕ)) : Type 0 where
-  pub rise : (k : ℕ) → k + 1 < length order → (pair_at order k).0 ≤ (pair_at order (k + 1)).0
-  pub once : length order ≡ length pairs
-  pub each : All (λ entry. (entry.1 < length pairs) × (entry.0 ≡ (pair_at pairs entry.1).0)) order
-  pub all : (k : ℕ) → k < length pairs → Contains order ((pair_at pairs k).0, k)
+-- each pair has its cost in the grown network, if there is one
+abbrev pub AreCostsAfter : Option Grown → List (ℕ × ℕ) → List (Option ℕ) → Type 0
+AreCostsAfter None pairs costs = ⊤
+AreCostsAfter (Some grown) pairs costs = ArePairCosts grown.network pairs costs
 
--- a number is the least label of the pair's target from its source
-pub record IsPairLabel (n : ℕ) (arcs : List ArcRec) (pair : ℕ × ℕ) (label : ℕ) : Type 0 where
-  pub labels : List ℕ
-  pub least : AreLeastLabels n arcs (seeds_from pair.0) labels
-  pub is : label ≡ slice_index labels pair.1
-
--- the pairs of the first `count` entries have their labels
-pub record AreFilled (n : ℕ) (arcs : List ArcRec) (pairs order : List (ℕ × ℕ)) (count : ℕ) (labels : List ℕ)
-    : Type 0 where
-  pub places : length labels ≡ length pairs
-  pub filled : All (λ entry. IsPairLabel n arcs (pair_at pairs entry.1) (slice_index labels entry.1)) (take count order)
-
--- each pair has its label
-pub record ArePairLabels (n : ℕ) (arcs : List ArcRec) (pairs : List (ℕ × ℕ)) (labels : List ℕ) : Type 0 where
-  pub places : length labels ≡ length pairs
-  pub labelled : (k : ℕ) → k < length pairs → IsPairLabel n arcs (pair_at pairs k) (slice_index labels k)
-
--- the same in the grown graph, if there is one
-abbrev pub AreFilledAfter : Option Grown → List (ℕ × ℕ) → List (ℕ × ℕ) → ℕ → List ℕ → Type 0
-AreFilledAfter None pairs order count labels = ⊤
-AreFilledAfter (Some grown) pairs order count labels = AreFilled grown.rows.n grown.rows.arcs pairs order count labels
-
-abbrev pub AreLabelsAfter : Option Grown → List (ℕ × ℕ) → List ℕ → Type 0
-AreLabelsAfter None pairs labels = ⊤
-AreLabelsAfter (Some grown) pairs labels = ArePairLabels grown.rows.n grown.rows.arcs pairs labels
-
--- in the grown graph, if there is one, there is a label at a place
-abbrev pub HasLabelAfter : Option Grown → ℕ → List ℕ → Type 0
-HasLabelAfter None place labels = ⊤
-HasLabelAfter (Some grown) place labels = place < length labels
+-- in the grown network, if there is one, there is a cost at a place
+abbrev pub HasCostAfter : Option Grown → ℕ → List (Option ℕ) → Type 0
+HasCostAfter None place costs = ⊤
+HasCostAfter (Some grown) place costs = place < length costs
 
 -- the walks from a source, as they were worked out along these arcs
 pub record IsWalked (n : ℕ) (arcs : List ArcRec) (source : ℕ) (walked : Walked) : Type 0 where
@@ -108,7 +75,7 @@ pub record IsWalked (n : ℕ) (arcs : List ArcRec) (source : ℕ) (walked : Walk
 abbrev pub IsWalkedAfter : Option Grown → ℕ → Option Walked → Type 0
 IsWalkedAfter None source after = ⊤
 IsWalkedAfter (Some grown) source None = ⊥
-IsWalkedAfter (Some grown) source (Some walked) = IsWalked grown.rows.n grown.rows.arcs source walked
+IsWalkedAfter (Some grown) source (Some walked) = IsWalked grown.network.n grown.network.arcs source walked
 
 -- the lines of a pair by the walks from its source
 abbrev pub walked_text : ℕ × ℕ → Walked → List ℕ

@@ -9,15 +9,15 @@ ghost use Rattle.job_answer.specs.Outcome.{IsAnswerOf, IsReply, IsReplyFault, Is
 ghost use Rattle.job_answer.specs.Outcome.{IsWritingFault, is_unasked};
 
 use crate::asked::{Answer, Asked};
-use crate::blocks::{write_sources, write_start};
+use crate::blocks::{BlockKind, write_sources, write_start};
 use crate::fault::Fault;
 use crate::figures::Figures;
 use crate::graphs::{Graphs, graphs_for};
 use crate::pairs::write_pairs;
-use crate::solves::Start;
 use crate::watch::{Phase, Watch};
 use dimacs_text::{Ask, Job};
 use job_reader::{ReadWatch, read_job_from};
+use least_costs::{Start, Workers};
 use obim_engine::Gate;
 use route_walks::laws::least_labels_follow_the_arcs;
 use std::alloc::Global;
@@ -104,7 +104,7 @@ fn answer_job<H: Threads + Wait + Clock + Sync, W: Write, G: Gate + Sync>(
     ensures says { IfErr result (IsReplyFault asked.now.answer asked.now.walks (content_of job)
         (W.contents writer.old) (W.contents writer.new)) }
 {
-    // What is least in the rows is least for the arcs that they were built of, and so are its walks.
+    // What is least in the network is least for the arcs that it was made of, and so are its walks.
     least_labels_follow_the_arcs();
     hops_and_parents_follow_the_arcs();
     if is_unasked(asked.answer, &job.ask) {
@@ -118,7 +118,8 @@ fn answer_job<H: Threads + Wait + Clock + Sync, W: Write, G: Gate + Sync>(
     } = job;
     let threads = asked.settings.workers as usize;
     let graphs = graphs_for(rt, alloc, asked.answer, n, arcs, added, threads)?;
-    watch.see_rows(graphs.rows.n(), graphs.rows.arc_count());
+    let rows = graphs.network.rows();
+    watch.see_rows(rows.n(), rows.arc_count());
     watch.end(rt, Phase::Rows);
     write_text(rt, alloc, writer, &graphs, &ask, asked, gate, watch)
 }
@@ -136,7 +137,7 @@ fn is_unasked(answer: Answer, ask: &Ask) -> bool
     }
 }
 
-/// Writes the text of what is asked along the rows.
+/// Writes the text of what is asked.
 fn write_text<H: Threads + Wait + Clock + Sync, W: Write, G: Gate + Sync>(
     rt: &H,
     alloc: Global,
@@ -148,20 +149,23 @@ fn write_text<H: Threads + Wait + Clock + Sync, W: Write, G: Gate + Sync>(
     watch: &mut impl Watch,
 ) -> Result<(), Fault>
     requires graphs { AreGraphs graphs.now }
-    requires question { IsQuestionWithin graphs.now.rows.n (question_of ask.now) }
+    requires question { IsQuestionWithin graphs.now.network.n (question_of ask.now) }
     requires asked { is_unasked asked.now.answer (question_of ask.now) ≡ false }
-    ensures text { OnOk result (Writes (IsTextFor asked.now.answer asked.now.walks graphs.now.rows.n
-        graphs.now.rows.arcs (growth_of graphs.now.grown) (question_of ask.now))
+    ensures text { OnOk result (Writes (IsTextFor asked.now.answer asked.now.walks graphs.now.network.n
+        graphs.now.network.arcs (growth_of graphs.now.grown) (question_of ask.now))
         (W.contents writer.old) (W.contents writer.new)) }
-    ensures prefix { OnErr result (WritesPrefix (IsTextFor asked.now.answer asked.now.walks graphs.now.rows.n
-        graphs.now.rows.arcs (growth_of graphs.now.grown) (question_of ask.now))
+    ensures prefix { OnErr result (WritesPrefix (IsTextFor asked.now.answer asked.now.walks graphs.now.network.n
+        graphs.now.network.arcs (growth_of graphs.now.grown) (question_of ask.now))
         (W.contents writer.old) (W.contents writer.new)) }
     ensures kinds { IfErr result IsWritingFault }
 {
     match (asked.answer, ask) {
         (Answer::Components, _) => {
+            let walks = asked.walks;
+            let kind = BlockKind { graphs, walks };
+            let mut workers = Workers::new(asked.settings, gate, None);
             let start = Start::Everywhere;
-            write_start(rt, alloc, writer, graphs, start, asked, gate, watch)
+            write_start(rt, alloc, writer, &kind, start, &mut workers, watch)
         }
         (_, Ask::Sources(sources)) => {
             write_sources(rt, alloc, writer, graphs, sources, asked, gate, watch)

@@ -5,30 +5,28 @@ ghost use Rattle.std.specs.Prelude.{All, IfErr, IfOk, IfSome, OnErr, OnOk, Some}
 ghost use Rattle.std.specs.Thread.{IsSync};
 ghost use Rattle.least_costs.specs.Rounds.{AreMade};
 ghost use Rattle.answer_lines.specs.Lines.{distances_text, components_text};
-ghost use Rattle.route_walks.specs.Label.{AreLeastLabels};
-ghost use Rattle.route_walks.specs.Operators.{seeds_from};
 ghost use Rattle.walk_report.specs.Parent.{LeadBack};
 ghost use Rattle.job_answer.specs.AnswerText.{AreSourceBlocks, IsBlock, IsGrownBlock, IsGrownText};
 ghost use Rattle.job_answer.specs.AnswerText.{AreReached, vertex_text, walk_line, walks_text};
 ghost use Rattle.job_answer.specs.Bytes.{GivesPrefix, Puts, PutsPrefix, Waits, Writes, WritesPrefix};
-ghost use Rattle.job_answer.specs.Graphs.{AreGraphs, GrowsTo, growth_of};
+ghost use Rattle.job_answer.specs.Graphs.{AreGraphs, growth_of};
+ghost use Rattle.least_costs.specs.Network.{IsStartWithin};
 ghost use Rattle.job_answer.specs.Outcome.{IsWritingFault};
 ghost use Rattle.job_answer.specs.declared.output_buffer.TheConstants.{PIECE};
-ghost use Rattle.job_answer.specs.Solves.{IsGrownStart, IsRest, IsStartBlock, IsStartWithin, seeds_at};
+ghost use Rattle.job_answer.specs.Solves.{AreLeastCosts, IsGrownStart, IsRest, IsStartBlock};
 ghost use Rattle.job_answer.specs.Tasks.{AreSourceTasks, IsBlockText};
 
 use crate::asked::Asked;
 use crate::fault::Fault;
-use crate::graphs::{Graphs, Grown};
+use crate::graphs::{Graphs, Grown, teams_for};
 use crate::laws::blocks_are_unique;
 use crate::output_buffer::{Held, OutputBuffer, most_bytes};
-use crate::solves::{Solve, Start};
+use crate::solves::{costs_after, costs_from};
 use crate::team_watch::{SolveCount, TeamWatch};
 use crate::watch::{Phase, Watch};
 use answer_lines::{put_grown, put_label, put_source, put_walk};
-use csr_graph::Csr;
-use least_costs::{Part, Rounds, Team, TeamGate};
-use obim_engine::Gate;
+use least_costs::{Costs, Network, Part, Rounds, Runner, Start, Team, TeamGate, Workers};
+use obim_engine::{Gate, Settings};
 use route_walks::{INF, MAX_VERTICES, Memory};
 use std::alloc::Global;
 use std::io::Write;
@@ -40,12 +38,19 @@ use walk_report::{NONE, hops, parents, walk_to};
 /// Lines put between two checks of the buffer's size.
 const LINES: usize = 512;
 
+/// In which networks the costs of a block are least, and whether it has walks.
+#[derive(Drop)]
+pub struct BlockKind<'a> {
+    pub graphs: &'a Graphs,
+    pub walks: bool,
+}
+
 /// The sources whose blocks are asked for. A task for each gives its block.
 #[derive(Drop)]
 pub struct SourceTasks<'a> {
-    pub graphs: &'a Graphs,
+    pub kind: BlockKind<'a>,
     pub sources: &'a [u32],
-    pub asked: &'a Asked,
+    pub settings: &'a Settings,
     pub solves: SolveCount,
 }
 
@@ -59,8 +64,8 @@ impl<'a> Part<SourceTasks<'a>> for BlockText {
     ghost is_part = { IsBlockText };
 }
 
-/// Writes the block of each source in turn: the least labels from it along the rows, with their walks
-/// where they are asked for. Where the rows grow, the same in the grown graph comes after each block.
+/// Writes the block of each source in turn: the least costs from it, with their walks where they are asked
+/// for. Where the network grows, the same in the grown one comes after each block.
 pub fn write_sources<H: Threads + Wait + Clock + Sync, W: Write, G: Gate + Sync>(
     rt: &H,
     alloc: Global,
@@ -72,12 +77,12 @@ pub fn write_sources<H: Threads + Wait + Clock + Sync, W: Write, G: Gate + Sync>
     watch: &mut impl Watch,
 ) -> Result<(), Fault>
     requires graphs { AreGraphs graphs.now }
-    requires sources { All (λ source. source < graphs.now.rows.n) sources.now }
-    ensures blocks { OnOk result (Writes (AreSourceBlocks asked.now.walks graphs.now.rows.n
-        graphs.now.rows.arcs (growth_of graphs.now.grown) sources.now)
+    requires sources { All (λ source. source < graphs.now.network.n) sources.now }
+    ensures blocks { OnOk result (Writes (AreSourceBlocks asked.now.walks graphs.now.network.n
+        graphs.now.network.arcs (growth_of graphs.now.grown) sources.now)
         (W.contents writer.old) (W.contents writer.new)) }
-    ensures prefix { OnErr result (WritesPrefix (AreSourceBlocks asked.now.walks graphs.now.rows.n
-        graphs.now.rows.arcs (growth_of graphs.now.grown) sources.now)
+    ensures prefix { OnErr result (WritesPrefix (AreSourceBlocks asked.now.walks graphs.now.network.n
+        graphs.now.network.arcs (growth_of graphs.now.grown) sources.now)
         (W.contents writer.old) (W.contents writer.new)) }
     ensures kinds { IfErr result IsWritingFault }
 {
@@ -85,14 +90,17 @@ pub fn write_sources<H: Threads + Wait + Clock + Sync, W: Write, G: Gate + Sync>
     blocks_are_unique();
     let mut waiting = OutputBuffer::new(alloc);
     let tasks = SourceTasks {
-        graphs,
+        kind: BlockKind {
+            graphs,
+            walks: asked.walks,
+        },
         sources,
-        asked,
+        settings: &asked.settings,
         solves: SolveCount::new(),
     };
-    let workers = asked.settings.workers;
-    let teams = asked.at_once.teams(&graphs.rows, workers);
-    let mut rounds = Rounds::new(alloc, sources.len(), teams, workers);
+    let teams = teams_for(graphs, asked);
+    let mut rounds = Rounds::new(alloc, sources.len(), teams, asked.settings.workers);
+    let mut workers = Workers::new(asked.settings, gate, None);
     for place in 0..sources.len() {
         watch.see_answered(place, sources.len());
         if let Some(text) = take_block(rt, alloc, &mut rounds, &tasks, gate, place, watch) {
@@ -100,56 +108,44 @@ pub fn write_sources<H: Threads + Wait + Clock + Sync, W: Write, G: Gate + Sync>
             watch.end(rt, Phase::Writing);
             continue;
         }
-        let solve = Solve::of_source(sources, place);
+        let start = Start::At(sources[place]);
         put_solved(
             rt,
             alloc,
             writer,
             &mut waiting,
-            graphs,
-            solve.start,
-            asked,
-            gate,
+            &tasks.kind,
+            start,
+            &mut workers,
             watch,
         )?;
     }
     waiting.finish(writer)
 }
 
-/// Writes the block of a start, and where the rows grow what comes after it.
+/// Writes the block of a start, and where the network grows what comes after it.
 pub fn write_start<H: Threads + Wait + Clock + Sync, W: Write, G: Gate + Sync>(
     rt: &H,
     alloc: Global,
     writer: &mut W,
-    graphs: &Graphs,
+    kind: &BlockKind<'_>,
     start: Start,
-    asked: &Asked,
-    gate: &G,
+    workers: &mut Workers<'_, G>,
     watch: &mut impl Watch,
 ) -> Result<(), Fault>
-    requires graphs { AreGraphs graphs.now }
-    requires start { IsStartWithin graphs.now.rows.n start }
-    ensures block { OnOk result (Writes (IsGrownStart asked.now.walks graphs.now.rows.n
-        graphs.now.rows.arcs (growth_of graphs.now.grown) start)
+    requires graphs { AreGraphs kind.now.graphs.now }
+    requires start { IsStartWithin kind.now.graphs.now.network.n start }
+    ensures block { OnOk result (Writes (IsGrownStart kind.now.walks kind.now.graphs.now.network.n
+        kind.now.graphs.now.network.arcs (growth_of kind.now.graphs.now.grown) start)
         (W.contents writer.old) (W.contents writer.new)) }
-    ensures prefix { OnErr result (WritesPrefix (IsGrownStart asked.now.walks graphs.now.rows.n
-        graphs.now.rows.arcs (growth_of graphs.now.grown) start)
+    ensures prefix { OnErr result (WritesPrefix (IsGrownStart kind.now.walks kind.now.graphs.now.network.n
+        kind.now.graphs.now.network.arcs (growth_of kind.now.graphs.now.grown) start)
         (W.contents writer.old) (W.contents writer.new)) }
     ensures kinds { IfErr result IsWritingFault }
 {
     blocks_are_unique();
     let mut waiting = OutputBuffer::new(alloc);
-    put_solved(
-        rt,
-        alloc,
-        writer,
-        &mut waiting,
-        graphs,
-        start,
-        asked,
-        gate,
-        watch,
-    )?;
+    put_solved(rt, alloc, writer, &mut waiting, kind, start, workers, watch)?;
     waiting.finish(writer)
 }
 
@@ -157,7 +153,7 @@ pub fn write_start<H: Threads + Wait + Clock + Sync, W: Write, G: Gate + Sync>(
 fn take_block<H: Threads + Wait + Clock + Sync, G: Gate + Sync>(
     rt: &H,
     alloc: Global,
-    rounds: &mut Rounds<BlockText, ()>,
+    rounds: &mut Rounds<BlockText, Runner>,
     tasks: &SourceTasks<'_>,
     gate: &G,
     place: usize,
@@ -172,11 +168,11 @@ fn take_block<H: Threads + Wait + Clock + Sync, G: Gate + Sync>(
         rt,
         alloc,
         tasks,
-        &|place, team, _kept| -> Option<BlockText>
+        &|place: usize, team: Team, kept: &mut Option<Runner>| -> Option<BlockText>
             requires sync { IsSync H.row × IsSync G.row }
             requires tasks { AreSourceTasks tasks.now }
             ensures { IfSome result (IsBlockText tasks.entry.now place) }
-        { make_block(rt, alloc, tasks, gate, place, team) },
+        { make_block(rt, alloc, tasks, gate, place, team, kept) },
         &|place: usize| place.saturating_add(1),
         place,
     );
@@ -186,8 +182,8 @@ fn take_block<H: Threads + Wait + Clock + Sync, G: Gate + Sync>(
     text
 }
 
-/// The block of the source at a place, made by a team. `None` where it was not made: where memory was refused, or
-/// where walks make it long.
+/// The block of the source at a place, made by a team over the pool that it kept. `None` where it was not made: where
+/// memory was refused, or where walks make it long.
 fn make_block<H: Threads + Wait + Clock + Sync, G: Gate + Sync>(
     rt: &H,
     alloc: Global,
@@ -195,6 +191,7 @@ fn make_block<H: Threads + Wait + Clock + Sync, G: Gate + Sync>(
     gate: &G,
     place: usize,
     team: Team,
+    kept: &mut Option<Runner>,
 ) -> Option<BlockText>
     requires { AreSourceTasks tasks.now }
     ensures { IfSome result (IsBlockText tasks.now place) }
@@ -202,116 +199,101 @@ fn make_block<H: Threads + Wait + Clock + Sync, G: Gate + Sync>(
     if place >= tasks.sources.len() {
         return None;
     }
-    let asked = tasks
-        .asked
-        .with_settings(team.settings(&tasks.asked.settings));
     let gate = TeamGate { gate, team };
+    let mut workers = Workers::new(team.settings(tasks.settings), &gate, kept.take());
     let mut watch = TeamWatch {
         solves: &tasks.solves,
     };
     let source = tasks.sources[place];
-    held_block(rt, alloc, tasks.graphs, source, &asked, &gate, &mut watch).ok()
+    let text = held_block(rt, alloc, &tasks.kind, source, &mut workers, &mut watch).ok();
+    *kept = workers.into_kept();
+    text
 }
 
 /// The block of a source, in memory, by the workers of a team. Fails where it is long, too.
 fn held_block<H: Threads + Wait + Clock + Sync, G: Gate + Sync>(
     rt: &H,
     alloc: Global,
-    graphs: &Graphs,
+    kind: &BlockKind<'_>,
     source: u32,
-    asked: &Asked,
-    gate: &TeamGate<'_, G>,
+    workers: &mut Workers<'_, TeamGate<'_, G>>,
     watch: &mut impl Watch,
 ) -> Result<BlockText, Fault>
-    requires graphs { AreGraphs graphs.now }
-    requires source { source < graphs.now.rows.n }
-    requires team { asked.now.settings.workers ≡ gate.now.team.workers }
-    ensures { IfOk result (λ text. IsGrownBlock asked.now.walks graphs.now.rows.n graphs.now.rows.arcs
-        (growth_of graphs.now.grown) source text.bytes.items) }
+    requires graphs { AreGraphs kind.now.graphs.now }
+    requires source { source < kind.now.graphs.now.network.n }
+    requires team { workers.old.settings.workers ≡ workers.old.gate.now.team.workers }
+    ensures { IfOk result (λ text. IsGrownBlock kind.now.walks kind.now.graphs.now.network.n
+        kind.now.graphs.now.network.arcs (growth_of kind.now.graphs.now.grown) source text.bytes.items) }
 {
-    let mut held = Held::new(alloc, most_bytes(graphs));
+    let mut held = Held::new(alloc, most_bytes(kind.graphs));
     let start = Start::At(source);
-    write_start(rt, alloc, &mut held, graphs, start, asked, gate, watch)?;
+    write_start(rt, alloc, &mut held, kind, start, workers, watch)?;
     Ok(BlockText {
         bytes: held.into_bytes(),
     })
 }
 
-/// Solves from a start, and puts the block of the labels after what waits. Where the rows grow, what comes
+/// Solves from a start, and puts the block of the costs after what waits. Where the network grows, what comes
 /// after it is put too.
 fn put_solved<H: Threads + Wait + Clock + Sync, W: Write, G: Gate + Sync>(
     rt: &H,
     alloc: Global,
     writer: &mut W,
     waiting: &mut OutputBuffer,
-    graphs: &Graphs,
+    kind: &BlockKind<'_>,
     start: Start,
-    asked: &Asked,
-    gate: &G,
+    workers: &mut Workers<'_, G>,
     watch: &mut impl Watch,
 ) -> Result<(), Fault>
-    requires graphs { AreGraphs graphs.now }
-    requires start { IsStartWithin graphs.now.rows.n start }
-    ensures block { OnOk result (Puts (IsGrownStart asked.now.walks graphs.now.rows.n
-        graphs.now.rows.arcs (growth_of graphs.now.grown) start)
+    requires graphs { AreGraphs kind.now.graphs.now }
+    requires start { IsStartWithin kind.now.graphs.now.network.n start }
+    ensures block { OnOk result (Puts (IsGrownStart kind.now.walks kind.now.graphs.now.network.n
+        kind.now.graphs.now.network.arcs (growth_of kind.now.graphs.now.grown) start)
         (W.contents writer.old) (W.contents writer.new) waiting.old.bytes.items waiting.new.bytes.items) }
-    ensures prefix { OnErr result (PutsPrefix (IsGrownStart asked.now.walks graphs.now.rows.n
-        graphs.now.rows.arcs (growth_of graphs.now.grown) start)
+    ensures prefix { OnErr result (PutsPrefix (IsGrownStart kind.now.walks kind.now.graphs.now.network.n
+        kind.now.graphs.now.network.arcs (growth_of kind.now.graphs.now.grown) start)
         (W.contents writer.old) (W.contents writer.new) waiting.old.bytes.items) }
     ensures kinds { IfErr result IsWritingFault }
 {
     blocks_are_unique();
-    let rows = &graphs.rows;
-    let labels = start.solve(rt, alloc, rows, &asked.settings, gate, watch)?;
-    put_block(alloc, writer, waiting, rows, asked.walks, start, &labels)?;
+    let (graphs, walks) = (kind.graphs, kind.walks);
+    let network = &graphs.network;
+    let costs = costs_from(rt, alloc, network, start, workers, watch)?;
+    put_block(alloc, writer, waiting, network, walks, start, &costs)?;
     watch.end(rt, Phase::Writing);
-    match &graphs.grown {
-        None => Ok(()),
-        Some(grown) => put_grown_block(
-            rt, alloc, writer, waiting, rows, grown, start, labels, asked, gate, watch,
-        ),
-    }
+    let Some(grown) = &graphs.grown else {
+        return Ok(());
+    };
+    let after = costs_after(rt, alloc, network, &grown.network, costs, workers, watch)?;
+    put_grown_block(alloc, writer, waiting, grown, walks, start, &after)?;
+    watch.end(rt, Phase::Writing);
+    Ok(())
 }
 
-/// Puts the line of how many arcs are added, and the block of the grown graph. The labels are those along
-/// the rows before.
-fn put_grown_block<H: Threads + Wait + Clock + Sync, W: Write, G: Gate + Sync>(
-    rt: &H,
+/// Puts the line of how many arcs are added, and the block of the grown network.
+fn put_grown_block<W: Write>(
     alloc: Global,
     writer: &mut W,
     waiting: &mut OutputBuffer,
-    rows: &Csr,
     grown: &Grown,
+    walks: bool,
     start: Start,
-    labels: Vec<u64>,
-    asked: &Asked,
-    gate: &G,
-    watch: &mut impl Watch,
+    costs: &Costs,
 ) -> Result<(), Fault>
-    requires vertices { rows.now.n ≤ MAX_VERTICES }
-    requires start { IsStartWithin rows.now.n start }
-    requires least { AreLeastLabels rows.now.n rows.now.arcs (seeds_at rows.now.n start) labels.items }
-    requires grows { GrowsTo rows.now (Some grown.now) }
+    requires vertices { grown.now.network.n ≤ MAX_VERTICES }
+    requires start { IsStartWithin grown.now.network.n start }
+    requires costs { AreLeastCosts grown.now.network start costs.now }
     ensures block { OnOk result (Puts (IsRest grown.now.count
-        (IsStartBlock asked.now.walks start rows.now.n grown.now.rows.arcs))
+        (IsStartBlock walks start grown.now.network.n grown.now.network.arcs))
         (W.contents writer.old) (W.contents writer.new) waiting.old.bytes.items waiting.new.bytes.items) }
     ensures prefix { OnErr result (PutsPrefix (IsRest grown.now.count
-        (IsStartBlock asked.now.walks start rows.now.n grown.now.rows.arcs))
+        (IsStartBlock walks start grown.now.network.n grown.now.network.arcs))
         (W.contents writer.old) (W.contents writer.new) waiting.old.bytes.items) }
     ensures kinds { IfErr result IsWritingFault }
 {
-    let labels = start.solve_grown(rt, alloc, rows, grown, labels, &asked.settings, gate, watch)?;
     put_grown(&mut waiting.bytes, grown.count)?;
-    put_block(
-        alloc,
-        writer,
-        waiting,
-        &grown.rows,
-        asked.walks,
-        start,
-        &labels,
-    )?;
-    watch.end(rt, Phase::Writing);
+    let network = &grown.network;
+    put_block(alloc, writer, waiting, network, walks, start, costs)?;
     Ok(())
 }
 
@@ -320,26 +302,28 @@ fn put_block<W: Write>(
     alloc: Global,
     writer: &mut W,
     waiting: &mut OutputBuffer,
-    csr: &Csr,
+    network: &Network,
     walks: bool,
     start: Start,
-    labels: &[u64],
+    costs: &Costs,
 ) -> Result<(), Fault>
-    requires vertices { csr.now.n ≤ MAX_VERTICES }
-    requires start { IsStartWithin csr.now.n start }
-    requires least { AreLeastLabels csr.now.n csr.now.arcs (seeds_at csr.now.n start) labels.now }
-    ensures block { OnOk result (Puts (IsStartBlock walks start csr.now.n csr.now.arcs)
+    requires vertices { network.now.n ≤ MAX_VERTICES }
+    requires start { IsStartWithin network.now.n start }
+    requires costs { AreLeastCosts network.now start costs.now }
+    ensures block { OnOk result (Puts (IsStartBlock walks start network.now.n network.now.arcs)
         (W.contents writer.old) (W.contents writer.new) waiting.old.bytes.items waiting.new.bytes.items) }
-    ensures prefix { OnErr result (PutsPrefix (IsStartBlock walks start csr.now.n csr.now.arcs)
+    ensures prefix { OnErr result (PutsPrefix (IsStartBlock walks start network.now.n network.now.arcs)
         (W.contents writer.old) (W.contents writer.new) waiting.old.bytes.items) }
     ensures kinds { IfErr result IsWritingFault }
 {
     blocks_are_unique();
+    let labels = costs.labels();
     match start {
         Start::Everywhere => put_components(writer, waiting, labels),
         Start::At(source) if walks => {
-            let hops = hops(alloc, csr, labels, source)?;
-            let parents = parents(alloc, csr, labels, &hops)?;
+            let rows = network.rows();
+            let hops = hops(alloc, rows, labels, source)?;
+            let parents = parents(alloc, rows, labels, &hops)?;
             put_walks(alloc, writer, waiting, source, labels, &hops, &parents)
         }
         Start::At(source) => put_labels(writer, waiting, source, labels),

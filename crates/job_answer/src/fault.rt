@@ -2,11 +2,10 @@
 
 ghost use Rattle.std.specs.Prelude.{◌≡◌};
 ghost use Rattle.job_answer.specs.declared.fault.Fault.TheVariants as fault;
-ghost use Rattle.job_answer.specs.Choices.{fault_of_reading, fault_of_run, status_of};
+ghost use Rattle.job_answer.specs.Choices.{fault_of_reading, status_of};
 
 use dimacs_text::LineKind;
 use job_reader::ReadFault;
-use obim_engine::RunFault;
 use std::alloc::AllocError;
 use thiserror::Error;
 
@@ -45,17 +44,6 @@ impl From<ReadFault> for Fault {
             ReadFault::TooLong => Fault::TooLong,
             ReadFault::Text { line, kind } => Fault::Text { line, kind },
             ReadFault::Memory => Fault::Memory,
-        }
-    }
-}
-
-impl From<RunFault> for Fault {
-    ghost from_gives = { λ refused given. given ≡ fault_of_run refused };
-
-    fn from(refused: RunFault) -> Fault {
-        match refused {
-            RunFault::Memory => Fault::Memory,
-            RunFault::Spawn => Fault::Spawn,
         }
     }
 }

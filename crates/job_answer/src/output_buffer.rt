@@ -81,7 +81,7 @@ impl OutputBuffer {
 
 /// How many bytes a text may have that is made before its turn, so that memory doesn't grow with walks.
 pub fn most_bytes(graphs: &Graphs) -> usize {
-    let once = (graphs.rows.n() as usize).saturating_mul(MOST_A_VERTEX);
+    let once = (graphs.network.n() as usize).saturating_mul(MOST_A_VERTEX);
     match &graphs.grown {
         None => once,
         Some(_) => once.saturating_mul(2),

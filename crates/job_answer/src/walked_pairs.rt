@@ -4,8 +4,7 @@ ghost use Rattle.std.specs.Prelude.{◌≡◌, ◌<◌, ◌≤◌, ◌++◌, ◌
 ghost use Rattle.std.specs.Prelude.{All, IfErr, IfOk, IfSome, OnErr, OnOk, true};
 ghost use Rattle.std.specs.Thread.{IsSync};
 ghost use Rattle.least_costs.specs.Rounds.{AreMade};
-ghost use Rattle.route_walks.specs.Label.{AreLeastLabels};
-ghost use Rattle.route_walks.specs.Operators.{seeds_from};
+ghost use Rattle.least_costs.specs.declared.start.Start.TheVariants.{At};
 ghost use Rattle.walk_report.specs.Parent.{LeadBack};
 ghost use Rattle.dimacs_text.specs.Jobs.{IsPairWithin};
 ghost use Rattle.job_answer.specs.AnswerText.{ArePairBlocks, AreReached};
@@ -14,22 +13,22 @@ ghost use Rattle.job_answer.specs.Graphs.{AreGraphs, growth_of};
 ghost use Rattle.job_answer.specs.Outcome.{IsWritingFault};
 ghost use Rattle.job_answer.specs.declared.output_buffer.TheConstants.{PIECE};
 ghost use Rattle.job_answer.specs.Sent.{IsWalkedPair, SendsOn, SendsPrefix};
-ghost use Rattle.job_answer.specs.Solves.{pair_at, IsForQueries, IsWalked, IsWalkedAfter};
+ghost use Rattle.least_costs.specs.Pairs.{pair_at};
+ghost use Rattle.job_answer.specs.Solves.{AreLeastCosts, IsForQueries, IsWalked, IsWalkedAfter};
 ghost use Rattle.job_answer.specs.Solves.{walked_text, walked_after_text, with_growth};
-ghost use Rattle.job_answer.specs.Tasks.{AreLines, AreWalkTasks};
+ghost use Rattle.job_answer.specs.Tasks.{AreLines, AreWalkTasks, IsLinesText};
 
 use crate::asked::Asked;
 use crate::blocks::put_walk_line;
 use crate::fault::Fault;
-use crate::graphs::Graphs;
+use crate::graphs::{Graphs, teams_for};
 use crate::laws::blocks_are_unique;
 use crate::output_buffer::{Held, OutputBuffer, most_bytes};
-use crate::solves::{Solve, Start, next_source};
+use crate::solves::{Solve, costs_after, costs_from, next_source};
 use crate::team_watch::{SolveCount, TeamWatch};
 use crate::watch::{Phase, Watch};
 use answer_lines::{put_grown, put_pair};
-use csr_graph::Csr;
-use least_costs::{Part, Rounds, Team, TeamGate};
+use least_costs::{Costs, Network, Part, Rounds, Runner, Start, Team, TeamGate, Workers};
 use obim_engine::{Gate, Settings};
 use route_walks::{MAX_VERTICES, Memory};
 use std::alloc::Global;
@@ -39,12 +38,18 @@ use std::thread::Threads;
 use std::time::Clock;
 use walk_report::{NONE, hops, parents};
 
+/// Pairs, and the networks in which their costs are least.
+#[derive(Drop)]
+pub struct PairQueries<'a> {
+    pub graphs: &'a Graphs,
+    pub pairs: &'a [(u32, u32)],
+}
+
 /// The pairs whose lines are asked for with walks. A task for those that stand side by side and have one source, at
 /// the place of the first, gives their lines.
 #[derive(Drop)]
 pub struct WalkTasks<'a> {
-    pub graphs: &'a Graphs,
-    pub pairs: &'a [(u32, u32)],
+    pub queries: PairQueries<'a>,
     pub settings: &'a Settings,
     pub solves: SolveCount,
 }
@@ -73,25 +78,24 @@ pub fn write_walked<H: Threads + Wait + Clock + Sync, W: Write, G: Gate + Sync>(
     gate: &G,
     watch: &mut impl Watch,
 ) -> Result<(), Fault>
-    requires pairs { All (IsPairWithin graphs.now.rows.n) pairs.now }
+    requires pairs { All (IsPairWithin graphs.now.network.n) pairs.now }
     requires graphs { AreGraphs graphs.now }
-    ensures blocks { OnOk result (Writes (ArePairBlocks true graphs.now.rows.n graphs.now.rows.arcs
+    ensures blocks { OnOk result (Writes (ArePairBlocks true graphs.now.network.n graphs.now.network.arcs
         (growth_of graphs.now.grown) pairs.now) (W.contents writer.old) (W.contents writer.new)) }
-    ensures prefix { OnErr result (WritesPrefix (ArePairBlocks true graphs.now.rows.n graphs.now.rows.arcs
+    ensures prefix { OnErr result (WritesPrefix (ArePairBlocks true graphs.now.network.n graphs.now.network.arcs
         (growth_of graphs.now.grown) pairs.now) (W.contents writer.old) (W.contents writer.new)) }
     ensures kinds { IfErr result IsWritingFault }
 {
     blocks_are_unique();
     let mut waiting = OutputBuffer::new(alloc);
     let tasks = WalkTasks {
-        graphs,
-        pairs,
+        queries: PairQueries { graphs, pairs },
         settings: &asked.settings,
         solves: SolveCount::new(),
     };
-    let workers = asked.settings.workers;
-    let teams = asked.at_once.teams(&graphs.rows, workers);
-    let mut rounds = Rounds::new(alloc, pairs.len(), teams, workers);
+    let teams = teams_for(graphs, asked);
+    let mut rounds = Rounds::new(alloc, pairs.len(), teams, asked.settings.workers);
+    let mut workers = Workers::new(asked.settings, gate, None);
     let mut first = 0;
     while first < pairs.len() {
         watch.see_answered(first, pairs.len());
@@ -107,11 +111,9 @@ pub fn write_walked<H: Threads + Wait + Clock + Sync, W: Write, G: Gate + Sync>(
             alloc,
             writer,
             &mut waiting,
-            graphs,
-            pairs,
+            &tasks.queries,
             solve,
-            &asked.settings,
-            gate,
+            &mut workers,
             watch,
         )?;
         first = solve.end;
@@ -123,7 +125,7 @@ pub fn write_walked<H: Threads + Wait + Clock + Sync, W: Write, G: Gate + Sync>(
 fn take_lines<H: Threads + Wait + Clock + Sync, G: Gate + Sync>(
     rt: &H,
     alloc: Global,
-    rounds: &mut Rounds<LinesText, ()>,
+    rounds: &mut Rounds<LinesText, Runner>,
     tasks: &WalkTasks<'_>,
     gate: &G,
     place: usize,
@@ -138,12 +140,12 @@ fn take_lines<H: Threads + Wait + Clock + Sync, G: Gate + Sync>(
         rt,
         alloc,
         tasks,
-        &|place, team, _kept| -> Option<LinesText>
+        &|place: usize, team: Team, kept: &mut Option<Runner>| -> Option<LinesText>
             requires sync { IsSync H.row × IsSync G.row }
             requires tasks { AreWalkTasks tasks.now }
             ensures { IfSome result (AreLines tasks.entry.now place) }
-        { make_lines(rt, alloc, tasks, gate, place, team) },
-        &|place: usize| next_source(tasks.pairs, place),
+        { make_lines(rt, alloc, tasks, gate, place, team, kept) },
+        &|place: usize| next_source(tasks.queries.pairs, place),
         place,
     );
     watch.see_teams(rounds.at_once());
@@ -152,8 +154,8 @@ fn take_lines<H: Threads + Wait + Clock + Sync, G: Gate + Sync>(
     text
 }
 
-/// The lines of the pairs from a place on that have one source, made by a team. `None` where they were not made:
-/// where memory was refused, or where walks make them long.
+/// The lines of the pairs from a place on that have one source, made by a team over the pool that it kept. `None`
+/// where they were not made: where memory was refused, or where walks make them long.
 fn make_lines<H: Threads + Wait + Clock + Sync, G: Gate + Sync>(
     rt: &H,
     alloc: Global,
@@ -161,19 +163,22 @@ fn make_lines<H: Threads + Wait + Clock + Sync, G: Gate + Sync>(
     gate: &G,
     place: usize,
     team: Team,
+    kept: &mut Option<Runner>,
 ) -> Option<LinesText>
     requires { AreWalkTasks tasks.now }
     ensures { IfSome result (AreLines tasks.now place) }
 {
-    if place >= tasks.pairs.len() {
+    if place >= tasks.queries.pairs.len() {
         return None;
     }
-    let settings = team.settings(tasks.settings);
     let gate = TeamGate { gate, team };
+    let mut workers = Workers::new(team.settings(tasks.settings), &gate, kept.take());
     let mut watch = TeamWatch {
         solves: &tasks.solves,
     };
-    held_lines(rt, alloc, tasks, place, &settings, &gate, &mut watch).ok()
+    let lines = held_lines(rt, alloc, &tasks.queries, place, &mut workers, &mut watch).ok();
+    *kept = workers.into_kept();
+    lines
 }
 
 /// The lines of the pairs from a place on that have one source, in memory, by the workers of a team. Fails where
@@ -181,20 +186,21 @@ fn make_lines<H: Threads + Wait + Clock + Sync, G: Gate + Sync>(
 fn held_lines<H: Threads + Wait + Clock + Sync, G: Gate + Sync>(
     rt: &H,
     alloc: Global,
-    tasks: &WalkTasks<'_>,
+    queries: &PairQueries<'_>,
     first: usize,
-    settings: &Settings,
-    gate: &TeamGate<'_, G>,
+    workers: &mut Workers<'_, TeamGate<'_, G>>,
     watch: &mut impl Watch,
 ) -> Result<LinesText, Fault>
-    requires tasks { AreWalkTasks tasks.now }
-    requires place { first < length tasks.now.pairs.now }
-    requires team { settings.now.workers ≡ gate.now.team.workers }
-    ensures { IfOk result (AreLines tasks.now first) }
+    requires graphs { AreGraphs queries.now.graphs.now }
+    requires pairs { All (IsPairWithin queries.now.graphs.now.network.n) queries.now.pairs.now }
+    requires place { first < length queries.now.pairs.now }
+    requires team { workers.old.settings.workers ≡ workers.old.gate.now.team.workers }
+    ensures { IfOk result (IsLinesText queries.now.graphs.now queries.now.pairs.now first) }
 {
-    let (graphs, pairs) = (tasks.graphs, tasks.pairs);
-    let rest = &pairs[first..];
-    let solve = Solve::of_queries(rest, 0);
+    let graphs = queries.graphs;
+    let pairs = &queries.pairs[first..];
+    let solve = Solve::of_queries(pairs, 0);
+    let rest = PairQueries { graphs, pairs };
     let mut held = Held::new(alloc, most_bytes(graphs));
     let mut waiting = OutputBuffer::new(alloc);
     put_solved_pairs(
@@ -202,11 +208,9 @@ fn held_lines<H: Threads + Wait + Clock + Sync, G: Gate + Sync>(
         alloc,
         &mut held,
         &mut waiting,
-        graphs,
-        rest,
+        &rest,
         solve,
-        settings,
-        gate,
+        workers,
         watch,
     )?;
     waiting.finish(&mut held)?;
@@ -222,33 +226,28 @@ fn put_solved_pairs<H: Threads + Wait + Clock + Sync, W: Write, G: Gate + Sync>(
     alloc: Global,
     writer: &mut W,
     waiting: &mut OutputBuffer,
-    graphs: &Graphs,
-    pairs: &[(u32, u32)],
+    queries: &PairQueries<'_>,
     solve: Solve,
-    settings: &Settings,
-    gate: &G,
+    workers: &mut Workers<'_, G>,
     watch: &mut impl Watch,
 ) -> Result<(), Fault>
-    requires graphs { AreGraphs graphs.now }
-    requires pairs { All (IsPairWithin graphs.now.rows.n) pairs.now }
-    requires solve { IsForQueries pairs.now solve }
-    ensures sent { OnOk result (SendsOn (IsWalkedPair graphs.now) pairs.now solve.first solve.end
+    requires graphs { AreGraphs queries.now.graphs.now }
+    requires pairs { All (IsPairWithin queries.now.graphs.now.network.n) queries.now.pairs.now }
+    requires solve { IsForQueries queries.now.pairs.now solve }
+    ensures sent { OnOk result (SendsOn (IsWalkedPair queries.now.graphs.now) queries.now.pairs.now solve.first solve.end
         (W.contents writer.old) (W.contents writer.new) waiting.old.bytes.items waiting.new.bytes.items) }
-    ensures prefix { OnErr result (SendsPrefix (IsWalkedPair graphs.now) pairs.now solve.first
+    ensures prefix { OnErr result (SendsPrefix (IsWalkedPair queries.now.graphs.now) queries.now.pairs.now solve.first
         (W.contents writer.old) (W.contents writer.new) waiting.old.bytes.items) }
     ensures kinds { IfErr result IsWritingFault }
 {
     blocks_are_unique();
-    let rows = &graphs.rows;
-    let source = pairs[solve.first].0;
-    let start = Start::At(source);
-    let labels = start.solve(rt, alloc, rows, settings, gate, watch)?;
-    let walked = walked_from(alloc, rows, source, labels)?;
-    let labels = &walked.labels;
-    let after = walked_after(rt, alloc, graphs, source, labels, settings, gate, watch)?;
-    put_walked(
-        alloc, writer, waiting, graphs, pairs, solve, &walked, &after,
-    )?;
+    let graphs = queries.graphs;
+    let network = &graphs.network;
+    let source = queries.pairs[solve.first].0;
+    let costs = costs_from(rt, alloc, network, Start::At(source), workers, watch)?;
+    let after = walked_after(rt, alloc, graphs, source, &costs, workers, watch)?;
+    let walked = walked_from(alloc, network, source, costs)?;
+    put_walked(alloc, writer, waiting, queries, solve, &walked, &after)?;
     watch.end(rt, Phase::Writing);
     Ok(())
 }
@@ -261,15 +260,21 @@ struct Walked {
     parents: Vec<u32>,
 }
 
-/// The walks from a source, by its least labels along the rows.
-fn walked_from(alloc: Global, csr: &Csr, source: u32, labels: Vec<u64>) -> Result<Walked, Memory>
-    requires source { source < csr.now.n }
-    requires least { AreLeastLabels csr.now.n csr.now.arcs (seeds_from source) labels.items }
-    ensures walked { IfOk result (IsWalked csr.now.n csr.now.arcs source) }
-    ensures labels { IfOk result (λ walked. walked.labels.items ≡ labels.items) }
+/// The walks from a source, by its least costs in the network.
+fn walked_from(
+    alloc: Global,
+    network: &Network,
+    source: u32,
+    costs: Costs,
+) -> Result<Walked, Memory>
+    requires source { source < network.now.n }
+    requires costs { AreLeastCosts network.now (At source) costs }
+    ensures walked { IfOk result (IsWalked network.now.n network.now.arcs source) }
 {
-    let hops = hops(alloc, csr, &labels, source)?;
-    let parents = parents(alloc, csr, &labels, &hops)?;
+    let rows = network.rows();
+    let labels = costs.into_labels();
+    let hops = hops(alloc, rows, &labels, source)?;
+    let parents = parents(alloc, rows, &labels, &hops)?;
     Ok(Walked {
         labels,
         hops,
@@ -277,66 +282,56 @@ fn walked_from(alloc: Global, csr: &Csr, source: u32, labels: Vec<u64>) -> Resul
     })
 }
 
-/// The walks from a source in the grown graph, if there is one.
+/// The walks from a source in the grown network, if there is one. The costs before are still to be written.
 fn walked_after<H: Threads + Wait + Clock + Sync, G: Gate + Sync>(
     rt: &H,
     alloc: Global,
     graphs: &Graphs,
     source: u32,
-    labels: &[u64],
-    settings: &Settings,
-    gate: &G,
+    costs: &Costs,
+    workers: &mut Workers<'_, G>,
     watch: &mut impl Watch,
 ) -> Result<Option<Walked>, Fault>
     requires graphs { AreGraphs graphs.now }
-    requires source { source < graphs.now.rows.n }
-    requires least { AreLeastLabels graphs.now.rows.n graphs.now.rows.arcs (seeds_from source) labels.now }
+    requires source { source < graphs.now.network.n }
+    requires costs { AreLeastCosts graphs.now.network (At source) costs.now }
     ensures walked { IfOk result (IsWalkedAfter graphs.now.grown source) }
     ensures kinds { IfErr result IsWritingFault }
 {
     let Some(grown) = &graphs.grown else {
         return Ok(None);
     };
-    // The labels before are still to be written.
-    let labels = labels.to_vec(alloc)?;
-    let start = Start::At(source);
-    let labels = start.solve_grown(
-        rt,
-        alloc,
-        &graphs.rows,
-        grown,
-        labels,
-        settings,
-        gate,
-        watch,
-    )?;
-    Ok(Some(walked_from(alloc, &grown.rows, source, labels)?))
+    let (network, more) = (&graphs.network, &grown.network);
+    let costs = costs.copied(alloc, network)?;
+    let after = costs_after(rt, alloc, network, more, costs, workers, watch)?;
+    Ok(Some(walked_from(alloc, more, source, after)?))
 }
 
-/// Puts the lines of the pairs that a solve is for, each with its walk, and those in the grown graph.
+/// Puts the lines of the pairs that a solve is for, each with its walk, and those in the grown network.
 fn put_walked<W: Write>(
     alloc: Global,
     writer: &mut W,
     waiting: &mut OutputBuffer,
-    graphs: &Graphs,
-    pairs: &[(u32, u32)],
+    queries: &PairQueries<'_>,
     solve: Solve,
     walked: &Walked,
     after: &Option<Walked>,
 ) -> Result<(), Fault>
-    requires graphs { AreGraphs graphs.now }
-    requires pairs { All (IsPairWithin graphs.now.rows.n) pairs.now }
-    requires solve { IsForQueries pairs.now solve }
-    requires walked { IsWalked graphs.now.rows.n graphs.now.rows.arcs (pair_at pairs.now solve.first).0 walked.now }
-    requires after { IsWalkedAfter graphs.now.grown (pair_at pairs.now solve.first).0 after.now }
-    ensures sent { OnOk result (SendsOn (IsWalkedPair graphs.now) pairs.now solve.first solve.end
+    requires graphs { AreGraphs queries.now.graphs.now }
+    requires pairs { All (IsPairWithin queries.now.graphs.now.network.n) queries.now.pairs.now }
+    requires solve { IsForQueries queries.now.pairs.now solve }
+    requires walked { IsWalked queries.now.graphs.now.network.n queries.now.graphs.now.network.arcs
+        (pair_at queries.now.pairs.now solve.first).0 walked.now }
+    requires after { IsWalkedAfter queries.now.graphs.now.grown (pair_at queries.now.pairs.now solve.first).0 after.now }
+    ensures sent { OnOk result (SendsOn (IsWalkedPair queries.now.graphs.now) queries.now.pairs.now solve.first solve.end
         (W.contents writer.old) (W.contents writer.new) waiting.old.bytes.items waiting.new.bytes.items) }
-    ensures prefix { OnErr result (SendsPrefix (IsWalkedPair graphs.now) pairs.now solve.first
+    ensures prefix { OnErr result (SendsPrefix (IsWalkedPair queries.now.graphs.now) queries.now.pairs.now solve.first
         (W.contents writer.old) (W.contents writer.new) waiting.old.bytes.items) }
     ensures few { OnOk result (length waiting.new.bytes.items < PIECE) }
     ensures kinds { IfErr result IsWritingFault }
 {
     blocks_are_unique();
+    let (graphs, pairs) = (queries.graphs, queries.pairs);
     for at in solve.first..solve.end {
         put_walked_lines(alloc, &mut waiting.bytes, graphs, pairs[at], walked, after)?;
         waiting.send_if_full(writer)?;
@@ -344,7 +339,7 @@ fn put_walked<W: Write>(
     Ok(())
 }
 
-/// Puts the lines of a pair, and where the rows grow those in the grown graph.
+/// Puts the lines of a pair, and where the network grows those in the grown one.
 fn put_walked_lines(
     alloc: Global,
     out: &mut Vec<u8>,
@@ -354,8 +349,8 @@ fn put_walked_lines(
     after: &Option<Walked>,
 ) -> Result<(), Memory>
     requires graphs { AreGraphs graphs.now }
-    requires pair { IsPairWithin graphs.now.rows.n pair }
-    requires walked { IsWalked graphs.now.rows.n graphs.now.rows.arcs pair.0 walked.now }
+    requires pair { IsPairWithin graphs.now.network.n pair }
+    requires walked { IsWalked graphs.now.network.n graphs.now.network.arcs pair.0 walked.now }
     requires after { IsWalkedAfter graphs.now.grown pair.0 after.now }
     ensures put { OnOk result (out.new.items ≡ out.old.items ++ with_growth (growth_of graphs.now.grown)
         (walked_text pair walked.now) (walked_after_text pair after.now)) }

@@ -6,3 +6,5 @@ pub mod Sowing
 pub mod Ends
 pub mod Resumes
 pub mod Pauses
+pub mod Limits
+pub mod Facts

@@ -5,6 +5,7 @@ use Rattle.std.specs.Prelude.{◌≡◌, ◌≢◌, ℕ, ◌+◌, ◌-◌, ◌<�
 use Rattle.std.specs.Prelude.{Some, List, [], ◌∷◌, ◌++◌, length, slice_index, slice_set}
 use Rattle.route_walks.specs.declared.graph.Seed.{Seed}
 use Rattle.route_walks.specs.Label.{AreLeast}
+use Rattle.route_walks.specs.Limit.{AreLeastLabelsUpTo}
 use Rattle.route_walks.specs.Walk.{AreSeeds}
 use Rattle.route_walks.specs.Operators.{seeds_of}
 use Rattle.csr_graph.specs.Graph.{Graph, IsInRows}
@@ -24,7 +25,7 @@ use Rattle.label_words.specs.Known.{after_set_mark, after_finish, after_keep, af
 use Rattle.label_words.specs.Known.{left_half, right_half, both_known, gone}
 use Rattle.label_words.specs.declared.closed.Closed.{Closed}
 use Rattle.label_words.specs.Closed.{IsEnd, AreNoHigher, closed_labels}
-use Rattle.label_words.specs.Paused.{Rest, IsPause}
+use Rattle.label_words.specs.Paused.{Rest, IsPause, AreUnmarkedBelow}
 use Rattle.label_words.specs.Seats.{IsReady}
 
 -- the words hold a state, in which seat s has the view that it knows
@@ -193,3 +194,12 @@ ResumedRunsEndAlike =
     → IsPause graph seeds rest
     → IsEnd graph (seeds_of rest.labels) closed
     → IsEnd graph seeds closed × AreNoHigher (closed_labels closed) rest.labels
+
+-- a pause in which no vertex with a label below a limit is marked has labels that are least up to the limit
+abbrev pub PausesAreLeastUpTo : Type 0
+PausesAreLeastUpTo =
+    (limit : ℕ) (graph : Graph) (seeds : List Seed) (rest : Rest)
+    → IsInRows graph
+    → IsPause graph seeds rest
+    → AreUnmarkedBelow limit rest
+    → AreLeastLabelsUpTo limit graph.n graph.arcs seeds rest.labels

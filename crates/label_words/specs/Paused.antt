@@ -1,5 +1,5 @@
 -- What is left of a run that is paused.
-use Rattle.std.specs.Prelude.{◌≡◌, ℕ, ◌⊎◌, Bool, true, List, length, slice_index, slice_get, Some, All}
+use Rattle.std.specs.Prelude.{◌≡◌, ℕ, ◌<◌, ◌≤◌, ◌⊎◌, Bool, true, List, length, slice_index, slice_get, Some, All}
 use Rattle.route_walks.specs.declared.graph.ArcRec.{ArcRec}
 use Rattle.route_walks.specs.declared.graph.Seed.{Seed}
 use Rattle.route_walks.specs.Label.{IsMet, IsRelaxed, IsSound, AreCapped}
@@ -26,3 +26,15 @@ pub record IsPause (graph : Graph) (seeds : List Seed) (rest : Rest) : Type 0 wh
   pub capped : AreCapped graph.n (slice_index rest.labels)
   pub sound : IsSound graph.n graph.arcs seeds (slice_index rest.labels)
   pub met : All (IsMet (slice_index rest.labels)) seeds
+
+-- no vertex with a label below the limit is marked
+abbrev pub AreUnmarkedBelow : ℕ → Rest → Type 0
+AreUnmarkedBelow limit rest =
+    (v : ℕ) → v < length rest.marks → mark_of rest.marks v ≡ true → limit ≤ slice_index rest.labels v
+
+-- some vertex with a label below the limit is marked
+pub record IsMarkedBelow (limit : ℕ) (rest : Rest) : Type 0 where
+  pub vertex : ℕ
+  pub within : vertex < length rest.marks
+  pub marked : mark_of rest.marks vertex ≡ true
+  pub below : slice_index rest.labels vertex < limit

@@ -4,7 +4,7 @@ ghost use Rattle.std.specs.Prelude.{◌≡◌, ◌+◌, ◌*◌, ◌≤◌, [], 
 ghost use Rattle.std.specs.Slots.{slots_items, slots_len, IsFull};
 ghost use Rattle.route_walks.specs.declared.graph.TheConstants.{MAX_VERTICES};
 ghost use Rattle.label_words.specs.Layout.{word_count};
-ghost use Rattle.label_words.specs.Closed.{AreLabelsOf, AreMarksOf};
+ghost use Rattle.label_words.specs.Closed.{AreLabelsOf, AreMarksOf, closed_labels};
 
 use crate::layout::{label_word, mark_word};
 use crate::pause::Paused;
@@ -18,6 +18,28 @@ pub enum Closed {
     Settled(Vec<u64>),
     /// It didn't: labels, and the vertices whose arcs are to be relaxed again.
     Paused(Paused),
+}
+
+impl Closed {
+    /// The label of each vertex: a cost, or `INF` where no walk was found.
+    pub fn labels(&self) -> &[u64]
+        ensures { result.now ≡ closed_labels self.now }
+    {
+        match self {
+            Closed::Settled(labels) => labels,
+            Closed::Paused(rest) => rest.labels(),
+        }
+    }
+
+    /// The labels alone.
+    pub fn into_labels(self) -> Vec<u64>
+        ensures { result.items ≡ closed_labels self }
+    {
+        match self {
+            Closed::Settled(labels) => labels,
+            Closed::Paused(rest) => rest.into_labels(),
+        }
+    }
 }
 
 /// Reads the labels of the first `n` vertices into a list that has room for them.

@@ -6,7 +6,7 @@ ghost use Rattle.label_words.specs.Laws.{RaiseIsItsEvent, RaiseByIsItsEvent, Set
 ghost use Rattle.label_words.specs.Laws.{FinishIsItsEvent, KeepIsItsEvent, ReturnIsItsEvent};
 ghost use Rattle.label_words.specs.Laws.{SeeIsItsEvent, SplitIsItsEvent, JoinIsItsEvent};
 ghost use Rattle.label_words.specs.Laws.{LawfulWordsHoldACore, UnmarkedPauseIsLeast};
-ghost use Rattle.label_words.specs.Laws.{ResumedRunsEndAlike};
+ghost use Rattle.label_words.specs.Laws.{ResumedRunsEndAlike, PausesAreLeastUpTo};
 
 /// What the rule of the words keeps between any two steps is a lawful core.
 pub fn lawful_words_hold_a_core()
@@ -43,4 +43,10 @@ pub fn unmarked_pauses_are_least()
 /// with a pause of them; and no label rises.
 pub fn resumed_runs_end_alike()
     ensures { ResumedRunsEndAlike }
+{}
+
+/// A pause in which each marked vertex has a label of at least a limit has labels that are least up to the
+/// limit. So a run may stop before it is done where labels above a limit aren't wanted.
+pub fn pauses_are_least_up_to()
+    ensures { PausesAreLeastUpTo }
 {}

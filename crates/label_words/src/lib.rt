@@ -3,8 +3,8 @@
 //! The words of a run are the pending total, a label and a mark for each vertex. They lie in one table
 //! of `atomic_table`. A worker steps with its `WorkSeat`, and seats are split and joined. Each of these calls
 //! is one atomic step on one word, but for `relax` at a row's end, which takes none; the hints (`marked_label`,
-//! `prefetch_label`, `prefetch_labels`) are plain loads and no steps. None of them takes a lock or memory,
-//! and none waits.
+//! `label_hint`, `prefetch_label`, `prefetch_labels`) are plain loads and no steps. None of them takes a lock or
+//! memory, and none waits.
 //!
 //! Between any two steps the words and what all seats hold are a lawful core: labels are sound, every
 //! arc is relaxed or its tail marked or some seat holds it, and the total is the account of marks and

@@ -6,7 +6,7 @@ ghost use Rattle.route_walks.specs.Walk.{AreSeeds};
 ghost use Rattle.route_walks.specs.Label.{AreLeastLabels};
 ghost use Rattle.csr_graph.specs.Graph.{Graph, IsInRows};
 ghost use Rattle.relax_core.specs.State.{mark_of};
-ghost use Rattle.label_words.specs.Paused.{IsPause};
+ghost use Rattle.label_words.specs.Paused.{IsPause, AreUnmarkedBelow, IsMarkedBelow};
 
 use route_walks::Memory;
 use std::alloc::Global;
@@ -51,6 +51,28 @@ impl Paused {
         ensures { result.now ≡ self.now.labels }
     {
         &self.labels
+    }
+
+    /// The labels alone.
+    pub fn into_labels(self) -> Vec<u64>
+        ensures { result.items ≡ self.labels }
+    {
+        self.labels
+    }
+
+    /// Whether no vertex with a label below the limit is marked. Then labels are least up to the limit, where
+    /// this is a pause. Looks at every mark.
+    pub fn is_unmarked_below(&self, limit: u64) -> bool
+        requires { length self.now.labels ≡ length self.now.marks }
+        ensures unmarked { result ≡ true → AreUnmarkedBelow limit self.now }
+        ensures marked { result ≡ false → IsMarkedBelow limit self.now }
+    {
+        for v in 0..self.marks.len() {
+            if self.marks[v] && self.labels[v] < limit {
+                return false;
+            }
+        }
+        true
     }
 
     /// Whether a vertex is marked: its arcs are to be relaxed again.

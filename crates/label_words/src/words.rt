@@ -137,6 +137,18 @@ impl Words {
         Some(self.table.shared.peek(label_word(v)))
     }
 
+    /// The label of `v`, by a load. It is a look that takes no step and promises nothing, as `marked_label`: a
+    /// hint, for when a worker may leave.
+    #[inline(always)]
+    pub fn label_hint(&self, seat: &WorkSeat, v: u32) -> u64
+        requires words { seat.now.words ≡ self.now }
+        requires vertex { v < seat.now.known.graph.n }
+    {
+        // Reading a field of the seat tells the proof its invariant, which bounds `v`. It costs nothing.
+        let _share = seat.view.share;
+        self.table.shared.peek(label_word(v))
+    }
+
     /// Takes the mark of `u` away by one swap. Where it was set, the seat holds `u`, has the mark's credit
     /// besides those that it kept, and this returns true.
     pub fn take(&self, seat: &mut WorkSeat, u: u32) -> bool

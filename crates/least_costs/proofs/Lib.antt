@@ -3,5 +3,6 @@ pub mod Starts
 pub mod Unreached
 pub mod LeastWalks
 pub mod Taken
-pub mod PairCosts
+pub mod Filling
+pub mod Reaching
 pub mod Facts

@@ -1,6 +1,7 @@
 -- Costs as contracts see them.
-use Rattle.std.specs.Prelude.{◌≡◌, ℕ, ◌≤◌, List, Option, Some, None}
-use Rattle.route_walks.specs.Label.{AreLeastLabels}
+use Rattle.std.specs.Prelude.{◌≡◌, ℕ, ◌<◌, ◌≤◌, List, All, length, slice_index, slice_index_or, Option, Some, None}
+use Rattle.route_walks.specs.declared.graph.TheConstants.{INF}
+use Rattle.route_walks.specs.Label.{AreLeastLabels, IsLeast}
 use Rattle.least_costs.specs.Network.{IsNetwork, IsStartWithin, HasWalk, NetworkSeen, seeds_at}
 use Rattle.least_costs.specs.declared.start.Start.{Start}
 use Rattle.least_costs.specs.declared.start.Start.TheVariants as start
@@ -25,9 +26,24 @@ abbrev pub IsCostTo : NetworkSeen → Start → ℕ → Option ℕ → Type 0
 IsCostTo net from v (Some cost) = IsLeastCost net from v cost
 IsCostTo net from v None = IsUnreached net from v
 
+-- a cost as a label
+abbrev pub label_of : Option ℕ → ℕ
+label_of (Some cost) = cost
+label_of None = INF
+
 -- each vertex has its least label from the start
 abbrev pub AreLeastFrom : NetworkSeen → Start → List ℕ → Type 0
 AreLeastFrom net from labels = AreLeastLabels net.n net.arcs (seeds_at net.n from) labels
+
+-- some vertices have their least labels
+abbrev pub AreLeastAt : NetworkSeen → Start → List ℕ → List ℕ → Type 0
+AreLeastAt net from labels vertices =
+    All (λ v. IsLeast net.arcs (seeds_at net.n from) v (slice_index labels v)) vertices
+
+-- the costs are those to these vertices, in their order
+pub record AreCostsTo (net : NetworkSeen) (from : Start) (vertices : List ℕ) (costs : List (Option ℕ)) : Type 0 where
+  pub count : length costs ≡ length vertices
+  pub each : (k : ℕ) → k < length vertices → IsCostTo net from (slice_index vertices k) (slice_index_or costs k None)
 
 -- what is so of all costs
 pub record AreCosts (costs : CostsSeen) : Type 0 where

@@ -1,10 +1,10 @@
 -- What follows from the definitions alone.
-use Rattle.std.specs.Prelude.{◌≡◌, ℕ, List, ◌++◌, Option}
+use Rattle.std.specs.Prelude.{◌≡◌, ℕ, ◌<◌, List, ◌++◌, Option, slice_index}
 use Rattle.route_walks.specs.declared.graph.ArcRec.{ArcRec}
 use Rattle.least_costs.specs.declared.cost.Cost.{Cost}
 use Rattle.least_costs.specs.declared.start.Start.{Start}
-use Rattle.least_costs.specs.Costs.{IsCostTo}
-use Rattle.least_costs.specs.Network.{arcs_of, GrowsTo, IsNetworkOf, NetworkSeen}
+use Rattle.least_costs.specs.Costs.{AreLeastFrom, IsCostTo, label_of}
+use Rattle.least_costs.specs.Network.{arcs_of, GrowsTo, IsNetwork, IsNetworkOf, IsStartWithin, NetworkSeen}
 
 -- a network that grew is that of the arcs before and the added ones
 abbrev pub NetworksGrow : Type 0
@@ -26,3 +26,13 @@ CostsFollowTheArcs =
     → IsCostTo one from v here
     → IsCostTo other from v there
     → here ≡ there
+
+-- what a vertex costs is its label among the least labels from the start
+abbrev pub CostsAreLabels : Type 0
+CostsAreLabels =
+    (net : NetworkSeen) (from : Start) (v : ℕ) (cost : Option ℕ)
+    → IsNetwork net
+    → IsStartWithin net.n from
+    → v < net.n
+    → IsCostTo net from v cost
+    → (labels : List ℕ) × AreLeastFrom net from labels × (label_of cost ≡ slice_index labels v)

@@ -1,5 +1,6 @@
 -- A network as contracts see it, and where walks begin in it.
 use Rattle.std.specs.Prelude.{◌≡◌, ℕ, ◌^◌, ◌<◌, ◌≤◌, List, ◌++◌, All, ⊤}
+use Rattle.csr_graph.specs.Graph.{Graph}
 use Rattle.route_walks.specs.declared.graph.ArcRec.{ArcRec}
 use Rattle.route_walks.specs.declared.graph.Seed.{Seed}
 use Rattle.route_walks.specs.declared.graph.TheConstants.{MAX_VERTICES}
@@ -23,6 +24,10 @@ pub record NetworkSeen : Type 0 where
   pub cost : Cost
   pub arcs : List ArcRec
   pub added : List ArcRec
+
+-- the graph of a network's rows
+abbrev pub graph_of : NetworkSeen → Graph
+graph_of net = record { n = net.n; arcs = net.arcs }
 
 -- the weights of all arcs are below 2^32
 abbrev pub AreLight : List ArcRec → Type 0

@@ -1,13 +1,14 @@
 //! What does it cost at least to get to each vertex, in which network and from which start?
 
-ghost use Rattle.std.specs.Prelude.{◌≡◌, ◌<◌, IfNone, IfSome};
-ghost use Rattle.least_costs.specs.Costs.{AreCosts, AreLeastFrom, IsLeastCost, IsUnreached};
+ghost use Rattle.std.specs.Prelude.{◌≡◌, ◌<◌, All, IfNone, IfOk, IfSome, length};
+ghost use Rattle.least_costs.specs.Costs.{AreCosts, AreCostsTo, AreLeastAt, AreLeastFrom, IsLeastCost, IsUnreached};
 ghost use Rattle.least_costs.specs.Network.{IsStartWithin};
 
 use crate::network::Network;
 use crate::start::Start;
-use route_walks::INF;
-use route_walks::laws::inf_means_no_walk;
+use route_walks::laws::{inf_means_no_walk, least_labels_exist};
+use route_walks::{INF, Memory};
+use std::alloc::Global;
 use std::marker::Model;
 use std::snapshot::Snapshot;
 
@@ -73,6 +74,14 @@ impl Costs {
         self.start
     }
 
+    /// The same costs once more. They are of this network.
+    pub fn copied(&self, alloc: Global, network: &Network) -> Result<Costs, Memory>
+        requires { network.now ≡ self.now.net }
+        ensures { IfOk result (λ copy. copy ≡ self.now) }
+    {
+        Ok(Costs::new(network, self.start, self.labels.to_vec(alloc)?))
+    }
+
     /// The labels, given up.
     pub fn into_labels(self) -> Vec<u64>
         ensures labels { result.items ≡ self.labels }
@@ -80,4 +89,37 @@ impl Costs {
     {
         self.labels
     }
+}
+
+/// The costs of some vertices, of which these are the least labels.
+pub(crate) fn costs_at(
+    alloc: Global,
+    network: &Network,
+    start: Start,
+    vertices: &[u32],
+    labels: &[u64],
+) -> Result<Vec<Option<u64>>, Memory>
+    requires start { IsStartWithin network.now.n start }
+    requires vertices { All (λ v. v < network.now.n) vertices.now }
+    requires count { length labels.now ≡ network.now.n }
+    requires least { AreLeastAt network.now start labels.now vertices.now }
+    ensures { IfOk result (λ costs. AreCostsTo network.now start vertices.now costs.items) }
+{
+    // A label of `INF` that is least means that there is no walk.
+    least_labels_exist();
+    inf_means_no_walk();
+    let _ = network.n();
+    let mut costs = Vec::with_capacity(alloc, vertices.len())?;
+    for v in vertices {
+        costs.push(cost_of(labels[*v as usize]))?;
+    }
+    Ok(costs)
+}
+
+/// What a least label says of the cost.
+fn cost_of(least: u64) -> Option<u64>
+    ensures some { IfSome result (λ cost. (cost ≡ least) × (least < INF)) }
+    ensures none { IfNone result (least ≡ INF) }
+{
+    if least < INF { Some(least) } else { None }
 }

@@ -11,9 +11,11 @@ use crate::costs::Costs;
 use crate::network::Network;
 use crate::plan::Plan;
 use crate::rounds::{Part, Rounds};
-use crate::runner::{Runner, solved};
+use crate::runner::Runner;
 use crate::solver::Solver;
+use crate::start::Start;
 use crate::teams::{Team, TeamGate};
+use crate::workers::Workers;
 use obim_engine::Gate;
 use route_walks::Memory;
 use std::alloc::Global;
@@ -39,10 +41,9 @@ impl<'a> Part<Sources<'a>> for Costs {
 pub struct Each<'a, G> {
     asked: Sources<'a>,
     plan: Plan,
-    gate: &'a G,
+    // All workers, for a source that is solved in its turn.
+    workers: Workers<'a, G>,
     rounds: Rounds<Costs, Runner>,
-    // The pool of all workers, for a source that is solved in its turn.
-    kept: Option<Runner>,
     next: usize,
 }
 
@@ -69,9 +70,8 @@ impl<'a, G: Gate + Sync> Solver<'a, G> {
         Each {
             asked: Sources { network, sources },
             plan,
-            gate: &self.gate,
+            workers: Workers::new(plan.settings, &self.gate, None),
             rounds: Rounds::new(alloc, sources.len(), teams, plan.settings.workers),
-            kept: None,
             next: 0,
         }
     }
@@ -96,21 +96,13 @@ impl<'a, G: Gate + Sync> Each<'a, G> {
         if place >= self.asked.sources.len() {
             return None;
         }
-        let (asked, plan, gate) = (&self.asked, &self.plan, self.gate);
+        let (asked, plan, gate) = (&self.asked, &self.plan, self.workers.gate);
         let ahead = take_ahead(rt, alloc, &mut self.rounds, asked, plan, gate, place);
         let found = match ahead {
             Some(costs) => Ok(costs),
             None => {
-                let (settings, source) = (&plan.settings, asked.sources[place]);
-                solved(
-                    rt,
-                    alloc,
-                    asked.network,
-                    source,
-                    settings,
-                    &mut self.kept,
-                    gate,
-                )
+                let start = Start::At(asked.sources[place]);
+                self.workers.costs_from(rt, alloc, asked.network, start)
             }
         };
         self.next = place + 1;
@@ -164,8 +156,12 @@ fn solved_by<H: Threads + Wait + Clock + Sync, G: Gate + Sync>(
     if place >= asked.sources.len() {
         return None;
     }
-    let settings = team.settings(&plan.settings);
     let gate = TeamGate { gate, team };
+    let mut workers = Workers::new(team.settings(&plan.settings), &gate, kept.take());
     let source = asked.sources[place];
-    solved(rt, alloc, asked.network, source, &settings, kept, &gate).ok()
+    let costs = workers
+        .costs_from(rt, alloc, asked.network, Start::At(source))
+        .ok();
+    *kept = workers.into_kept();
+    costs
 }

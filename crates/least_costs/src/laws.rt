@@ -1,7 +1,9 @@
 //! Which laws hold of networks, costs and teams? Each is the contract of a function that does nothing.
 
-ghost use Rattle.least_costs.specs.Laws.{CostsFollowTheArcs, NetworksGrow};
+ghost use Rattle.least_costs.specs.Laws.{CostsAreLabels, CostsFollowTheArcs, NetworksGrow};
 ghost use Rattle.least_costs.specs.Teams.{TeamsShareWorkers};
+
+use route_walks::laws::{inf_means_no_walk, least_labels_exist};
 
 /// A network that grew by added arcs is the network of the arcs before and the added ones, whatever an arc
 /// costs.
@@ -14,6 +16,14 @@ pub fn networks_grow()
 pub fn costs_follow_the_arcs()
     ensures { CostsFollowTheArcs }
 {}
+
+/// The cost to a vertex is its label in the list of all least labels, which there is; `None` is the label `INF`.
+pub fn costs_are_labels()
+    ensures { CostsAreLabels }
+{
+    least_labels_exist();
+    inf_means_no_walk();
+}
 
 /// Where teams share the workers, each worker is in one team, and no team is without one if there are no more teams
 /// than workers.

@@ -20,7 +20,7 @@
 //! ```
 //!
 //! `Rounds` is what `Each` stands on: tasks of any kind that are done side by side before their turn, by teams
-//! that keep what they need from one to the next, as a `Runner` keeps its pool.
+//! that keep what they need from one to the next, as `Workers` keep their pool, a `Runner`.
 //!
 //! Stands on `obim_engine`, whose workers give the costs, and on its pools in `obim_pool`, on `walk_report` for
 //! walks, on `csr_graph` for the rows, on `label_words` for what a pause is, and on `route_walks`, which says
@@ -36,22 +36,27 @@ pub mod laws;
 mod network;
 mod pairs;
 mod plan;
+mod progress;
 mod rounds;
 mod runner;
 mod solver;
 mod start;
 mod teams;
 mod walks;
+mod workers;
 
 pub use cost::Cost;
 pub use costs::Costs;
 pub use each::Each;
 pub use fault::NetworkFault;
 pub use network::{MOST_ARCS, Network};
+pub use pairs::PairCosts;
 pub use plan::{AtOnce, Plan};
+pub use progress::{Progress, Unwatched};
 pub use rounds::{Made, Part, Rounds};
 pub use runner::Runner;
 pub use solver::Solver;
 pub use start::Start;
 pub use teams::{Team, TeamGate};
 pub use walks::Walks;
+pub use workers::Workers;

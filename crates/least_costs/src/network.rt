@@ -5,7 +5,7 @@ ghost use Rattle.std.specs.Prelude.{IfErr, IfNone, IfOk, IfSome, IsTrue};
 ghost use Rattle.csr_graph.specs.Graph.{IsInRows};
 ghost use Rattle.route_walks.specs.Walk.{IsArcBelow, IsGraph, HaveSameArcs};
 ghost use Rattle.least_costs.specs.Faults.{IsFirstOutside, IsNetworkFault, IsGrowthFault};
-ghost use Rattle.least_costs.specs.Network.{AreLight, GrowsTo, IsNetwork, IsNetworkOf, arcs_of};
+ghost use Rattle.least_costs.specs.Network.{AreLight, GrowsTo, IsNetwork, IsNetworkOf, arcs_of, graph_of};
 
 use crate::cost::Cost;
 use crate::fault::NetworkFault;
@@ -101,6 +101,13 @@ impl Network {
         ensures network { IsNetwork self.now }
     {
         self.rows.n()
+    }
+
+    /// The rows of the arcs along which costs are least.
+    pub fn rows(&self) -> &Csr
+        ensures { result.now ≡ graph_of self.now }
+    {
+        &self.rows
     }
 }
 

@@ -1,40 +1,47 @@
 //! What does it cost from the source of each of many pairs to its target?
 
-ghost use Rattle.std.specs.Prelude.{◌≡◌, ◌+◌, ◌<◌, ◌≤◌, ◌^◌, ℕ, List, All, IfOk, IfSome, OnOk, None};
-ghost use Rattle.std.specs.Prelude.{length, slice_index_or};
-ghost use Rattle.least_costs.specs.Network.{NetworkSeen};
-ghost use Rattle.least_costs.specs.declared.start.Start.TheVariants.{At};
+ghost use Rattle.std.specs.Prelude.{◌≡◌, ◌+◌, ◌<◌, ◌≤◌, ◌^◌, ℕ, List, All, IfOk, IfSome, OnOk, length};
 ghost use Rattle.std.specs.Thread.{IsSync};
-ghost use Rattle.least_costs.specs.Pairs.{AreBySource, AreCostsFrom, AreFilled, ArePairCosts};
-ghost use Rattle.least_costs.specs.Pairs.{ArePairsWithin, IsPairCost, IsRun, pair_at};
+ghost use Rattle.label_words.specs.Closed.{IsEnd};
+ghost use Rattle.least_costs.specs.Network.{IsStartWithin, NetworkSeen, graph_of, seeds_at};
+ghost use Rattle.least_costs.specs.Pairs.{AreAsked, AreBySource, AreCostsAfter, AreCostsAt, AreCostsFrom, AreFilled};
+ghost use Rattle.least_costs.specs.Pairs.{AreFilledAfter, AreGrownCostsTo, ArePairCosts, ArePairsWithin, AreTargets};
+ghost use Rattle.least_costs.specs.Pairs.{GrowsInto, IsRun};
 ghost use Rattle.least_costs.specs.Rounds.{AreMade};
 
-use crate::costs::Costs;
+use crate::costs::costs_at;
 use crate::network::Network;
 use crate::plan::Plan;
+use crate::progress::{Progress, Unwatched};
 use crate::rounds::{Part, Rounds};
-use crate::runner::{Runner, solved};
+use crate::runner::Runner;
 use crate::solver::Solver;
+use crate::start::Start;
 use crate::teams::{Team, TeamGate};
-use obim_engine::{Gate, Settings};
+use crate::workers::Workers;
+use obim_engine::{Closed, Gate, Goal};
 use route_walks::Memory;
 use std::alloc::Global;
 use std::sync::Wait;
 use std::thread::Threads;
 use std::time::Clock;
 
-/// A network, pairs of its vertices, and their sources in rising order, each with the place of its pair.
+/// A network, the one that it grew to if it did, pairs of their vertices, and the sources of these in rising order,
+/// each with the place of its pair.
 #[derive(Drop)]
 pub struct Pairs<'a> {
     pub network: &'a Network,
+    pub grown: Option<&'a Network>,
     pub pairs: &'a [(u32, u32)],
     pub order: &'a [(u32, u32)],
 }
 
-/// The costs of the pairs of one source, in the order of the sources.
+/// The costs of pairs; `None` if there is no walk.
 #[derive(Drop)]
 pub struct PairCosts {
     pub costs: Vec<Option<u64>>,
+    /// Those in the grown network, if there is one.
+    pub after: Vec<Option<u64>>,
 }
 
 impl<'a> Part<Pairs<'a>> for PairCosts {
@@ -54,15 +61,51 @@ impl<'a, G: Gate + Sync> Solver<'a, G> {
         requires within { ArePairsWithin self.now.network.now.n pairs.now }
         ensures { IfOk result (λ costs. ArePairCosts self.now.network.now pairs.now costs.items) }
     {
+        let found = self.between_grown(rt, alloc, pairs, None, &mut Unwatched)?;
+        Ok(found.costs)
+    }
+
+    /// The same, and where a network is given that this one grew to by `with_arcs`, the costs there as well. Each
+    /// source is solved once in each network; in the second only what the added arcs change is visited.
+    pub fn between_grown<H: Threads + Wait + Clock + Sync>(
+        &self,
+        rt: &H,
+        alloc: Global,
+        pairs: &[(u32, u32)],
+        grown: Option<&Network>,
+        progress: &mut impl Progress,
+    ) -> Result<PairCosts, Memory>
+        requires few { length pairs.now < 2 ^ 32 }
+        requires within { ArePairsWithin self.now.network.now.n pairs.now }
+        requires grown { GrowsInto self.now.network.now grown }
+        ensures costs { IfOk result (λ found. ArePairCosts self.now.network.now pairs.now found.costs.items) }
+        ensures after { IfOk result (λ found. AreCostsAfter grown.entry pairs.now found.after.items) }
+    {
         let order = by_source(alloc, pairs)?;
         let asked = Pairs {
             network: self.network,
+            grown,
             pairs,
             order: &order,
         };
+        let (plan, gate) = (&self.plan, &self.gate);
         let mut costs = vec![in alloc; None; pairs.len()]?;
-        fill_all(rt, alloc, &asked, &self.plan, &self.gate, &mut costs)?;
-        Ok(costs)
+        let mut after = room_after(alloc, &asked)?;
+        fill_all(
+            rt, alloc, &asked, plan, gate, &mut costs, &mut after, progress,
+        )?;
+        Ok(PairCosts { costs, after })
+    }
+}
+
+/// Room for the costs of pairs in the grown network, if there is one.
+fn room_after(alloc: Global, asked: &Pairs<'_>) -> Result<Vec<Option<u64>>, Memory>
+    ensures { IfOk result (λ after.
+        IfSome asked.now.grown (λ _. length after.items ≡ length asked.now.pairs.now)) }
+{
+    match asked.grown {
+        None => Ok(Vec::new(alloc)),
+        Some(_) => Ok(vec![in alloc; None; asked.pairs.len()]?),
     }
 }
 
@@ -79,7 +122,7 @@ fn by_source(alloc: Global, pairs: &[(u32, u32)]) -> Result<Vec<(u32, u32)>, Mem
     Ok(order)
 }
 
-/// Fills in the cost of each pair.
+/// Fills in the cost of each pair, and that in the grown network.
 fn fill_all<H: Threads + Wait + Clock + Sync, G: Gate + Sync>(
     rt: &H,
     alloc: Global,
@@ -87,24 +130,35 @@ fn fill_all<H: Threads + Wait + Clock + Sync, G: Gate + Sync>(
     plan: &Plan,
     gate: &G,
     costs: &mut [Option<u64>],
+    after: &mut [Option<u64>],
+    progress: &mut impl Progress,
 ) -> Result<(), Memory>
-    requires order { AreBySource asked.now.pairs.now asked.now.order.now }
-    requires within { ArePairsWithin asked.now.network.now.n asked.now.pairs.now }
+    requires asked { AreAsked asked.now }
     requires places { length costs.old ≡ length asked.now.pairs.now }
-    ensures { OnOk result (ArePairCosts asked.now.network.now asked.now.pairs.now costs.new) }
+    requires after { IfSome asked.now.grown (λ _. length after.old ≡ length asked.now.pairs.now) }
+    ensures costs { OnOk result (ArePairCosts asked.now.network.now asked.now.pairs.now costs.new) }
+    ensures after { OnOk result (AreCostsAfter asked.now.grown asked.now.pairs.now after.new) }
 {
-    let teams = plan.teams(asked.network);
-    let mut rounds = Rounds::new(alloc, asked.order.len(), teams, plan.settings.workers);
-    let mut kept = None;
+    let order = asked.order;
+    let solves = if asked.grown.is_some() { 2 } else { 1 };
+    let mut rounds = Rounds::new(
+        alloc,
+        order.len(),
+        plan.teams(asked.network),
+        plan.settings.workers,
+    );
+    let mut workers = Workers::new(plan.settings, gate, None);
     let mut first = 0;
-    while first < asked.order.len() {
+    while first < order.len() {
         let found = match take_ahead(rt, alloc, &mut rounds, asked, plan, gate, first) {
             Some(found) => found,
-            None => costs_of(rt, alloc, asked, first, &plan.settings, &mut kept, gate)?,
+            None => costs_of(rt, alloc, asked, first, &mut workers)?,
         };
         let own: &[Option<u64>] = &found.costs;
-        fill(costs, asked.order, first, own);
+        fill(costs, order, first, own);
+        fill_after(after, asked, first, &found);
         first += own.len();
+        progress.see(rt, first, order.len(), solves, rounds.at_once());
     }
     Ok(())
 }
@@ -119,8 +173,7 @@ fn take_ahead<H: Threads + Wait + Clock + Sync, G: Gate + Sync>(
     gate: &G,
     first: usize,
 ) -> Option<PairCosts>
-    requires order { AreBySource asked.now.pairs.now asked.now.order.now }
-    requires within { ArePairsWithin asked.now.network.now.n asked.now.pairs.now }
+    requires asked { AreAsked asked.now }
     requires made { AreMade (AreCostsFrom asked.now) rounds.old.made.items }
     ensures left { AreMade (AreCostsFrom asked.now) rounds.new.made.items }
     ensures costs { IfSome result (AreCostsFrom asked.now first) }
@@ -131,8 +184,7 @@ fn take_ahead<H: Threads + Wait + Clock + Sync, G: Gate + Sync>(
         asked,
         &|place: usize, team: Team, kept: &mut Option<Runner>| -> Option<PairCosts>
             requires sync { IsSync H.row × IsSync G.row }
-            requires order { AreBySource asked.now.pairs.now asked.now.order.now }
-            requires within { ArePairsWithin asked.now.network.now.n asked.now.pairs.now }
+            requires asked { AreAsked asked.now }
             ensures { IfSome result (AreCostsFrom asked.entry.now place) }
         { costs_by(rt, alloc, asked, plan, gate, place, team, kept) },
         &|place: usize| next_source(asked.order, place),
@@ -151,16 +203,17 @@ fn costs_by<H: Threads + Wait + Clock + Sync, G: Gate + Sync>(
     team: Team,
     kept: &mut Option<Runner>,
 ) -> Option<PairCosts>
-    requires order { AreBySource asked.now.pairs.now asked.now.order.now }
-    requires within { ArePairsWithin asked.now.network.now.n asked.now.pairs.now }
+    requires { AreAsked asked.now }
     ensures { IfSome result (AreCostsFrom asked.now place) }
 {
     if place >= asked.order.len() {
         return None;
     }
-    let settings = team.settings(&plan.settings);
     let gate = TeamGate { gate, team };
-    costs_of(rt, alloc, asked, place, &settings, kept, &gate).ok()
+    let mut workers = Workers::new(team.settings(&plan.settings), &gate, kept.take());
+    let costs = costs_of(rt, alloc, asked, place, &mut workers).ok();
+    *kept = workers.into_kept();
+    costs
 }
 
 /// The costs of the pairs of the source at a place.
@@ -169,42 +222,65 @@ fn costs_of<H: Threads + Wait + Clock + Sync, G: Gate + Sync>(
     alloc: Global,
     asked: &Pairs<'_>,
     first: usize,
-    settings: &Settings,
-    kept: &mut Option<Runner>,
-    gate: &G,
+    workers: &mut Workers<'_, G>,
 ) -> Result<PairCosts, Memory>
-    requires order { AreBySource asked.now.pairs.now asked.now.order.now }
-    requires within { ArePairsWithin asked.now.network.now.n asked.now.pairs.now }
+    requires asked { AreAsked asked.now }
     requires place { first < length asked.now.order.now }
     ensures { IfOk result (AreCostsFrom asked.now first) }
 {
     let end = run_end(asked.order, first);
-    let source = asked.order[first].0;
-    let found = solved(rt, alloc, asked.network, source, settings, kept, gate)?;
-    picked(alloc, asked, first, end, &found)
+    let targets = targets_of(alloc, asked, first, end)?;
+    let (network, start) = (asked.network, Start::At(asked.order[first].0));
+    // No run goes further than its targets.
+    let goal = Goal::Targets(&targets);
+    let reached = workers.reach(rt, alloc, network, start, goal)?;
+    let costs = costs_at(alloc, network, start, &targets, reached.closed.labels())?;
+    let closed = reached.closed;
+    let after = costs_grown(rt, alloc, asked, start, &targets, closed, workers)?;
+    Ok(PairCosts { costs, after })
 }
 
-/// Of the costs from a source those of the targets of its pairs.
-fn picked(
+/// The costs to these targets in the grown network, if there is one, from what the run before it left.
+fn costs_grown<H: Threads + Wait + Clock + Sync, G: Gate + Sync>(
+    rt: &H,
+    alloc: Global,
+    asked: &Pairs<'_>,
+    start: Start,
+    targets: &[u32],
+    closed: Closed,
+    workers: &mut Workers<'_, G>,
+) -> Result<Vec<Option<u64>>, Memory>
+    requires grows { GrowsInto asked.now.network.now asked.now.grown }
+    requires start { IsStartWithin asked.now.network.now.n start }
+    requires targets { All (λ t. t < asked.now.network.now.n) targets.now }
+    requires closed { IsEnd (graph_of asked.now.network.now) (seeds_at asked.now.network.now.n start) closed }
+    ensures { IfOk result (λ after. AreGrownCostsTo asked.now.grown start targets.now after.items) }
+{
+    let Some(grown) = asked.grown else {
+        return Ok(Vec::new(alloc));
+    };
+    let (network, goal) = (asked.network, Goal::Targets(targets));
+    let after = workers.reach_after(rt, alloc, network, grown, start, closed, goal)?;
+    costs_at(alloc, grown, start, targets, after.closed.labels())
+}
+
+/// The targets of the pairs from a place of the order up to another one.
+fn targets_of(
     alloc: Global,
     asked: &Pairs<'_>,
     first: usize,
     end: usize,
-    found: &Costs,
-) -> Result<PairCosts, Memory>
-    requires order { AreBySource asked.now.pairs.now asked.now.order.now }
-    requires within { ArePairsWithin asked.now.network.now.n asked.now.pairs.now }
+) -> Result<Vec<u32>, Memory>
+    requires asked { AreAsked asked.now }
     requires run { IsRun asked.now.order.now first end }
-    requires net { found.now.net ≡ asked.now.network.now }
-    requires start { found.now.start ≡ At (pair_at asked.now.order.now first).0 }
-    ensures { IfOk result (AreCostsFrom asked.now first) }
+    ensures { IfOk result (λ targets. AreTargets asked.now first end targets.items) }
 {
-    let mut costs = Vec::with_capacity(alloc, end - first)?;
+    let mut targets = Vec::with_capacity(alloc, end - first)?;
     for at in first..end {
         let place = asked.order[at].1 as usize;
-        costs.push(found.to(asked.pairs[place].1))?;
+        targets.push(asked.pairs[place].1)?;
     }
-    Ok(PairCosts { costs })
+    Ok(targets)
 }
 
 /// The place after the entries that have the source of the one at this place.
@@ -235,13 +311,25 @@ fn fill(filled: &mut [Option<u64>], order: &[(u32, u32)], first: usize, costs: &
     requires within { first + length costs.now ≤ length order.now }
     ensures places { length filled.new ≡ length filled.old }
     ensures filled { (net : NetworkSeen) (pairs : List (ℕ × ℕ))
-        → ((k : ℕ) → k < length costs.now
-        → IsPairCost net (pair_at pairs (pair_at order.now (first + k)).1) (slice_index_or costs.now k None))
+        → AreCostsAt net pairs order.now first costs.now
         → AreFilled net pairs order.now first filled.old
         → AreFilled net pairs order.now (first + length costs.now) filled.new }
 {
     for (at, cost) in costs.iter().enumerate() {
         let place = order[first + at].1 as usize;
         filled[place] = *cost;
+    }
+}
+
+/// Fills in those costs in the grown network, if there is one.
+fn fill_after(filled: &mut [Option<u64>], asked: &Pairs<'_>, first: usize, found: &PairCosts)
+    requires asked { AreAsked asked.now }
+    requires found { AreCostsFrom asked.now first found.now }
+    requires before { AreFilledAfter asked.now.grown asked.now.pairs.now asked.now.order.now first filled.old }
+    ensures { AreFilledAfter asked.now.grown asked.now.pairs.now asked.now.order.now
+        (first + length found.now.costs.items) filled.new }
+{
+    if let Some(_) = asked.grown {
+        fill(filled, asked.order, first, &found.after);
     }
 }

@@ -1,18 +1,25 @@
 //! Which pool serves one source after another?
 
-ghost use Rattle.std.specs.Prelude.{◌≡◌, ◌<◌, All, IfOk, length};
-ghost use Rattle.route_walks.specs.Label.{AreLeastLabels};
-ghost use Rattle.route_walks.specs.Walk.{AreSeeds};
+ghost use Rattle.std.specs.Prelude.{◌≡◌, All, IfOk, IfSome, length};
+ghost use Rattle.route_walks.specs.Walk.{AreSeeds, IsGraph};
+ghost use Rattle.csr_graph.specs.Graph.{Graph};
+ghost use Rattle.label_words.specs.Closed.{IsEnd};
+ghost use Rattle.label_words.specs.Paused.{IsPause};
 ghost use Rattle.obim_pool.specs.Sides.{IsSideOf};
-ghost use Rattle.least_costs.specs.Costs.{IsFrom};
+ghost use Rattle.obim_engine.specs.Goal.{HasReached, IsGoalWithin};
+ghost use Rattle.obim_engine.specs.Grown.{IsGrown};
+ghost use Rattle.least_costs.specs.Network.{GrowsTo, IsStartWithin, graph_of, seeds_at};
 
 use crate::costs::Costs;
 use crate::network::Network;
 use crate::start::Start;
 use csr_graph::Csr;
-use obim_engine::{Buckets, Gate, MAX_SHIFT, RunFault, Settings, Worklist, run, widths_of};
-use obim_pool::{ObimPool, ObimSide, WideningPool};
-use route_walks::{Memory, Seed, seeds_from};
+use obim_engine::{
+    Buckets, Closed, Gate, Goal, MAX_SHIFT, Paused, Reached, RunFault, Settings, Setup, Worklist,
+    grow, resume_until, run_until, widths_of,
+};
+use obim_pool::{ObimPool, ObimSide, WideningPool, WorkPool};
+use route_walks::{ArcRec, Memory, Seed, seeds_all, seeds_from};
 use std::alloc::Global;
 use std::sync::Wait;
 use std::thread::Threads;
@@ -69,67 +76,156 @@ impl Runner {
         }
     }
 
-    /// The least costs of a network from a source.
-    pub fn from<H: Threads + Wait + Clock + Sync, G: Gate + Sync>(
+    /// The least costs of a network from a start.
+    pub fn costs_from<H: Threads + Wait + Clock + Sync, G: Gate + Sync>(
         &mut self,
         rt: &H,
         alloc: Global,
         network: &Network,
-        source: u32,
+        start: Start,
         gate: &G,
     ) -> Result<Costs, Memory>
-        requires { source < network.now.n }
-        ensures { IfOk result (IsFrom network.now source) }
+        requires { IsStartWithin network.now.n start }
+        ensures net { IfOk result (λ costs. costs.net ≡ network.now) }
+        ensures start { IfOk result (λ costs. costs.start ≡ start) }
     {
-        let seeds = seeds_from(alloc, source)?;
-        let found = run_over(rt, alloc, &network.rows, &seeds, &mut self.kind, gate);
-        match found {
-            Ok(labels) => Ok(Costs::new(network, Start::At(source), labels)),
+        let reached = self.reach(rt, alloc, network, start, Goal::EachVertex, gate)?;
+        Ok(Costs::new(network, start, reached.closed.into_labels()))
+    }
+
+    /// What a run from a start reaches in a network that goes no further than its goal.
+    pub fn reach<H: Threads + Wait + Clock + Sync, G: Gate + Sync>(
+        &mut self,
+        rt: &H,
+        alloc: Global,
+        network: &Network,
+        start: Start,
+        goal: Goal<'_>,
+        gate: &G,
+    ) -> Result<Reached, Memory>
+        requires start { IsStartWithin network.now.n start }
+        requires goal { IsGoalWithin network.now.n goal }
+        ensures { IfOk result (HasReached goal.entry (graph_of network.now) (seeds_at network.now.n start)) }
+    {
+        let seeds = seeds_of(alloc, network, start)?;
+        match run_over(rt, alloc, &network.rows, &seeds, None, goal, &mut self.kind, gate) {
+            Ok(reached) => Ok(reached),
+            Err(_) => Err(Memory),
+        }
+    }
+
+    /// The same in a network that another one grew to, from what a run from this start left there. Only what the added
+    /// arcs change is visited.
+    pub fn reach_after<H: Threads + Wait + Clock + Sync, G: Gate + Sync>(
+        &mut self,
+        rt: &H,
+        alloc: Global,
+        network: &Network,
+        grown: &Network,
+        start: Start,
+        closed: Closed,
+        goal: Goal<'_>,
+        gate: &G,
+    ) -> Result<Reached, Memory>
+        requires start { IsStartWithin network.now.n start }
+        requires grown { GrowsTo network.now grown.now }
+        requires closed { IsEnd (graph_of network.now) (seeds_at network.now.n start) closed }
+        requires goal { IsGoalWithin grown.now.n goal }
+        ensures { IfOk result (HasReached goal.entry (graph_of grown.now) (seeds_at grown.now.n start)) }
+    {
+        let seeds = seeds_of(alloc, grown, start)?;
+        let rest = pause_of(alloc, &network.rows, &seeds, &grown.added, closed)?;
+        match run_over(rt, alloc, &grown.rows, &seeds, Some(rest), goal, &mut self.kind, gate) {
+            Ok(reached) => Ok(reached),
             Err(_) => Err(Memory),
         }
     }
 }
 
-/// The least labels from these seeds, over the pool.
+/// What a run from these seeds left, as a pause of the rows with more arcs.
+fn pause_of(
+    alloc: Global,
+    rows: &Csr,
+    seeds: &[Seed],
+    added: &[ArcRec],
+    closed: Closed,
+) -> Result<Paused, Memory>
+    requires seeds { AreSeeds rows.now.n seeds.now }
+    requires closed { IsEnd rows.now seeds.now closed }
+    requires ends { IsGraph rows.now.n added.now }
+    ensures pause { IfOk result (λ rest. (grown : Graph)
+        → IsGrown rows.now added.now grown
+        → IsPause grown seeds.now rest) }
+{
+    // The rows are by tail, so that labels which are least along them are a pause of their graph. The seeds are for
+    // the contract alone.
+    let _ = rows.n();
+    let _ = seeds;
+    match closed {
+        Closed::Settled(labels) => Ok(grow(Paused::settled(alloc, labels)?, added)),
+        Closed::Paused(rest) => Ok(grow(rest, added)),
+    }
+}
+
+/// The seeds of a start.
+fn seeds_of(alloc: Global, network: &Network, start: Start) -> Result<Vec<Seed>, Memory>
+    requires { IsStartWithin network.now.n start }
+    ensures exact { IfOk result (λ seeds. seeds.items ≡ seeds_at network.now.n start) }
+    ensures within { IfOk result (λ seeds. AreSeeds network.now.n seeds.items) }
+{
+    match start {
+        Start::At(source) => seeds_from(alloc, source),
+        Start::Everywhere => seeds_all(alloc, network.n()),
+    }
+}
+
+/// What a run from these seeds, or from a pause of theirs, reaches over the pool.
 fn run_over<H: Threads + Wait + Clock + Sync, G: Gate + Sync>(
     rt: &H,
     alloc: Global,
     rows: &Csr,
     seeds: &[Seed],
+    rest: Option<Paused>,
+    goal: Goal<'_>,
     kind: &mut Kind,
     gate: &G,
-) -> Result<Vec<u64>, RunFault>
-    requires { AreSeeds rows.now.n seeds.now }
-    ensures { IfOk result
-        (λ labels. AreLeastLabels rows.now.n rows.now.arcs seeds.now labels.items) }
+) -> Result<Reached, RunFault>
+    requires seeds { AreSeeds rows.now.n seeds.now }
+    requires rest { IfSome rest (IsPause rows.now seeds.now) }
+    requires goal { IsGoalWithin rows.now.n goal }
+    ensures { IfOk result (HasReached goal.entry rows.now seeds.now) }
 {
     match kind {
-        Kind::Even(even) => run_even(rt, alloc, rows, seeds, even, gate),
-        Kind::Fitted(fitted) => run_fitted(rt, alloc, rows, seeds, fitted, gate),
+        Kind::Even(even) => run_even(rt, alloc, rows, seeds, rest, goal, even, gate),
+        Kind::Fitted(fitted) => run_fitted(rt, alloc, rows, seeds, rest, goal, fitted, gate),
     }
 }
 
-/// The costs from a source over the pool that was kept, or a new one where it is for another number of
-/// workers. The pool is kept, but where memory is refused.
-pub(crate) fn solved<H: Threads + Wait + Clock + Sync, G: Gate + Sync>(
+/// What a run from these seeds, or from a pause of theirs, reaches over a pool.
+fn run_on<H: Threads + Wait + Clock + Sync, P: WorkPool + Sync, G: Gate + Sync>(
     rt: &H,
     alloc: Global,
-    network: &Network,
-    source: u32,
-    settings: &Settings,
-    kept: &mut Option<Runner>,
-    gate: &G,
-) -> Result<Costs, Memory>
-    requires { source < network.now.n }
-    ensures { IfOk result (IsFrom network.now source) }
+    rows: &Csr,
+    seeds: &[Seed],
+    rest: Option<Paused>,
+    goal: Goal<'_>,
+    setup: &Setup<'_, P, G>,
+    sides: &mut [P::Side],
+) -> Result<Reached, RunFault>
+where
+    P::Side: Send,
+    requires seeds { AreSeeds rows.now.n seeds.now }
+    requires rest { IfSome rest (IsPause rows.now seeds.now) }
+    requires goal { IsGoalWithin rows.now.n goal }
+    requires workers { length sides.old ≡ setup.now.settings.now.workers }
+    requires sides { All (P.is_side setup.now.pool.now) sides.old }
+    ensures reached { IfOk result (HasReached goal.entry rows.now seeds.now) }
+    ensures sides { All (P.is_side setup.now.pool.now) sides.new }
 {
-    let mut runner = match kept.take() {
-        Some(runner) if runner.workers() == settings.workers => runner,
-        _ => Runner::open(alloc, network, settings)?,
-    };
-    let costs = runner.from(rt, alloc, network, source, gate)?;
-    *kept = Some(runner);
-    Ok(costs)
+    match rest {
+        None => run_until(rt, alloc, rows, seeds, goal, setup, sides),
+        Some(rest) => resume_until(rt, alloc, rows, seeds, rest, goal, setup, sides),
+    }
 }
 
 fn open_even(alloc: Global, settings: &Settings) -> Result<Even, Memory> {
@@ -161,27 +257,25 @@ fn run_even<H: Threads + Wait + Clock + Sync, G: Gate + Sync>(
     alloc: Global,
     rows: &Csr,
     seeds: &[Seed],
+    rest: Option<Paused>,
+    goal: Goal<'_>,
     even: &mut Even,
     gate: &G,
-) -> Result<Vec<u64>, RunFault>
-    requires { AreSeeds rows.now.n seeds.now }
-    ensures { IfOk result
-        (λ labels. AreLeastLabels rows.now.n rows.now.arcs seeds.now labels.items) }
+) -> Result<Reached, RunFault>
+    requires seeds { AreSeeds rows.now.n seeds.now }
+    requires rest { IfSome rest (IsPause rows.now seeds.now) }
+    requires goal { IsGoalWithin rows.now.n goal }
+    ensures { IfOk result (HasReached goal.entry rows.now seeds.now) }
 {
     let before = Worklist::of(&even.sides);
-    let (settings, pool) = (&even.settings, &even.pool);
-    let labels = run(
-        rt,
-        alloc,
-        rows,
-        seeds,
-        settings,
-        pool,
-        &mut even.sides,
+    let setup = Setup {
+        settings: &even.settings,
+        pool: &even.pool,
         gate,
-    )?;
+    };
+    let reached = run_on(rt, alloc, rows, seeds, rest, goal, &setup, &mut even.sides)?;
     gate.end(rt, worklist_since(before, &even.sides));
-    Ok(labels)
+    Ok(reached)
 }
 
 fn run_fitted<H: Threads + Wait + Clock + Sync, G: Gate + Sync>(
@@ -189,27 +283,25 @@ fn run_fitted<H: Threads + Wait + Clock + Sync, G: Gate + Sync>(
     alloc: Global,
     rows: &Csr,
     seeds: &[Seed],
+    rest: Option<Paused>,
+    goal: Goal<'_>,
     fitted: &mut Fitted,
     gate: &G,
-) -> Result<Vec<u64>, RunFault>
-    requires { AreSeeds rows.now.n seeds.now }
-    ensures { IfOk result
-        (λ labels. AreLeastLabels rows.now.n rows.now.arcs seeds.now labels.items) }
+) -> Result<Reached, RunFault>
+    requires seeds { AreSeeds rows.now.n seeds.now }
+    requires rest { IfSome rest (IsPause rows.now seeds.now) }
+    requires goal { IsGoalWithin rows.now.n goal }
+    ensures { IfOk result (HasReached goal.entry rows.now seeds.now) }
 {
     let before = Worklist::of(&fitted.sides);
-    let (settings, pool) = (&fitted.settings, &fitted.pool);
-    let labels = run(
-        rt,
-        alloc,
-        rows,
-        seeds,
-        settings,
-        pool,
-        &mut fitted.sides,
+    let setup = Setup {
+        settings: &fitted.settings,
+        pool: &fitted.pool,
         gate,
-    )?;
+    };
+    let reached = run_on(rt, alloc, rows, seeds, rest, goal, &setup, &mut fitted.sides)?;
     gate.end(rt, worklist_since(before, &fitted.sides));
-    Ok(labels)
+    Ok(reached)
 }
 
 /// What was counted of the sides since then. The buckets are those that there are.

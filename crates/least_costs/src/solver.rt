@@ -1,24 +1,16 @@
 //! Which costs of a network are asked for, and by which plan?
 
-ghost use Rattle.std.specs.Prelude.{◌≡◌, ◌<◌, List, IfOk, length};
-ghost use Rattle.route_walks.specs.declared.graph.Seed.{Seed};
-ghost use Rattle.route_walks.specs.Label.{AreLeastLabels};
-ghost use Rattle.route_walks.specs.Walk.{AreSeeds, IsGraph};
-ghost use Rattle.csr_graph.specs.Graph.{Graph};
-ghost use Rattle.label_words.specs.Paused.{IsPause};
-ghost use Rattle.obim_engine.specs.Grown.{IsGrown};
+ghost use Rattle.std.specs.Prelude.{◌≡◌, ◌<◌, IfOk};
 ghost use Rattle.least_costs.specs.Costs.{IsFrom};
-ghost use Rattle.least_costs.specs.Network.{GrowsTo, IsStartWithin, seeds_at};
+ghost use Rattle.least_costs.specs.Network.{GrowsTo, IsStartWithin};
 
 use crate::costs::Costs;
 use crate::network::Network;
 use crate::plan::Plan;
 use crate::start::Start;
-use csr_graph::Csr;
-use obim_engine::{
-    Gate, OpenGate, Paused, RunFault, Settings, distances, grow, least_labels, least_labels_resumed,
-};
-use route_walks::{ArcRec, Memory, seeds_all};
+use crate::workers::Workers;
+use obim_engine::{Gate, OpenGate};
+use route_walks::Memory;
 use std::alloc::Global;
 use std::sync::Wait;
 use std::thread::Threads;
@@ -71,12 +63,8 @@ impl<'a, G: Gate + Sync> Solver<'a, G> {
         ensures net { IfOk result (λ costs. costs.net ≡ self.now.network.now) }
         ensures start { IfOk result (λ costs. costs.start ≡ start) }
     {
-        let network = self.network;
-        let (settings, gate) = (&self.plan.settings, &self.gate);
-        match labels_from(rt, alloc, &network.rows, start, settings, gate) {
-            Ok(labels) => Ok(Costs::new(network, start, labels)),
-            Err(_) => Err(Memory),
-        }
+        let mut workers = Workers::new(self.plan.settings, &self.gate, None);
+        workers.costs_from(rt, alloc, self.network, start)
     }
 
     /// The least costs in a network that this one grew to by `with_arcs`, from the same start, from the costs
@@ -93,51 +81,7 @@ impl<'a, G: Gate + Sync> Solver<'a, G> {
         ensures net { IfOk result (λ after. after.net ≡ grown.now) }
         ensures start { IfOk result (λ after. after.start ≡ costs.start) }
     {
-        let start = costs.start();
-        let labels = costs.into_labels();
-        let network = self.network;
-        let rest = pause_of(alloc, &network.rows, &grown.added, labels)?;
-        let (settings, gate) = (&self.plan.settings, &self.gate);
-        match least_labels_resumed(rt, alloc, &grown.rows, rest, settings, gate) {
-            Ok(labels) => Ok(Costs::new(grown, start, labels)),
-            Err(_) => Err(Memory),
-        }
+        let mut workers = Workers::new(self.plan.settings, &self.gate, None);
+        workers.costs_after(rt, alloc, self.network, grown, costs)
     }
-}
-
-/// The least labels along the rows.
-fn labels_from<H: Threads + Wait + Clock + Sync, G: Gate + Sync>(
-    rt: &H,
-    alloc: Global,
-    rows: &Csr,
-    start: Start,
-    settings: &Settings,
-    gate: &G,
-) -> Result<Vec<u64>, RunFault>
-    requires { IsStartWithin rows.now.n start }
-    ensures { IfOk result (λ labels.
-        AreLeastLabels rows.now.n rows.now.arcs (seeds_at rows.now.n start) labels.items) }
-{
-    match start {
-        Start::At(source) => distances(rt, alloc, rows, source, settings, gate),
-        Start::Everywhere => {
-            let seeds = seeds_all(alloc, rows.n())?;
-            least_labels(rt, alloc, rows, seeds, settings, gate)
-        }
-    }
-}
-
-/// Labels that are least along the rows, as a pause of the rows with more arcs.
-fn pause_of(alloc: Global, rows: &Csr, added: &[ArcRec], labels: Vec<u64>) -> Result<Paused, Memory>
-    requires ends { IsGraph rows.now.n added.now }
-    requires count { length labels.items ≡ rows.now.n }
-    ensures pause { IfOk result (λ rest. (grown : Graph) (seeds : List Seed)
-        → AreSeeds rows.now.n seeds
-        → AreLeastLabels rows.now.n rows.now.arcs seeds labels.items
-        → IsGrown rows.now added.now grown
-        → IsPause grown seeds rest) }
-{
-    // The rows are by tail, so that labels which are least along them are a pause of their graph.
-    let _ = rows.n();
-    Ok(grow(Paused::settled(alloc, labels)?, added))
 }

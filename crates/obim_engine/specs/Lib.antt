@@ -1,3 +1,4 @@
 pub mod Settings
 pub mod Workers
 pub mod Grown
+pub mod Goal

@@ -7,6 +7,8 @@ use Rattle.relax_core.specs.declared.views.View.{View}
 use Rattle.relax_core.specs.Views.{Owes, vertex_of}
 use Rattle.label_words.specs.Callers.{Stays}
 use Rattle.label_words.specs.Known.{Held}
+use Rattle.obim_engine.specs.declared.goal.Goal.{Goal}
+use Rattle.obim_engine.specs.declared.goal.Goal.TheVariants as goal
 
 -- a seat can lead this number of workers on a graph: it holds nothing, and has a share for each of them
 pub record CanLead (graph : Graph) (workers : ℕ) (seat : Held) : Type 0 where
@@ -15,12 +17,12 @@ pub record CanLead (graph : Graph) (workers : ℕ) (seat : Held) : Type 0 where
   pub enough : workers ≤ seat.known.view.share
   pub shares : seat.known.view.share ≤ SHARES
 
--- workers are done: the seat is still of its words and holds nothing, and without a budget it saw the
--- pending total at 0
-pub record AreDone (budget : Option ℕ) (old new : Held) : Type 0 where
+-- workers are done: the seat is still of its words and holds nothing, and where the labels of all vertices are
+-- wanted, without a budget, it saw the pending total at 0
+pub record AreDone (budget : Option ℕ) (wanted : Goal) (old new : Held) : Type 0 where
   pub stays : Stays old new
   pub idle : new.known.view.hand ≡ Idle
-  pub saw : budget ≡ None → new.known.view.saw ≡ true
+  pub saw : budget ≡ None → wanted ≡ goal.EachVertex → new.known.view.saw ≡ true
 
 -- in the row of u a label was lowered whose vertex is owed a mark, and the seat has credits
 pub record OwesMark (u : ℕ) (view : View) : Type 0 where

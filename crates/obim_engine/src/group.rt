@@ -14,9 +14,10 @@ use std::sync::Wait;
 use std::thread::{Threads, join_mut};
 use std::time::Clock;
 
-/// One worker for each side, numbered from `first`, until all of them saw the pending total at 0 or spent
-/// their budgets. The seat comes and goes by value, so that a worker's lies in registers. Where no thread
-/// can be started, the workers that should have had one run after the others, on this thread.
+/// One worker for each side, numbered from `first`, until each of them saw the pending total at 0, spent its
+/// budget or has nothing left to do that is wanted. The seat comes and goes by value, so that a worker's lies in
+/// registers. Where no thread can be started, the workers that should have had one run after the others, on
+/// this thread.
 #[cycle(group)]
 pub(crate) fn run_group<H, S, P, G>(
     rt: &H,
@@ -35,7 +36,7 @@ where
     requires seat { CanLead shared.now.run.csr.now (length sides.old) seat }
     requires workers { first + length sides.old ≤ MAX_WORKERS }
     requires sides { All (P.is_side shared.now.run.pool.now) sides.old }
-    ensures seat { AreDone shared.now.run.budget seat result }
+    ensures seat { AreDone shared.now.run.budget shared.now.run.goal seat result }
     ensures sides { All (P.is_side shared.now.run.pool.now) sides.new }
 {
     if sides.len() == 1 {
@@ -57,8 +58,8 @@ where
             requires seat { IfSome near (CanLead shared.now.run.csr.now (length front.now)) }
             requires workers { first + length front.now ≤ MAX_WORKERS }
             requires sides { All (P.is_side shared.now.run.pool.now) front.now }
-            ensures seat { IfSome near.entry
-                (λ seat. IfSome result (λ done. AreDone shared.entry.now.run.budget seat done)) }
+            ensures seat { IfSome near.entry (λ seat. IfSome result
+                (λ done. AreDone shared.entry.now.run.budget shared.entry.now.run.goal seat done)) }
             ensures none { IfNone result (near.entry ≡ None) }
             ensures sides { All (P.is_side shared.entry.now.run.pool.now) front.exit.now }
         {
@@ -74,8 +75,8 @@ where
             requires seat { IfSome far (CanLead shared.now.run.csr.now (length back.now)) }
             requires workers { middle + length back.now ≤ MAX_WORKERS }
             requires sides { All (P.is_side shared.now.run.pool.now) back.now }
-            ensures seat { IfSome far.entry
-                (λ seat. IfSome result (λ done. AreDone shared.entry.now.run.budget seat done)) }
+            ensures seat { IfSome far.entry (λ seat. IfSome result
+                (λ done. AreDone shared.entry.now.run.budget shared.entry.now.run.goal seat done)) }
             ensures none { IfNone result (far.entry ≡ None) }
             ensures sides { All (P.is_side shared.entry.now.run.pool.now) back.exit.now }
         {

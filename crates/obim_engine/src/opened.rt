@@ -23,6 +23,7 @@ pub(crate) struct Opened {
     pub only: Option<u32>,
     ghost words_are: { seat.words ≡ words },
     ghost shares: { seat.known.view.share ≡ SHARES },
+    ghost seeds_are: { AreSeeds seat.known.graph.n seat.known.seeds } by { Prim.hlevel props },
     ghost only_is: { IfSome only (λ v. All (λ seed. seed.vertex ≡ v) seat.known.seeds) } by { Prim.hlevel props },
 }
 

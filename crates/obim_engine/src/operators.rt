@@ -6,14 +6,17 @@ ghost use Rattle.route_walks.specs.Operators.{seeds_from, seeds_all, unit_weight
 ghost use Rattle.route_walks.specs.declared.graph.Seed.{Seed};
 ghost use Rattle.route_walks.specs.Walk.{AreSeeds, HaveSameArcs};
 ghost use Rattle.label_words.specs.Paused.{CanGoOn, IsPause};
+ghost use Rattle.obim_engine.specs.Goal.{HasReached, HasStopped, IsGoalWithin};
 ghost use Rattle.obim_engine.specs.Workers.{CanLead};
 
 use crate::gate::Gate;
+use crate::goal::{Goal, Reached};
 use crate::hints::widths::widths_of;
 use crate::opened::Opened;
-use crate::runs::{RunFault, solve};
+use crate::runs::RunFault;
 use crate::settings::{Buckets, MAX_SHIFT, MAX_WORKERS, Settings};
 use crate::shared::Run;
+use crate::until::reach;
 use csr_graph::Csr;
 use label_words::Paused;
 use label_words::laws::resumed_runs_end_alike;
@@ -39,9 +42,27 @@ pub fn least_labels<H: Threads + Wait + Clock + Sync, G: Gate + Sync>(
     ensures { IfOk result
         (λ labels. AreLeastLabels csr.now.n csr.now.arcs seeds.items labels.items) }
 {
+    let reached = least_labels_until(rt, alloc, csr, seeds, Goal::EachVertex, settings, gate)?;
+    Ok(reached.closed.into_labels())
+}
+
+/// `least_labels` that may stop as soon as those that are wanted are least.
+pub fn least_labels_until<H: Threads + Wait + Clock + Sync, G: Gate + Sync>(
+    rt: &H,
+    alloc: Global,
+    csr: &Csr,
+    seeds: Vec<Seed>,
+    goal: Goal<'_>,
+    settings: &Settings,
+    gate: &G,
+) -> Result<Reached, RunFault>
+    requires seeds { AreSeeds csr.now.n seeds.items }
+    requires goal { IsGoalWithin csr.now.n goal }
+    ensures { IfOk result (HasReached goal.entry csr.now seeds.items) }
+{
     let opened = Opened::from_seeds(alloc, csr, &seeds)?;
     drop(seeds);
-    solve_alone(rt, alloc, csr, opened, settings, gate)
+    reach_alone(rt, alloc, csr, opened, goal, settings, gate)
 }
 
 /// The least label of each vertex of a graph from the seeds of a pause: workers go on from the pause, which
@@ -61,24 +82,54 @@ pub fn least_labels_resumed<H: Threads + Wait + Clock + Sync, G: Gate + Sync>(
         → IsPause csr.now seeds rest
         → IfOk result (λ labels. AreLeastLabels csr.now.n csr.now.arcs seeds labels.items) }
 {
+    let reached = least_labels_resumed_until(
+        rt,
+        alloc,
+        csr,
+        rest,
+        Goal::EachVertex,
+        settings,
+        gate,
+    )?;
+    Ok(reached.closed.into_labels())
+}
+
+/// `least_labels_resumed` that may stop as soon as those that are wanted are least.
+pub fn least_labels_resumed_until<H: Threads + Wait + Clock + Sync, G: Gate + Sync>(
+    rt: &H,
+    alloc: Global,
+    csr: &Csr,
+    rest: Paused,
+    goal: Goal<'_>,
+    settings: &Settings,
+    gate: &G,
+) -> Result<Reached, RunFault>
+    requires going { CanGoOn csr.now rest }
+    requires goal { IsGoalWithin csr.now.n goal }
+    ensures { (seeds : List Seed)
+        → AreSeeds csr.now.n seeds
+        → IsPause csr.now seeds rest
+        → IfOk result (HasReached goal.entry csr.now seeds) }
+{
     let opened = Opened::from_pause(alloc, csr, rest)?;
     // The words have the labels as their seeds, and what is least from these is least from the others.
     resumed_runs_end_alike();
-    solve_alone(rt, alloc, csr, opened, settings, gate)
+    reach_alone(rt, alloc, csr, opened, goal, settings, gate)
 }
 
-/// Settles open words over a pool of its own.
-fn solve_alone<H: Threads + Wait + Clock + Sync, G: Gate + Sync>(
+/// Goes on from open words until the goal is reached, over a pool of its own.
+fn reach_alone<H: Threads + Wait + Clock + Sync, G: Gate + Sync>(
     rt: &H,
     alloc: Global,
     csr: &Csr,
     opened: Opened,
+    goal: Goal<'_>,
     settings: &Settings,
     gate: &G,
-) -> Result<Vec<u64>, RunFault>
-    requires { CanLead csr.now MAX_WORKERS opened.seat }
-    ensures { IfOk result
-        (λ labels. AreLeastLabels csr.now.n csr.now.arcs opened.seat.known.seeds labels.items) }
+) -> Result<Reached, RunFault>
+    requires seat { CanLead csr.now MAX_WORKERS opened.seat }
+    requires goal { IsGoalWithin csr.now.n goal }
+    ensures { IfOk result (HasStopped goal.entry csr.now opened.seat.known.seeds) }
 {
     let (workers, chunk) = (settings.workers, settings.chunk);
     match settings.buckets {
@@ -91,10 +142,11 @@ fn solve_alone<H: Threads + Wait + Clock + Sync, G: Gate + Sync>(
                 gate,
                 shift: widths.shift.min(MAX_SHIFT),
                 budget: None,
+                goal,
             };
-            let labels = solve(rt, alloc, opened, &run, &mut sides)?;
+            let reached = reach(rt, alloc, opened, &run, &mut sides)?;
             gate.end(rt, Worklist::of(&sides));
-            Ok(labels)
+            Ok(reached)
         }
         Buckets::Even(shift) => {
             let (pool, mut sides) = ObimPool::open(alloc, workers, chunk)?;
@@ -104,10 +156,11 @@ fn solve_alone<H: Threads + Wait + Clock + Sync, G: Gate + Sync>(
                 gate,
                 shift,
                 budget: None,
+                goal,
             };
-            let labels = solve(rt, alloc, opened, &run, &mut sides)?;
+            let reached = reach(rt, alloc, opened, &run, &mut sides)?;
             gate.end(rt, Worklist::of(&sides));
-            Ok(labels)
+            Ok(reached)
         }
     }
 }
@@ -125,8 +178,26 @@ pub fn distances<H: Threads + Wait + Clock + Sync, G: Gate + Sync>(
     ensures { IfOk result
         (λ labels. AreLeastLabels csr.now.n csr.now.arcs (seeds_from source) labels.items) }
 {
+    let reached = distances_until(rt, alloc, csr, source, Goal::EachVertex, settings, gate)?;
+    Ok(reached.closed.into_labels())
+}
+
+/// `distances` that may stop as soon as those that are wanted are least.
+pub fn distances_until<H: Threads + Wait + Clock + Sync, G: Gate + Sync>(
+    rt: &H,
+    alloc: Global,
+    csr: &Csr,
+    source: u32,
+    goal: Goal<'_>,
+    settings: &Settings,
+    gate: &G,
+) -> Result<Reached, RunFault>
+    requires source { source < csr.now.n }
+    requires goal { IsGoalWithin csr.now.n goal }
+    ensures { IfOk result (HasReached goal.entry csr.now (seeds_from source)) }
+{
     let seeds = seeds_from(alloc, source)?;
-    least_labels(rt, alloc, csr, seeds, settings, gate)
+    least_labels_until(rt, alloc, csr, seeds, goal, settings, gate)
 }
 
 /// The fewest arcs of a walk from the source to each vertex, `INF` where there is none. Each call makes

@@ -9,6 +9,7 @@ ghost use Rattle.obim_engine.specs.Workers.{CanLead};
 ghost use Rattle.obim_engine.specs.declared.runs.RunFault.TheVariants as fault;
 
 use crate::gate::Gate;
+use crate::goal::Goal;
 use crate::group::run_group;
 use crate::hints::pace::Pace;
 use crate::opened::Opened;
@@ -84,13 +85,7 @@ where
     ensures sides { All (P.is_side pool.now) sides.new }
 {
     let opened = Opened::from_seeds(alloc, csr, seeds)?;
-    let run = Run {
-        csr,
-        pool,
-        gate,
-        shift: settings.shift(),
-        budget: None,
-    };
+    let run = Run::whole(csr, settings, pool, gate, None);
     solve(rt, alloc, opened, &run, sides)
 }
 
@@ -117,13 +112,7 @@ where
     ensures sides { All (P.is_side pool.now) sides.new }
 {
     let opened = Opened::from_seeds(alloc, csr, seeds)?;
-    let run = Run {
-        csr,
-        pool,
-        gate,
-        shift: settings.shift(),
-        budget: Some(budget),
-    };
+    let run = Run::whole(csr, settings, pool, gate, Some(budget));
     run_workers(rt, alloc, opened, &run, sides)
 }
 
@@ -155,13 +144,7 @@ where
     let _ = seeds;
     let opened = Opened::from_pause(alloc, csr, rest)?;
     resumed_runs_end_alike();
-    let run = Run {
-        csr,
-        pool,
-        gate,
-        shift: settings.shift(),
-        budget: Some(budget),
-    };
+    let run = Run::whole(csr, settings, pool, gate, Some(budget));
     run_workers(rt, alloc, opened, &run, sides)
 }
 
@@ -177,6 +160,7 @@ where
     P::Side: Send,
     requires seat { CanLead run.now.csr.now MAX_WORKERS opened.seat }
     requires limit { run.now.budget ≡ None }
+    requires goal { run.now.goal ≡ Goal.EachVertex }
     requires some { 1 ≤ length sides.old }
     requires few { length sides.old ≤ MAX_WORKERS }
     requires sides { All (P.is_side run.now.pool.now) sides.old }
@@ -186,13 +170,13 @@ where
 {
     match run_workers(rt, alloc, opened, run, sides)? {
         Closed::Settled(labels) => Ok(labels),
-        // Without a budget the seat saw the total at 0.
+        // Where all labels are wanted, without a budget, the seat saw the total at 0.
         Closed::Paused(_) => unreachable!(),
     }
 }
 
 /// Lets a worker go for each side, and closes the words.
-fn run_workers<H: Threads + Wait + Clock + Sync, P: WorkPool + Sync, G: Gate + Sync>(
+pub(crate) fn run_workers<H: Threads + Wait + Clock + Sync, P: WorkPool + Sync, G: Gate + Sync>(
     rt: &H,
     alloc: Global,
     opened: Opened,
@@ -206,7 +190,7 @@ where
     requires few { length sides.old ≤ MAX_WORKERS }
     requires sides { All (P.is_side run.now.pool.now) sides.old }
     ensures end { IfOk result (λ closed. IsEnd run.now.csr.now opened.seat.known.seeds closed) }
-    ensures settled { run.now.budget ≡ None → IfOk result HasSettled }
+    ensures settled { run.now.budget ≡ None → run.now.goal ≡ Goal.EachVertex → IfOk result HasSettled }
     ensures sides { All (P.is_side run.now.pool.now) sides.new }
 {
     let pace = Pace::open(alloc, sides.len() as u32)?;

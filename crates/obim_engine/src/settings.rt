@@ -35,6 +35,14 @@ pub struct Settings {
     ghost within: { AreSettings workers (shift_of buckets) chunk },
 }
 
+/// How a run is set up: by which settings, over which pool and past which gate.
+#[derive(Drop)]
+pub struct Setup<'a, P, G> {
+    pub settings: &'a Settings,
+    pub pool: &'a P,
+    pub gate: &'a G,
+}
+
 impl Settings {
     /// The settings with even buckets, or `None` where one is outside its limits.
     pub fn new(workers: u32, shift: u32, chunk: usize) -> Option<Settings>

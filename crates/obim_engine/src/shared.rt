@@ -1,13 +1,16 @@
 //! What is a run, and what do its workers share?
 
-ghost use Rattle.std.specs.Prelude.{◌≡◌, ◌≤◌};
+ghost use Rattle.std.specs.Prelude.{◌≡◌, ◌≤◌, None};
 ghost use Rattle.obim_engine.specs.declared.settings.TheConstants.{MAX_SHIFT};
 
+use crate::goal::Goal;
 use crate::hints::pace::Pace;
+use crate::settings::{Settings, Setup};
 use csr_graph::Csr;
 use label_words::Words;
 
-/// A run: in which graph, over which pool, past which gate, and how far.
+/// A run: in which graph, over which pool, past which gate, and how far. Without a budget it goes on until it has
+/// the labels that are wanted.
 #[derive(Drop)]
 pub(crate) struct Run<'a, P, G> {
     pub csr: &'a Csr,
@@ -17,16 +20,58 @@ pub(crate) struct Run<'a, P, G> {
     pub shift: u32,
     /// How many vertices each worker may visit, where there is a limit.
     pub budget: Option<u64>,
+    pub goal: Goal<'a>,
     ghost within: { shift ≤ MAX_SHIFT },
 }
 
 impl<'a, P, G> Run<'a, P, G> {
+    /// A run that is set up so, for this goal.
+    pub(crate) fn of(csr: &'a Csr, goal: Goal<'a>, setup: &Setup<'a, P, G>) -> Run<'a, P, G>
+        ensures csr { result.csr.now ≡ csr.now }
+        ensures pool { result.pool.now ≡ setup.now.pool.now }
+        ensures budget { result.budget ≡ None }
+        ensures goal { result.goal ≡ goal.entry }
+    {
+        Run {
+            csr,
+            pool: setup.pool,
+            gate: setup.gate,
+            shift: setup.settings.shift(),
+            budget: None,
+            goal,
+        }
+    }
+
+    /// A run to its end, or as far as the budget goes.
+    pub(crate) fn whole(
+        csr: &'a Csr,
+        settings: &Settings,
+        pool: &'a P,
+        gate: &'a G,
+        budget: Option<u64>,
+    ) -> Run<'a, P, G>
+        ensures csr { result.csr.now ≡ csr.now }
+        ensures pool { result.pool.now ≡ pool.now }
+        ensures budget { result.budget ≡ budget }
+        ensures goal { result.goal ≡ Goal.EachVertex }
+    {
+        Run {
+            csr,
+            pool,
+            gate,
+            shift: settings.shift(),
+            budget,
+            goal: Goal::EachVertex,
+        }
+    }
+
     /// A copy, so that its fields can lie in registers.
     #[inline(always)]
     pub(crate) fn again(&self) -> Run<'a, P, G>
         ensures csr { result.csr.now ≡ self.now.csr.now }
         ensures pool { result.pool.now ≡ self.now.pool.now }
         ensures budget { result.budget ≡ self.now.budget }
+        ensures goal { result.goal ≡ self.now.goal }
     {
         Run {
             csr: self.csr,
@@ -34,6 +79,24 @@ impl<'a, P, G> Run<'a, P, G> {
             gate: self.gate,
             shift: self.shift,
             budget: self.budget,
+            goal: self.goal,
+        }
+    }
+
+    /// The same to the end.
+    pub(crate) fn to_end(&self) -> Run<'a, P, G>
+        ensures csr { result.csr.now ≡ self.now.csr.now }
+        ensures pool { result.pool.now ≡ self.now.pool.now }
+        ensures budget { result.budget ≡ None }
+        ensures goal { result.goal ≡ Goal.EachVertex }
+    {
+        Run {
+            csr: self.csr,
+            pool: self.pool,
+            gate: self.gate,
+            shift: self.shift,
+            budget: None,
+            goal: Goal::EachVertex,
         }
     }
 
@@ -59,6 +122,7 @@ impl<'a, P, G> Shared<'a, P, G> {
         ensures csr { result.run.csr.now ≡ self.now.run.csr.now }
         ensures pool { result.run.pool.now ≡ self.now.run.pool.now }
         ensures budget { result.run.budget ≡ self.now.run.budget }
+        ensures goal { result.run.goal ≡ self.now.run.goal }
         ensures words { result.words.now ≡ self.now.words.now }
     {
         Shared {

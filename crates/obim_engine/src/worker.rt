@@ -1,12 +1,12 @@
-//! One worker: draw a vertex, take it, relax its arcs, and again until the pending total is 0 or the
-//! worker's budget is spent.
+//! One worker: draw a vertex, take it, relax its arcs, and again until the pending total is 0, the worker's
+//! budget is spent, or nothing is left below the limit of what is wanted.
 //!
 //! The pending total is the one word on which every worker would step at each mark and after each visit. So a
 //! worker keeps its credits from visit to visit: the credit of a vertex that it took pays for the mark of a
 //! head, and where it has none for a mark it raises many at once. As long as it keeps some the total isn't 0,
 //! so it gives all back before it looks at the total, naps, sweeps or leaves.
 
-ghost use Rattle.std.specs.Prelude.{◌≡◌, ◌≤◌, ◌<◌, true, IfNone, IfSome};
+ghost use Rattle.std.specs.Prelude.{◌≡◌, ◌≤◌, ◌<◌, true, false, IfNone, IfSome};
 ghost use Rattle.relax_core.specs.declared.views.Hand.TheVariants.{Idle, Fresh};
 ghost use Rattle.csr_graph.specs.Graph.{end_place};
 ghost use Rattle.label_words.specs.Callers.{Stays, HasRowOpen};
@@ -16,6 +16,7 @@ ghost use Rattle.obim_engine.specs.Workers.{CanLead, AreDone, OwesMark};
 
 use crate::budget::Budget;
 use crate::gate::Gate;
+use crate::hints::aim::{Aim, is_past};
 use crate::hints::pace::Watch;
 use crate::hints::patience::Patience;
 use crate::hints::pauses::Pauses;
@@ -35,8 +36,9 @@ const RAISED: u8 = 64;
 /// The most credits that a worker keeps after a visit. Where it has more it gives all back.
 const MOST_KEPT: u8 = 128;
 
-/// Works until the seat sees the pending total at 0, or the worker has visited as many vertices as its
-/// budget lets it. The seat comes and goes by value, so that it lies in registers meanwhile.
+/// Works until the seat sees the pending total at 0, the worker has visited as many vertices as its budget
+/// lets it, or nothing is left to do that is wanted. The seat comes and goes by value, so that it lies in
+/// registers meanwhile.
 pub(crate) fn work<H: Wait + Clock, P: WorkPool, G: Gate>(
     rt: &H,
     shared: &Shared<'_, P, G>,
@@ -47,7 +49,7 @@ pub(crate) fn work<H: Wait + Clock, P: WorkPool, G: Gate>(
     requires words { seat.words ≡ shared.now.words.now }
     requires seat { CanLead shared.now.run.csr.now 1 seat }
     requires side { P.is_side shared.now.run.pool.now side.old }
-    ensures seat { AreDone shared.now.run.budget seat result }
+    ensures seat { AreDone shared.now.run.budget shared.now.run.goal seat result }
     ensures side { P.is_side shared.now.run.pool.now side.new }
 {
     let near = shared.again();
@@ -57,6 +59,7 @@ pub(crate) fn work<H: Wait + Clock, P: WorkPool, G: Gate>(
     let mut watch = Watch::new(worker);
     let mut budget = Budget::new(near.run.budget);
     let mut patience = Patience::new(n, budget.left());
+    let mut aim = Aim::new(&near.run.goal);
     for _ in rt.forever() {
         if budget.is_spent() {
             near.pace.leave(worker);
@@ -72,10 +75,13 @@ pub(crate) fn work<H: Wait + Clock, P: WorkPool, G: Gate>(
             show(&near, worker, &seat, popped);
         }
         match popped {
-            Some(u) if u < n && near.words.take(&mut seat, u) => {
+            Some(u) if u < n && take_below(&near, &mut seat, aim.limit, u) => {
                 prefetch(&near, n, &seat, side);
-                visit(rt, &near, worker, &mut seat, side, u);
+                visit(rt, &near, worker, &mut seat, side, u, aim.limit);
                 budget.spend();
+                if aim.visited() {
+                    aim.look(&near, &seat);
+                }
                 if watch.visited() {
                     seat = look(rt, &near, &mut watch, seat);
                 }
@@ -93,8 +99,11 @@ pub(crate) fn work<H: Wait + Clock, P: WorkPool, G: Gate>(
                 if is_over(near.words, &mut seat) {
                     return seat;
                 }
+                if aim.is_reached(shared, &seat, worker, popped) {
+                    return seat;
+                }
                 if ends {
-                    (seat, budget) = sweep(rt, shared, worker, seat, side, budget);
+                    (seat, budget) = sweep(rt, shared, worker, seat, side, budget, aim.limit);
                     patience.renew();
                 }
                 pauses.wait(rt, near.pace.has_lost());
@@ -102,6 +111,21 @@ pub(crate) fn work<H: Wait + Clock, P: WorkPool, G: Gate>(
         }
     }
     unreachable!()
+}
+
+/// Takes the mark of `u` away, as `take`, unless its label is past the limit: then the mark stays.
+#[inline(always)]
+fn take_below<P, G>(shared: &Shared<'_, P, G>, seat: &mut WorkSeat, limit: u64, u: u32) -> bool
+    requires words { seat.old.words ≡ shared.now.words.now }
+    requires graph { shared.now.run.csr.now ≡ seat.old.known.graph }
+    requires no_vertex { HasNoVertex seat.old }
+    requires vertex { u < shared.now.run.csr.now.n }
+    ensures stays { Stays seat.old seat.new }
+    ensures fresh { result ≡ true → seat.new.known.view.hand ≡ Fresh u }
+    ensures credit { result ≡ true → 1 ≤ seat.new.known.view.credits }
+    ensures no_vertex { result ≡ false → HasNoVertex seat.new }
+{
+    !is_past(shared, seat, limit, u) && shared.words.take(seat, u)
 }
 
 /// Gives back all credits that the seat kept. Until then no seat sees the total at 0.
@@ -174,8 +198,8 @@ fn show<P, G>(shared: &Shared<'_, P, G>, worker: u32, seat: &WorkSeat, vertex: O
     }
 }
 
-/// Visits each vertex that is marked, in rising order, until the budget is spent: those too that the pool
-/// has lost. Returns the seat, which kept no credit, and what is left of the budget.
+/// Visits each vertex that is marked below the limit, in rising order, until the budget is spent: those too that
+/// the pool has lost. Returns the seat, which kept no credit, and what is left of the budget.
 #[inline(never)]
 fn sweep<H: Wait, P: WorkPool, G: Gate>(
     rt: &H,
@@ -184,6 +208,7 @@ fn sweep<H: Wait, P: WorkPool, G: Gate>(
     mut seat: WorkSeat,
     side: &mut P::Side,
     mut budget: Budget,
+    limit: u64,
 ) -> (WorkSeat, Budget)
     requires words { seat.words ≡ shared.now.words.now }
     requires graph { shared.now.run.csr.now ≡ seat.known.graph }
@@ -202,8 +227,8 @@ fn sweep<H: Wait, P: WorkPool, G: Gate>(
         if !shared.pace.is_alone() {
             show(shared, worker, &seat, Some(v));
         }
-        if shared.words.take(&mut seat, v) {
-            visit(rt, shared, worker, &mut seat, side, v);
+        if take_below(shared, &mut seat, limit, v) {
+            visit(rt, shared, worker, &mut seat, side, v, limit);
             budget.spend();
         }
     }
@@ -211,7 +236,8 @@ fn sweep<H: Wait, P: WorkPool, G: Gate>(
     (seat, budget)
 }
 
-/// Relaxes the row of the vertex that the seat took, and keeps the credits that are left, for marks to come.
+/// Relaxes the row of the vertex that the seat took, and keeps the credits that are left, for marks to come. A head
+/// whose label fell is marked, and handed to the pool where the label is below the limit.
 #[inline(always)]
 fn visit<H: Wait, P: WorkPool, G: Gate>(
     rt: &H,
@@ -220,6 +246,7 @@ fn visit<H: Wait, P: WorkPool, G: Gate>(
     seat: &mut WorkSeat,
     side: &mut P::Side,
     u: u32,
+    limit: u64,
 )
     requires words { seat.old.words ≡ shared.now.words.now }
     requires graph { shared.now.run.csr.now ≡ seat.old.known.graph }
@@ -239,6 +266,9 @@ fn visit<H: Wait, P: WorkPool, G: Gate>(
     words.prefetch_labels(seat, csr, u);
     while let Some((head, label)) = next_lowered(words, csr, seat, u, end) {
         mark(words, seat, u);
+        if label >= limit {
+            continue;
+        }
         let metric = run.metric_of(label);
         let pushed = run.pool.push_now(side, head, metric) || run.pool.push(rt, side, head, metric);
         // Where the pool refuses the head, it stays marked all the same.

@@ -11,8 +11,9 @@ use Rattle.std.proofs.lemmas.Map.Steps.{length-le_from_distinct_below}
 use Rattle.std.proofs.lemmas.Map.Views.{Contains-from_any}
 use Rattle.route_walks.specs.declared.graph.ArcRec.{ArcRec}
 use Rattle.route_walks.specs.declared.graph.Seed.{Seed}
-use Rattle.route_walks.specs.Walk.{IsWalk, cost, IsGraph, IsArcBelow, WalksCanBeCut}
-use Rattle.route_walks.specs.Label.{InfMeansNoWalk}
+use Rattle.route_walks.specs.declared.graph.TheConstants.{INF, MAX_VERTICES}
+use Rattle.route_walks.specs.Walk.{IsWalk, cost, IsGraph, IsArcBelow, IsAttained, AreSeeds, WalksCanBeCut}
+use Rattle.route_walks.specs.Label.{InfMeansNoWalk, IsLeast}
 
 -- the vertices that a walk enters, and those that a walk from u meets, u first
 abbrev heads : List ArcRec → List ℕ
@@ -102,8 +103,16 @@ cost-le most arcs u v (arc ∷ walk) light walks =
     let rest = cost-le most arcs arc.head v walk light walks.2 in
     omega (arith, here, rest)
 
-pub inf_means_no_walk : InfMeansNoWalk
-inf_means_no_walk n arcs seeds labels few graph light within starts least v below inf c attained =
+-- nothing is attained at a vertex whose least label is INF
+pub no_walk_at_inf : (n : ℕ) (arcs : List ArcRec) (seeds : List Seed) (v : ℕ)
+    → n ≤ MAX_VERTICES
+    → IsGraph n arcs
+    → All (λ arc. arc.weight < 2 ^ 32) arcs
+    → AreSeeds n seeds
+    → All (λ seed. seed.start ≤ 2 ^ 60) seeds
+    → IsLeast arcs seeds v INF
+    → (c : ℕ) → ¬ (IsAttained arcs seeds v c)
+no_walk_at_inf n arcs seeds v few graph light within starts least c attained =
     let seed = attained.seed in
     let inside = All-contains (λ (s : Seed). s.vertex < n) seeds seed within attained.seeded in
     let start = All-contains (λ (s : Seed). s.start ≤ 2 ^ 60) seeds seed starts attained.seeded in
@@ -111,6 +120,11 @@ inf_means_no_walk n arcs seeds labels few graph light within starts least v belo
     let weights = All-weaker (λ (a : ArcRec). a.weight < 2 ^ 32) (λ (a : ArcRec). a.weight ≤ 2 ^ 32)
     (λ a less. omega arith) arcs light in
     let cheap = cost-le (2 ^ 32) arcs seed.vertex v cut.walk weights cut.walks in
-    let low = (least.least v below).least (seed.start + cost cut.walk)
+    let low = least.least (seed.start + cost cut.walk)
     (record { seed = seed; walk = cut.walk; seeded = attained.seeded; walks = cut.walks; costs = refl }) in
-    omega (arith, low, inf, start, cheap, cut.short, few)
+    omega (arith, low, start, cheap, cut.short, few)
+
+pub inf_means_no_walk : InfMeansNoWalk
+inf_means_no_walk n arcs seeds labels few graph light within starts least v below inf =
+    no_walk_at_inf n arcs seeds v few graph light within starts
+    (subst (IsLeast arcs seeds v) inf (least.least v below))

@@ -1,45 +1,22 @@
--- Labels that nothing lowers lie at or below each attained number; so settled and sound labels are
--- least, and least labels are unique. And least labels are settled.
-use Rattle.std.proofs.Common.{ℕ, ◌+◌, ◌≤◌, List, [], ◌∷◌, get_or, sym, subst, arith, inl, inr}
-use Rattle.std.proofs.lemmas.List.Elements.{All-contains, Contains-get_or}
+-- Settled and sound labels are least, and least labels are unique. And least labels are settled.
+use Rattle.std.proofs.Common.{ℕ, ◌≤◌, List, get_or, arith, inl, inr}
+use Rattle.std.proofs.lemmas.List.Elements.{Contains-get_or}
 use Rattle.std.proofs.lemmas.Bool.{cases_lt}
 use Rattle.route_walks.specs.declared.graph.ArcRec.{ArcRec}
 use Rattle.route_walks.specs.declared.graph.Seed.{Seed}
 use Rattle.route_walks.specs.declared.graph.TheConstants.{INF}
-use Rattle.route_walks.specs.Walk.{IsWalk, cost, IsAttained}
-use Rattle.route_walks.specs.Label.{IsMet, IsRelaxed, IsSettled, IsLeast, SettledAndSoundAreLeast, LeastLabelsAreUnique}
-use Rattle.route_walks.specs.Label.{LeastLabelsAreSettled}
+use Rattle.route_walks.specs.Label.{IsLeast, SettledAndSoundAreLeast, LeastLabelsAreUnique, LeastLabelsAreSettled}
+use Rattle.route_walks.specs.Limit.{AreSettledUpTo}
 use Rattle.route_walks.proofs.Attained.{attained-start, attained-along}
+use Rattle.route_walks.proofs.Limits.{settled_up_to_is_least_up_to, least_up_to_is_least}
 
--- along a walk labels rise by no more than the weights
-label-along : (arcs : List ArcRec) (seeds : List Seed) (label : ℕ → ℕ) → IsSettled arcs seeds label
-    → (u v b : ℕ) (walk : List ArcRec) → label u ≤ b → IsWalk arcs u walk v → label v ≤ b + cost walk
-label-along arcs seeds label settled u v b [] below walks = subst (λ (x : ℕ). label x ≤ b + 0) walks (omega arith)
-label-along arcs seeds label settled u v b (arc ∷ walk) below walks =
-    let relaxed = All-contains (IsRelaxed label) arcs arc settled.relaxed walks.0 in
-    let from : label arc.tail ≤ b = subst (λ (x : ℕ). label x ≤ b) (sym walks.1) below in
-    let rest =
-    label-along arcs seeds label settled arc.head v (b + arc.weight) walk
-    (omega (arith, relaxed, from)) walks.2 in
-    omega (arith, rest)
-
--- settled labels lie at or below each attained number
-settled-below : (arcs : List ArcRec) (seeds : List Seed) (label : ℕ → ℕ) → IsSettled arcs seeds label
-    → (v c : ℕ) → IsAttained arcs seeds v c → label v ≤ c
-settled-below arcs seeds label settled v c attained =
-    let met = All-contains (IsMet label) seeds attained.seed settled.met attained.seeded in
-    let along =
-    label-along arcs seeds label settled attained.seed.vertex v attained.seed.start attained.walk met
-    attained.walks in
-    omega (arith, along, attained.costs)
-
+-- they are settled up to INF, and no label is above it
 pub settled_and_sound_are_least : SettledAndSoundAreLeast
 settled_and_sound_are_least n arcs seeds label capped settled sound v below =
-    record {
-      capped = capped v below;
-      attained = sound v below;
-      least = settled-below arcs seeds label settled v;
-    }
+    let settled-up : AreSettledUpTo INF arcs seeds label =
+    record { met = settled.met; relaxed = λ k d lt. inl (settled.relaxed k d lt) } in
+    least_up_to_is_least INF arcs seeds v (label v)
+    (settled_up_to_is_least_up_to INF n arcs seeds label capped settled-up sound v below) (capped v below)
 
 -- one of two least labels is no greater than the other
 least-le : (arcs : List ArcRec) (seeds : List Seed) (v c d : ℕ)

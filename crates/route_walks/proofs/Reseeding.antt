@@ -44,6 +44,12 @@ seeds-start_at_labels labels =
     All-filter (λ s. nat_lt s.start INF) (StartsAtLabel labels) (map seed (range_with_len 0 n))
     (All-map (StartsAtLabel labels) seed (range_with_len 0 n) each)
 
+-- so they are among the vertices that have labels
+pub labels-are_seeds : (labels : List ℕ) → AreSeeds (length labels) (seeds_of labels)
+labels-are_seeds labels =
+    All-weaker (StartsAtLabel labels) (λ seed. seed.vertex < length labels) (λ seed starts. starts.0)
+    (seeds_of labels) (seeds-start_at_labels labels)
+
 -- and start below INF
 seeds-start_below_INF : (labels : List ℕ) → All (λ seed. seed.start < INF) (seeds_of labels)
 seeds-start_below_INF labels =

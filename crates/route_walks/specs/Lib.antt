@@ -1,5 +1,6 @@
 pub mod Walk
 pub mod Operators
 pub mod Label
+pub mod Limit
 pub mod Component
 pub mod Existence

@@ -4,6 +4,8 @@ ghost use Rattle.route_walks.specs.Walk.{WalksCanBeCut};
 ghost use Rattle.route_walks.specs.Label.{SettledAndSoundAreLeast, LeastLabelsAreSettled};
 ghost use Rattle.route_walks.specs.Label.{LeastLabelsAreUnique};
 ghost use Rattle.route_walks.specs.Label.{LeastLabelsFollowTheArcs, InfMeansNoWalk, LabelsServeAsSeeds};
+ghost use Rattle.route_walks.specs.Limit.{SettledUpToIsLeastUpTo, LeastUpToIsLeast, LeastIsLeastUpTo};
+ghost use Rattle.route_walks.specs.Limit.{LeastUpToAgrees, WithinIsExact, WalksBelowAreTight};
 ghost use Rattle.route_walks.specs.Component.{LeastLabelsAreComponents};
 ghost use Rattle.route_walks.specs.Existence.{LeastLabelsExist};
 
@@ -59,4 +61,27 @@ pub fn least_labels_are_components()
 /// seeds. So a run that was paused goes on from its labels alone.
 pub fn labels_serve_as_seeds()
     ensures { LabelsServeAsSeeds }
+{}
+
+/// Labels are least up to a limit where each seed is met, each is attained or `INF`, and each arc that can
+/// lower one offers no less than the limit. So an engine may stop before labels are settled.
+pub fn settled_up_to_a_limit_is_least()
+    ensures { SettledUpToIsLeastUpTo }
+{}
+
+/// What labels are worth that are least up to a limit. One of at most the limit is least, and cut at the limit
+/// each is the least one that is cut there; within a bound below the limit they are exact. Least labels are
+/// least up to each limit.
+pub fn least_up_to_a_limit()
+    ensures least { LeastUpToIsLeast }
+    ensures all { LeastIsLeastUpTo }
+    ensures agrees { LeastUpToAgrees }
+    ensures within { WithinIsExact }
+{}
+
+/// Where labels are least up to a limit, each vertex on a walk of least cost has its least label, if that of
+/// the walk's end is below the limit. A vertex whose label is just the limit may have such a walk through one
+/// whose label isn't least, where arcs are free.
+pub fn walks_below_a_limit_are_tight()
+    ensures { WalksBelowAreTight }
 {}

@@ -6,6 +6,7 @@ ghost use Rattle.least_costs.specs.Each.{AreWithin};
 
 use crate::asked::{expect_costs, six};
 use least_costs::{AtOnce, Cost, Network, NetworkFault, Plan, Runner, Solver, Start};
+use least_costs::{Unwatched, Workers};
 use obim_engine::OpenGate;
 use route_walks::{ArcRec, EXAMPLE_ARCS, Memory, arcs, refusable, tried_again};
 use std::alloc::Global;
@@ -106,7 +107,7 @@ fn of_runner_open(rt: HostRuntime) -> Result<(), Fail> {
 
 // A pool whose source was refused memory serves the next one.
 #[test]
-fn of_runner_from(rt: HostRuntime) -> Result<(), Fail> {
+fn of_runner_costs_from(rt: HostRuntime) -> Result<(), Fail> {
     let alloc = rt.alloc();
     let network = six(&rt, alloc)?;
     let mut runner = Runner::open(alloc, &network, &Plan::usual(2).settings)?;
@@ -114,9 +115,40 @@ fn of_runner_from(rt: HostRuntime) -> Result<(), Fail> {
         rt,
         alloc,
         Memory,
-        runner.from(&rt, alloc, &network, 0, &OpenGate)
+        runner.costs_from(&rt, alloc, &network, Start::At(0), &OpenGate)
     );
     expect_costs(&rt, 0, &network, &costs, &FROM_0);
+    Ok(())
+}
+
+// Workers who were refused memory open another pool.
+#[test]
+fn of_workers_costs_from(rt: HostRuntime) -> Result<(), Fail> {
+    let alloc = rt.alloc();
+    let network = six(&rt, alloc)?;
+    let mut workers = Workers::new(Plan::usual(2).settings, &OpenGate, None);
+    let start = Start::At(0);
+    let costs = tried_again!(rt, alloc, Memory, workers.costs_from(&rt, alloc, &network, start));
+    expect_costs(&rt, 0, &network, &costs, &FROM_0);
+    Ok(())
+}
+
+#[test]
+fn of_workers_costs_after(rt: HostRuntime) -> Result<(), Fail> {
+    let alloc = rt.alloc();
+    let network = six(&rt, alloc)?;
+    let grown = network.with_arcs(&rt, alloc, &SHORTER, 1)?;
+    let solver = Solver::new(&network, Plan::usual(1));
+    let workers = Workers::new(Plan::usual(1).settings, &OpenGate, None);
+    let (costs, again) = (solver.from(&rt, alloc, 0)?, solver.from(&rt, alloc, 0)?);
+    let after = tried_again!(
+        rt,
+        alloc,
+        Memory,
+        workers.costs_after(&rt, alloc, &network, &grown, costs),
+        workers.costs_after(&rt, alloc, &network, &grown, again)
+    );
+    expect_costs(&rt, 0, &grown, &after, &SHORTER_FROM_0);
     Ok(())
 }
 
@@ -195,6 +227,34 @@ fn of_solver_between(rt: HostRuntime) -> Result<(), Fail> {
         let costs = tried_again!(rt, alloc, Memory, solver.between(&rt, alloc, &pairs));
         assert!(rt; costs.as_slice() == [Some(0), Some(15)].as_slice());
     }
+    Ok(())
+}
+
+#[test]
+fn of_solver_between_grown(rt: HostRuntime) -> Result<(), Fail> {
+    let alloc = rt.alloc();
+    let network = six(&rt, alloc)?;
+    let grown = network.with_arcs(&rt, alloc, &SHORTER, 1)?;
+    let solver = Solver::new(&network, Plan::usual(1));
+    let pairs = [(3, 1), (0, 5)];
+    let found = tried_again!(
+        rt,
+        alloc,
+        Memory,
+        solver.between_grown(&rt, alloc, &pairs, Some(&grown), &mut Unwatched)
+    );
+    assert!(rt; found.costs.as_slice() == [Some(0), Some(15)].as_slice());
+    assert!(rt; found.after.as_slice() == [Some(0), Some(4)].as_slice());
+    Ok(())
+}
+
+#[test]
+fn of_costs_copied(rt: HostRuntime) -> Result<(), Fail> {
+    let alloc = rt.alloc();
+    let network = six(&rt, alloc)?;
+    let costs = Solver::new(&network, Plan::usual(1)).from(&rt, alloc, 0)?;
+    let copy = tried_again!(rt, alloc, Memory, costs.copied(alloc, &network));
+    expect_costs(&rt, 0, &network, &copy, &FROM_0);
     Ok(())
 }
 

@@ -4,14 +4,16 @@
 ghost use Rattle.std.specs.Prelude.{◌≡◌, IfOk};
 ghost use Rattle.route_walks.specs.Label.{AreLeastLabels};
 ghost use Rattle.route_walks.specs.Walk.{AreSeeds};
+ghost use Rattle.obim_engine.specs.Goal.{IsGoalWithin};
 
 use crate::runs::graphs::{SIX_LABELS, rows_of, same_labels};
 use crate::runs::pieces::{Kind, Piece, pause_after};
 use crate::runs::settings;
 use csr_graph::Csr;
 use obim_engine::{
-    OpenGate, RunFault, Settings, components, distances, least_labels, least_labels_resumed,
-    levels, run,
+    Goal, OpenGate, RunFault, Settings, Setup, components, distances, distances_until,
+    least_labels, least_labels_resumed, least_labels_resumed_until, least_labels_until, levels,
+    resume_until, run, run_until,
 };
 use obim_pool::{LockedPool, ObimPool};
 use route_walks::{ArcRec, EXAMPLE_ARCS, INF, Memory, Seed, arcs, are_seeds};
@@ -31,9 +33,17 @@ pub(crate) enum Ask {
     Components,
     Least(&'static [Seed]),
     Resumed(&'static [Seed]),
+    DistancesUntil(u32, Goal<'static>),
+    LeastUntil(&'static [Seed], Goal<'static>),
+    ResumedUntil(&'static [Seed], Goal<'static>),
+    RunUntil(&'static [Seed], Goal<'static>),
+    ResumeUntil(&'static [Seed], Goal<'static>),
 }
 
-use Ask::{Components, Distances, Least, Levels, Resumed, Run};
+use Ask::{
+    Components, Distances, DistancesUntil, Least, LeastUntil, Levels, ResumeUntil, Resumed,
+    ResumedUntil, Run, RunUntil,
+};
 
 const CIRCLE: [ArcRec; 3] = arcs![(2, 1, 5), (0, 1, 0), (1, 0, 0)];
 
@@ -59,6 +69,9 @@ const SEVERAL: [Seed; 3] = [
     },
 ];
 
+/// The vertex with the greatest label.
+pub(crate) const FARTHEST: Goal<'static> = Goal::Targets(&[5]);
+
 /// The number of vertices, the arcs, what is asked of them, and the labels.
 const ROWS: &[(u32, &[ArcRec], Ask, &[u64])] = &[
     (6, &EXAMPLE_ARCS, Distances(0), &SIX_LABELS),
@@ -70,6 +83,43 @@ const ROWS: &[(u32, &[ArcRec], Ask, &[u64])] = &[
     (6, &EXAMPLE_ARCS, Components, &[0; 6]),
     (6, &EXAMPLE_ARCS, Run(&SEVERAL), &[INF, 1, 1, 3, 1, 6]),
     (6, &EXAMPLE_ARCS, Least(&SEVERAL), &[INF, 1, 1, 3, 1, 6]),
+    (6, &EXAMPLE_ARCS, DistancesUntil(0, FARTHEST), &SIX_LABELS),
+    (
+        6,
+        &EXAMPLE_ARCS,
+        DistancesUntil(0, Goal::WalksTo(&[3, 5])),
+        &SIX_LABELS,
+    ),
+    (
+        6,
+        &EXAMPLE_ARCS,
+        DistancesUntil(0, Goal::Within(15)),
+        &SIX_LABELS,
+    ),
+    (
+        6,
+        &EXAMPLE_ARCS,
+        LeastUntil(&SEVERAL, Goal::Targets(&[0, 1])),
+        &[INF, 1, 1, 3, 1, 6],
+    ),
+    (
+        3,
+        &CIRCLE,
+        DistancesUntil(2, Goal::WalksTo(&[0])),
+        &[5, 5, 0],
+    ),
+    (
+        3,
+        &HEAVY,
+        DistancesUntil(0, Goal::Within(u64::MAX)),
+        &[0, 4294967295, 8589934590],
+    ),
+    (
+        3,
+        &AGAINST,
+        DistancesUntil(1, Goal::Targets(&[2])),
+        &[5, 0, INF],
+    ),
     (3, &CIRCLE, Distances(2), &[5, 5, 0]),
     (3, &CIRCLE, Levels(2), &[2, 1, 0]),
     (3, &CIRCLE, Components, &[0, 0, 0]),
@@ -122,6 +172,16 @@ fn copy_of(alloc: Global, seeds: &[Seed]) -> Result<Vec<Seed>, Memory>
     Ok(Vec::from_slice(alloc, seeds)?)
 }
 
+fn one_visit_each(settings: &Settings) -> Piece
+    ensures { result.settings ≡ settings.now }
+{
+    Piece {
+        settings: *settings,
+        kind: Kind::Locked,
+        budget: 1,
+    }
+}
+
 /// The labels that go on from where each worker has visited one vertex.
 fn resumed_from<H: Threads + Wait + Clock + Abort + Sync>(
     rt: &H,
@@ -132,13 +192,107 @@ fn resumed_from<H: Threads + Wait + Clock + Abort + Sync>(
 ) -> Result<Vec<u64>, RunFault>
     requires { AreSeeds csr.now.n seeds.now }
 {
-    let piece = Piece {
-        settings: *settings,
-        kind: Kind::Locked,
-        budget: 1,
-    };
+    let piece = one_visit_each(settings);
     let rest = pause_after(rt, alloc, csr, seeds, None, &piece)?;
     least_labels_resumed(rt, alloc, csr, rest, settings, &OpenGate)
+}
+
+/// The labels of a run that stops at a goal, over a pool that comes with the engine. It begins, or goes on from where
+/// each worker has visited one vertex.
+fn stopped_at<H: Threads + Wait + Clock + Abort + Sync>(
+    rt: &H,
+    alloc: Global,
+    csr: &Csr,
+    seeds: &[Seed],
+    goal: Goal<'_>,
+    settings: &Settings,
+    goes_on: bool,
+) -> Result<Vec<u64>, RunFault>
+    requires seeds { AreSeeds csr.now.n seeds.now }
+    requires goal { IsGoalWithin csr.now.n goal }
+{
+    let (pool, mut sides) = ObimPool::open(alloc, settings.workers, settings.chunk)?;
+    let setup = Setup {
+        settings,
+        pool: &pool,
+        gate: &OpenGate,
+    };
+    let reached = if goes_on {
+        let piece = one_visit_each(settings);
+        let rest = pause_after(rt, alloc, csr, seeds, None, &piece)?;
+        resume_until(rt, alloc, csr, seeds, rest, goal, &setup, &mut sides)?
+    } else {
+        run_until(rt, alloc, csr, seeds, goal, &setup, &mut sides)?
+    };
+    Ok(reached.closed.into_labels())
+}
+
+/// The labels of an operator that stops at a goal. It begins, or goes on from where each worker has visited one vertex.
+fn operated_until<H: Threads + Wait + Clock + Abort + Sync>(
+    rt: &H,
+    alloc: Global,
+    csr: &Csr,
+    seeds: &[Seed],
+    goal: Goal<'_>,
+    settings: &Settings,
+    goes_on: bool,
+) -> Result<Vec<u64>, RunFault>
+    requires seeds { AreSeeds csr.now.n seeds.now }
+    requires goal { IsGoalWithin csr.now.n goal }
+{
+    let reached = if goes_on {
+        let piece = one_visit_each(settings);
+        let rest = pause_after(rt, alloc, csr, seeds, None, &piece)?;
+        least_labels_resumed_until(rt, alloc, csr, rest, goal, settings, &OpenGate)?
+    } else {
+        let seeds = copy_of(alloc, seeds)?;
+        least_labels_until(rt, alloc, csr, seeds, goal, settings, &OpenGate)?
+    };
+    Ok(reached.closed.into_labels())
+}
+
+/// The labels of a call that stops at a goal.
+fn labels_until<H: Threads + Wait + Clock + Abort + Sync>(
+    rt: &H,
+    alloc: Global,
+    csr: &Csr,
+    ask: Ask,
+    goal: Goal<'_>,
+    settings: &Settings,
+) -> Result<Vec<u64>, RunFault>
+    requires { IsGoalWithin csr.now.n goal }
+{
+    match ask {
+        DistancesUntil(source, _) if source < csr.n() => {
+            let reached = distances_until(rt, alloc, csr, source, goal, settings, &OpenGate)?;
+            Ok(reached.closed.into_labels())
+        }
+        LeastUntil(seeds, _) if are_seeds(csr.n(), seeds) => {
+            operated_until(rt, alloc, csr, seeds, goal, settings, false)
+        }
+        ResumedUntil(seeds, _) if are_seeds(csr.n(), seeds) => {
+            operated_until(rt, alloc, csr, seeds, goal, settings, true)
+        }
+        RunUntil(seeds, _) if are_seeds(csr.n(), seeds) => {
+            stopped_at(rt, alloc, csr, seeds, goal, settings, false)
+        }
+        ResumeUntil(seeds, _) if are_seeds(csr.n(), seeds) => {
+            stopped_at(rt, alloc, csr, seeds, goal, settings, true)
+        }
+        _ => panic!(rt; "asked of another graph"),
+    }
+}
+
+/// What a call is to reach, where it may stop early.
+fn goal_in(ask: Ask) -> Option<Goal<'static>> {
+    match ask {
+        DistancesUntil(_, goal) => Some(goal),
+        LeastUntil(_, goal) => Some(goal),
+        ResumedUntil(_, goal) => Some(goal),
+        RunUntil(_, goal) => Some(goal),
+        ResumeUntil(_, goal) => Some(goal),
+        _ => None,
+    }
 }
 
 pub(crate) fn labels_of<H: Threads + Wait + Clock + Abort + Sync>(
@@ -148,6 +302,10 @@ pub(crate) fn labels_of<H: Threads + Wait + Clock + Abort + Sync>(
     ask: Ask,
     settings: &Settings,
 ) -> Result<Vec<u64>, RunFault> {
+    if let Some(goal) = goal_in(ask) {
+        assert!(rt; goal.is_within(csr.n()));
+        return labels_until(rt, alloc, csr, ask, goal, settings);
+    }
     match ask {
         Distances(source) if source < csr.n() => {
             distances(rt, alloc, csr, source, settings, &OpenGate)

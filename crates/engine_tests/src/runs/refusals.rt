@@ -8,8 +8,11 @@ ghost use Rattle.label_words.specs.Paused.{IsPause};
 
 use crate::runs::graphs::{SIX_LABELS, same_labels, six};
 use crate::runs::growths::{ONE_VISIT, expect_pause};
-use crate::runs::operators::Ask::{self, Components, Distances, Least, Levels, Resumed, Run};
-use crate::runs::operators::labels_of;
+use crate::runs::operators::Ask::{
+    self, Components, Distances, DistancesUntil, Least, LeastUntil, Levels, ResumeUntil, Resumed,
+    ResumedUntil, Run, RunUntil,
+};
+use crate::runs::operators::{FARTHEST, labels_of};
 use crate::runs::pieces::{Kind, Piece, Plan, go_on, pause_after, settle};
 use crate::runs::settings;
 use csr_graph::Csr;
@@ -85,6 +88,36 @@ fn of_least_labels(rt: HostRuntime) -> Result<(), Fail> {
 #[test]
 fn of_least_labels_resumed(rt: HostRuntime) -> Result<(), Fail> {
     expect_labels(&rt, rt.alloc(), Resumed(&EXAMPLE_SEEDS), &SIX_LABELS)
+}
+
+#[test]
+fn of_distances_until(rt: HostRuntime) -> Result<(), Fail> {
+    let ask = DistancesUntil(0, FARTHEST);
+    expect_labels(&rt, rt.alloc(), ask, &SIX_LABELS)
+}
+
+#[test]
+fn of_least_labels_until(rt: HostRuntime) -> Result<(), Fail> {
+    let ask = LeastUntil(&EXAMPLE_SEEDS, FARTHEST);
+    expect_labels(&rt, rt.alloc(), ask, &SIX_LABELS)
+}
+
+#[test]
+fn of_least_labels_resumed_until(rt: HostRuntime) -> Result<(), Fail> {
+    let ask = ResumedUntil(&EXAMPLE_SEEDS, FARTHEST);
+    expect_labels(&rt, rt.alloc(), ask, &SIX_LABELS)
+}
+
+#[test]
+fn of_run_until(rt: HostRuntime) -> Result<(), Fail> {
+    let ask = RunUntil(&EXAMPLE_SEEDS, FARTHEST);
+    expect_labels(&rt, rt.alloc(), ask, &SIX_LABELS)
+}
+
+#[test]
+fn of_resume_until(rt: HostRuntime) -> Result<(), Fail> {
+    let ask = ResumeUntil(&EXAMPLE_SEEDS, FARTHEST);
+    expect_labels(&rt, rt.alloc(), ask, &SIX_LABELS)
 }
 
 // A pool that comes with the engine, and how many workers.

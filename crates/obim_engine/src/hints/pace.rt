@@ -1,4 +1,4 @@
-//! Does a worker go far ahead of another one, and is a sweep due?
+//! Does a worker go far ahead of another one, is one at work at low labels, and is a sweep due?
 //!
 //! Each worker has vertices in chunks of its own. Where the system takes the processor of one that has the
 //! lowest labels, the others go on with what is left, and all that they do falls again once the low labels
@@ -39,6 +39,8 @@ pub(crate) struct Pace {
     buckets: Vec<CachePadded<AtomicU64>>,
     /// Whether since the last sweep the pool refused a vertex, or a worker left that had spent its budget.
     lost: AtomicBool,
+    /// Whether the first vertices have been drawn.
+    begun: AtomicBool,
 }
 
 impl Pace {
@@ -51,6 +53,7 @@ impl Pace {
             workers,
             buckets,
             lost: AtomicBool::new(false),
+            begun: AtomicBool::new(false),
         })
     }
 
@@ -89,6 +92,29 @@ impl Pace {
     /// Whether there is something that only a sweep finds, lost since the last one began.
     pub(crate) fn has_lost(&self) -> bool {
         self.lost.load(Ordering::Relaxed)
+    }
+
+    /// A worker has drawn the first vertices.
+    pub(crate) fn begin(&self) {
+        if !self.has_begun() {
+            self.begun.store(true, Ordering::Relaxed);
+        }
+    }
+
+    /// Whether a worker has drawn the first vertices. Until then one that draws nothing may be early.
+    pub(crate) fn has_begun(&self) -> bool {
+        self.begun.load(Ordering::Relaxed)
+    }
+
+    /// Whether no other worker shows a bucket below that of this metric.
+    pub(crate) fn is_lowest(&self, worker: u32, metric: u64) -> bool {
+        let bucket = bucket_of(metric);
+        for (other, shown) in self.buckets.iter().enumerate() {
+            if other != worker as usize && shown.load(Ordering::Relaxed) < bucket {
+                return false;
+            }
+        }
+        true
     }
 
     /// Whether the metric that the worker shows is far above one that another shows.

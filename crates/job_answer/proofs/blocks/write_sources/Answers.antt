@@ -11,9 +11,9 @@ loop-place-preserved g c =
     let growth = growth_of graphs.grown in
     record {
       sent =
-          sent-more (IsGrownBlock c.args.asked.now.walks graphs.rows.n graphs.rows.arcs growth) c.args.sources.now
+          sent-more (IsGrownBlock c.args.asked.now.walks graphs.network.n graphs.network.arcs growth) c.args.sources.now
           c.loop-place.place 0 _ _ _ _ c.put_solved.new.waiting.bytes.items c.loop-place-test.true
-          c.loop-place.invariant.sent (rw c.of_source-solve.ensures at c.in_ok-put_solved.ensures.block);
+          c.loop-place.invariant.sent c.in_ok-put_solved.ensures.block;
       made = c.take_block.ensures.left;
     }
 
@@ -23,7 +23,7 @@ loop-place-preserved-in-Some g c =
     let growth = growth_of graphs.grown in
     record {
       sent =
-          sent-more (IsGrownBlock c.args.asked.now.walks graphs.rows.n graphs.rows.arcs growth) c.args.sources.now
+          sent-more (IsGrownBlock c.args.asked.now.walks graphs.network.n graphs.network.arcs growth) c.args.sources.now
           c.loop-place.place 0 _ _ _ _ c.send_with.new.self.bytes.items c.loop-place-test.true
           c.loop-place.invariant.sent
           (record {
@@ -40,9 +40,9 @@ returns-in_err-send_with-clause-prefix g c =
     let growth = growth_of graphs.grown in
     let walks = c.args.asked.now.walks in
     let sources = c.args.sources.now in
-    let only = (c.blocks_are_unique.ensures walks graphs.rows.n graphs.rows.arcs growth).0 in
+    let only = (c.blocks_are_unique.ensures walks graphs.network.n graphs.network.arcs growth).0 in
     at-err _
-    (block-cut (IsGrownBlock walks graphs.rows.n graphs.rows.arcs growth) only sources c.loop-place.place 0 _ _ _ _
+    (block-cut (IsGrownBlock walks graphs.network.n graphs.network.arcs growth) only sources c.loop-place.place 0 _ _ _ _
     c.loop-place-test.true c.loop-place.invariant.sent
     (only-text _ _ _ _ c.in-Some.text.bytes.items
     (λ other is. only _ c.in-Some.text.bytes.items other c.in-Some.ensures.text is)
@@ -54,16 +54,16 @@ returns-in_err-put_solved-clause-prefix g c =
     let growth = growth_of graphs.grown in
     let walks = c.args.asked.now.walks in
     at-err _
-    (block-cut (IsGrownBlock walks graphs.rows.n graphs.rows.arcs growth)
-    (c.blocks_are_unique.ensures walks graphs.rows.n graphs.rows.arcs growth).0 c.args.sources.now c.loop-place.place 0
+    (block-cut (IsGrownBlock walks graphs.network.n graphs.network.arcs growth)
+    (c.blocks_are_unique.ensures walks graphs.network.n graphs.network.arcs growth).0 c.args.sources.now c.loop-place.place 0
     _ _ _ _ c.loop-place-test.true c.loop-place.invariant.sent
-    (rw c.of_source-solve.ensures at c.in_err-put_solved.ensures.prefix))
+    c.in_err-put_solved.ensures.prefix)
 
 pub returns-clause-blocks : goal.returns-clause-blocks
 returns-clause-blocks g c =
     let graphs = c.args.graphs.now in
     on_ok_weaker c.finish.result
-    (all-sent (IsGrownBlock c.args.asked.now.walks graphs.rows.n graphs.rows.arcs (growth_of graphs.grown))
+    (all-sent (IsGrownBlock c.args.asked.now.walks graphs.network.n graphs.network.arcs (growth_of graphs.grown))
     c.args.sources.now c.loop-place.place _ _ _ c.loop-place.waiting.bytes.items c.loop-place-test.false
     c.loop-place.invariant.sent)
     c.finish.ensures.sent
@@ -74,7 +74,7 @@ returns-clause-prefix g c =
     let growth = growth_of graphs.grown in
     let walks = c.args.asked.now.walks in
     on_err_weaker c.finish.result
-    (all-cut (IsGrownBlock walks graphs.rows.n graphs.rows.arcs growth)
-    (c.blocks_are_unique.ensures walks graphs.rows.n graphs.rows.arcs growth).0 c.args.sources.now c.loop-place.place
+    (all-cut (IsGrownBlock walks graphs.network.n graphs.network.arcs growth)
+    (c.blocks_are_unique.ensures walks graphs.network.n graphs.network.arcs growth).0 c.args.sources.now c.loop-place.place
     _ _ _ c.loop-place.waiting.bytes.items c.loop-place-test.false c.loop-place.invariant.sent)
     c.finish.ensures.prefix

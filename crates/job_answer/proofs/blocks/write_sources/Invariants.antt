@@ -8,7 +8,7 @@ use Rattle.job_answer.proofs.blocks.write_sources.Given as goal
 abbrev pub invariant-loop-place : goal.invariant-loop-place
 invariant-loop-place g l = record {
   sent :
-      AreSent (IsGrownBlock l.asked.walks l.graphs.rows.n l.graphs.rows.arcs (growth_of l.graphs.grown)) l.sources
+      AreSent (IsGrownBlock l.asked.walks l.graphs.network.n l.graphs.network.arcs (growth_of l.graphs.grown)) l.sources
       l.place (g.W.Write.contents l.initial.writer) (g.W.Write.contents l.writer) l.waiting.bytes.items;
   made : AreMade (IsBlockText l.tasks) l.rounds.made.items;
 }

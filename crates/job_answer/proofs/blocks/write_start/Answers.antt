@@ -11,11 +11,11 @@ returns-in_err-put_solved-clause-prefix g c = at-err _ (rw c.new-waiting.ensures
 
 pub returns-clause-prefix : goal.returns-clause-prefix
 returns-clause-prefix g c =
-    let graphs = c.args.graphs.now in
+    let graphs = c.args.kind.now.graphs.now in
     let growth = growth_of graphs.grown in
-    let walks = c.args.asked.now.walks in
+    let walks = c.args.kind.now.walks in
     on_err_weaker c.finish.result
-    (put-cut-short (IsGrownStart walks graphs.rows.n graphs.rows.arcs growth c.args.start)
-    (grown-start-one c.blocks_are_unique.ensures walks graphs.rows.n graphs.rows.arcs growth c.args.start) _ _ _ [] _
+    (put-cut-short (IsGrownStart walks graphs.network.n graphs.network.arcs growth c.args.start)
+    (grown-start-one c.blocks_are_unique.ensures walks graphs.network.n graphs.network.arcs growth c.args.start) _ _ _ [] _
     (rw c.new-waiting.ensures at c.in_ok-put_solved.ensures.block))
     c.finish.ensures.prefix

@@ -1,20 +1,38 @@
-use Rattle.job_answer.proofs.Growing.{grown-alike}
+use Rattle.std.proofs.Common.{◌≡◌, ap, arith, length}
+use Rattle.least_costs.specs.Network.{IsNetworkOf}
+use Rattle.job_answer.specs.Graphs.{cost_for}
+use Rattle.job_answer.specs.declared.graphs.Grown.{Grown}
+use Rattle.job_answer.proofs.Growing.{along-kind, grown-alike}
 use Rattle.job_answer.proofs.graphs.graphs_for.Goals as goal
+
+pub returns-in-None : goal.returns-in-None
+returns-in-None g c =
+    let is : IsNetworkOf c.args.n (cost_for c.args.answer) c.args.arcs.items c.in-Ok.network =
+    rw c.cost_for.ensures at c.in-Ok.ensures.network in
+    record {
+      are = record { is = c.n.ensures.network; grows = tt };
+      vertices = is.vertices;
+      along = along-kind c.args.answer c.args.n c.args.arcs.items c.in-Ok.network is;
+      alike = rw c.in-None.is tt;
+    }
 
 pub returns : goal.returns
 returns g c =
-    let rows = c.in_ok-rows.rows in
-    let grown = c.in_ok-grown_from.field-0 in
-    let is = c.in_ok-grown_from.ensures in
+    let is : IsNetworkOf c.args.n (cost_for c.args.answer) c.args.arcs.items c.in-Ok.network =
+    rw c.cost_for.ensures at c.in-Ok.ensures.network in
+    let more = c.in-Ok-with_arcs.ensures in
+    let count : c.len-count.result ≡ length c.in-Some.added.items =
+    omega (arith, c.len-count.ensures, c.deref.ensures.len, ap length c.deref.ensures.value) in
+    let grown : Grown = record { count = c.len-count.result; network = c.in-Ok-with_arcs.grown } in
     record {
       are = record {
-        few = rw c.in_ok-rows.ensures.vertices c.requires.vertices;
-        grows = (is.graph, is.grown);
+        is = c.n.ensures.network;
+        grows = record { is = c.n-2.ensures.network; to = more.grown };
       };
-      vertices = c.in_ok-rows.ensures.vertices;
-      along = c.in_ok-rows.ensures.arcs;
+      vertices = is.vertices;
+      along = along-kind c.args.answer c.args.n c.args.arcs.items c.in-Ok.network is;
       alike =
           rw c.in-Some.is
-          (grown-alike c.args.answer rows grown c.args.arcs.items c.in-Some.added.items is.count is.added is.grown
-          c.in_ok-rows.ensures.arcs);
+          (grown-alike c.networks_grow.ensures c.args.answer c.args.n c.args.arcs.items c.in-Some.added.items
+          c.in-Ok.network grown count is more.grown more.kind (rw c.deref.ensures.value at more.added));
     }

@@ -6,5 +6,5 @@ use Rattle.job_answer.proofs.pairs.write_lines.Given as goal
 
 abbrev pub invariant-loop-place : goal.invariant-loop-place
 invariant-loop-place g l =
-    AreSent (IsGrownPair false l.graphs.rows.n l.graphs.rows.arcs (growth_of l.graphs.grown)) l.pairs l.place
+    AreSent (IsGrownPair false l.graphs.network.n l.graphs.network.arcs (growth_of l.graphs.grown)) l.pairs l.place
     (g.W.Write.contents l.fn.writer) (g.W.Write.contents l.writer) l.waiting.bytes.items

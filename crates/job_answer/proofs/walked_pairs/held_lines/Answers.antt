@@ -7,14 +7,14 @@ use Rattle.job_answer.proofs.walked_pairs.held_lines.Goals as goal
 
 pub returns : goal.returns
 returns g c =
-    let graphs = c.args.tasks.now.graphs.now in
-    let pairs = c.args.tasks.now.pairs.now in
+    let graphs = c.args.queries.now.graphs.now in
+    let pairs = c.args.queries.now.pairs.now in
     let first = c.args.first in
     let rest = take (length pairs - first) (drop first pairs) in
     let solve = c.of_queries-solve.result in
     let is = c.of_queries-solve.ensures.queries in
     let at_start = c.of_queries-solve.ensures.first in
-    let is_block = IsGrownPair true graphs.rows.n graphs.rows.arcs (growth_of graphs.grown) in
+    let is_block = IsGrownPair true graphs.network.n graphs.network.arcs (growth_of graphs.grown) in
     let bytes = c.into_bytes.result.items in
     let sent =
     rw c.new-held.ensures at rw c.new-waiting.ensures at rw at_start at c.in_ok-put_solved_pairs.ensures.sent (Some [])

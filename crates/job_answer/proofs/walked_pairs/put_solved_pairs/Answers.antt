@@ -4,29 +4,29 @@ use Rattle.job_answer.specs.Graphs.{growth_of}
 use Rattle.job_answer.proofs.Prefixes.{err-stands}
 use Rattle.job_answer.proofs.walked_pairs.put_solved_pairs.Goals as goal
 
-pub returns-in_err-labels-clause-prefix : goal.returns-in_err-labels-clause-prefix
-returns-in_err-labels-clause-prefix g c =
-    let graphs = c.args.graphs.now in
+pub returns-in_err-costs-clause-prefix : goal.returns-in_err-costs-clause-prefix
+returns-in_err-costs-clause-prefix g c =
+    let graphs = c.args.queries.now.graphs.now in
     let growth = growth_of graphs.grown in
-    err-stands (IsGrownPair true graphs.rows.n graphs.rows.arcs growth)
-    (c.blocks_are_unique.ensures true graphs.rows.n graphs.rows.arcs growth).1 c.args.pairs.now _ c.args.solve.first
+    err-stands (IsGrownPair true graphs.network.n graphs.network.arcs growth)
+    (c.blocks_are_unique.ensures true graphs.network.n graphs.network.arcs growth).1 c.args.queries.now.pairs.now _ c.args.solve.first
     (0, 0)
     (g.W.Write.contents c.args.writer.now) c.args.waiting.now.bytes.items
 
 pub returns-in_err-walked-clause-prefix : goal.returns-in_err-walked-clause-prefix
 returns-in_err-walked-clause-prefix g c =
-    let graphs = c.args.graphs.now in
+    let graphs = c.args.queries.now.graphs.now in
     let growth = growth_of graphs.grown in
-    err-stands (IsGrownPair true graphs.rows.n graphs.rows.arcs growth)
-    (c.blocks_are_unique.ensures true graphs.rows.n graphs.rows.arcs growth).1 c.args.pairs.now _ c.args.solve.first
+    err-stands (IsGrownPair true graphs.network.n graphs.network.arcs growth)
+    (c.blocks_are_unique.ensures true graphs.network.n graphs.network.arcs growth).1 c.args.queries.now.pairs.now _ c.args.solve.first
     (0, 0)
     (g.W.Write.contents c.args.writer.now) c.args.waiting.now.bytes.items
 
 pub returns-in_err-after-clause-prefix : goal.returns-in_err-after-clause-prefix
 returns-in_err-after-clause-prefix g c =
-    let graphs = c.args.graphs.now in
+    let graphs = c.args.queries.now.graphs.now in
     let growth = growth_of graphs.grown in
-    err-stands (IsGrownPair true graphs.rows.n graphs.rows.arcs growth)
-    (c.blocks_are_unique.ensures true graphs.rows.n graphs.rows.arcs growth).1 c.args.pairs.now _ c.args.solve.first
+    err-stands (IsGrownPair true graphs.network.n graphs.network.arcs growth)
+    (c.blocks_are_unique.ensures true graphs.network.n graphs.network.arcs growth).1 c.args.queries.now.pairs.now _ c.args.solve.first
     (0, 0)
     (g.W.Write.contents c.args.writer.now) c.args.waiting.now.bytes.items

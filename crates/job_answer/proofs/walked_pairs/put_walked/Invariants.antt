@@ -9,8 +9,8 @@ abbrev pub invariant-loop-at : goal.invariant-loop-at
 invariant-loop-at g l = record {
   few : l.fn.solve.first < l.at → length l.waiting.bytes.items < PIECE;
   sent : (before : Option (List ℕ))
-      → AreSent (IsGrownPair true l.graphs.rows.n l.graphs.rows.arcs (growth_of l.graphs.grown)) l.pairs
+      → AreSent (IsGrownPair true l.queries.graphs.now.network.n l.queries.graphs.now.network.arcs (growth_of l.queries.graphs.now.grown)) l.queries.pairs.now
       l.fn.solve.first before (g.W.Write.contents l.fn.writer) l.fn.waiting.bytes.items
-      → AreSent (IsGrownPair true l.graphs.rows.n l.graphs.rows.arcs (growth_of l.graphs.grown)) l.pairs l.at before
+      → AreSent (IsGrownPair true l.queries.graphs.now.network.n l.queries.graphs.now.network.arcs (growth_of l.queries.graphs.now.grown)) l.queries.pairs.now l.at before
       (g.W.Write.contents l.writer) l.waiting.bytes.items;
 }

@@ -9,7 +9,7 @@ use Rattle.job_answer.proofs.walked_pairs.write_walked.Given as goal
 abbrev pub invariant-loop-first : goal.invariant-loop-first
 invariant-loop-first g l = record {
   sent :
-      AreSent (IsGrownPair true l.graphs.rows.n l.graphs.rows.arcs (growth_of l.graphs.grown)) l.pairs l.first
+      AreSent (IsGrownPair true l.graphs.network.n l.graphs.network.arcs (growth_of l.graphs.grown)) l.pairs l.first
       (g.W.Write.contents l.initial.writer) (g.W.Write.contents l.writer) l.waiting.bytes.items;
   made : AreMade (AreLines l.tasks) l.rounds.made.items;
 }

@@ -1,4 +1,4 @@
-use Rattle.least_costs.proofs.PairCosts.{ArePlaced}
+use Rattle.least_costs.proofs.Filling.{ArePlaced}
 use Rattle.least_costs.proofs.pairs.by_source.Given as goal
 
 abbrev pub invariant-loop-place : goal.invariant-loop-place

@@ -1,7 +1,7 @@
 use Rattle.std.proofs.Common.{◌≡◌, ◌∙◌, ◌+◌, ◌<◌, None, arith, length, set, slice_index_or, subst}
 use Rattle.std.proofs.lemmas.List.{length-set}
 use Rattle.least_costs.specs.Pairs.{AreFilled, pair_at}
-use Rattle.least_costs.proofs.PairCosts.{filled_more}
+use Rattle.least_costs.proofs.Filling.{filled_more}
 use Rattle.least_costs.proofs.pairs.fill.Goals as goal
 
 pub loop-at-preserved : goal.loop-at-preserved

@@ -3,6 +3,7 @@ use Rattle.std.proofs.Common.{ap, subst, List, IfOk}
 use Rattle.std.proofs.lemmas.Result.{IfOk-weaker}
 use Rattle.route_walks.specs.declared.graph.Seed.{Seed}
 use Rattle.route_walks.specs.Operators.{seeds_of}
+use Rattle.csr_graph.specs.Graph.{Graph}
 use Rattle.label_words.specs.declared.closed.Closed.{Closed}
 use Rattle.label_words.specs.declared.known.Known.{Known}
 use Rattle.label_words.specs.Closed.{IsEnd, AreNoHigher, closed_labels}
@@ -12,8 +13,12 @@ pub returns-clause-lower : goal.returns-clause-lower
 returns-clause-lower g c =
     let graph = c.args.csr.now in
     let seeds = ap (λ (k : Known). k.seeds) c.in_ok-opened.ensures in
-    let end = subst (λ (s : List Seed). IfOk c.run_workers.result (λ (closed : Closed). IsEnd graph s closed)) seeds
+    let words = c.in_ok-opened.opened.seat.known.seeds in
+    let own =
+    subst (λ (x : Graph). IfOk c.run_workers.result (λ (closed : Closed). IsEnd x words closed)) c.whole-run.ensures.csr
     c.run_workers.ensures.end in
+    let end =
+    subst (λ (s : List Seed). IfOk c.run_workers.result (λ (closed : Closed). IsEnd graph s closed)) seeds own in
     IfOk-weaker c.run_workers.result (IsEnd graph (seeds_of c.args.rest.labels))
     (λ closed. AreNoHigher (closed_labels closed) c.args.rest.labels)
     (λ closed ended.

@@ -1,5 +1,5 @@
 use Rattle.std.proofs.Common.{◌≡◌, ◌-◌, ◌<◌, ◌≤◌, ℕ, length}
-use Rattle.job_answer.specs.Solves.{pair_at}
+use Rattle.least_costs.specs.Pairs.{pair_at}
 use Rattle.job_answer.proofs.solves.Solve.of_queries.Given as goal
 
 abbrev pub invariant-loop-end : goal.invariant-loop-end

@@ -1,0 +1,3 @@
+-- The lemmas that crates above may cite.
+-- a pause in which no label below a limit is marked is least up to that limit
+pub use Rattle.label_words.proofs.Limits.{pauses_are_least_up_to}

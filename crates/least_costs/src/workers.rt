@@ -1,0 +1,137 @@
+//! Who solves one start after another?
+
+ghost use Rattle.std.specs.Prelude.{◌≡◌, IfOk};
+ghost use Rattle.label_words.specs.Closed.{IsEnd};
+ghost use Rattle.obim_engine.specs.Goal.{HasReached, IsGoalWithin};
+ghost use Rattle.least_costs.specs.Network.{GrowsTo, IsStartWithin, graph_of, seeds_at};
+
+use crate::costs::Costs;
+use crate::network::Network;
+use crate::runner::Runner;
+use crate::start::Start;
+use obim_engine::{Closed, Gate, Goal, Reached, Settings};
+use route_walks::Memory;
+use std::alloc::Global;
+use std::sync::Wait;
+use std::thread::Threads;
+use std::time::Clock;
+
+/// Workers that solve one start after another, and keep their pool from one to the next.
+#[derive(Drop)]
+pub struct Workers<'a, G> {
+    /// How many there are, and what they share.
+    pub settings: Settings,
+    /// Watches them.
+    pub gate: &'a G,
+    kept: Option<Runner>,
+}
+
+impl<'a, G: Gate + Sync> Workers<'a, G> {
+    /// Workers by these settings. They take the pool that others kept, if it is for as many workers.
+    pub fn new(settings: Settings, gate: &'a G, kept: Option<Runner>) -> Workers<'a, G>
+        ensures settings { result.settings ≡ settings }
+        ensures gate { result.gate.now ≡ gate.now }
+    {
+        Workers {
+            settings,
+            gate,
+            kept,
+        }
+    }
+
+    /// The pool that they kept. None after memory was refused.
+    pub fn into_kept(self) -> Option<Runner> {
+        self.kept
+    }
+
+    /// The least costs of a network from a start.
+    pub fn costs_from<H: Threads + Wait + Clock + Sync>(
+        &mut self,
+        rt: &H,
+        alloc: Global,
+        network: &Network,
+        start: Start,
+    ) -> Result<Costs, Memory>
+        requires { IsStartWithin network.now.n start }
+        ensures net { IfOk result (λ costs. costs.net ≡ network.now) }
+        ensures start { IfOk result (λ costs. costs.start ≡ start) }
+    {
+        let mut runner = self.runner(alloc, network)?;
+        let costs = runner.costs_from(rt, alloc, network, start, self.gate)?;
+        self.kept = Some(runner);
+        Ok(costs)
+    }
+
+    /// The least costs in a network that another one grew to by `with_arcs`, from the same start, from the costs
+    /// there. Only what the added arcs change is visited.
+    pub fn costs_after<H: Threads + Wait + Clock + Sync>(
+        &mut self,
+        rt: &H,
+        alloc: Global,
+        network: &Network,
+        grown: &Network,
+        costs: Costs,
+    ) -> Result<Costs, Memory>
+        requires net { costs.net ≡ network.now }
+        requires grown { GrowsTo network.now grown.now }
+        ensures net { IfOk result (λ after. after.net ≡ grown.now) }
+        ensures start { IfOk result (λ after. after.start ≡ costs.start) }
+    {
+        let start = costs.start();
+        let closed = Closed::Settled(costs.into_labels());
+        let goal = Goal::EachVertex;
+        let reached = self.reach_after(rt, alloc, network, grown, start, closed, goal)?;
+        Ok(Costs::new(grown, start, reached.closed.into_labels()))
+    }
+
+    /// What a run from a start reaches in a network that goes no further than its goal.
+    pub fn reach<H: Threads + Wait + Clock + Sync>(
+        &mut self,
+        rt: &H,
+        alloc: Global,
+        network: &Network,
+        start: Start,
+        goal: Goal<'_>,
+    ) -> Result<Reached, Memory>
+        requires start { IsStartWithin network.now.n start }
+        requires goal { IsGoalWithin network.now.n goal }
+        ensures { IfOk result (HasReached goal.entry (graph_of network.now) (seeds_at network.now.n start)) }
+    {
+        let mut runner = self.runner(alloc, network)?;
+        let reached = runner.reach(rt, alloc, network, start, goal, self.gate)?;
+        self.kept = Some(runner);
+        Ok(reached)
+    }
+
+    /// The same in a network that another one grew to by `with_arcs`, from what a run from this start left there.
+    pub fn reach_after<H: Threads + Wait + Clock + Sync>(
+        &mut self,
+        rt: &H,
+        alloc: Global,
+        network: &Network,
+        grown: &Network,
+        start: Start,
+        closed: Closed,
+        goal: Goal<'_>,
+    ) -> Result<Reached, Memory>
+        requires start { IsStartWithin network.now.n start }
+        requires grown { GrowsTo network.now grown.now }
+        requires closed { IsEnd (graph_of network.now) (seeds_at network.now.n start) closed }
+        requires goal { IsGoalWithin grown.now.n goal }
+        ensures { IfOk result (HasReached goal.entry (graph_of grown.now) (seeds_at grown.now.n start)) }
+    {
+        let mut runner = self.runner(alloc, network)?;
+        let gate = self.gate;
+        let reached = runner.reach_after(rt, alloc, network, grown, start, closed, goal, gate)?;
+        self.kept = Some(runner);
+        Ok(reached)
+    }
+
+    /// The pool that they kept, or another one.
+    fn runner(&mut self, alloc: Global, network: &Network) -> Result<Runner, Memory> {
+        match self.kept.take() {
+            Some(runner) if runner.workers() == self.settings.workers => Ok(runner),
+            _ => Runner::open(alloc, network, &self.settings),
+        }
+    }
+}

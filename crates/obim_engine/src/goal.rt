@@ -1,0 +1,83 @@
+//! Which labels are wanted of a run, and when does it have them?
+
+ghost use Rattle.std.specs.Prelude.{◌≡◌, ◌↔◌, ◌<◌, ◌≤◌, IsTrue, length, slice_index, All};
+ghost use Rattle.obim_engine.specs.Goal.{IsGoalWithin, IsServedBy, limit_past, targets_of};
+
+use label_words::Closed;
+use route_walks::INF;
+
+/// Which labels are wanted of a run. It goes on until it has these, and may stop then.
+#[derive(Clone, Copy, Debug)]
+pub enum Goal<'a> {
+    /// Those of all vertices: the run goes to its end.
+    EachVertex,
+    /// Those of these vertices. The run goes as far as the greatest of them, and to its end where one of them
+    /// can't be reached.
+    Targets(&'a [u32]),
+    /// Those of these vertices, and of each vertex on a walk of least cost to one of them, so that walks to them
+    /// can be told from the labels. The run goes a little further than for the vertices alone.
+    WalksTo(&'a [u32]),
+    /// All that are at most this bound.
+    Within(u64),
+}
+
+impl<'a> Goal<'a> {
+    /// Whether the vertices that are named are below `n`: for callers that have them from outside.
+    pub fn is_within(&self, n: u32) -> bool
+        ensures { IsTrue result ↔ IsGoalWithin n self.now }
+    {
+        self.targets().iter().all(|target| *target < n)
+    }
+
+    /// The vertices that are named.
+    pub(crate) fn targets(&self) -> &'a [u32]
+        ensures { result.now ≡ targets_of self.now }
+    {
+        match *self {
+            Goal::Targets(targets) => targets,
+            Goal::WalksTo(targets) => targets,
+            _ => &[],
+        }
+    }
+
+    /// The least limit that serves, where this is the greatest label of the vertices that are named.
+    pub(crate) fn limit_past(&self, farthest: u64) -> u64
+        ensures { result ≡ limit_past self.now farthest }
+    {
+        match *self {
+            Goal::EachVertex => INF,
+            Goal::Targets(_) => farthest,
+            Goal::WalksTo(_) => farthest.saturating_add(1),
+            Goal::Within(bound) => bound.saturating_add(1),
+        }
+    }
+
+    /// The least limit that serves these labels: those that are least up to it are all that is wanted.
+    pub(crate) fn limit_of(&self, labels: &[u64]) -> u64
+        requires { IsGoalWithin (length labels.now) self.now }
+        ensures { IsServedBy self.now labels.now result }
+    {
+        self.limit_past(farthest(labels, self.targets()))
+    }
+}
+
+/// What a run gives that may stop once its goal is reached.
+#[derive(Debug, Drop)]
+pub struct Reached {
+    /// Least labels where the run came to its end, or else a pause, from which it can go on.
+    pub closed: Closed,
+    /// Labels are least up to this limit: `INF` where all are.
+    pub limit: u64,
+}
+
+/// The greatest label of the targets; 0 where there are none.
+fn farthest(labels: &[u64], targets: &[u32]) -> u64
+    requires { All (λ t. t < length labels.now) targets.now }
+    ensures { All (λ t. slice_index labels.now t ≤ result) targets.now }
+{
+    let mut most = 0;
+    for target in targets {
+        most = labels[*target as usize].max(most);
+    }
+    most
+}

@@ -1,0 +1,180 @@
+//! From which label on is there nothing to do that is wanted?
+//!
+//! Where targets are wanted, a worker looks at their labels now and then. Once each has one, vertices with labels past
+//! the greatest are left alone: they stay marked, and a run may go on from there. A worker that draws nothing leaves, if
+//! no other one is at work below that. No label depends on it: whether those that are wanted are least is seen from the
+//! marks that are left.
+
+ghost use Rattle.std.specs.Prelude.{◌≡◌, ◌≢◌, ◌<◌, true};
+ghost use Rattle.obim_engine.specs.declared.goal.Goal.TheVariants as goal;
+
+use crate::goal::Goal;
+use crate::shared::Shared;
+use label_words::WorkSeat;
+use route_walks::INF;
+
+/// Visits between two looks at the labels of the targets: as many as there are targets, and at least so many.
+const VISITS: usize = 64;
+
+/// Where there are other workers, a worker draws nothing this many times in a row before it leaves.
+const POPS: u32 = 16;
+
+/// After this many it leaves whatever other workers do.
+const MOST_POPS: u32 = 2048;
+
+/// What a worker knows of the labels that are wanted.
+#[derive(Clone, Copy)]
+pub(crate) struct Aim {
+    /// Vertices with this label or a larger one are left alone. It never rises.
+    pub limit: u64,
+    /// Each target before this place had a label at the last look.
+    reached: usize,
+    /// Visits up to the next look.
+    left: usize,
+    /// Pops in a row that gave nothing.
+    idle: u32,
+}
+
+impl Aim {
+    /// Before the first visit.
+    pub(crate) fn new(goal: &Goal<'_>) -> Aim {
+        let limit = if goal.targets().is_empty() {
+            goal.limit_past(0)
+        } else {
+            INF
+        };
+        Aim {
+            limit,
+            reached: 0,
+            left: 1,
+            idle: 0,
+        }
+    }
+
+    /// After a visit: whether a look at the targets is due, as it is after the first one and every so often.
+    #[inline(always)]
+    pub(crate) fn visited(&mut self) -> bool {
+        self.idle = 0;
+        self.left = self.left.saturating_sub(1);
+        self.left == 0
+    }
+
+    /// Looks at the labels of the targets, after a visit.
+    #[inline(never)]
+    pub(crate) fn look<P, G>(&mut self, shared: &Shared<'_, P, G>, seat: &WorkSeat)
+        requires words { seat.now.words ≡ shared.now.words.now }
+        requires graph { shared.now.run.csr.now ≡ seat.now.known.graph }
+    {
+        shared.pace.begin();
+        self.take_aim(shared, seat);
+    }
+
+    /// Once all targets have a label, the greatest is the limit.
+    fn take_aim<P, G>(&mut self, shared: &Shared<'_, P, G>, seat: &WorkSeat)
+        requires words { seat.now.words ≡ shared.now.words.now }
+        requires graph { shared.now.run.csr.now ≡ seat.now.known.graph }
+    {
+        let goal = &shared.run.goal;
+        let targets = goal.targets();
+        self.left = targets.len().max(VISITS);
+        self.reached = first_unreached(shared, seat, targets, self.reached);
+        if self.reached >= targets.len() && !targets.is_empty() {
+            let farthest = farthest_now(shared, seat, targets);
+            self.limit = goal.limit_past(farthest).min(self.limit);
+        }
+    }
+
+    /// Whether a worker is to leave that drew this vertex, or nothing: what is wanted is done, no other worker is at
+    /// a label below the limit, and no sweep is due.
+    #[inline(never)]
+    pub(crate) fn is_reached<P, G>(
+        &mut self,
+        shared: &Shared<'_, P, G>,
+        seat: &WorkSeat,
+        worker: u32,
+        drawn: Option<u32>,
+    ) -> bool
+        requires words { seat.now.words ≡ shared.now.words.now }
+        requires graph { shared.now.run.csr.now ≡ seat.now.known.graph }
+        ensures { result ≡ true → shared.now.run.goal ≢ goal.EachVertex }
+    {
+        match shared.run.goal {
+            Goal::EachVertex => false,
+            _ => drawn.is_none() && self.is_done(shared, seat, worker),
+        }
+    }
+
+    /// Whether a worker that drew nothing is to leave.
+    fn is_done<P, G>(&mut self, shared: &Shared<'_, P, G>, seat: &WorkSeat, worker: u32) -> bool
+        requires words { seat.now.words ≡ shared.now.words.now }
+        requires graph { shared.now.run.csr.now ≡ seat.now.known.graph }
+    {
+        self.take_aim(shared, seat);
+        self.idle = self.idle.saturating_add(1);
+        let pace = shared.pace;
+        if worker == 0 {
+            // The first vertices were handed to its side, and it has drawn them.
+            pace.begin();
+        }
+        if self.limit == INF || pace.has_lost() {
+            return false;
+        }
+        if pace.is_alone() || self.idle >= MOST_POPS {
+            return true;
+        }
+        let lowest = pace.is_lowest(worker, shared.run.metric_of(self.limit));
+        lowest && pace.has_begun() && self.idle >= POPS
+    }
+}
+
+/// Whether the label of a vertex is at least the limit.
+#[inline(always)]
+pub(crate) fn is_past<P, G>(shared: &Shared<'_, P, G>, seat: &WorkSeat, limit: u64, v: u32) -> bool
+    requires words { seat.now.words ≡ shared.now.words.now }
+    requires graph { shared.now.run.csr.now ≡ seat.now.known.graph }
+    requires vertex { v < shared.now.run.csr.now.n }
+{
+    limit < INF && shared.words.label_hint(seat, v) >= limit
+}
+
+/// The place of the first target, from a place on, that has no label now; the number of targets if each has one.
+fn first_unreached<P, G>(
+    shared: &Shared<'_, P, G>,
+    seat: &WorkSeat,
+    targets: &[u32],
+    from: usize,
+) -> usize
+    requires words { seat.now.words ≡ shared.now.words.now }
+    requires graph { shared.now.run.csr.now ≡ seat.now.known.graph }
+{
+    for place in from..targets.len() {
+        if label_now(shared, seat, targets[place]) >= INF {
+            return place;
+        }
+    }
+    targets.len()
+}
+
+/// The greatest label that a target has now.
+fn farthest_now<P, G>(shared: &Shared<'_, P, G>, seat: &WorkSeat, targets: &[u32]) -> u64
+    requires words { seat.now.words ≡ shared.now.words.now }
+    requires graph { shared.now.run.csr.now ≡ seat.now.known.graph }
+{
+    let mut most = 0;
+    for target in targets {
+        most = label_now(shared, seat, *target).max(most);
+    }
+    most
+}
+
+/// The label of a vertex now; 0 where there is no such vertex.
+fn label_now<P, G>(shared: &Shared<'_, P, G>, seat: &WorkSeat, v: u32) -> u64
+    requires words { seat.now.words ≡ shared.now.words.now }
+    requires graph { shared.now.run.csr.now ≡ seat.now.known.graph }
+{
+    if v < shared.run.csr.n() {
+        shared.words.label_hint(seat, v)
+    } else {
+        0
+    }
+}

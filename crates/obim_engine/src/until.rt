@@ -1,0 +1,128 @@
+//! Runs that may stop early, once the labels that are wanted are least.
+//!
+//! When workers leave is a hint. That the labels are least is seen from the pause that they leave: no vertex is marked
+//! whose label is below the limit that serves the goal. Where one is, as where the pool has lost it, the run goes on to
+//! its end.
+
+ghost use Rattle.std.specs.Prelude.{◌≡◌, ◌≤◌, length, None, All, IfOk};
+ghost use Rattle.route_walks.specs.Walk.{AreSeeds};
+ghost use Rattle.label_words.specs.Paused.{IsPause};
+ghost use Rattle.obim_engine.specs.Goal.{HasReached, HasStopped, IsGoalWithin};
+ghost use Rattle.obim_engine.specs.Workers.{CanLead};
+
+use crate::gate::Gate;
+use crate::goal::{Goal, Reached};
+use crate::opened::Opened;
+use crate::runs::{RunFault, run_workers, solve};
+use crate::settings::{MAX_WORKERS, Setup};
+use crate::shared::Run;
+use csr_graph::Csr;
+use label_words::laws::resumed_runs_end_alike;
+use label_words::{Closed, Paused};
+use obim_pool::WorkPool;
+use route_walks::{INF, Seed};
+use std::alloc::Global;
+use std::sync::Wait;
+use std::thread::Threads;
+use std::time::Clock;
+
+/// A `run` that may stop as soon as the labels that are wanted are least. The limit up to which labels are least is the
+/// least one that serves the goal where it stopped, and `INF` where it came to its end.
+///
+/// It visits about the vertices whose labels are below the limit, once each if the pool gives low labels first, and takes
+/// besides some passes over all vertices.
+pub fn run_until<H: Threads + Wait + Clock + Sync, P: WorkPool + Sync, G: Gate + Sync>(
+    rt: &H,
+    alloc: Global,
+    csr: &Csr,
+    seeds: &[Seed],
+    goal: Goal<'_>,
+    setup: &Setup<'_, P, G>,
+    sides: &mut [P::Side],
+) -> Result<Reached, RunFault>
+where
+    P::Side: Send,
+    requires seeds { AreSeeds csr.now.n seeds.now }
+    requires goal { IsGoalWithin csr.now.n goal }
+    requires workers { length sides.old ≡ setup.now.settings.now.workers }
+    requires sides { All (P.is_side setup.now.pool.now) sides.old }
+    ensures reached { IfOk result (HasReached goal.entry csr.now seeds.now) }
+    ensures sides { All (P.is_side setup.now.pool.now) sides.new }
+{
+    let opened = Opened::from_seeds(alloc, csr, seeds)?;
+    reach(rt, alloc, opened, &Run::of(csr, goal, setup), sides)
+}
+
+/// Goes on from a pause of this graph and these seeds, as `run_until`. After a fault the pause is gone.
+pub fn resume_until<H: Threads + Wait + Clock + Sync, P: WorkPool + Sync, G: Gate + Sync>(
+    rt: &H,
+    alloc: Global,
+    csr: &Csr,
+    seeds: &[Seed],
+    rest: Paused,
+    goal: Goal<'_>,
+    setup: &Setup<'_, P, G>,
+    sides: &mut [P::Side],
+) -> Result<Reached, RunFault>
+where
+    P::Side: Send,
+    requires seeds { AreSeeds csr.now.n seeds.now }
+    requires pause { IsPause csr.now seeds.now rest }
+    requires goal { IsGoalWithin csr.now.n goal }
+    requires workers { length sides.old ≡ setup.now.settings.now.workers }
+    requires sides { All (P.is_side setup.now.pool.now) sides.old }
+    ensures reached { IfOk result (HasReached goal.entry csr.now seeds.now) }
+    ensures sides { All (P.is_side setup.now.pool.now) sides.new }
+{
+    // The words have the labels as their seeds; the caller's seeds are for the contract alone.
+    let _ = seeds;
+    let opened = Opened::from_pause(alloc, csr, rest)?;
+    resumed_runs_end_alike();
+    reach(rt, alloc, opened, &Run::of(csr, goal, setup), sides)
+}
+
+/// A run on open words until its goal is reached: what workers leave that left early, as it is where the labels that
+/// are wanted are seen to be least, else it goes on to the end.
+pub(crate) fn reach<H: Threads + Wait + Clock + Sync, P: WorkPool + Sync, G: Gate + Sync>(
+    rt: &H,
+    alloc: Global,
+    opened: Opened,
+    run: &Run<'_, P, G>,
+    sides: &mut [P::Side],
+) -> Result<Reached, RunFault>
+where
+    P::Side: Send,
+    requires seat { CanLead run.now.csr.now MAX_WORKERS opened.seat }
+    requires goal { IsGoalWithin run.now.csr.now.n run.now.goal }
+    requires some { 1 ≤ length sides.old }
+    requires few { length sides.old ≤ MAX_WORKERS }
+    requires sides { All (P.is_side run.now.pool.now) sides.old }
+    ensures stopped { IfOk result (HasStopped run.now.goal run.now.csr.now opened.seat.known.seeds) }
+    ensures sides { All (P.is_side run.now.pool.now) sides.new }
+{
+    // That the graph is in rows tells what its pauses are worth.
+    let _vertices = run.csr.n();
+    let rest = match run_workers(rt, alloc, opened, run, sides)? {
+        Closed::Settled(labels) => return Ok(settled(labels)),
+        Closed::Paused(rest) => rest,
+    };
+    let limit = run.goal.limit_of(rest.labels());
+    if rest.is_unmarked_below(limit) {
+        let closed = Closed::Paused(rest);
+        return Ok(Reached { closed, limit });
+    }
+    let opened = Opened::from_pause(alloc, run.csr, rest)?;
+    resumed_runs_end_alike();
+    let labels = solve(rt, alloc, opened, &run.to_end(), sides)?;
+    Ok(settled(labels))
+}
+
+/// What a run gives that came to its end.
+fn settled(labels: Vec<u64>) -> Reached
+    ensures { result ≡ record { closed = Closed.Settled labels; limit = INF } }
+{
+    Reached {
+        closed: Closed::Settled(labels),
+        limit: INF,
+    }
+}
