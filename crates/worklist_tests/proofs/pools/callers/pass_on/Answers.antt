@@ -1,5 +1,5 @@
 -- In the bag that gave the vertex the chunks put are those got and those left, and nothing but v was put.
-use Rattle.std.proofs.Common.{◌≡◌, ◌≢◌, ◌∙◌, ⊎_elim, ap, refl, sym, ℕ, zero, suc, ◌+◌, ◌-◌, ◌<◌, ◌≤◌, List, [], ◌∷◌}
+use Rattle.std.proofs.Common.{◌≡◌, ◌≢◌, ◌∙◌, ⊎_elim, ap, refl, sym, ℕ, ◌+◌, ◌-◌, ◌<◌, ◌≤◌, List, [], ◌∷◌}
 use Rattle.std.proofs.Common.{◌++◌, length, get_or, Some, None, arith}
 use Rattle.std.specs.Prelude.{Option, slice_get, sum_by}
 use Rattle.std.proofs.lemmas.Bool.{cases_eq}
