@@ -103,7 +103,7 @@ pub(crate) fn work<H: Wait + Clock, P: WorkPool, G: Gate>(
                     return seat;
                 }
                 if ends {
-                    (seat, budget) = sweep(rt, shared, worker, seat, side, budget, aim.limit);
+                    (seat, budget) = sweep(rt, shared, worker, seat, side, budget, &mut aim);
                     patience.renew();
                 }
                 pauses.wait(rt, near.pace.has_lost());
@@ -208,7 +208,7 @@ fn sweep<H: Wait, P: WorkPool, G: Gate>(
     mut seat: WorkSeat,
     side: &mut P::Side,
     mut budget: Budget,
-    limit: u64,
+    aim: &mut Aim,
 ) -> (WorkSeat, Budget)
     requires words { seat.words ≡ shared.now.words.now }
     requires graph { shared.now.run.csr.now ≡ seat.known.graph }
@@ -220,6 +220,7 @@ fn sweep<H: Wait, P: WorkPool, G: Gate>(
     ensures limit { result.1.has_limit ≡ budget.has_limit }
 {
     shared.pace.seek();
+    let (limit, before) = (aim.limit, budget.left());
     for v in 0..shared.run.csr.n() {
         if budget.is_spent() {
             break;
@@ -233,6 +234,7 @@ fn sweep<H: Wait, P: WorkPool, G: Gate>(
         }
     }
     give_all_back(shared.words, &mut seat);
+    aim.swept(budget.left() != before);
     (seat, budget)
 }
 

@@ -335,7 +335,9 @@ const POOLS: &[(Kind, u32, Goal<'static>)] = &[
     (Kind::Useless(false, None), 1, Goal::Within(11)),
     (Kind::Useless(true, None), 1, Goal::Targets(&[1])),
     (Kind::Useless(true, None), 2, Goal::Within(11)),
+    (Kind::Useless(true, Some(0)), 1, Goal::Within(9)),
     (Kind::Useless(true, Some(0)), 2, Goal::Targets(&[4])),
+    (Kind::Useless(false, Some(6)), 2, Goal::Within(10)),
     (Kind::Useless(false, Some(6)), 4, Goal::WalksTo(&[4])),
 ];
 

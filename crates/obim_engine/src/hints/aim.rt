@@ -33,6 +33,8 @@ pub(crate) struct Aim {
     left: usize,
     /// Pops in a row that gave nothing.
     idle: u32,
+    /// Whether there was a sweep since the last visit: it found no marked vertex below the limit.
+    has_swept: bool,
 }
 
 impl Aim {
@@ -48,6 +50,7 @@ impl Aim {
             reached: 0,
             left: 1,
             idle: 0,
+            has_swept: false,
         }
     }
 
@@ -55,8 +58,17 @@ impl Aim {
     #[inline(always)]
     pub(crate) fn visited(&mut self) -> bool {
         self.idle = 0;
+        self.has_swept = false;
         self.left = self.left.saturating_sub(1);
         self.left == 0
+    }
+
+    /// After a sweep, and whether it visited a vertex.
+    pub(crate) fn swept(&mut self, has_visited: bool) {
+        self.has_swept = !has_visited;
+        if self.has_swept {
+            self.idle = self.idle.max(POPS);
+        }
     }
 
     /// Looks at the labels of the targets, after a visit.
@@ -84,8 +96,8 @@ impl Aim {
         }
     }
 
-    /// Whether a worker is to leave that drew this vertex, or nothing: what is wanted is done, no other worker is at
-    /// a label below the limit, and no sweep is due.
+    /// Whether a worker is to leave that drew nothing, or this vertex from a pool in which a sweep found nothing: what
+    /// is wanted is done, no other worker is at a label below the limit, and no sweep is due.
     #[inline(never)]
     pub(crate) fn is_reached<P, G>(
         &mut self,
@@ -100,7 +112,7 @@ impl Aim {
     {
         match shared.run.goal {
             Goal::EachVertex => false,
-            _ => drawn.is_none() && self.is_done(shared, seat, worker),
+            _ => (drawn.is_none() || self.has_swept) && self.is_done(shared, seat, worker),
         }
     }
 
