@@ -108,7 +108,16 @@ impl Runner {
         ensures { IfOk result (HasReached goal.entry (graph_of network.now) (seeds_at network.now.n start)) }
     {
         let seeds = seeds_of(alloc, network, start)?;
-        match run_over(rt, alloc, &network.rows, &seeds, None, goal, &mut self.kind, gate) {
+        match run_over(
+            rt,
+            alloc,
+            &network.rows,
+            &seeds,
+            None,
+            goal,
+            &mut self.kind,
+            gate,
+        ) {
             Ok(reached) => Ok(reached),
             Err(_) => Err(Memory),
         }
@@ -135,7 +144,16 @@ impl Runner {
     {
         let seeds = seeds_of(alloc, grown, start)?;
         let rest = pause_of(alloc, &network.rows, &seeds, &grown.added, closed)?;
-        match run_over(rt, alloc, &grown.rows, &seeds, Some(rest), goal, &mut self.kind, gate) {
+        match run_over(
+            rt,
+            alloc,
+            &grown.rows,
+            &seeds,
+            Some(rest),
+            goal,
+            &mut self.kind,
+            gate,
+        ) {
             Ok(reached) => Ok(reached),
             Err(_) => Err(Memory),
         }
@@ -299,7 +317,16 @@ fn run_fitted<H: Threads + Wait + Clock + Sync, G: Gate + Sync>(
         pool: &fitted.pool,
         gate,
     };
-    let reached = run_on(rt, alloc, rows, seeds, rest, goal, &setup, &mut fitted.sides)?;
+    let reached = run_on(
+        rt,
+        alloc,
+        rows,
+        seeds,
+        rest,
+        goal,
+        &setup,
+        &mut fitted.sides,
+    )?;
     gate.end(rt, worklist_since(before, &fitted.sides));
     Ok(reached)
 }

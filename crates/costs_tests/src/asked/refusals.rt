@@ -5,8 +5,9 @@ ghost use Rattle.std.specs.Prelude.{◌≡◌};
 ghost use Rattle.least_costs.specs.Each.{AreWithin};
 
 use crate::asked::{expect_costs, expect_within, six};
-use least_costs::{AtOnce, Cost, Network, NetworkFault, Plan, Runner, Solver, Start};
-use least_costs::{Unwatched, Workers};
+use least_costs::{
+    AtOnce, Cost, Network, NetworkFault, Plan, Runner, Solver, Start, Unwatched, Workers,
+};
 use obim_engine::OpenGate;
 use route_walks::{ArcRec, EXAMPLE_ARCS, Memory, arcs, refusable, tried_again};
 use std::alloc::Global;
@@ -130,7 +131,12 @@ fn of_workers_costs_from(rt: HostRuntime) -> Result<(), Fail> {
     let network = six(&rt, alloc)?;
     let mut workers = Workers::new(Plan::usual(2).settings, &OpenGate, None);
     let start = Start::At(0);
-    let costs = tried_again!(rt, alloc, Memory, workers.costs_from(&rt, alloc, &network, start));
+    let costs = tried_again!(
+        rt,
+        alloc,
+        Memory,
+        workers.costs_from(&rt, alloc, &network, start)
+    );
     expect_costs(&rt, 0, &network, &costs, &FROM_0);
     Ok(())
 }
