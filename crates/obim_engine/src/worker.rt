@@ -16,7 +16,7 @@ ghost use Rattle.obim_engine.specs.Workers.{CanLead, AreDone, OwesMark};
 
 use crate::budget::Budget;
 use crate::gate::Gate;
-use crate::hints::aim::{Aim, is_past};
+use crate::hints::aim::{Aim, first_look, is_past, next_look};
 use crate::hints::pace::Watch;
 use crate::hints::patience::Patience;
 use crate::hints::pauses::Pauses;
@@ -56,7 +56,7 @@ pub(crate) fn work<H: Wait + Clock, P: WorkPool, G: Gate>(
     let n = near.run.csr.n();
     let is_alone = near.pace.is_alone();
     let mut pauses = Pauses::new();
-    let mut watch = Watch::new(worker);
+    let mut watch = Watch::new(worker, first_look(&near.run.goal));
     let mut budget = Budget::new(near.run.budget);
     let mut patience = Patience::new(n, budget.left());
     let mut aim = Aim::new(&near.run.goal);
@@ -79,16 +79,14 @@ pub(crate) fn work<H: Wait + Clock, P: WorkPool, G: Gate>(
                 prefetch(&near, n, &seat, side);
                 visit(rt, &near, worker, &mut seat, side, u, aim.limit);
                 budget.spend();
-                if aim.visited() {
-                    aim.look(&near, &seat);
-                }
                 if watch.visited() {
-                    seat = look(rt, &near, &mut watch, seat);
+                    seat = look(rt, &near, &mut watch, &mut aim, seat);
                 }
             }
             _ => {
                 if patience.had_work(budget.left()) {
                     pauses.reset();
+                    aim.renew();
                 }
                 let ends = patience.ends(popped);
                 // A pool that gave a vertex isn't empty: the next one may be marked.
@@ -159,25 +157,29 @@ fn is_over(words: &Words, seat: &mut WorkSeat) -> bool
     words.see(seat)
 }
 
-/// Looks at the other workers, and naps where it is far ahead of one: without credits then.
+/// Looks at what is wanted and at the other workers, and naps where it is far ahead of one: without credits then.
 #[inline(never)]
 fn look<C: Clock, P, G>(
     clock: &C,
     shared: &Shared<'_, P, G>,
     watch: &mut Watch,
+    aim: &mut Aim,
     mut seat: WorkSeat,
 ) -> WorkSeat
     requires words { seat.words ≡ shared.now.words.now }
+    requires graph { shared.now.run.csr.now ≡ seat.known.graph }
     requires no_vertex { HasNoVertex seat }
     ensures stays { Stays seat result }
     ensures no_vertex { HasNoVertex result }
     ensures left { 0 < watch.new.left }
 {
+    aim.look(shared, &seat);
     let naps = watch.is_far_ahead(shared.pace);
     if naps {
         give_all_back(shared.words, &mut seat);
     }
     watch.look(clock, shared.pace, naps);
+    watch.look_within(next_look(&shared.run.goal));
     seat
 }
 

@@ -14,7 +14,7 @@ use label_words::WorkSeat;
 use route_walks::INF;
 
 /// Visits between two looks at the labels of the targets: as many as there are targets, and at least so many.
-const VISITS: usize = 64;
+const VISITS: u32 = 64;
 
 /// Where there are other workers, a worker draws nothing this many times in a row before it leaves.
 const POPS: u32 = 16;
@@ -29,11 +29,9 @@ pub(crate) struct Aim {
     pub limit: u64,
     /// Each target before this place had a label at the last look.
     reached: usize,
-    /// Visits up to the next look.
-    left: usize,
     /// Pops in a row that gave nothing.
     idle: u32,
-    /// Whether there was a sweep since the last visit: it found no marked vertex below the limit.
+    /// Whether there was a sweep since the last visit that found no marked vertex below the limit.
     has_swept: bool,
 }
 
@@ -48,19 +46,15 @@ impl Aim {
         Aim {
             limit,
             reached: 0,
-            left: 1,
             idle: 0,
             has_swept: false,
         }
     }
 
-    /// After a visit: whether a look at the targets is due, as it is after the first one and every so often.
-    #[inline(always)]
-    pub(crate) fn visited(&mut self) -> bool {
+    /// Where the worker has visited a vertex since its last fruitless pop.
+    pub(crate) fn renew(&mut self) {
         self.idle = 0;
         self.has_swept = false;
-        self.left = self.left.saturating_sub(1);
-        self.left == 0
     }
 
     /// After a sweep, and whether it visited a vertex.
@@ -72,13 +66,17 @@ impl Aim {
     }
 
     /// Looks at the labels of the targets, after a visit.
-    #[inline(never)]
     pub(crate) fn look<P, G>(&mut self, shared: &Shared<'_, P, G>, seat: &WorkSeat)
         requires words { seat.now.words ≡ shared.now.words.now }
         requires graph { shared.now.run.csr.now ≡ seat.now.known.graph }
     {
-        shared.pace.begin();
-        self.take_aim(shared, seat);
+        match shared.run.goal {
+            Goal::EachVertex => {}
+            _ => {
+                shared.pace.begin();
+                self.take_aim(shared, seat);
+            }
+        }
     }
 
     /// Once all targets have a label, the greatest is the limit.
@@ -88,7 +86,6 @@ impl Aim {
     {
         let goal = &shared.run.goal;
         let targets = goal.targets();
-        self.left = targets.len().max(VISITS);
         self.reached = first_unreached(shared, seat, targets, self.reached);
         if self.reached >= targets.len() && !targets.is_empty() {
             let farthest = farthest_now(shared, seat, targets);
@@ -136,6 +133,22 @@ impl Aim {
         }
         let lowest = pace.is_lowest(worker, shared.run.metric_of(self.limit));
         lowest && pace.has_begun() && self.idle >= POPS
+    }
+}
+
+/// Visits up to the first look at what is wanted.
+pub(crate) fn first_look(goal: &Goal<'_>) -> u32 {
+    match goal {
+        Goal::EachVertex => u32::MAX,
+        _ => 1,
+    }
+}
+
+/// Visits from one look at what is wanted to the next.
+pub(crate) fn next_look(goal: &Goal<'_>) -> u32 {
+    match goal {
+        Goal::EachVertex => u32::MAX,
+        _ => (goal.targets().len().min(u32::MAX as usize) as u32).max(VISITS),
     }
 }
 

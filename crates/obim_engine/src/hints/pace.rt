@@ -141,14 +141,22 @@ pub(crate) struct Watch {
 }
 
 impl Watch {
-    pub(crate) fn new(worker: u32) -> Watch
+    /// With a first look after this many visits at most.
+    pub(crate) fn new(worker: u32, first: u32) -> Watch
         ensures { 0 < result.left }
     {
         Watch {
             worker,
-            left: VISITS,
+            left: VISITS.min(first).max(1),
             naps: 1,
         }
+    }
+
+    /// Looks again after this many visits at most.
+    pub(crate) fn look_within(&mut self, visits: u32)
+        ensures { 0 < self.new.left }
+    {
+        self.left = self.left.min(visits).max(1);
     }
 
     /// After a visit: whether a look at the others is due, as it is every so often.
