@@ -3,15 +3,15 @@ use Rattle.std.proofs.Common.{◌≡◌, ◌∙◌, ℕ, ◌+◌, ◌<◌, ◌�
 use Rattle.std.proofs.Common.{length, refl, set, subst, sym, take}
 use Rattle.std.specs.List.{All, Contains}
 use Rattle.std.specs.List.Sorted.{IsPermutation}
-use Rattle.std.proofs.lemmas.List.{get_or-set_same, get_or-set_other, get_or_append_left, get_or_push}
+use Rattle.std.proofs.lemmas.List.{get_or-set_same, get_or-set_other}
 use Rattle.std.proofs.lemmas.List.{length-set, length_push, take_all, take_more}
 use Rattle.std.proofs.lemmas.List.Elements.{All-append, All-cons, All-contains, All-get_or, All-nil, All-weaker}
 use Rattle.std.proofs.lemmas.List.Elements.{Contains-append_left, Contains-push}
 use Rattle.std.proofs.lemmas.List.Sorted.{All-permutation, Contains-permutation, length_permutation}
-use Rattle.std.proofs.lemmas.Bool.{cases_eq, cases_lt}
+use Rattle.std.proofs.lemmas.Bool.{cases_eq}
 use Rattle.least_costs.specs.Network.{NetworkSeen}
 use denote.Ref.{Bor}
-use Rattle.least_costs.specs.Pairs.{pair_at, AreBySource, AreCostsAfter, AreCostsAt, AreFilled, AreFilledAfter}
+use Rattle.least_costs.specs.Pairs.{pair_at, AreBySource, AreCostsAfter, AreFilled, AreFilledAfter}
 use Rattle.least_costs.specs.Pairs.{ArePairCosts, IsPairCost}
 
 -- the first pairs are in the order, with their sources
@@ -62,23 +62,6 @@ pub entry_of : (pairs order : List (ℕ × ℕ)) (i : ℕ) → i < length order 
     → ((pair_at order i).1 < length pairs) × ((pair_at order i).0 ≡ (pair_at pairs (pair_at order i).1).0)
 entry_of pairs order i here by =
     All-get_or (λ e. (e.1 < length pairs) × (e.0 ≡ (pair_at pairs e.1).0)) order i (0, 0) here by.each
-
--- one cost more is picked
-pub picked_more : (net : NetworkSeen) (pairs order : List (ℕ × ℕ)) (first : ℕ) (picked : List (Option ℕ))
-    (cost : Option ℕ)
-    → AreCostsAt net pairs order first picked
-    → IsPairCost net (pair_at pairs (pair_at order (first + length picked)).1) cost
-    → AreCostsAt net pairs order first (picked ++ cost ∷ [])
-picked_more net pairs order first picked cost before now k below =
-    let pair : ℕ → ℕ × ℕ = λ i. pair_at pairs (pair_at order (first + i)).1 in
-    elim (cases_lt k (length picked)) [
-      | inl here ↦
-          subst (IsPairCost net (pair k)) (sym (get_or_append_left picked (cost ∷ []) None k here)) (before k here)
-      | inr past ↦
-          let last : length picked ≡ k = omega (arith, below, length_push picked cost, past) in
-          subst (IsPairCost net (pair k)) (sym (get_or_push picked cost None k last))
-          (subst (λ (i : ℕ). IsPairCost net (pair i) cost) last now)
-    ]
 
 -- one cost more is filled in
 pub filled_more : (net : NetworkSeen) (pairs order : List (ℕ × ℕ)) (i : ℕ) (filled : List (Option ℕ)) (cost : Option ℕ)

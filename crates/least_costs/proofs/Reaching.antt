@@ -7,26 +7,16 @@ use Rattle.std.proofs.lemmas.Bool.{cases_lt}
 use Rattle.route_walks.specs.declared.graph.TheConstants.{INF}
 use Rattle.route_walks.specs.Existence.{LeastLabelsExist}
 use Rattle.route_walks.specs.Label.{InfMeansNoWalk, IsLeast}
-use Rattle.obim_engine.specs.Goal.{HasReached}
-use Rattle.obim_engine.specs.declared.goal.Goal.TheVariants.{EachVertex}
-use Rattle.obim_engine.specs.declared.goal.Reached.{Reached}
-use Rattle.label_words.specs.Closed.{closed_labels}
 use Rattle.least_costs.specs.declared.pairs.Pairs.{Pairs}
 use Rattle.least_costs.specs.declared.start.Start.{Start}
 use Rattle.least_costs.specs.declared.start.Start.TheVariants.{At}
-use Rattle.least_costs.specs.Costs.{AreCostsTo, AreLeastFrom, IsCostTo}
-use Rattle.least_costs.specs.Network.{IsNetwork, IsStartWithin, NetworkSeen, graph_of, seeds_at}
+use Rattle.least_costs.specs.Costs.{AreCostsTo, IsCostTo}
+use Rattle.least_costs.specs.Network.{IsNetwork, IsStartWithin, NetworkSeen, seeds_at}
 use denote.Ref.{Bor}
 use Rattle.least_costs.specs.Pairs.{AreAsked, AreCostsAt, AreCostsAtAfter, AreGrownCostsTo, AreTargets, IsRun, pair_at}
 use Rattle.least_costs.proofs.Filling.{entry_of}
 use Rattle.least_costs.proofs.Starts.{start-seeds}
 use Rattle.least_costs.proofs.Unreached.{unreached-at}
-
--- a run to its end has the least labels of all vertices
-pub all-reached : (net : NetworkSeen) (from : Start) (reached : Reached)
-    → HasReached EachVertex (graph_of net) (seeds_at net.n from) reached
-    → AreLeastFrom net from (closed_labels reached.closed)
-all-reached net from reached has = record { count = has.labels.count; least = has.wanted }
 
 -- a least label tells the cost
 pub least-told : LeastLabelsExist → InfMeansNoWalk → (net : NetworkSeen) (from : Start)
