@@ -1,9 +1,11 @@
 -- What the words leave when they are closed.
 use Rattle.std.proofs.Common.{◌≡◌, ◌∙◌, sym, ap, subst, ℕ, zero, suc, ◌<◌}
-use Rattle.std.proofs.Common.{List, [], ◌∷◌, Bool, true, false, inl, inr, length, get_or, arith}
+use Rattle.std.proofs.Common.{List, [], ◌∷◌, ◌++◌, Bool, true, false, inl, inr, length, get_or, arith}
+use Rattle.std.proofs.Common.{below_more, length-append}
 use Rattle.std.specs.Prelude.{slice_index, slice_get, Any, Some}
 use Rattle.std.proofs.lemmas.Bool.{cases_eq}
-use Rattle.std.proofs.lemmas.List.{ext_get_or}
+use Rattle.std.proofs.lemmas.List.{ext_get_or, get_or_append_left}
+use Rattle.std.proofs.Math.Seq.{get_or-append_seam}
 use Rattle.std.proofs.lemmas.Option.{slice_get-get_or, same_Some}
 use mathlib.Core.Option.{some, some-injective, some-ne-none}
 use lib.ListN.{get_elem?}
@@ -25,13 +27,21 @@ use Rattle.label_words.specs.Rule.{AreLawful}
 use Rattle.label_words.specs.Seats.{IsReady}
 use Rattle.label_words.specs.Laws.{WordsHold, LawfulWordsHoldACore, UnmarkedPauseIsLeast}
 use Rattle.label_words.specs.Paused.{IsPause}
-use Rattle.label_words.specs.Closed.{AreLabelsOf, AreMarksOf}
+use Rattle.label_words.specs.Closed.{AreLabelsOf, AreMarksOf, IsLabelOf}
 use Rattle.label_words.proofs.Keeps.{knows_at, words_hold, renamed}
 
 pub word_is : (words : List ℕ) (i x : ℕ) → get_elem? words i ≡ some x → slice_index words i ≡ x
 word_is [] i x e = absurd (some-ne-none x (sym e))
 word_is (y ∷ ys) zero x e = some-injective y x e
 word_is (y ∷ ys) (suc i) x e = word_is ys i x e
+
+-- a label more was read
+pub one_label_more : (words labels : List ℕ) (d : ℕ) → AreLabelsOf words labels → IsLabelOf words (length labels) d
+    → AreLabelsOf words (labels ++ d ∷ [])
+one_label_more words labels d were is v below =
+    below_more (λ v. IsLabelOf words v (slice_index (labels ++ d ∷ []) v)) (length labels)
+    (λ v less. rw (get_or_append_left labels (d ∷ []) 0 v less) (were v less))
+    (rw (get_or-append_seam labels d [] 0) is) v (omega (arith, length-append labels (d ∷ [])))
 
 -- what closed words tell of the seat that closed them
 pub record Ended (me : Known) (words : List ℕ) : Type 0 where

@@ -57,14 +57,19 @@ pub(crate) fn read_labels(last: &LastWords<(), Global>, n: usize, labels: &mut V
     }
 }
 
-/// Reads the marks of the first vertices, as many as there is room for.
-pub(crate) fn read_marks(last: &LastWords<(), Global>, marks: &mut [bool])
+/// Reads the labels of the vertices into a list that has room for them, and their marks, in one pass.
+pub(crate) fn read_words(last: &LastWords<(), Global>, labels: &mut Vec<u64>, marks: &mut [bool])
     requires full { IsFull last.now.words }
     requires vertices { length marks.old ≤ MAX_VERTICES }
     requires within { word_count (length marks.old) ≤ slots_len last.now.words }
-    ensures { AreMarksOf (slots_items last.now.words) marks.new }
+    requires empty { labels.old.items ≡ [] }
+    requires room { length marks.old ≤ labels.old.cap }
+    ensures count { length labels.new.items ≡ length marks.old }
+    ensures labels { AreLabelsOf (slots_items last.now.words) labels.new.items }
+    ensures marks { AreMarksOf (slots_items last.now.words) marks.new }
 {
     for v in 0..marks.len() {
+        labels.push_reserved(last.word(label_word(v as u32)));
         marks[v] = last.word(mark_word(v as u32)) > 0;
     }
 }

@@ -14,7 +14,7 @@ ghost use Rattle.label_words.specs.Closed.{IsClosed, IsBelowKnown};
 ghost use Rattle.label_words.specs.Paused.{CanGoOn};
 ghost use Rattle.label_words.specs.Rule.{AreLawful, SeesLawful, seeds_told};
 
-use crate::closed::{Closed, read_labels, read_marks};
+use crate::closed::{Closed, read_labels, read_words};
 use crate::known::{Key, WordTable};
 use crate::layout::{TOTAL, label_word, mark_word, vertex_count};
 use crate::opening::{lay, lay_rest};
@@ -404,12 +404,13 @@ impl Words {
         let mut marks = vec![in alloc; false; if seat.view.saw { 0 } else { n }]?;
         let WorkSeat { table_seat, view } = seat;
         let last = self.table.close_with(table_seat);
-        read_labels(&last, n, &mut labels);
-        read_marks(&last, &mut marks);
-        last.free();
         if view.saw {
+            read_labels(&last, n, &mut labels);
+            last.free();
             Ok(Closed::Settled(labels))
         } else {
+            read_words(&last, &mut labels, &mut marks);
+            last.free();
             Ok(Closed::Paused(Paused { labels, marks }))
         }
     }

@@ -16,7 +16,8 @@ ghost use Rattle.obim_engine.specs.Workers.{CanLead, AreDone, OwesMark};
 
 use crate::budget::Budget;
 use crate::gate::Gate;
-use crate::hints::aim::{Aim, first_look, is_past, next_look};
+use crate::goal::Goal;
+use crate::hints::aim::{Aim, Wanted, Whole, first_look, next_look};
 use crate::hints::pace::Watch;
 use crate::hints::patience::Patience;
 use crate::hints::pauses::Pauses;
@@ -37,14 +38,43 @@ const RAISED: u8 = 64;
 const MOST_KEPT: u8 = 128;
 
 /// Works until the seat sees the pending total at 0, the worker has visited as many vertices as its budget
+/// lets it, or nothing is left to do that is wanted. Where all is wanted no label is compared with a limit.
+pub(crate) fn work<H: Wait + Clock, P: WorkPool, G: Gate>(
+    rt: &H,
+    shared: &Shared<'_, P, G>,
+    worker: u32,
+    seat: WorkSeat,
+    side: &mut P::Side,
+) -> WorkSeat
+    requires words { seat.words ≡ shared.now.words.now }
+    requires seat { CanLead shared.now.run.csr.now 1 seat }
+    requires side { P.is_side shared.now.run.pool.now side.old }
+    ensures seat { AreDone shared.now.run.budget shared.now.run.goal seat result }
+    ensures side { P.is_side shared.now.run.pool.now side.new }
+{
+    match shared.run.goal {
+        Goal::EachVertex => work_with(rt, shared, worker, seat, side, Whole),
+        _ => work_with(
+            rt,
+            shared,
+            worker,
+            seat,
+            side,
+            Wanted::new(&shared.run.goal),
+        ),
+    }
+}
+
+/// Works until the seat sees the pending total at 0, the worker has visited as many vertices as its budget
 /// lets it, or nothing is left to do that is wanted. The seat comes and goes by value, so that it lies in
 /// registers meanwhile.
-pub(crate) fn work<H: Wait + Clock, P: WorkPool, G: Gate>(
+fn work_with<H: Wait + Clock, P: WorkPool, G: Gate, A: Aim + Drop>(
     rt: &H,
     shared: &Shared<'_, P, G>,
     worker: u32,
     mut seat: WorkSeat,
     side: &mut P::Side,
+    mut aim: A,
 ) -> WorkSeat
     requires words { seat.words ≡ shared.now.words.now }
     requires seat { CanLead shared.now.run.csr.now 1 seat }
@@ -59,7 +89,6 @@ pub(crate) fn work<H: Wait + Clock, P: WorkPool, G: Gate>(
     let mut watch = Watch::new(worker, first_look(&near.run.goal));
     let mut budget = Budget::new(near.run.budget);
     let mut patience = Patience::new(n, budget.left());
-    let mut aim = Aim::new(&near.run.goal);
     for _ in rt.forever() {
         if budget.is_spent() {
             near.pace.leave(worker);
@@ -75,9 +104,9 @@ pub(crate) fn work<H: Wait + Clock, P: WorkPool, G: Gate>(
             show(&near, worker, &seat, popped);
         }
         match popped {
-            Some(u) if u < n && take_below(&near, &mut seat, aim.limit, u) => {
+            Some(u) if u < n && take_below(&near, &mut seat, &aim, u) => {
                 prefetch(&near, n, &seat, side);
-                visit(rt, &near, worker, &mut seat, side, u, aim.limit);
+                visit(rt, &near, worker, &mut seat, side, u, &aim);
                 budget.spend();
                 if watch.visited() {
                     seat = look(rt, &near, &mut watch, &mut aim, seat);
@@ -111,9 +140,9 @@ pub(crate) fn work<H: Wait + Clock, P: WorkPool, G: Gate>(
     unreachable!()
 }
 
-/// Takes the mark of `u` away, as `take`, unless its label is past the limit: then the mark stays.
+/// Takes the mark of `u` away, as `take`, unless its label is past what is wanted: then the mark stays.
 #[inline(always)]
-fn take_below<P, G>(shared: &Shared<'_, P, G>, seat: &mut WorkSeat, limit: u64, u: u32) -> bool
+fn take_below<P, G, A: Aim>(shared: &Shared<'_, P, G>, seat: &mut WorkSeat, aim: &A, u: u32) -> bool
     requires words { seat.old.words ≡ shared.now.words.now }
     requires graph { shared.now.run.csr.now ≡ seat.old.known.graph }
     requires no_vertex { HasNoVertex seat.old }
@@ -123,7 +152,7 @@ fn take_below<P, G>(shared: &Shared<'_, P, G>, seat: &mut WorkSeat, limit: u64, 
     ensures credit { result ≡ true → 1 ≤ seat.new.known.view.credits }
     ensures no_vertex { result ≡ false → HasNoVertex seat.new }
 {
-    !is_past(shared, seat, limit, u) && shared.words.take(seat, u)
+    !aim.leaves(shared, seat, u) && shared.words.take(seat, u)
 }
 
 /// Gives back all credits that the seat kept. Until then no seat sees the total at 0.
@@ -159,11 +188,11 @@ fn is_over(words: &Words, seat: &mut WorkSeat) -> bool
 
 /// Looks at what is wanted and at the other workers, and naps where it is far ahead of one: without credits then.
 #[inline(never)]
-fn look<C: Clock, P, G>(
+fn look<C: Clock, P, G, A: Aim>(
     clock: &C,
     shared: &Shared<'_, P, G>,
     watch: &mut Watch,
-    aim: &mut Aim,
+    aim: &mut A,
     mut seat: WorkSeat,
 ) -> WorkSeat
     requires words { seat.words ≡ shared.now.words.now }
@@ -203,14 +232,14 @@ fn show<P, G>(shared: &Shared<'_, P, G>, worker: u32, seat: &WorkSeat, vertex: O
 /// Visits each vertex that is marked below the limit, in rising order, until the budget is spent: those too that
 /// the pool has lost. Returns the seat, which kept no credit, and what is left of the budget.
 #[inline(never)]
-fn sweep<H: Wait, P: WorkPool, G: Gate>(
+fn sweep<H: Wait, P: WorkPool, G: Gate, A: Aim>(
     rt: &H,
     shared: &Shared<'_, P, G>,
     worker: u32,
     mut seat: WorkSeat,
     side: &mut P::Side,
     mut budget: Budget,
-    aim: &mut Aim,
+    aim: &mut A,
 ) -> (WorkSeat, Budget)
     requires words { seat.words ≡ shared.now.words.now }
     requires graph { shared.now.run.csr.now ≡ seat.known.graph }
@@ -222,7 +251,7 @@ fn sweep<H: Wait, P: WorkPool, G: Gate>(
     ensures limit { result.1.has_limit ≡ budget.has_limit }
 {
     shared.pace.seek();
-    let (limit, before) = (aim.limit, budget.left());
+    let before = budget.left();
     for v in 0..shared.run.csr.n() {
         if budget.is_spent() {
             break;
@@ -230,8 +259,8 @@ fn sweep<H: Wait, P: WorkPool, G: Gate>(
         if !shared.pace.is_alone() {
             show(shared, worker, &seat, Some(v));
         }
-        if take_below(shared, &mut seat, limit, v) {
-            visit(rt, shared, worker, &mut seat, side, v, limit);
+        if take_below(shared, &mut seat, aim, v) {
+            visit(rt, shared, worker, &mut seat, side, v, aim);
             budget.spend();
         }
     }
@@ -243,14 +272,14 @@ fn sweep<H: Wait, P: WorkPool, G: Gate>(
 /// Relaxes the row of the vertex that the seat took, and keeps the credits that are left, for marks to come. A head
 /// whose label fell is marked, and handed to the pool where the label is below the limit.
 #[inline(always)]
-fn visit<H: Wait, P: WorkPool, G: Gate>(
+fn visit<H: Wait, P: WorkPool, G: Gate, A: Aim>(
     rt: &H,
     shared: &Shared<'_, P, G>,
     worker: u32,
     seat: &mut WorkSeat,
     side: &mut P::Side,
     u: u32,
-    limit: u64,
+    aim: &A,
 )
     requires words { seat.old.words ≡ shared.now.words.now }
     requires graph { shared.now.run.csr.now ≡ seat.old.known.graph }
@@ -270,7 +299,7 @@ fn visit<H: Wait, P: WorkPool, G: Gate>(
     words.prefetch_labels(seat, csr, u);
     while let Some((head, label)) = next_lowered(words, csr, seat, u, end) {
         mark(words, seat, u);
-        if label >= limit {
+        if aim.is_past(label) {
             continue;
         }
         let metric = run.metric_of(label);

@@ -22,11 +22,83 @@ const POPS: u32 = 16;
 /// After this many it leaves whatever other workers do.
 const MOST_POPS: u32 = 2048;
 
-/// What a worker knows of the labels that are wanted.
-#[derive(Clone, Copy)]
-pub(crate) struct Aim {
+/// What a worker leaves alone, and when it leaves.
+pub(crate) trait Aim {
+    /// Whether a head whose label fell to this is left alone: it is marked, and not handed to the pool.
+    fn is_past(&self, label: u64) -> bool;
+
+    /// Whether a vertex is left alone: it isn't taken.
+    fn leaves<P, G>(&self, shared: &Shared<'_, P, G>, seat: &WorkSeat, v: u32) -> bool
+        requires words { seat.now.words ≡ shared.now.words.now }
+        requires graph { shared.now.run.csr.now ≡ seat.now.known.graph }
+        requires vertex { v < shared.now.run.csr.now.n };
+
+    /// Where the worker has visited a vertex since its last fruitless pop.
+    fn renew(&mut self);
+
+    /// After a sweep, and whether it visited a vertex.
+    fn swept(&mut self, has_visited: bool);
+
+    /// Looks at the labels of the targets, after a visit.
+    fn look<P, G>(&mut self, shared: &Shared<'_, P, G>, seat: &WorkSeat)
+        requires words { seat.now.words ≡ shared.now.words.now }
+        requires graph { shared.now.run.csr.now ≡ seat.now.known.graph };
+
+    /// Whether a worker is to leave that drew nothing, or this vertex from a pool in which a sweep found nothing: what
+    /// is wanted is done, no other worker is at a label below the limit, and no sweep is due.
+    fn is_reached<P, G>(
+        &mut self,
+        shared: &Shared<'_, P, G>,
+        seat: &WorkSeat,
+        worker: u32,
+        drawn: Option<u32>,
+    ) -> bool
+        requires words { seat.now.words ≡ shared.now.words.now }
+        requires graph { shared.now.run.csr.now ≡ seat.now.known.graph }
+        ensures { result ≡ true → shared.now.run.goal ≢ goal.EachVertex };
+}
+
+/// All is wanted: no vertex is left alone, and no worker leaves before the end.
+#[derive(Drop)]
+pub(crate) struct Whole;
+
+impl Aim for Whole {
+    #[inline(always)]
+    fn is_past(&self, _label: u64) -> bool {
+        false
+    }
+
+    #[inline(always)]
+    fn leaves<P, G>(&self, _shared: &Shared<'_, P, G>, _seat: &WorkSeat, _v: u32) -> bool {
+        false
+    }
+
+    #[inline(always)]
+    fn renew(&mut self) {}
+
+    #[inline(always)]
+    fn swept(&mut self, _has_visited: bool) {}
+
+    #[inline(always)]
+    fn look<P, G>(&mut self, _shared: &Shared<'_, P, G>, _seat: &WorkSeat) {}
+
+    #[inline(always)]
+    fn is_reached<P, G>(
+        &mut self,
+        _shared: &Shared<'_, P, G>,
+        _seat: &WorkSeat,
+        _worker: u32,
+        _drawn: Option<u32>,
+    ) -> bool {
+        false
+    }
+}
+
+/// Some labels are wanted: what a worker knows of them.
+#[derive(Drop)]
+pub(crate) struct Wanted {
     /// Vertices with this label or a larger one are left alone. It never rises.
-    pub limit: u64,
+    limit: u64,
     /// Each target before this place had a label at the last look.
     reached: usize,
     /// Pops in a row that gave nothing.
@@ -35,47 +107,62 @@ pub(crate) struct Aim {
     has_swept: bool,
 }
 
-impl Aim {
-    /// Before the first visit.
-    pub(crate) fn new(goal: &Goal<'_>) -> Aim {
-        let limit = if goal.targets().is_empty() {
-            goal.limit_past(0)
-        } else {
-            INF
-        };
-        Aim {
-            limit,
-            reached: 0,
-            idle: 0,
-            has_swept: false,
-        }
+impl Aim for Wanted {
+    #[inline(always)]
+    fn is_past(&self, label: u64) -> bool {
+        label >= self.limit
     }
 
-    /// Where the worker has visited a vertex since its last fruitless pop.
-    pub(crate) fn renew(&mut self) {
+    #[inline(always)]
+    fn leaves<P, G>(&self, shared: &Shared<'_, P, G>, seat: &WorkSeat, v: u32) -> bool {
+        self.limit < INF && shared.words.label_hint(seat, v) >= self.limit
+    }
+
+    fn renew(&mut self) {
         self.idle = 0;
         self.has_swept = false;
     }
 
-    /// After a sweep, and whether it visited a vertex.
-    pub(crate) fn swept(&mut self, has_visited: bool) {
+    fn swept(&mut self, has_visited: bool) {
         self.has_swept = !has_visited;
         if self.has_swept {
             self.idle = self.idle.max(POPS);
         }
     }
 
-    /// Looks at the labels of the targets, after a visit.
-    pub(crate) fn look<P, G>(&mut self, shared: &Shared<'_, P, G>, seat: &WorkSeat)
-        requires words { seat.now.words ≡ shared.now.words.now }
-        requires graph { shared.now.run.csr.now ≡ seat.now.known.graph }
-    {
+    fn look<P, G>(&mut self, shared: &Shared<'_, P, G>, seat: &WorkSeat) {
+        shared.pace.begin();
+        self.take_aim(shared, seat);
+    }
+
+    #[inline(never)]
+    fn is_reached<P, G>(
+        &mut self,
+        shared: &Shared<'_, P, G>,
+        seat: &WorkSeat,
+        worker: u32,
+        drawn: Option<u32>,
+    ) -> bool {
         match shared.run.goal {
-            Goal::EachVertex => {}
-            _ => {
-                shared.pace.begin();
-                self.take_aim(shared, seat);
-            }
+            Goal::EachVertex => false,
+            _ => (drawn.is_none() || self.has_swept) && self.is_done(shared, seat, worker),
+        }
+    }
+}
+
+impl Wanted {
+    /// Before the first visit.
+    pub(crate) fn new(goal: &Goal<'_>) -> Wanted {
+        let limit = if goal.targets().is_empty() {
+            goal.limit_past(0)
+        } else {
+            INF
+        };
+        Wanted {
+            limit,
+            reached: 0,
+            idle: 0,
+            has_swept: false,
         }
     }
 
@@ -90,26 +177,6 @@ impl Aim {
         if self.reached >= targets.len() && !targets.is_empty() {
             let farthest = farthest_now(shared, seat, targets);
             self.limit = goal.limit_past(farthest).min(self.limit);
-        }
-    }
-
-    /// Whether a worker is to leave that drew nothing, or this vertex from a pool in which a sweep found nothing: what
-    /// is wanted is done, no other worker is at a label below the limit, and no sweep is due.
-    #[inline(never)]
-    pub(crate) fn is_reached<P, G>(
-        &mut self,
-        shared: &Shared<'_, P, G>,
-        seat: &WorkSeat,
-        worker: u32,
-        drawn: Option<u32>,
-    ) -> bool
-        requires words { seat.now.words ≡ shared.now.words.now }
-        requires graph { shared.now.run.csr.now ≡ seat.now.known.graph }
-        ensures { result ≡ true → shared.now.run.goal ≢ goal.EachVertex }
-    {
-        match shared.run.goal {
-            Goal::EachVertex => false,
-            _ => (drawn.is_none() || self.has_swept) && self.is_done(shared, seat, worker),
         }
     }
 
@@ -150,16 +217,6 @@ pub(crate) fn next_look(goal: &Goal<'_>) -> u32 {
         Goal::EachVertex => u32::MAX,
         _ => (goal.targets().len().min(u32::MAX as usize) as u32).max(VISITS),
     }
-}
-
-/// Whether the label of a vertex is at least the limit.
-#[inline(always)]
-pub(crate) fn is_past<P, G>(shared: &Shared<'_, P, G>, seat: &WorkSeat, limit: u64, v: u32) -> bool
-    requires words { seat.now.words ≡ shared.now.words.now }
-    requires graph { shared.now.run.csr.now ≡ seat.now.known.graph }
-    requires vertex { v < shared.now.run.csr.now.n }
-{
-    limit < INF && shared.words.label_hint(seat, v) >= limit
 }
 
 /// The place of the first target, from a place on, that has no label now; the number of targets if each has one.

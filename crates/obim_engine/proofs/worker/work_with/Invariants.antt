@@ -1,7 +1,7 @@
 use Rattle.std.proofs.Common.{◌≡◌, ◌<◌, None, false}
 use Rattle.label_words.specs.Callers.{Stays}
 use Rattle.label_words.specs.Known.{HasNoVertex}
-use Rattle.obim_engine.proofs.worker.work.Given as goal
+use Rattle.obim_engine.proofs.worker.work_with.Given as goal
 
 abbrev pub invariant-loop : goal.invariant-loop
 invariant-loop g l =
