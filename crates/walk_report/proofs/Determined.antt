@@ -55,7 +55,8 @@ hops_and_parents_follow_the_arcs n one other s labels hops parents same exact le
   },
 )
 
-hop-same : {arcs : List ArcRec} {s v d h h' : ℕ} → IsHop arcs s v d h → IsHop arcs s v d h' → h ≡ h'
+-- a vertex has one hop for a label
+pub hop-same : {arcs : List ArcRec} {s v d h h' : ℕ} → IsHop arcs s v d h → IsHop arcs s v d h' → h ≡ h'
 hop-same one two =
     let low = one.fewest two.walk.walk two.walk.walks two.walk.costs in
     let high = two.fewest one.walk.walk one.walk.walks one.walk.costs in

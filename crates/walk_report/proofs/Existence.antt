@@ -21,23 +21,23 @@ use Rattle.csr_graph.proofs.Facts.{no_arc}
 use Rattle.walk_report.specs.declared.hop.TheConstants.{NONE}
 use Rattle.walk_report.specs.Hop.{AreFromOneSource, AreHops}
 use Rattle.walk_report.specs.Parent.{AreFirstTails, IsParent, Leads}
-use Rattle.walk_report.specs.Search.{IsTight}
+use Rattle.walk_report.specs.Search.{IsTightBelow}
 use Rattle.walk_report.specs.Existence.{HopsAndParentsExist}
-use Rattle.walk_report.proofs.LeastWalks.{first-step, label-le-cost}
+use Rattle.walk_report.proofs.LeastWalks.{first-step, hops-below-inf, label-le-cost, labels-up-to}
 use Rattle.walk_report.proofs.Tails.{parents-done}
 
 -- a step is a tight arc that counts 1
 record IsStep (label : ℕ → ℕ) (arcs : List ArcRec) (step : ArcRec) : Type 0 where
   arc : ArcRec
   within : Contains arcs arc
-  tight : IsTight label arc
+  tight : IsTightBelow INF label arc
   is : unit_weight arc ≡ step
 
 record AreSteps (label : ℕ → ℕ) (arcs steps : List ArcRec) : Type 0 where
-  all : (arc : ArcRec) → Contains arcs arc → IsTight label arc → Contains steps (unit_weight arc)
+  all : (arc : ArcRec) → Contains arcs arc → IsTightBelow INF label arc → Contains steps (unit_weight arc)
   only : (step : ArcRec) → Contains steps step → IsStep label arcs step
 
-cases_tight : (label : ℕ → ℕ) (arc : ArcRec) → IsTight label arc ⊎ (IsTight label arc → ⊥)
+cases_tight : (label : ℕ → ℕ) (arc : ArcRec) → IsTightBelow INF label arc ⊎ (IsTightBelow INF label arc → ⊥)
 cases_tight label arc =
     elim (cases_eq (label arc.tail + arc.weight) (label arc.head)) [
       | inr other ↦ inr (λ tight. other tight.0)
@@ -95,7 +95,7 @@ steps_of label (first ∷ arcs) =
         record {
           all = λ arc within is.
               elim (Contains-append_cases (first ∷ []) arcs arc within) [
-                | inl here ↦ absurd (loose (subst (IsTight label) (sym (contains-one first arc here)) is))
+                | inl here ↦ absurd (loose (subst (IsTightBelow INF label) (sym (contains-one first arc here)) is))
                 | inr later ↦ rest.1.all arc later is
               ];
           only = λ step within. step-later label first arcs step (rest.1.only step within);
@@ -159,7 +159,7 @@ module _ (label : ℕ → ℕ) (arcs steps : List ArcRec) (are : AreSteps label 
 module _ (n : ℕ) (arcs : List ArcRec) (s : ℕ) (labels : List ℕ) (few : n ≤ MAX_VERTICES) (graph : IsGraph n arcs)
     (inside : s < n) (least : AreLeastLabels n arcs (seeds_from s) labels) where
   label_s : slice_index labels s ≡ 0
-  label_s = omega (arith, label-le-cost graph least s [] inside refl)
+  label_s = omega (arith, label-le-cost (omega arith) graph (labels-up-to INF least) s [] inside (omega arith) refl)
 
   module _ (steps : List ArcRec) (are : AreSteps (slice_index labels) arcs steps) where
     -- a walk along which labels differ by its cost goes by steps
@@ -168,7 +168,8 @@ module _ (n : ℕ) (arcs : List ArcRec) (s : ℕ) (labels : List ℕ) (few : n �
         → IsWalk steps u (map unit_weight walk) v
     by-steps u v [] below below' finite costs walks = walks
     by-steps u v (arc ∷ walk) below below' finite costs walks =
-        let next = first-step graph least u v arc walk below below' finite costs walks in
+        let next =
+        first-step (omega arith) graph (labels-up-to INF least) u v arc walk below below' finite costs walks in
         let tail : slice_index labels arc.tail ≡ slice_index labels u = ap (slice_index labels) walks.1 in (
           are.all arc walks.0 (omega (arith, next.2, tail), next.1),
           walks.1,
@@ -332,5 +333,12 @@ hops_and_parents_exist law n arcs s labels few graph inside least =
           subst (IsFirst label (slice_index hops) v arcs n) (sym is) (first-of label (slice_index hops) v arcs n).1;
     } in
     let from : AreFromOneSource n arcs labels hops =
-    record { source = s; within = inside; least = least; exact = exact } in
+    record {
+      source = s;
+      within = inside;
+      limit = INF;
+      few = omega arith;
+      least = labels-up-to INF least;
+      exact = hops-below-inf least exact;
+    } in
     (hops, parents, exact, parents-done few graph from tails)

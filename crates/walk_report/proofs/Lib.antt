@@ -4,4 +4,5 @@ mod Filling
 mod Tails
 mod Printing
 mod Determined
+mod Agreeing
 mod Existence

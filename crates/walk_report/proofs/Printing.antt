@@ -5,13 +5,13 @@ use Rattle.std.proofs.lemmas.List.{length_push, map-append}
 use Rattle.std.specs.List.{All, Contains}
 use Rattle.std.proofs.lemmas.List.Elements.{All-contains, All-nil, All-push}
 use Rattle.route_walks.specs.declared.graph.ArcRec.{ArcRec}
-use Rattle.route_walks.specs.declared.graph.TheConstants.{INF}
 use Rattle.route_walks.specs.Walk.{IsArcBelow, IsGraph, IsWalk, cost}
 use Rattle.route_walks.proofs.Facts.{walk-append, cost-append}
 use Rattle.walk_report.specs.declared.hop.TheConstants.{NONE}
-use Rattle.walk_report.specs.Hop.{AreHops}
+use Rattle.walk_report.specs.Hop.{AreHopsBelow}
 use Rattle.walk_report.specs.Parent.{AreParents, LeadBack}
-use Rattle.walk_report.specs.Printed.{printed_walk, GoesThrough, PrintedWalksAreWalks}
+use Rattle.walk_report.specs.Printed.{printed_walk, GoesThrough, PrintedWalksAreWalks, PrintedWalksBelowAreWalks}
+use Rattle.walk_report.proofs.LeastWalks.{hops-below-inf}
 
 -- where parents lead back, a printed walk goes through vertices
 pub printed_walk-within : {hops parents : List ℕ} → LeadBack hops parents
@@ -49,20 +49,24 @@ goes-on {arcs = arcs} {s = s} {u = u} goes v w within =
           ∙ ap (λ (xs : List ℕ). xs ++ v ∷ []) goes.through;
     }
 
-goes : {n : ℕ} {arcs : List ArcRec} {s : ℕ} {labels hops parents : List ℕ} → IsGraph n arcs
-    → AreHops n arcs s labels hops → AreParents n arcs labels hops parents
-    → (h v : ℕ) → v < n → slice_index labels v < INF → slice_index hops v ≡ h
+goes : {limit n : ℕ} {arcs : List ArcRec} {s : ℕ} {labels hops parents : List ℕ} → IsGraph n arcs
+    → AreHopsBelow limit n arcs s labels hops → AreParents n arcs labels hops parents
+    → (h v : ℕ) → v < n → slice_index labels v < limit → slice_index hops v ≡ h
     → GoesThrough arcs s v (slice_index labels v) h (printed_walk (slice_index parents) h v)
-goes {arcs = arcs} {s = s} graph exact led zero v below finite is =
-    let walk = (exact.hop v below finite).walk in
+goes {arcs = arcs} {s = s} graph exact led zero v below low is =
+    let walk = (exact.hop v below low).walk in
     rw (← walk.costs) (no-arcs arcs s v walk.walk walk.walks (walk.count ∙ is))
-goes {n = n} {arcs = arcs} {parents = parents} graph exact led (suc h) v below finite is =
-    let leads = (led.parent v below (omega arith) (exact.below v below finite)).leads in
+goes {n = n} {arcs = arcs} {parents = parents} graph exact led (suc h) v below low is =
+    let leads = (led.parent v below (omega arith) (exact.below v below low)).leads in
     let ends = All-contains (IsArcBelow n) arcs _ graph leads.within in
     let to_parent = goes graph exact led h (slice_index parents v) ends.0
     (omega (arith, leads.leading.tight)) (omega (arith, leads.leading.nearer)) in
     rw (← leads.leading.tight) (goes-on to_parent v leads.weight leads.within)
 
+pub printed_walks_below_are_walks : PrintedWalksBelowAreWalks
+printed_walks_below_are_walks limit n arcs s labels hops parents graph exact led v below low =
+    goes graph exact led (slice_index hops v) v below low refl
+
 pub printed_walks_are_walks : PrintedWalksAreWalks
 printed_walks_are_walks n arcs s labels hops parents graph within least exact led v below finite =
-    goes graph exact led (slice_index hops v) v below finite refl
+    goes graph (hops-below-inf least exact) led (slice_index hops v) v below finite refl

@@ -13,12 +13,12 @@ use Rattle.std.proofs.lemmas.Bool.Decides.{nat_tests}
 use Rattle.route_walks.specs.declared.graph.ArcRec.{ArcRec}
 use Rattle.route_walks.specs.declared.graph.TheConstants.{INF, MAX_VERTICES}
 use Rattle.route_walks.specs.Walk.{IsArcBelow, IsGraph, IsWalk, cost}
-use Rattle.route_walks.specs.Label.{AreLeastLabels}
+use Rattle.route_walks.specs.Limit.{AreLeastLabelsUpTo}
 use Rattle.route_walks.specs.Operators.{seeds_from}
 use Rattle.route_walks.proofs.Facts.{walk-of_attained}
 use Rattle.walk_report.specs.declared.hop.TheConstants.{NONE}
-use Rattle.walk_report.specs.Hop.{HasWalk, AreHops}
-use Rattle.walk_report.specs.Search.{IsTight, IsReached, IsVisited, IsSearch}
+use Rattle.walk_report.specs.Hop.{HasWalk, AreHopsBelow}
+use Rattle.walk_report.specs.Search.{IsTightBelow, IsReached, IsVisited, IsSearch}
 use Rattle.walk_report.proofs.LeastWalks.{label-le-cost, hop-over}
 
 -- one vertex fewer has no hop
@@ -28,9 +28,9 @@ count-set hops v h below unset small =
     grind (arith, nat_tests, sum_by-set (λ hop. cond (eqb hop NONE) 1 0) hops v h 0 below)
 
 -- only s has a hop, and stands in the queue
-pub search-start : (n : ℕ) (arcs : List ArcRec) (label : ℕ → ℕ) (s : ℕ) → s < n → label s ≡ 0
-    → IsSearch n arcs label (set (replicate n NONE) s 0) (s ∷ []) 0
-search-start n arcs label s below zero_label =
+pub search-start : (limit n : ℕ) (arcs : List ArcRec) (label : ℕ → ℕ) (s : ℕ) → s < n → 0 < limit → label s ≡ 0
+    → IsSearch limit n arcs label (set (replicate n NONE) s 0) (s ∷ []) 0
+search-start limit n arcs label s below some zero_label =
     let none = replicate n NONE in
     let long : length none ≡ n = length-replicate n NONE in
     let here : slice_index (set none s 0) s ≡ 0 = get_or-set_same none s 0 0 (omega arith) in
@@ -53,7 +53,7 @@ search-start n arcs label s below zero_label =
             vertex = below;
             early = omega arith;
             walk = record { walk = []; walks = refl; costs = sym zero_label; count = sym here };
-            finite = omega arith;
+            low = omega (arith, some, zero_label);
           });
       rising = λ k lt. absurd (omega arith);
       near = λ k lt _. let is : k ≡ 0 = omega arith in rw is (omega arith);
@@ -62,18 +62,18 @@ search-start n arcs label s below zero_label =
     }
 
 -- one more than the hop of the next vertex is a hop
-pub search-small : {n : ℕ} {arcs : List ArcRec} {label : ℕ → ℕ} {hops queue : List ℕ} {next : ℕ}
-    → IsSearch n arcs label hops queue next → n ≤ MAX_VERTICES → next < length queue
+pub search-small : {limit n : ℕ} {arcs : List ArcRec} {label : ℕ → ℕ} {hops queue : List ℕ} {next : ℕ}
+    → IsSearch limit n arcs label hops queue next → n ≤ MAX_VERTICES → next < length queue
     → slice_index hops (slice_index queue next) + 1 < NONE
 search-small {next = next} search few place = omega (arith, (search.found next place).early, search.room)
 
 -- a vertex that a walk by the next one reaches gets a hop and is queued
-pub search-push : {n : ℕ} {arcs : List ArcRec} {label : ℕ → ℕ} {hops queue : List ℕ} {next : ℕ}
-    → IsSearch n arcs label hops queue next → n ≤ MAX_VERTICES → next < length queue
+pub search-push : {limit n : ℕ} {arcs : List ArcRec} {label : ℕ → ℕ} {hops queue : List ℕ} {next : ℕ}
+    → IsSearch limit n arcs label hops queue next → n ≤ MAX_VERTICES → next < length queue
     → (v h : ℕ) → h ≡ slice_index hops (slice_index queue next) + 1
-    → v < n → slice_index hops v ≡ NONE → HasWalk arcs (slice_index queue 0) v (label v) h → label v < INF
-    → IsSearch n arcs label (set hops v h) (queue ++ v ∷ []) next
-search-push {hops = hops} {queue = queue} {next = next} search few place v h is below unset walk finite =
+    → v < n → slice_index hops v ≡ NONE → HasWalk arcs (slice_index queue 0) v (label v) h → label v < limit
+    → IsSearch limit n arcs label (set hops v h) (queue ++ v ∷ []) next
+search-push {hops = hops} {queue = queue} {next = next} search few place v h is below unset walk low =
     let hops' = set hops v h in
     let queue' = queue ++ v ∷ [] in
     let more : length queue' ≡ length queue + 1 = length_push queue v in
@@ -102,8 +102,7 @@ search-push {hops = hops} {queue = queue} {next = next} search few place v h is 
             vertex = below;
             early = omega (arith, (search.found next place).early);
             walk = walk;
-            finite =
-                finite;
+            low = low;
           })));
       rising = λ k lt.
           elim (cases_lt (k + 1) (length queue)) [
@@ -130,8 +129,8 @@ search-push {hops = hops} {queue = queue} {next = next} search few place v h is 
     }
 
 -- a vertex that has a hop is at most one hop further than the next one
-pub search-near : {n : ℕ} {arcs : List ArcRec} {label : ℕ → ℕ} {hops queue : List ℕ} {next : ℕ}
-    → IsSearch n arcs label hops queue next → next < length queue
+pub search-near : {limit n : ℕ} {arcs : List ArcRec} {label : ℕ → ℕ} {hops queue : List ℕ} {next : ℕ}
+    → IsSearch limit n arcs label hops queue next → next < length queue
     → (v : ℕ) → v < n → (slice_index hops v ≡ NONE → ⊥)
     → IsReached (slice_index hops) (slice_index hops (slice_index queue next) + 1) v
 search-near {hops = hops} search place v below some =
@@ -140,10 +139,10 @@ search-near {hops = hops} search place v below some =
     (omega (arith, search.near stands.0 stands.1 place, ap (slice_index hops) stands.2), set)
 
 -- once all tight arcs from the next vertex are reached, the search goes on after it
-pub search-next : {n : ℕ} {arcs : List ArcRec} {label : ℕ → ℕ} {hops queue : List ℕ} {next : ℕ}
-    → IsSearch n arcs label hops queue next → next < length queue
-    → IsVisited arcs label (slice_index hops) (slice_index queue next)
-    → IsSearch n arcs label hops queue (next + 1)
+pub search-next : {limit n : ℕ} {arcs : List ArcRec} {label : ℕ → ℕ} {hops queue : List ℕ} {next : ℕ}
+    → IsSearch limit n arcs label hops queue next → next < length queue
+    → IsVisited limit arcs label (slice_index hops) (slice_index queue next)
+    → IsSearch limit n arcs label hops queue (next + 1)
 search-next {next = next} search place visited = record {
   vertices = search.vertices;
   room = search.room;
@@ -156,46 +155,49 @@ search-next {next = next} search place visited = record {
 }
 
 -- at the end of the queue the hops are fewest
-pub search-done : {n : ℕ} {arcs : List ArcRec} {s : ℕ} {labels hops queue : List ℕ} {next : ℕ}
-    → IsGraph n arcs → s < n → AreLeastLabels n arcs (seeds_from s) labels
-    → IsSearch n arcs (slice_index labels) hops queue next
+pub search-done : {limit n : ℕ} {arcs : List ArcRec} {s : ℕ} {labels hops queue : List ℕ} {next : ℕ}
+    → limit ≤ INF → IsGraph n arcs → s < n → AreLeastLabelsUpTo limit n arcs (seeds_from s) labels
+    → IsSearch limit n arcs (slice_index labels) hops queue next
     → length queue ≤ next → 0 < length queue → slice_index queue 0 ≡ s
-    → AreHops n arcs s labels hops
-search-done {n = n} {arcs = arcs} {s = s} {labels = labels} {hops = hops} graph within least search done some is =
+    → AreHopsBelow limit n arcs s labels hops
+search-done {limit = limit} {n = n} {arcs = arcs} {s = s} {labels = labels} {hops = hops} {queue = queue} few graph within
+    least search done some is =
     let label : ℕ → ℕ = slice_index labels in
     let hop : ℕ → ℕ = slice_index hops in
     let hop_s : hop s ≡ 0 = omega (arith, ap hop is, (search.found 0 some).early) in
-    let label_s : label s ≡ 0 = omega (arith, label-le-cost graph least s [] within refl) in
-    let found : (v : ℕ) → v < n → hop v < NONE → HasWalk arcs s v (label v) (hop v) × (label v < INF) =
+    let first : label (slice_index queue 0) < limit = (search.found 0 some).low in
+    let label_s : label s ≡ 0 =
+    omega (arith, label-le-cost few graph least s [] within (omega (arith, first)) refl) in
+    let found : (v : ℕ) → v < n → hop v < NONE → HasWalk arcs s v (label v) (hop v) × (label v < limit) =
     λ v below set.
     let stands = search.queued v below set in
     let here = rw (stands.2, is) at (search.found stands.0 stands.1) in
-    (here.walk, here.finite) in
-    let reached : (arc : ArcRec) → Contains arcs arc → IsTight label arc → hop arc.tail < NONE
+    (here.walk, here.low) in
+    let reached : (arc : ArcRec) → Contains arcs arc → IsTightBelow limit label arc → hop arc.tail < NONE
     → IsReached hop (hop arc.tail + 1) arc.head =
     λ arc here tight set.
     let stands = search.queued arc.tail (All-contains (IsArcBelow n) arcs arc graph here).0 set in
     rw stands.2 at (search.visited stands.0 (omega (arith, stands.1)) arc here (sym stands.2) tight) in
-    let over : (v : ℕ) (walk : List ArcRec) → v < n → label v < INF → IsWalk arcs s walk v → cost walk ≡ label v
+    let over : (v : ℕ) (walk : List ArcRec) → v < n → label v < limit → IsWalk arcs s walk v → cost walk ≡ label v
     → IsReached hop (length walk) v =
-    λ v walk below finite walks costs.
-    let far = hop-over graph least hop reached s v walk within below finite (omega (arith, costs))
+    λ v walk below low walks costs.
+    let far = hop-over few graph least hop reached s v walk within below low (omega (arith, costs))
     (omega arith) walks in
     (omega (arith, far), far.1) in
-    let set : (v : ℕ) → v < n → label v < INF → hop v < NONE =
-    λ v below finite.
-    let least_walk = walk-of_attained arcs s v (label v) ((least.least v below).attained finite) in
-    (over v least_walk.0 below finite least_walk.1 least_walk.2).1 in
+    let set : (v : ℕ) → v < n → label v < limit → hop v < NONE =
+    λ v below low.
+    let least_walk = walk-of_attained arcs s v (label v) ((least.least v below).attained (omega (arith, low, few))) in
+    (over v least_walk.0 below low least_walk.1 least_walk.2).1 in
     record {
       count = search.vertices;
-      none = λ v below infinite.
+      none = λ v below past.
           elim (cases_lt (hop v) NONE) [
-            | inl some_hop ↦ absurd (omega (arith, (found v below some_hop).1))
+            | inl some_hop ↦ absurd (omega (arith, (found v below some_hop).1, past))
             | inr none ↦ omega (arith, search.fits v below)
           ];
       below = set;
-      hop = λ v below finite. record {
-        walk = (found v below (set v below finite)).0;
-        fewest = λ walk walks costs. (over v walk below finite walks costs).0;
+      hop = λ v below low. record {
+        walk = (found v below (set v below low)).0;
+        fewest = λ walk walks costs. (over v walk below low walks costs).0;
       };
     }

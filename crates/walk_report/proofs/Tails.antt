@@ -1,6 +1,6 @@
 -- The first tail that leads to a vertex is the least, where tails are passed in rising order.
 use Rattle.std.proofs.Common.{◌≡◌, ◌∙◌, ℕ, ◌+◌, ◌<◌, ◌≤◌, List, length, slice_index, set}
-use Rattle.std.proofs.Common.{replicate, sym, refl, arith, inl, inr, below_more}
+use Rattle.std.proofs.Common.{replicate, sym, ap, refl, arith, inl, inr, below_more}
 use Rattle.std.specs.List.{Contains}
 use Rattle.std.proofs.lemmas.Bool.{cases_eq, cases_lt}
 use Rattle.std.proofs.lemmas.List.{get_or-set_same, get_or-set_other, length-set, get_or-replicate, length-replicate}
@@ -70,6 +70,14 @@ tails-next tails filled = record {
       ];
 }
 
+-- a tail without a hop leads nowhere
+pub tails-past : {n : ℕ} {arcs : List ArcRec} {label hop : ℕ → ℕ} {tail : ℕ} {parents : List ℕ}
+    → AreFirstTails n arcs label hop tail parents → hop tail ≡ NONE → ((v : ℕ) → hop v ≤ NONE)
+    → AreFirstTails n arcs label hop (tail + 1) parents
+tails-past {hop = hop} tails none fits =
+    tails-next tails (λ arc within is leading.
+    absurd (omega (arith, leading.nearer, ap hop is, none, fits arc.head)))
+
 -- with all tails passed, first tails are parents
 pub parents-done : {n : ℕ} {arcs : List ArcRec} {labels hops parents : List ℕ} → n ≤ MAX_VERTICES → IsGraph n arcs
     → AreFromOneSource n arcs labels hops
@@ -88,13 +96,13 @@ parents-done {n = n} {arcs = arcs} {hops = hops} {parents = parents} few graph f
             let u = slice_index parents v in
             let nearer : slice_index hops u + 1 ≡ slice_index hops v = parent.leads.leading.nearer in
             let in_graph : u < n = (All-contains (IsArcBelow n) arcs _ graph parent.leads.within).0 in
-            absurd (omega (arith, hop-lt graph from.least from.within from.exact u in_graph (omega arith)))
+            absurd (omega (arith, hop-lt from.few graph from.least from.within from.exact u in_graph (omega arith)))
       ];
   parent = λ v below far some.
       elim (tails.first v below) [
         | inr parent ↦ parent
         | inl none ↦
-            let found = some-leads graph from.least from.within from.exact v below far some in
+            let found = some-leads from.few graph from.least from.within from.exact v below far some in
             absurd (none.1 found.0 (All-contains (IsArcBelow n) arcs _ graph found.1.within).0 found.1)
       ];
 }

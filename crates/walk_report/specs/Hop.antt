@@ -4,7 +4,7 @@ use Rattle.std.specs.Prelude.{◌≡◌, ℕ, ◌<◌, ◌≤◌, List, length, 
 use Rattle.route_walks.specs.declared.graph.ArcRec.{ArcRec}
 use Rattle.route_walks.specs.declared.graph.TheConstants.{INF}
 use Rattle.route_walks.specs.Walk.{IsWalk, cost}
-use Rattle.route_walks.specs.Label.{AreLeastLabels}
+use Rattle.route_walks.specs.Limit.{AreLeastLabelsUpTo}
 use Rattle.route_walks.specs.Operators.{seeds_from}
 use Rattle.walk_report.specs.declared.hop.TheConstants.{NONE}
 
@@ -29,9 +29,19 @@ pub record AreHops (n : ℕ) (arcs : List ArcRec) (s : ℕ) (labels hops : List 
   pub hop : (v : ℕ) → v < n → slice_index labels v < INF
       → IsHop arcs s v (slice_index labels v) (slice_index hops v)
 
--- labels and hops are those from one source
+-- a list of the hops from s of those of n vertices whose label is below a limit, with NONE for the others
+pub record AreHopsBelow (limit n : ℕ) (arcs : List ArcRec) (s : ℕ) (labels hops : List ℕ) : Type 0 where
+  pub count : length hops ≡ n
+  pub none : (v : ℕ) → v < n → limit ≤ slice_index labels v → slice_index hops v ≡ NONE
+  pub below : (v : ℕ) → v < n → slice_index labels v < limit → slice_index hops v < NONE
+  pub hop : (v : ℕ) → v < n → slice_index labels v < limit
+      → IsHop arcs s v (slice_index labels v) (slice_index hops v)
+
+-- labels and hops are those from one source, up to some limit
 pub record AreFromOneSource (n : ℕ) (arcs : List ArcRec) (labels hops : List ℕ) : Type 0 where
   pub source : ℕ
   pub within : source < n
-  pub least : AreLeastLabels n arcs (seeds_from source) labels
-  pub exact : AreHops n arcs source labels hops
+  pub limit : ℕ
+  pub few : limit ≤ INF
+  pub least : AreLeastLabelsUpTo limit n arcs (seeds_from source) labels
+  pub exact : AreHopsBelow limit n arcs source labels hops

@@ -3,44 +3,43 @@
 use Rattle.std.specs.Prelude.{◌≡◌, ℕ, ◌+◌, ◌<◌, ◌≤◌, ◌==◌, List, length, slice_index}
 use Rattle.std.specs.Prelude.{count_by, Contains}
 use Rattle.route_walks.specs.declared.graph.ArcRec.{ArcRec}
-use Rattle.route_walks.specs.declared.graph.TheConstants.{INF}
 use Rattle.walk_report.specs.declared.hop.TheConstants.{NONE}
 use Rattle.walk_report.specs.Hop.{HasWalk}
 
--- an arc is tight: going along it gives its head's label, which is that of a walk
-abbrev pub IsTight : (ℕ → ℕ) → ArcRec → Type 0
-IsTight label arc = (label arc.tail + arc.weight ≡ label arc.head) × (label arc.head < INF)
+-- an arc is tight below a limit: going along it gives its head's label, which is below the limit
+abbrev pub IsTightBelow : ℕ → (ℕ → ℕ) → ArcRec → Type 0
+IsTightBelow limit label arc = (label arc.tail + arc.weight ≡ label arc.head) × (label arc.head < limit)
 
 -- v has a hop, of at most the given number
 abbrev pub IsReached : (ℕ → ℕ) → ℕ → ℕ → Type 0
 IsReached hop most v = (hop v ≤ most) × (hop v < NONE)
 
 -- the head of each tight arc that leaves u is reached, by at most one hop more
-abbrev pub IsVisited : List ArcRec → (ℕ → ℕ) → (ℕ → ℕ) → ℕ → Type 0
-IsVisited arcs label hop u =
-    (arc : ArcRec) → Contains arcs arc → arc.tail ≡ u → IsTight label arc
+abbrev pub IsVisited : ℕ → List ArcRec → (ℕ → ℕ) → (ℕ → ℕ) → ℕ → Type 0
+IsVisited limit arcs label hop u =
+    (arc : ArcRec) → Contains arcs arc → arc.tail ≡ u → IsTightBelow limit label arc
     → IsReached hop (hop u + 1) arc.head
 
--- the vertex v was found as the k-th: a walk from s of its label's cost has h arcs, and h is at most k
-pub record IsFound (n : ℕ) (arcs : List ArcRec) (label : ℕ → ℕ) (s v h k : ℕ) : Type 0 where
+-- the vertex v was found as the k-th: a walk from s of its label's cost, below the limit, has h arcs, and h is at most k
+pub record IsFound (limit n : ℕ) (arcs : List ArcRec) (label : ℕ → ℕ) (s v h k : ℕ) : Type 0 where
   pub vertex : v < n
   pub early : h ≤ k
   pub walk : HasWalk arcs s v (label v) h
-  pub finite : label v < INF
+  pub low : label v < limit
 
--- breadth-first search from the first vertex of the queue, where those before the place next are
+-- breadth-first search below a limit from the first vertex of the queue, where those before the place next are
 -- visited
-pub record IsSearch (n : ℕ) (arcs : List ArcRec) (label : ℕ → ℕ)
+pub record IsSearch (limit n : ℕ) (arcs : List ArcRec) (label : ℕ → ℕ)
     (hops queue : List ℕ) (next : ℕ) : Type 0 where
   pub vertices : length hops ≡ n
   pub room : count_by (λ hop. hop == NONE) hops + length queue ≡ n
   pub fits : (v : ℕ) → v < n → slice_index hops v ≤ NONE
   pub found : (k : ℕ) → k < length queue
-      → IsFound n arcs label (slice_index queue 0) (slice_index queue k) (slice_index hops (slice_index queue k)) k
+      → IsFound limit n arcs label (slice_index queue 0) (slice_index queue k) (slice_index hops (slice_index queue k)) k
   pub rising : (k : ℕ) → k + 1 < length queue
       → slice_index hops (slice_index queue k) ≤ slice_index hops (slice_index queue (k + 1))
   pub near : (k : ℕ) → k < length queue → next < length queue
       → slice_index hops (slice_index queue k) ≤ slice_index hops (slice_index queue next) + 1
   pub queued : (v : ℕ) → v < n → slice_index hops v < NONE
       → (k : ℕ) × (k < length queue) × (slice_index queue k ≡ v)
-  pub visited : (k : ℕ) → k < next → IsVisited arcs label (slice_index hops) (slice_index queue k)
+  pub visited : (k : ℕ) → k < next → IsVisited limit arcs label (slice_index hops) (slice_index queue k)

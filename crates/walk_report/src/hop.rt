@@ -2,9 +2,10 @@
 
 ghost use Rattle.std.specs.Prelude.{◌≡◌, ◌+◌, ◌<◌, ◌↔◌, length, slice_index, IsTrue, IfOk, OnOk};
 ghost use Rattle.route_walks.specs.Label.{AreLeastLabels};
+ghost use Rattle.route_walks.specs.Limit.{AreLeastLabelsUpTo};
 ghost use Rattle.route_walks.specs.Operators.{seeds_from};
-ghost use Rattle.walk_report.specs.Hop.{AreHops, AreFromOneSource};
-ghost use Rattle.walk_report.specs.Search.{IsTight, IsVisited, IsSearch};
+ghost use Rattle.walk_report.specs.Hop.{AreHops, AreHopsBelow, AreFromOneSource};
+ghost use Rattle.walk_report.specs.Search.{IsTightBelow, IsVisited, IsSearch};
 
 use csr_graph::{Csr, Target};
 use route_walks::{ArcRec, INF, Memory};
@@ -23,35 +24,62 @@ pub fn hops(alloc: Global, csr: &Csr, labels: &[u64], s: u32) -> Result<Vec<u32>
     ensures from_one_source { IfOk result
         (λ hops. AreFromOneSource csr.now.n csr.now.arcs labels.now hops.items) }
 {
+    hops_below(alloc, csr, labels, s, INF)
+}
+
+/// The hop of each vertex from `s` whose label is below a limit, where labels are least up to that limit. `NONE` for
+/// the others, though a walk may reach them. A vertex whose label is just the limit is one of them: where arcs cost
+/// nothing, a shorter walk to it may go through one whose label isn't least.
+///
+/// Takes time in proportion to the vertices below the limit and their arcs, and to all vertices for the answer.
+pub fn hops_below(
+    alloc: Global,
+    csr: &Csr,
+    labels: &[u64],
+    s: u32,
+    limit: u64,
+) -> Result<Vec<u32>, Memory>
+    requires source { s < csr.now.n }
+    requires least { AreLeastLabelsUpTo limit csr.now.n csr.now.arcs (seeds_from s) labels.now }
+    ensures exact { IfOk result
+        (λ hops. AreHopsBelow limit csr.now.n csr.now.arcs s labels.now hops.items) }
+    ensures from_one_source { IfOk result
+        (λ hops. AreFromOneSource csr.now.n csr.now.arcs labels.now hops.items) }
+{
     let n = csr.n() as usize;
     let mut hops = vec![in alloc; NONE; n]?;
+    if limit == 0 {
+        // Not even the source is below it.
+        return Ok(hops);
+    }
     let mut queue = Vec::with_capacity(alloc, n)?;
     hops[s as usize] = 0;
     queue.push(s)?;
     let mut next = 0;
     while next < queue.len() {
-        visit(csr, labels, next, &mut hops, &mut queue)?;
+        visit(csr, labels, limit, next, &mut hops, &mut queue)?;
         next += 1;
     }
     Ok(hops)
 }
 
-/// Gives a hop to each vertex that has none and that a tight arc joins to the vertex at the place
-/// `next` of the queue, and puts it into the queue.
+/// Gives a hop to each vertex below the limit that has none and that a tight arc joins to the vertex at
+/// the place `next` of the queue, and puts it into the queue.
 fn visit(
     csr: &Csr,
     labels: &[u64],
+    limit: u64,
     next: usize,
     hops: &mut [u32],
     queue: &mut Vec<u32>,
 ) -> Result<(), Memory>
     requires labels { length labels.now ≡ csr.now.n }
     requires place { next < length queue.old.items }
-    requires search { IsSearch csr.now.n csr.now.arcs (slice_index labels.now) hops.old
+    requires search { IsSearch limit csr.now.n csr.now.arcs (slice_index labels.now) hops.old
         queue.old.items next }
-    ensures search { OnOk result (IsSearch csr.now.n csr.now.arcs (slice_index labels.now)
+    ensures search { OnOk result (IsSearch limit csr.now.n csr.now.arcs (slice_index labels.now)
         hops.new queue.new.items next) }
-    ensures visited { OnOk result (IsVisited csr.now.arcs (slice_index labels.now)
+    ensures visited { OnOk result (IsVisited limit csr.now.arcs (slice_index labels.now)
         (slice_index hops.new) (slice_index queue.new.items next)) }
     ensures source { OnOk result (slice_index queue.new.items 0 ≡ slice_index queue.old.items 0) }
     ensures longer { OnOk result (next < length queue.new.items) }
@@ -65,7 +93,7 @@ fn visit(
             head,
             weight,
         };
-        if hops[head as usize] == NONE && is_tight(labels, &arc) {
+        if hops[head as usize] == NONE && is_tight(labels, limit, &arc) {
             hops[head as usize] = hop;
             queue.push(head)?;
         }
@@ -73,12 +101,12 @@ fn visit(
     Ok(())
 }
 
-/// Whether going along the arc gives its head's label, which is not `INF`.
-fn is_tight(labels: &[u64], arc: &ArcRec) -> bool
+/// Whether going along the arc gives its head's label, which is below the limit.
+fn is_tight(labels: &[u64], limit: u64, arc: &ArcRec) -> bool
     requires tail { arc.now.tail < length labels.now }
     requires head { arc.now.head < length labels.now }
-    ensures { IsTrue result ↔ IsTight (slice_index labels.now) arc.now }
+    ensures { IsTrue result ↔ IsTightBelow limit (slice_index labels.now) arc.now }
 {
     let reached = labels[arc.tail as usize].saturating_add(u64::from(arc.weight));
-    reached != INF && reached == labels[arc.head as usize]
+    reached < limit && reached == labels[arc.head as usize]
 }

@@ -2,7 +2,7 @@
 //! contracts are the laws.
 
 ghost use Rattle.walk_report.specs.Parent.{HopsAndParentsFollowTheArcs, HopsAndParentsAreUnique};
-ghost use Rattle.walk_report.specs.Printed.{PrintedWalksAreWalks};
+ghost use Rattle.walk_report.specs.Printed.{PrintedWalksAreWalks, PrintedWalksBelowAreWalks, WalksBelowAgree};
 ghost use Rattle.walk_report.specs.Existence.{HopsAndParentsExist};
 
 use route_walks::laws::least_labels_exist;
@@ -11,6 +11,17 @@ use route_walks::laws::least_labels_exist;
 /// and whose number of arcs is the hop.
 pub fn printed_walks_are_walks()
     ensures { PrintedWalksAreWalks }
+{}
+
+/// The same of a vertex whose label is below a limit, by the hops below the limit.
+pub fn printed_walks_below_are_walks()
+    ensures { PrintedWalksBelowAreWalks }
+{}
+
+/// Where labels are least up to a limit, the label, the hop and the printed walk of a vertex whose label is below it
+/// are those that the least labels give. So a run may stop before all labels are least, and print the same walks.
+pub fn walks_below_agree()
+    ensures { WalksBelowAgree }
 {}
 
 /// Neither the order of the arcs nor how often one stands in the list counts for hops and parents.

@@ -12,7 +12,8 @@ use std::alloc::Global;
 
 /// The parent of each vertex: the least vertex from which an arc leads to it along least labels and
 /// from one hop nearer. A least label alone would not do: arcs that cost nothing can form a circle.
-/// Takes time in proportion to vertices and arcs.
+/// `NONE` where there is no hop, so of hops below a limit these are the parents below it. Takes time in
+/// proportion to all vertices, and to the arcs of those that have a hop.
 pub fn parents(alloc: Global, csr: &Csr, labels: &[u64], hops: &[u32]) -> Result<Vec<u32>, Memory>
     requires { AreFromOneSource csr.now.n csr.now.arcs labels.now hops.now }
     ensures exact { IfOk result
@@ -37,6 +38,10 @@ fn lead_from(csr: &Csr, labels: &[u64], hops: &[u32], tail: u32, parents: &mut [
     ensures { AreFirstTails csr.now.n csr.now.arcs (slice_index labels.now) (slice_index hops.now)
         (tail + 1) parents.new }
 {
+    // One without a hop leads nowhere, so only the rows of the others are read.
+    if hops[tail as usize] == NONE {
+        return;
+    }
     for &Target { head, weight } in csr.row(tail) {
         let arc = ArcRec { tail, head, weight };
         if parents[head as usize] == NONE && is_leading(labels, hops, &arc) {

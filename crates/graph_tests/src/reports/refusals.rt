@@ -1,10 +1,10 @@
 //! Each call that takes memory, with one allocation of it refused: `Memory` then, and made once more it gives the
 //! walks that were worked by hand. `tests/refusals` refuses each in turn; `tests/refusals.tsv` has the calls.
 
-use crate::reports::{build, distances};
+use crate::reports::{build, distances, distances_below};
 use route_walks::{EXAMPLE_ARCS, Memory, tried_again};
 use std::test::Fail;
-use walk_report::{NONE, hops, parents, walk_to};
+use walk_report::{NONE, hops, hops_below, parents, walk_to};
 
 // Hops and parents of the six vertices from the first.
 const HOPS: [u32; 6] = [0, 3, 1, 4, 2, 5];
@@ -18,6 +18,16 @@ fn of_hops(rt: HostRuntime) -> Result<(), Fail> {
     let labels = distances(alloc, &csr, 0)?;
     let hops = tried_again!(rt, alloc, Memory, hops(alloc, &csr, &labels, 0));
     assert_eq!(rt; hops.as_slice(), HOPS.as_slice());
+    Ok(())
+}
+
+#[test]
+fn of_hops_below(rt: HostRuntime) -> Result<(), Fail> {
+    let alloc = rt.alloc();
+    let csr = build(&rt, alloc, 6, &EXAMPLE_ARCS)?;
+    let labels = distances_below(alloc, &csr, 0, 12)?;
+    let hops = tried_again!(rt, alloc, Memory, hops_below(alloc, &csr, &labels, 0, 12));
+    assert_eq!(rt; hops.as_slice(), [0, 3, 1, NONE, 2, NONE].as_slice());
     Ok(())
 }
 

@@ -10,7 +10,7 @@ use Rattle.csr_graph.specs.Graph.{Graph, IsInRows, arc_to}
 use Rattle.csr_graph.proofs.Facts.{row_arcs, no_target}
 use Rattle.walk_report.specs.declared.hop.TheConstants.{NONE}
 use Rattle.walk_report.specs.Hop.{HasWalk}
-use Rattle.walk_report.specs.Search.{IsTight}
+use Rattle.walk_report.specs.Search.{IsTightBelow}
 use Rattle.walk_report.proofs.Filling.{filled-pass, filled-put, filled-all}
 use Rattle.walk_report.proofs.LeastWalks.{walk-more}
 use Rattle.walk_report.proofs.Searching.{search-small, search-push, search-near}
@@ -21,12 +21,12 @@ use Rattle.walk_report.proofs.hop.visit.Goals.{else-hops-head-via-then-hops-head
 use Rattle.walk_report.proofs.hop.visit.Goals.{else-hops-head-via-else-hops-head}
 
 -- the head of a tight arc gets the hop
-reaches : {graph : Graph} → IsInRows graph → {label : ℕ → ℕ} {hops queue : List ℕ} {next u h s : ℕ}
-    → IsVisiting graph label hops queue next u h s
+reaches : {limit : ℕ} {graph : Graph} → IsInRows graph → {label : ℕ → ℕ} {hops queue : List ℕ} {next u h s : ℕ}
+    → IsVisiting limit graph label hops queue next u h s
     → (target : Target) → Contains graph.arcs (arc_to u target) × (target.head < graph.n)
-    → IsTight label (arc_to u target)
+    → IsTightBelow limit label (arc_to u target)
     → slice_index hops target.head ≡ NONE
-    → IsVisiting graph label (set hops target.head h) (queue ++ target.head ∷ []) next u h s
+    → IsVisiting limit graph label (set hops target.head h) (queue ++ target.head ∷ []) next u h s
 reaches {graph = graph} rows {label = label} {hops = hops} {queue = queue} {next = next} {u = u} {h = h} inv target at
     tight unset =
     let v = target.head in
@@ -73,7 +73,7 @@ loop-head-preserved c =
     let k = c.loop-head.head-index in
     let u = c.index-u.result.now in
     let at = row_arcs c.args.csr.now rows u row c.row-row.ensures.targets k no_target (omega arith) in
-    let Tight = IsTight (slice_index c.args.labels.now) in
+    let Tight = IsTightBelow c.args.limit (slice_index c.args.labels.now) in
     let inv = c.loop-head.invariant in
     elim c.if-hops-head.branch [
       | then-hops-head+then-is_tight+in_ok-push b ↦
@@ -100,7 +100,7 @@ returns-clause-visited c arc within tail tight =
     let graph = c.args.csr.now in
     let inv = c.loop-head.invariant in
     let filled =
-    filled-all (IsTight (slice_index c.args.labels.now)) c.loop-head.hops c.index-u.result.now c.row-row.result.now
+    filled-all (IsTightBelow c.args.limit (slice_index c.args.labels.now)) c.loop-head.hops c.index-u.result.now c.row-row.result.now
     c.loop-head.head-index
     graph.arcs c.row-row.ensures.targets (omega arith) inv.1 arc within (tail ∙ inv.0.vertex) tight in
     let head : arc.head < graph.n =

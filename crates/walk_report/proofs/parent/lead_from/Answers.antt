@@ -4,11 +4,15 @@ use Rattle.std.proofs.lemmas.Bool.{false≢true}
 use Rattle.csr_graph.proofs.Facts.{row_arcs, no_target}
 use Rattle.walk_report.specs.Parent.{IsLeading}
 use Rattle.walk_report.proofs.Filling.{filled-pass, filled-put, filled-all}
-use Rattle.walk_report.proofs.Tails.{tails-put, tails-next}
+use Rattle.walk_report.proofs.Tails.{tails-put, tails-next, tails-past}
 use Rattle.walk_report.proofs.parent.lead_from.Goals as goal
 use Rattle.walk_report.proofs.parent.lead_from.Goals.{then-parents-head+then-is_leading, else-parents-head}
 use Rattle.walk_report.proofs.parent.lead_from.Goals.{else-parents-head-via-then-parents-head+else-is_leading}
 use Rattle.walk_report.proofs.parent.lead_from.Goals.{else-parents-head-via-else-parents-head}
+
+pub returns-then-hops-tail : goal.returns-then-hops-tail
+returns-then-hops-tail c =
+    tails-past c.requires.before c.if-hops-tail.true (λ v. omega (arith, c.type_inv.hops v))
 
 pub bounds-parents-head : goal.bounds-parents-head
 bounds-parents-head c =
