@@ -6,6 +6,8 @@
 //! give for five crossings, after the example of `docs/LIBRARY.md`.
 #![tactic(auto)]
 
+ghost use Rattle.std.specs.Prelude.{◌≡◌};
+
 mod changes;
 mod matrix;
 mod nearest;
@@ -37,31 +39,90 @@ fn main(rt: HostRuntime) -> Result<()> {
     let alloc = rt.alloc();
     let arcs = vec![in alloc; ArcRec::new(0, 1, 7), ArcRec::new(1, 2, 5)]?;
     let network = Network::new(&rt, alloc, 3, arcs, Cost::Weight, 2)?;
-    let solver = Solver::new(&network, Plan::usual(2));
-    let costs = solver.from(&rt, alloc, 0)?;
-    println!(rt; "{:?}", costs.to(2))?;
-    let mut each = solver.each(alloc, &[1, 2]);
-    while let Some(found) = each.next(&rt, alloc) {
-        println!(rt; "{:?}", found?.to(2))?;
-    }
-    let grown = network.with_arcs(&rt, alloc, &[ArcRec::new(0, 2, 3)], 2)?;
-    let after = solver.costs_after(&rt, alloc, &grown, costs)?;
-    println!(rt; "{:?}", after.to(2))?;
+    print_costs(&rt, alloc, &network)?;
     print_callers(&rt, alloc)
+}
+
+/// Prints what it costs to get to vertex 2: from vertex 0, from each of the others, and once there is a new road.
+fn print_costs<H: Print + Threads + Wait + Clock + Sync>(
+    rt: &H,
+    alloc: Global,
+    network: &Network,
+) -> Result<()>
+    requires { network.now.n ≡ 3 }
+{
+    let solver = Solver::new(network, Plan::usual(2));
+    let costs = solver.from(rt, alloc, 0)?;
+    print_cost(rt, costs.to(2))?;
+    print_each(rt, alloc, &solver)?;
+    let grown = network.with_arcs(rt, alloc, &[ArcRec::new(0, 2, 3)], 2)?;
+    let after = solver.costs_after(rt, alloc, &grown, costs)?;
+    print_cost(rt, after.to(2))
+}
+
+fn print_each<H: Print + Threads + Wait + Clock + Sync>(
+    rt: &H,
+    alloc: Global,
+    solver: &Solver<'_>,
+) -> Result<()>
+    requires { solver.now.network.now.n ≡ 3 }
+{
+    let mut each = solver.each(alloc, &[1, 2]);
+    while let Some(found) = each.next(rt, alloc) {
+        print_cost(rt, found?.to(2))?;
+    }
+    Ok(())
+}
+
+fn print_cost<H: Print>(rt: &H, cost: Option<u64>) -> Result<()> {
+    println!(rt; "{:?}", cost)?;
+    Ok(())
 }
 
 /// Prints what the three functions give for the crossings.
 fn print_callers<H: Print + Threads + Wait + Clock + Sync>(rt: &H, alloc: Global) -> Result<()> {
-    let plan = Plan::usual(2);
     let network = Network::new(rt, alloc, 5, ROADS.to_vec(alloc)?, Cost::Weight, 2)?;
-    let rows = cost_matrix(rt, alloc, &network, plan, &[0, 3, 4], &[2, 4])?;
+    print_matrix(rt, alloc, &network)?;
+    print_nearest(rt, alloc, &network)?;
+    print_changes(rt, alloc, &network)
+}
+
+fn print_matrix<H: Print + Threads + Wait + Clock + Sync>(
+    rt: &H,
+    alloc: Global,
+    network: &Network,
+) -> Result<()>
+    requires { network.now.n ≡ 5 }
+{
+    let rows = cost_matrix(rt, alloc, network, Plan::usual(2), &[0, 3, 4], &[2, 4])?;
     for row in rows.iter() {
         println!(rt; "{:?}", row)?;
     }
-    let depot = nearest_depot(rt, alloc, &network, plan, &[3, 4, 2], 0)?;
+    Ok(())
+}
+
+fn print_nearest<H: Print + Threads + Wait + Clock + Sync>(
+    rt: &H,
+    alloc: Global,
+    network: &Network,
+) -> Result<()>
+    requires { network.now.n ≡ 5 }
+{
+    let depot = nearest_depot(rt, alloc, network, Plan::usual(2), &[3, 4, 2], 0)?;
     println!(rt; "{:?}", depot)?;
+    Ok(())
+}
+
+fn print_changes<H: Print + Threads + Wait + Clock + Sync>(
+    rt: &H,
+    alloc: Global,
+    network: &Network,
+) -> Result<()>
+    requires { network.now.n ≡ 5 }
+{
     let grown = network.with_arcs(rt, alloc, &NEW_ROAD, 2)?;
-    for change in changes(rt, alloc, &network, &grown, plan, &[0, 1, 3], 2)?.iter() {
+    let changes = changes(rt, alloc, network, &grown, Plan::usual(2), &[0, 1, 3], 2)?;
+    for change in changes.iter() {
         println!(rt; "{:?}", change)?;
     }
     Ok(())

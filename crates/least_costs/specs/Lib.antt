@@ -8,4 +8,5 @@ pub mod Each
 pub mod Taken
 pub mod Pairs
 pub mod Within
+pub mod Below
 pub mod Laws

@@ -20,7 +20,8 @@
 //! ```
 //!
 //! `Rounds` is what `Each` stands on: tasks of any kind that are done side by side before their turn, by teams
-//! that keep what they need from one to the next, as `Workers` keep their pool, a `Runner`.
+//! that keep what they need from one to the next, as `Workers` keep their pool, a `Runner`. Workers are asked for the
+//! costs that serve a goal, and go no further: that gives `CostsBelow`, labels that are least up to a limit.
 //!
 //! Stands on `obim_engine`, whose workers give the costs, and on its pools in `obim_pool`, on `walk_report` for
 //! walks, on `csr_graph` for the rows, on `label_words` for what a pause is, and on `route_walks`, which says
@@ -28,6 +29,7 @@
 //! promises.
 #![tactic(auto)]
 
+mod below;
 mod cost;
 mod costs;
 mod each;
@@ -46,6 +48,7 @@ mod walks;
 mod within;
 mod workers;
 
+pub use below::CostsBelow;
 pub use cost::Cost;
 pub use costs::Costs;
 pub use each::Each;

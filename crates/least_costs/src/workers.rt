@@ -2,9 +2,10 @@
 
 ghost use Rattle.std.specs.Prelude.{◌≡◌, IfOk};
 ghost use Rattle.label_words.specs.Closed.{IsEnd};
-ghost use Rattle.obim_engine.specs.Goal.{HasReached, IsGoalWithin};
+ghost use Rattle.obim_engine.specs.Goal.{HasReached, IsGoalWithin, IsServedBy};
 ghost use Rattle.least_costs.specs.Network.{GrowsTo, IsStartWithin, graph_of, seeds_at};
 
+use crate::below::CostsBelow;
 use crate::costs::Costs;
 use crate::network::Network;
 use crate::runner::Runner;
@@ -45,7 +46,7 @@ impl<'a, G: Gate + Sync> Workers<'a, G> {
     }
 
     /// The least costs of a network from a start.
-    pub fn costs_from<H: Threads + Wait + Clock + Sync>(
+    pub(crate) fn costs_from<H: Threads + Wait + Clock + Sync>(
         &mut self,
         rt: &H,
         alloc: Global,
@@ -64,7 +65,7 @@ impl<'a, G: Gate + Sync> Workers<'a, G> {
 
     /// The least costs in a network that another one grew to by `with_arcs`, from the same start, from the costs
     /// there. Only what the added arcs change is visited.
-    pub fn costs_after<H: Threads + Wait + Clock + Sync>(
+    pub(crate) fn costs_after<H: Threads + Wait + Clock + Sync>(
         &mut self,
         rt: &H,
         alloc: Global,
@@ -82,6 +83,50 @@ impl<'a, G: Gate + Sync> Workers<'a, G> {
         let goal = Goal::EachVertex;
         let reached = self.reach_after(rt, alloc, network, grown, start, closed, goal)?;
         Ok(Costs::new(grown, start, reached.closed.into_labels()))
+    }
+
+    /// The costs of a network from a start that serve a goal. Workers go no further than that wants, so labels past its
+    /// limit may be too high.
+    pub fn costs_for<H: Threads + Wait + Clock + Sync>(
+        &mut self,
+        rt: &H,
+        alloc: Global,
+        network: &Network,
+        start: Start,
+        goal: Goal<'_>,
+    ) -> Result<CostsBelow, Memory>
+        requires start { IsStartWithin network.now.n start }
+        requires goal { IsGoalWithin network.now.n goal }
+        ensures net { IfOk result (λ costs. costs.net ≡ network.now) }
+        ensures start { IfOk result (λ costs. costs.start ≡ start) }
+        ensures served { IfOk result (λ costs. IsServedBy goal.entry costs.labels costs.limit) }
+    {
+        let reached = self.reach(rt, alloc, network, start, goal)?;
+        Ok(CostsBelow::new(network, start, reached))
+    }
+
+    /// The same in a network that another one grew to by `with_arcs`, from the same start, from what a run left there,
+    /// whichever goal it had. Only what the added arcs change is visited, and what the goal wants besides.
+    pub fn costs_for_after<H: Threads + Wait + Clock + Sync>(
+        &mut self,
+        rt: &H,
+        alloc: Global,
+        network: &Network,
+        grown: &Network,
+        costs: CostsBelow,
+        goal: Goal<'_>,
+    ) -> Result<CostsBelow, Memory>
+        requires net { costs.net ≡ network.now }
+        requires grown { GrowsTo network.now grown.now }
+        requires goal { IsGoalWithin grown.now.n goal }
+        ensures net { IfOk result (λ after. after.net ≡ grown.now) }
+        ensures start { IfOk result (λ after. after.start ≡ costs.start) }
+        ensures served { IfOk result (λ after. IsServedBy goal.entry after.labels after.limit) }
+    {
+        let start = costs.start();
+        let closed = costs.into_closed();
+        let reached = self.reach_after(rt, alloc, network, grown, start, closed, goal)?;
+        Ok(CostsBelow::new(grown, start, reached))
     }
 
     /// What a run from a start reaches in a network that goes no further than its goal.

@@ -1,7 +1,9 @@
 //! Networks at random: are the costs those of the plain way?
 
+ghost use Rattle.std.specs.Prelude.{◌≡◌, ◌≤◌};
+
 use crate::asked::network_of;
-use least_costs::{AtOnce, Cost, Network, Plan, Solver};
+use least_costs::{AtOnce, Cost, Costs, Network, Plan, Solver};
 use route_walks::{
     ArcRec, INF, Memory, Seed, are_seeds, both_ways, is_graph, plain_labels, unit_weights,
 };
@@ -46,21 +48,38 @@ fn arcs_of(alloc: Global, cost: Cost, arcs: &[ArcRec]) -> Result<Vec<ArcRec>, Me
     }
 }
 
-/// The label of a vertex from a source, by rounds over all arcs.
-fn plain_label(
+/// The label of each vertex from a source, by rounds over all arcs.
+fn plain_from(
     rt: &impl Abort,
     alloc: Global,
     n: u32,
     arcs: &[ArcRec],
     source: u32,
-    v: u32,
-) -> Result<Option<u64>, Fail> {
+) -> Result<Vec<u64>, Fail> {
     let seeds = [Seed::new(source, 0)];
-    let within = is_graph(n, arcs) && are_seeds(n, &seeds) && v < n;
+    let within = is_graph(n, arcs) && are_seeds(n, &seeds);
     assert!(rt; within);
-    let label = plain_labels(alloc, n, arcs, &seeds)?[v as usize];
-    Ok(if label == INF { None } else { Some(label) })
+    Ok(plain_labels(alloc, n, arcs, &seeds)?)
 }
+
+/// What a label says of the cost.
+fn cost_of(label: u64) -> Option<u64> {
+    if label == INF { None } else { Some(label) }
+}
+
+/// Asserts that these are the costs that labels say.
+fn expect_said(rt: &impl Abort, costs: &Costs, n: u32, labels: &[u64], source: u32)
+    requires { costs.now.net.n ≡ n }
+{
+    assert!(rt; labels.len() == n as usize);
+    for v in 0..n {
+        let same = costs.to(v) == cost_of(labels[v as usize]);
+        assert!(rt; same, "from {source} to {v}");
+    }
+}
+
+/// The sources that are asked for.
+const SOURCES: [u32; 3] = [1, 0, 1];
 
 /// Asks for the costs from two sources at once, and compares each with the plain way.
 fn expect_plain<H: Threads + Wait + Clock + Abort + Sync>(
@@ -68,25 +87,20 @@ fn expect_plain<H: Threads + Wait + Clock + Abort + Sync>(
     alloc: Global,
     network: &Network,
     along: &[ArcRec],
-    sources: &[u32],
     workers: u32,
-) -> Result<(), Fail> {
+) -> Result<(), Fail>
+    requires { 2 ≤ network.now.n }
+{
     let plan = Plan {
         settings: Plan::usual(workers).settings,
         at_once: AtOnce::Most(2),
     };
-    let n = network.n();
-    assert!(rt; sources.iter().all(|&source| source < n));
-    let solver = Solver::new(network, plan);
-    let mut each = solver.each(alloc, sources);
-    for &source in sources {
-        let Some(costs) = each.next(rt, alloc) else {
-            break;
-        };
-        let costs = costs?;
-        for v in 0..n {
-            let want = plain_label(rt, alloc, n, along, source, v)?;
-            assert!(rt; costs.to(v) == want, "from {source} to {v}");
+    let (n, solver) = (network.n(), Solver::new(network, plan));
+    let mut each = solver.each(alloc, &SOURCES);
+    for source in SOURCES {
+        if let Some(costs) = each.next(rt, alloc) {
+            let labels = plain_from(rt, alloc, n, along, source)?;
+            expect_said(rt, &costs?, n, &labels, source);
         }
     }
     Ok(())
@@ -107,7 +121,7 @@ fn random_networks(rt: HostRuntime) -> Result<(), Fail> {
             let arcs = draws.arcs(alloc, n, count)?;
             let network = network_of(&rt, alloc, n, &arcs, cost)?;
             let along = arcs_of(alloc, cost, &arcs)?;
-            expect_plain(&rt, alloc, &network, &along, &[1, 0, 1], workers)?;
+            expect_plain(&rt, alloc, &network, &along, workers)?;
         }
     }
     Ok(())

@@ -1,9 +1,18 @@
 //! Which costs does a network have that is worked by hand, and why is there none?
 
+ghost use Rattle.std.specs.Prelude.{◌≡◌, ◌<◌, ◌^◌, length};
+ghost use Rattle.least_costs.specs.Pairs.{ArePairsWithin};
+
 use crate::asked::{expect_costs, expect_within, network_of, six};
 use least_costs::{Cost, Network, NetworkFault, Plan, Solver, Start};
+use obim_engine::OpenGate;
 use route_walks::{ArcRec, EXAMPLE_ARCS, MAX_VERTICES, arcs};
+use std::alloc::Global;
+use std::process::Abort;
+use std::sync::Wait;
 use std::test::Fail;
+use std::thread::Threads;
+use std::time::Clock;
 
 const ISLANDS: [ArcRec; 3] = arcs![(2, 1, 7), (3, 4, 1), (4, 3, 1)];
 
@@ -54,16 +63,29 @@ const ROWS: [(u32, &[ArcRec], Cost, Start, &[Option<u64>]); 7] = [
     (1, &[], Cost::Weight, Start::At(0), &[Some(0)]),
 ];
 
+/// Asserts the costs of a row.
+fn expect_row<H: Threads + Wait + Clock + Abort + Sync>(
+    rt: &H,
+    alloc: Global,
+    row: usize,
+    network: &Network,
+    start: Start,
+    want: &[Option<u64>],
+) -> Result<(), Fail> {
+    if let Start::At(source) = start {
+        assert!(rt; source < network.n());
+    }
+    let solver = Solver::new(network, Plan::usual(2));
+    let costs = solver.costs_from(rt, alloc, start)?;
+    expect_costs(rt, row, network, &costs, want);
+    Ok(())
+}
+
 #[test]
 fn costs_from_a_start(rt: HostRuntime) -> Result<(), Fail> {
     for (row, &(n, arcs, cost, start, want)) in ROWS.iter().enumerate() {
         let network = network_of(&rt, rt.alloc(), n, arcs, cost)?;
-        let solver = Solver::new(&network, Plan::usual(2));
-        if let Start::At(source) = start {
-            assert!(rt; source < n);
-        }
-        let costs = solver.costs_from(&rt, rt.alloc(), start)?;
-        expect_costs(&rt, row, &network, &costs, want);
+        expect_row(&rt, rt.alloc(), row, &network, start, want)?;
     }
     Ok(())
 }
@@ -83,55 +105,70 @@ const GROWN: [(Cost, &[Option<u64>]); 3] = [
     (Cost::FreeBothWays, &[Some(0); 6]),
 ];
 
+/// Asserts the costs from vertex 0 once there is the shorter arc.
+fn expect_grown<H: Threads + Wait + Clock + Abort + Sync>(
+    rt: &H,
+    alloc: Global,
+    row: usize,
+    network: &Network,
+    want: &[Option<u64>],
+) -> Result<(), Fail>
+    requires { network.now.n ≡ 6 }
+{
+    let solver = Solver::new(network, Plan::usual(1));
+    let costs = solver.from(rt, alloc, 0)?;
+    let grown = network.with_arcs(rt, alloc, &SHORTER, 2)?;
+    let after = solver.costs_after(rt, alloc, &grown, costs)?;
+    expect_costs(rt, row, &grown, &after, want);
+    Ok(())
+}
+
 #[test]
 fn costs_after_an_arc_is_added(rt: HostRuntime) -> Result<(), Fail> {
     for (row, &(cost, want)) in GROWN.iter().enumerate() {
         let network = network_of(&rt, rt.alloc(), 6, &EXAMPLE_ARCS, cost)?;
-        let solver = Solver::new(&network, Plan::usual(1));
-        let costs = solver.from(&rt, rt.alloc(), 0)?;
-        let grown = network.with_arcs(&rt, rt.alloc(), &SHORTER, 2)?;
-        let after = solver.costs_after(&rt, rt.alloc(), &grown, costs)?;
-        expect_costs(&rt, row, &grown, &after, want);
+        expect_grown(&rt, rt.alloc(), row, &network, want)?;
     }
     Ok(())
 }
 
 const OUTSIDE: [ArcRec; 3] = arcs![(0, 1, 7), (1, 2, 7), (2, 0, 7)];
 
-/// Vertices, arcs, the fault and what it prints.
-const FAULTS: [(u32, &[ArcRec], NetworkFault, &str); 3] = [
-    (
-        MAX_VERTICES + 1,
-        &[],
-        NetworkFault::Vertices,
-        "too many vertices",
-    ),
-    (
-        2,
-        &OUTSIDE,
-        NetworkFault::Outside(1),
-        "arc 1: an end is no vertex",
-    ),
-    (
-        0,
-        &OUTSIDE,
-        NetworkFault::Outside(0),
-        "arc 0: an end is no vertex",
-    ),
+const OUTSIDE_OF_SIX: [ArcRec; 1] = arcs![(0, 6, 1)];
+
+/// Vertices, arcs and the fault.
+const FAULTS: [(u32, &[ArcRec], NetworkFault); 3] = [
+    (MAX_VERTICES + 1, &[], NetworkFault::Vertices),
+    (2, &OUTSIDE, NetworkFault::Outside(1)),
+    (0, &OUTSIDE, NetworkFault::Outside(0)),
+];
+
+/// What each fault prints.
+const TEXTS: [(NetworkFault, &str); 5] = [
+    (NetworkFault::Vertices, "too many vertices"),
+    (NetworkFault::Outside(1), "arc 1: an end is no vertex"),
+    (NetworkFault::Outside(0), "arc 0: an end is no vertex"),
+    (NetworkFault::Arcs, "too many arcs"),
+    (NetworkFault::Memory, "out of memory"),
 ];
 
 #[test]
 fn faults_of_networks(rt: HostRuntime) -> Result<(), Fail> {
     let alloc = rt.alloc();
-    for (n, arcs, want, text) in FAULTS {
+    for (n, arcs, want) in FAULTS {
         let made = Network::new(&rt, alloc, n, arcs.to_vec(alloc)?, Cost::Weight, 1);
-        assert!(rt; made.err() == Some(want), "{text}");
-        assert!(rt; want.to_string(alloc)?.as_str() == text, "{text}");
+        assert!(rt; made.err() == Some(want), "{n} vertices");
     }
-    let grown = six(&rt, alloc)?.with_arcs(&rt, alloc, &[ArcRec::new(0, 6, 1)], 1);
+    let grown = six(&rt, alloc)?.with_arcs(&rt, alloc, &OUTSIDE_OF_SIX, 1);
     assert!(rt; grown.err() == Some(NetworkFault::Outside(0)));
-    assert!(rt; NetworkFault::Arcs.to_string(alloc)?.as_str() == "too many arcs");
-    assert!(rt; NetworkFault::Memory.to_string(alloc)?.as_str() == "out of memory");
+    Ok(())
+}
+
+#[test]
+fn faults_print_themselves(rt: HostRuntime) -> Result<(), Fail> {
+    for (fault, text) in TEXTS {
+        assert!(rt; fault.to_string(rt.alloc())?.as_str() == text, "{text}");
+    }
     Ok(())
 }
 
@@ -143,19 +180,26 @@ const WALKS: [(u32, u32, Option<&[u32]>); 4] = [
     (2, 0, None),
 ];
 
+/// Asserts the walk from a source to a target.
+fn expect_walk<H: Threads + Wait + Clock + Abort + Sync>(
+    rt: &H,
+    alloc: Global,
+    network: &Network,
+    (source, target, want): (u32, u32, Option<&[u32]>),
+) -> Result<(), Fail> {
+    assert!(rt; source < network.n() && target < network.n());
+    let costs = Solver::new(network, Plan::usual(2)).from(rt, alloc, source)?;
+    let walk = costs.walks(alloc, network)?.to(alloc, target)?;
+    let found = walk.as_ref().map(|walk| walk.as_slice());
+    assert!(rt; found == want, "from {source} to {target}");
+    Ok(())
+}
+
 #[test]
 fn walks_to_vertices(rt: HostRuntime) -> Result<(), Fail> {
-    let alloc = rt.alloc();
-    let network = six(&rt, alloc)?;
-    let solver = Solver::new(&network, Plan::usual(2));
-    for (source, target, want) in WALKS {
-        assert!(rt; source < 6 && target < 6);
-        let walks = solver.from(&rt, alloc, source)?.walks(alloc, &network)?;
-        let walk = walks.to(alloc, target)?;
-        assert!(rt;
-            walk.as_ref().map(|walk| walk.as_slice()) == want,
-            "from {source} to {target}"
-        );
+    let network = six(&rt, rt.alloc())?;
+    for row in WALKS {
+        expect_walk(&rt, rt.alloc(), &network, row)?;
     }
     Ok(())
 }
@@ -165,14 +209,29 @@ const PAIRS: [(u32, u32); 6] = [(3, 1), (0, 5), (5, 0), (0, 3), (3, 5), (0, 5)];
 
 const PAIR_COSTS: [Option<u64>; 6] = [Some(0), Some(15), None, Some(12), Some(3), Some(15)];
 
+/// Asserts the costs of pairs.
+fn expect_between<H: Threads + Wait + Clock + Abort + Sync>(
+    rt: &H,
+    alloc: Global,
+    solver: &Solver<'_, OpenGate>,
+    pairs: &[(u32, u32)],
+    want: &[Option<u64>],
+) -> Result<(), Fail>
+    requires few { length pairs.now < 2 ^ 32 }
+    requires within { ArePairsWithin solver.now.network.now.n pairs.now }
+{
+    let costs = solver.between(rt, alloc, pairs)?;
+    assert!(rt; costs.as_slice() == want);
+    Ok(())
+}
+
 #[test]
 fn costs_between_pairs(rt: HostRuntime) -> Result<(), Fail> {
     let network = six(&rt, rt.alloc())?;
     for workers in [1, 2] {
         let solver = Solver::new(&network, Plan::usual(workers));
-        let costs = solver.between(&rt, rt.alloc(), &PAIRS)?;
-        assert!(rt; costs.as_slice() == PAIR_COSTS.as_slice());
-        assert!(rt; solver.between(&rt, rt.alloc(), &[])?.is_empty());
+        expect_between(&rt, rt.alloc(), &solver, &PAIRS, &PAIR_COSTS)?;
+        expect_between(&rt, rt.alloc(), &solver, &[], &[])?;
     }
     Ok(())
 }
@@ -189,16 +248,31 @@ const BOUNDS: [(u64, [Option<u64>; 6]); 5] = [
     ),
 ];
 
+/// Asserts the costs from vertex 0 within a bound.
+fn expect_bound<H: Threads + Wait + Clock + Abort + Sync>(
+    rt: &H,
+    alloc: Global,
+    row: usize,
+    network: &Network,
+    workers: u32,
+    want: (u64, [Option<u64>; 6]),
+) -> Result<(), Fail>
+    requires { network.now.n ≡ 6 }
+{
+    let (bound, want) = want;
+    let solver = Solver::new(network, Plan::usual(workers));
+    let costs = solver.within(rt, alloc, 0, bound)?;
+    expect_within(rt, row, network, &costs, &want);
+    assert!(rt; costs.source() == 0 && costs.bound() == bound);
+    Ok(())
+}
+
 #[test]
 fn costs_within_bounds(rt: HostRuntime) -> Result<(), Fail> {
     let network = six(&rt, rt.alloc())?;
-    for workers in [1, 2] {
-        let solver = Solver::new(&network, Plan::usual(workers));
-        for (row, &(bound, want)) in BOUNDS.iter().enumerate() {
-            let costs = solver.within(&rt, rt.alloc(), 0, bound)?;
-            expect_within(&rt, row, &network, &costs, &want);
-            assert!(rt; costs.source() == 0 && costs.bound() == bound);
-        }
+    for (row, &bound) in BOUNDS.iter().enumerate() {
+        expect_bound(&rt, rt.alloc(), row, &network, 1, bound)?;
+        expect_bound(&rt, rt.alloc(), row, &network, 2, bound)?;
     }
     Ok(())
 }

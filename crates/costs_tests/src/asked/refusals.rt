@@ -1,15 +1,19 @@
 //! Each call that takes memory, with one allocation of it refused: `Memory` then, and made once more it gives what
 //! was worked by hand. `tests/refusals` refuses each in turn; `tests/refusals.tsv` has the calls.
 
-ghost use Rattle.std.specs.Prelude.{◌≡◌};
+ghost use Rattle.std.specs.Prelude.{◌≡◌, IfOk, IfSome};
+ghost use Rattle.least_costs.specs.Costs.{IsFrom};
 ghost use Rattle.least_costs.specs.Each.{AreWithin};
+ghost use Rattle.least_costs.specs.Network.{GrowsTo};
+ghost use Rattle.least_costs.specs.Pairs.{GrowsInto};
 
 use crate::asked::{expect_costs, expect_within, six};
 use least_costs::{
-    AtOnce, Cost, Network, NetworkFault, Plan, Runner, Solver, Start, Unwatched, Workers,
+    AtOnce, Cost, Costs, CostsBelow, CostsWithin, Network, NetworkFault, PairCosts, Plan, Runner,
+    Solver, Start, Unwatched, Workers,
 };
-use obim_engine::OpenGate;
-use route_walks::{ArcRec, EXAMPLE_ARCS, Memory, arcs, refusable, tried_again};
+use obim_engine::{Goal, OpenGate};
+use route_walks::{ArcRec, EXAMPLE_ARCS, Memory, arcs, refusable};
 use std::alloc::Global;
 use std::process::Abort;
 use std::sync::Wait;
@@ -19,153 +23,290 @@ use std::time::Clock;
 
 const FROM_0: [Option<u64>; 6] = [Some(0), Some(10), Some(10), Some(12), Some(10), Some(15)];
 
+const EVERYWHERE: [Option<u64>; 6] = [Some(0), Some(1), Some(2), Some(3), Some(2), Some(5)];
+
 const SHORTER: [ArcRec; 1] = arcs![(0, 5, 4)];
 
 const SHORTER_FROM_0: [Option<u64>; 6] = [Some(0), Some(10), Some(10), Some(12), Some(10), Some(4)];
 
 const WITHIN_12: [Option<u64>; 6] = [Some(0), Some(10), Some(10), Some(12), Some(10), None];
 
+/// The network of the six vertices, asked once more where memory was refused.
+fn made_again<H: Threads + Abort + Sync>(
+    rt: &H,
+    alloc: Global,
+    cost: Cost,
+) -> Result<Network, Fail> {
+    let (arcs, again) = (EXAMPLE_ARCS.to_vec(alloc)?, EXAMPLE_ARCS.to_vec(alloc)?);
+    match refusable!(alloc, Network::new(rt, alloc, 6, arcs, cost, 2)) {
+        Ok(network) => Ok(network),
+        Err(fault) => {
+            assert!(rt; fault == NetworkFault::Memory);
+            Ok(Network::new(rt, alloc, 6, again, cost, 2)?)
+        }
+    }
+}
+
 #[test]
 fn of_network_new(rt: HostRuntime) -> Result<(), Fail> {
-    let alloc = rt.alloc();
     for cost in [Cost::Weight, Cost::One, Cost::FreeBothWays] {
-        let (arcs, again) = (EXAMPLE_ARCS.to_vec(alloc)?, EXAMPLE_ARCS.to_vec(alloc)?);
-        let network = tried_again!(
-            rt,
-            alloc,
-            NetworkFault::Memory,
-            Network::new(&rt, alloc, 6, arcs, cost, 2),
-            Network::new(&rt, alloc, 6, again, cost, 2)
-        );
-        assert_eq!(rt; network.n(), 6);
+        let network = made_again(&rt, rt.alloc(), cost)?;
+        assert!(rt; network.n() == 6);
     }
     Ok(())
 }
 
+/// The network with the shorter arc, asked once more where memory was refused.
+fn grown_again<H: Threads + Abort + Sync>(
+    rt: &H,
+    alloc: Global,
+    network: &Network,
+) -> Result<Network, Fail>
+    ensures { IfOk result (GrowsTo network.now) }
+{
+    match refusable!(alloc, network.with_arcs(rt, alloc, &SHORTER, 2)) {
+        Ok(grown) => Ok(grown),
+        Err(fault) => {
+            assert!(rt; fault == NetworkFault::Memory);
+            Ok(network.with_arcs(rt, alloc, &SHORTER, 2)?)
+        }
+    }
+}
+
 #[test]
 fn of_network_with_arcs(rt: HostRuntime) -> Result<(), Fail> {
-    let alloc = rt.alloc();
-    let network = six(&rt, alloc)?;
-    let grown = tried_again!(
-        rt,
-        alloc,
-        NetworkFault::Memory,
-        network.with_arcs(&rt, alloc, &SHORTER, 2)
-    );
-    assert_eq!(rt; grown.n(), 6);
+    let network = six(&rt, rt.alloc())?;
+    let grown = grown_again(&rt, rt.alloc(), &network)?;
+    assert!(rt; grown.n() == 6);
+    Ok(())
+}
+
+/// What gives the costs of the six vertices, from vertex 0 but for `Everywhere`, and once there is the shorter arc.
+#[derive(Clone, Copy)]
+enum Call {
+    /// By so many workers.
+    From(u32),
+    Everywhere,
+    After,
+    FromRunner,
+    Copied,
+}
+
+/// Costs in the first network, or in the second, to which it grew.
+fn costs_by<H: Threads + Wait + Clock + Sync>(
+    rt: &H,
+    alloc: Global,
+    call: Call,
+    network: &Network,
+    grown: &Network,
+    runner: &mut Runner,
+) -> Result<Costs, Memory>
+    requires grows { GrowsTo network.now grown.now }
+    requires six { (network.now.n ≡ 6) × (grown.now.n ≡ 6) }
+    ensures { IfOk result (λ costs. costs.net.n ≡ 6) }
+{
+    let start = Start::At(0);
+    match call {
+        Call::From(count) => Solver::new(network, Plan::usual(count)).from(rt, alloc, 0),
+        Call::Everywhere => {
+            Solver::new(network, Plan::usual(2)).costs_from(rt, alloc, Start::Everywhere)
+        }
+        Call::After => {
+            let costs = runner.costs_from(rt, alloc, network, start, &OpenGate)?;
+            Solver::new(network, Plan::usual(2)).costs_after(rt, alloc, grown, costs)
+        }
+        Call::FromRunner => runner.costs_from(rt, alloc, network, start, &OpenGate),
+        Call::Copied => {
+            let costs = runner.costs_from(rt, alloc, network, start, &OpenGate)?;
+            costs.copied(alloc, network)
+        }
+    }
+}
+
+/// The costs, asked once more where memory was refused, by the same runner.
+fn asked_again<H: Threads + Wait + Clock + Sync>(
+    rt: &H,
+    alloc: Global,
+    call: Call,
+    network: &Network,
+    grown: &Network,
+    runner: &mut Runner,
+) -> Result<Costs, Memory>
+    requires grows { GrowsTo network.now grown.now }
+    requires six { (network.now.n ≡ 6) × (grown.now.n ≡ 6) }
+    ensures { IfOk result (λ costs. costs.net.n ≡ 6) }
+{
+    match refusable!(alloc, costs_by(rt, alloc, call, network, grown, runner)) {
+        Ok(costs) => Ok(costs),
+        Err(Memory) => costs_by(rt, alloc, call, network, grown, runner),
+    }
+}
+
+/// Asserts that these are the costs of the six vertices.
+fn expect_six(rt: &impl Abort, costs: &Costs, want: &[Option<u64>; 6])
+    requires { costs.now.net.n ≡ 6 }
+{
+    for v in 0..6_u32 {
+        assert!(rt; costs.to(v) == want[v as usize], "vertex {v}");
+    }
+}
+
+/// The costs, by a runner of their own.
+fn costs_of<H: Threads + Wait + Clock + Sync>(
+    rt: &H,
+    alloc: Global,
+    call: Call,
+    network: &Network,
+    grown: &Network,
+) -> Result<Costs, Memory>
+    requires grows { GrowsTo network.now grown.now }
+    requires six { (network.now.n ≡ 6) × (grown.now.n ≡ 6) }
+    ensures { IfOk result (λ costs. costs.net.n ≡ 6) }
+{
+    let settings = Plan::usual(2).settings;
+    let mut runner = Runner::open(alloc, network, &settings)?;
+    asked_again(rt, alloc, call, network, grown, &mut runner)
+}
+
+/// Asserts what a call gives, by one more of it where memory was refused.
+fn expect_again<H: Threads + Wait + Clock + Abort + Sync>(
+    rt: &H,
+    alloc: Global,
+    call: Call,
+    want: &[Option<u64>; 6],
+) -> Result<(), Fail> {
+    let network = six(rt, alloc)?;
+    let grown = network.with_arcs(rt, alloc, &SHORTER, 1)?;
+    assert!(rt; grown.n() == 6);
+    let costs = costs_of(rt, alloc, call, &network, &grown)?;
+    expect_six(rt, &costs, want);
     Ok(())
 }
 
 #[test]
 fn of_solver_from(rt: HostRuntime) -> Result<(), Fail> {
-    let alloc = rt.alloc();
-    let network = six(&rt, alloc)?;
-    for workers in [1, 2] {
-        let solver = Solver::new(&network, Plan::usual(workers));
-        let costs = tried_again!(rt, alloc, Memory, solver.from(&rt, alloc, 0));
-        expect_costs(&rt, 0, &network, &costs, &FROM_0);
-    }
-    Ok(())
+    expect_again(&rt, rt.alloc(), Call::From(1), &FROM_0)?;
+    expect_again(&rt, rt.alloc(), Call::From(2), &FROM_0)
 }
 
 #[test]
 fn of_solver_costs_from(rt: HostRuntime) -> Result<(), Fail> {
-    let alloc = rt.alloc();
-    let network = six(&rt, alloc)?;
-    let solver = Solver::new(&network, Plan::usual(2));
-    let everywhere = Start::Everywhere;
-    let costs = tried_again!(rt, alloc, Memory, solver.costs_from(&rt, alloc, everywhere));
-    let want = [Some(0), Some(1), Some(2), Some(3), Some(2), Some(5)];
-    expect_costs(&rt, 0, &network, &costs, &want);
-    Ok(())
+    expect_again(&rt, rt.alloc(), Call::Everywhere, &EVERYWHERE)
 }
 
 #[test]
 fn of_solver_costs_after(rt: HostRuntime) -> Result<(), Fail> {
-    let alloc = rt.alloc();
-    let network = six(&rt, alloc)?;
-    let grown = network.with_arcs(&rt, alloc, &SHORTER, 1)?;
-    let solver = Solver::new(&network, Plan::usual(2));
-    let (costs, again) = (solver.from(&rt, alloc, 0)?, solver.from(&rt, alloc, 0)?);
-    let after = tried_again!(
-        rt,
-        alloc,
-        Memory,
-        solver.costs_after(&rt, alloc, &grown, costs),
-        solver.costs_after(&rt, alloc, &grown, again)
-    );
-    expect_costs(&rt, 0, &grown, &after, &SHORTER_FROM_0);
-    Ok(())
-}
-
-#[test]
-fn of_runner_open(rt: HostRuntime) -> Result<(), Fail> {
-    let alloc = rt.alloc();
-    let network = six(&rt, alloc)?;
-    let settings = Plan::usual(2).settings;
-    let runner = tried_again!(rt, alloc, Memory, Runner::open(alloc, &network, &settings));
-    assert_eq!(rt; runner.workers(), 2);
-    Ok(())
+    expect_again(&rt, rt.alloc(), Call::After, &SHORTER_FROM_0)
 }
 
 // A pool whose source was refused memory serves the next one.
 #[test]
 fn of_runner_costs_from(rt: HostRuntime) -> Result<(), Fail> {
-    let alloc = rt.alloc();
-    let network = six(&rt, alloc)?;
-    let mut runner = Runner::open(alloc, &network, &Plan::usual(2).settings)?;
-    let costs = tried_again!(
-        rt,
-        alloc,
-        Memory,
-        runner.costs_from(&rt, alloc, &network, Start::At(0), &OpenGate)
-    );
-    expect_costs(&rt, 0, &network, &costs, &FROM_0);
-    Ok(())
+    expect_again(&rt, rt.alloc(), Call::FromRunner, &FROM_0)
 }
 
-// Workers who were refused memory open another pool.
+/// The costs that serve walks to vertex 5, asked once more where memory was refused: workers open another pool then.
+fn served_again<H: Threads + Wait + Clock + Sync>(
+    rt: &H,
+    alloc: Global,
+    network: &Network,
+    workers: &mut Workers<'_, OpenGate>,
+) -> Result<CostsBelow, Memory>
+    requires { network.now.n ≡ 6 }
+    ensures net { IfOk result (λ costs. costs.net ≡ network.now) }
+{
+    let (start, goal) = (Start::At(0), Goal::WalksTo(&[5]));
+    match refusable!(alloc, workers.costs_for(rt, alloc, network, start, goal)) {
+        Ok(costs) => Ok(costs),
+        Err(Memory) => workers.costs_for(rt, alloc, network, start, goal),
+    }
+}
+
 #[test]
-fn of_workers_costs_from(rt: HostRuntime) -> Result<(), Fail> {
-    let alloc = rt.alloc();
-    let network = six(&rt, alloc)?;
+fn of_workers_costs_for(rt: HostRuntime) -> Result<(), Fail> {
+    let network = six(&rt, rt.alloc())?;
     let mut workers = Workers::new(Plan::usual(2).settings, &OpenGate, None);
-    let start = Start::At(0);
-    let costs = tried_again!(
-        rt,
-        alloc,
-        Memory,
-        workers.costs_from(&rt, alloc, &network, start)
-    );
-    expect_costs(&rt, 0, &network, &costs, &FROM_0);
+    let costs = served_again(&rt, rt.alloc(), &network, &mut workers)?;
+    assert!(rt; costs.labels().get(5) == Some(&15) && costs.limit() > 15);
     Ok(())
 }
 
+/// The same in the network with the shorter arc, from what a run left.
+fn served_after<H: Threads + Wait + Clock + Sync>(
+    rt: &H,
+    alloc: Global,
+    network: &Network,
+    grown: &Network,
+    workers: &mut Workers<'_, OpenGate>,
+) -> Result<CostsBelow, Memory>
+    requires six { network.now.n ≡ 6 }
+    requires grows { GrowsTo network.now grown.now }
+{
+    let goal = Goal::WalksTo(&[5]);
+    let costs = workers.costs_for(rt, alloc, network, Start::At(0), goal)?;
+    workers.costs_for_after(rt, alloc, network, grown, costs, goal)
+}
+
 #[test]
-fn of_workers_costs_after(rt: HostRuntime) -> Result<(), Fail> {
+fn of_workers_costs_for_after(rt: HostRuntime) -> Result<(), Fail> {
     let alloc = rt.alloc();
     let network = six(&rt, alloc)?;
     let grown = network.with_arcs(&rt, alloc, &SHORTER, 1)?;
-    let solver = Solver::new(&network, Plan::usual(1));
     let mut workers = Workers::new(Plan::usual(1).settings, &OpenGate, None);
-    let (costs, again) = (solver.from(&rt, alloc, 0)?, solver.from(&rt, alloc, 0)?);
-    let after = tried_again!(
-        rt,
+    let found = refusable!(
         alloc,
-        Memory,
-        workers.costs_after(&rt, alloc, &network, &grown, costs),
-        workers.costs_after(&rt, alloc, &network, &grown, again)
+        served_after(&rt, alloc, &network, &grown, &mut workers)
     );
-    expect_costs(&rt, 0, &grown, &after, &SHORTER_FROM_0);
+    let after = match found {
+        Ok(after) => after,
+        Err(Memory) => served_after(&rt, alloc, &network, &grown, &mut workers)?,
+    };
+    assert!(rt; after.labels().get(5) == Some(&4) && after.limit() > 4);
     Ok(())
+}
+
+#[test]
+fn of_costs_copied(rt: HostRuntime) -> Result<(), Fail> {
+    expect_again(&rt, rt.alloc(), Call::Copied, &FROM_0)
+}
+
+/// A runner by two workers, asked once more where memory was refused.
+fn opened_again(alloc: Global, network: &Network) -> Result<Runner, Memory> {
+    let settings = Plan::usual(2).settings;
+    match refusable!(alloc, Runner::open(alloc, network, &settings)) {
+        Ok(runner) => Ok(runner),
+        Err(Memory) => Runner::open(alloc, network, &settings),
+    }
+}
+
+#[test]
+fn of_runner_open(rt: HostRuntime) -> Result<(), Fail> {
+    let network = six(&rt, rt.alloc())?;
+    let runner = opened_again(rt.alloc(), &network)?;
+    assert!(rt; runner.workers() == 2);
+    Ok(())
+}
+
+/// The costs from vertex 0 of at most 12, asked once more where memory was refused.
+fn within_again<H: Threads + Wait + Clock + Sync>(
+    rt: &H,
+    alloc: Global,
+    network: &Network,
+) -> Result<CostsWithin, Memory>
+    requires { network.now.n ≡ 6 }
+    ensures { IfOk result (λ costs. costs.net ≡ network.now) }
+{
+    let solver = Solver::new(network, Plan::usual(2));
+    match refusable!(alloc, solver.within(rt, alloc, 0, 12)) {
+        Ok(costs) => Ok(costs),
+        Err(Memory) => solver.within(rt, alloc, 0, 12),
+    }
 }
 
 #[test]
 fn of_solver_within(rt: HostRuntime) -> Result<(), Fail> {
-    let alloc = rt.alloc();
-    let network = six(&rt, alloc)?;
-    let solver = Solver::new(&network, Plan::usual(2));
-    let costs = tried_again!(rt, alloc, Memory, solver.within(&rt, alloc, 0, 12));
+    let network = six(&rt, rt.alloc())?;
+    let costs = within_again(&rt, rt.alloc(), &network)?;
     expect_within(&rt, 0, &network, &costs, &WITHIN_12);
     Ok(())
 }
@@ -177,15 +318,36 @@ fn ask_for_each(alloc: Global, solver: &Solver<'_, OpenGate>, sources: &[u32])
     let _each = solver.each(alloc, sources);
 }
 
+fn asked_for_each(alloc: Global, solver: &Solver<'_, OpenGate>) -> Result<(), Memory>
+    requires { solver.now.network.now.n ≡ 6 }
+{
+    refusable!(alloc, ask_for_each(alloc, solver, &[0]));
+    Ok(())
+}
+
+/// The costs from the first of the sources.
+fn first_costs<H: Threads + Wait + Clock + Sync>(
+    rt: &H,
+    alloc: Global,
+    solver: &Solver<'_, OpenGate>,
+) -> Result<Option<Costs>, Memory>
+    requires { solver.now.network.now.n ≡ 6 }
+    ensures { IfOk result (λ found. IfSome found (λ costs. costs.net ≡ solver.now.network.now)) }
+{
+    let mut each = solver.each(alloc, &[0]);
+    match each.next(rt, alloc) {
+        None => Ok(None),
+        Some(found) => Ok(Some(found?)),
+    }
+}
+
 #[test]
 fn of_solver_each(rt: HostRuntime) -> Result<(), Fail> {
-    let alloc = rt.alloc();
-    let network = six(&rt, alloc)?;
+    let network = six(&rt, rt.alloc())?;
     let solver = Solver::new(&network, Plan::usual(2));
-    refusable!(alloc, ask_for_each(alloc, &solver, &[0]));
-    let mut each = solver.each(alloc, &[0]);
-    if let Some(costs) = each.next(&rt, alloc) {
-        expect_costs(&rt, 0, &network, &costs?, &FROM_0);
+    asked_for_each(rt.alloc(), &solver)?;
+    if let Some(costs) = first_costs(&rt, rt.alloc(), &solver)? {
+        expect_costs(&rt, 0, &network, &costs, &FROM_0);
     }
     Ok(())
 }
@@ -235,65 +397,110 @@ fn of_each_next(rt: HostRuntime) -> Result<(), Fail> {
     Ok(())
 }
 
+const PAIRS: [(u32, u32); 2] = [(3, 1), (0, 5)];
+
+/// The costs of the pairs, and those in the network with the shorter arc if one is given.
+fn pairs_by<H: Threads + Wait + Clock + Sync>(
+    rt: &H,
+    alloc: Global,
+    network: &Network,
+    grown: Option<&Network>,
+    workers: u32,
+) -> Result<PairCosts, Memory>
+    requires six { network.now.n ≡ 6 }
+    requires grown { GrowsInto network.now grown }
+{
+    let solver = Solver::new(network, Plan::usual(workers));
+    if grown.is_some() {
+        return solver.between_grown(rt, alloc, &PAIRS, grown, &mut Unwatched);
+    }
+    let costs = solver.between(rt, alloc, &PAIRS)?;
+    let after = Vec::new(alloc);
+    Ok(PairCosts { costs, after })
+}
+
+/// Asserts the costs of the pairs, by one more call where memory was refused.
+fn expect_pairs<H: Threads + Wait + Clock + Abort + Sync>(
+    rt: &H,
+    alloc: Global,
+    network: &Network,
+    grown: Option<&Network>,
+    workers: u32,
+    after: &[Option<u64>],
+) -> Result<(), Fail>
+    requires six { network.now.n ≡ 6 }
+    requires grown { GrowsInto network.now grown }
+{
+    let found = match refusable!(alloc, pairs_by(rt, alloc, network, grown, workers)) {
+        Ok(found) => found,
+        Err(Memory) => pairs_by(rt, alloc, network, grown, workers)?,
+    };
+    assert!(rt; found.costs.as_slice() == [Some(0), Some(15)].as_slice());
+    assert!(rt; found.after.as_slice() == after);
+    Ok(())
+}
+
 #[test]
 fn of_solver_between(rt: HostRuntime) -> Result<(), Fail> {
-    let alloc = rt.alloc();
-    let network = six(&rt, alloc)?;
-    for workers in [1, 2] {
-        let solver = Solver::new(&network, Plan::usual(workers));
-        let pairs = [(3, 1), (0, 5)];
-        let costs = tried_again!(rt, alloc, Memory, solver.between(&rt, alloc, &pairs));
-        assert!(rt; costs.as_slice() == [Some(0), Some(15)].as_slice());
-    }
-    Ok(())
+    let network = six(&rt, rt.alloc())?;
+    expect_pairs(&rt, rt.alloc(), &network, None, 1, &[])?;
+    expect_pairs(&rt, rt.alloc(), &network, None, 2, &[])
 }
 
 #[test]
 fn of_solver_between_grown(rt: HostRuntime) -> Result<(), Fail> {
-    let alloc = rt.alloc();
-    let network = six(&rt, alloc)?;
-    let grown = network.with_arcs(&rt, alloc, &SHORTER, 1)?;
-    let solver = Solver::new(&network, Plan::usual(1));
-    let pairs = [(3, 1), (0, 5)];
-    let found = tried_again!(
-        rt,
-        alloc,
-        Memory,
-        solver.between_grown(&rt, alloc, &pairs, Some(&grown), &mut Unwatched)
-    );
-    assert!(rt; found.costs.as_slice() == [Some(0), Some(15)].as_slice());
-    assert!(rt; found.after.as_slice() == [Some(0), Some(4)].as_slice());
-    Ok(())
+    let network = six(&rt, rt.alloc())?;
+    let grown = network.with_arcs(&rt, rt.alloc(), &SHORTER, 1)?;
+    let after = &[Some(0), Some(4)];
+    expect_pairs(&rt, rt.alloc(), &network, Some(&grown), 1, after)
 }
 
-#[test]
-fn of_costs_copied(rt: HostRuntime) -> Result<(), Fail> {
-    let alloc = rt.alloc();
-    let network = six(&rt, alloc)?;
-    let costs = Solver::new(&network, Plan::usual(1)).from(&rt, alloc, 0)?;
-    let copy = tried_again!(rt, alloc, Memory, costs.copied(alloc, &network));
-    expect_costs(&rt, 0, &network, &copy, &FROM_0);
+/// The walk from vertex 0 to vertex 4.
+fn walk_by(alloc: Global, network: &Network, costs: &Costs) -> Result<Option<Vec<u32>>, Memory>
+    requires { IsFrom network.now 0 costs.now × (network.now.n ≡ 6) }
+{
+    costs.walks(alloc, network)?.to(alloc, 4)
+}
+
+/// That walk, asked for once more where memory was refused.
+fn walk_again(alloc: Global, network: &Network, costs: &Costs) -> Result<Option<Vec<u32>>, Memory>
+    requires { IsFrom network.now 0 costs.now × (network.now.n ≡ 6) }
+{
+    match refusable!(alloc, walk_by(alloc, network, costs)) {
+        Ok(walk) => Ok(walk),
+        Err(Memory) => walk_by(alloc, network, costs),
+    }
+}
+
+fn costs_from_0<H: Threads + Wait + Clock + Sync>(
+    rt: &H,
+    alloc: Global,
+    network: &Network,
+) -> Result<Costs, Memory>
+    requires { network.now.n ≡ 6 }
+    ensures { IfOk result (IsFrom network.now 0) }
+{
+    Solver::new(network, Plan::usual(1)).from(rt, alloc, 0)
+}
+
+/// Asserts that walk.
+fn expect_walk<H: Threads + Wait + Clock + Abort + Sync>(
+    rt: &H,
+    alloc: Global,
+) -> Result<(), Fail> {
+    let network = six(rt, alloc)?;
+    let costs = costs_from_0(rt, alloc, &network)?;
+    let walk = walk_again(alloc, &network, &costs)?;
+    assert!(rt; walk.as_ref().map(|walk| walk.as_slice()) == Some([0, 2, 4].as_slice()));
     Ok(())
 }
 
 #[test]
 fn of_costs_walks(rt: HostRuntime) -> Result<(), Fail> {
-    let alloc = rt.alloc();
-    let network = six(&rt, alloc)?;
-    let costs = Solver::new(&network, Plan::usual(1)).from(&rt, alloc, 0)?;
-    let walks = tried_again!(rt, alloc, Memory, costs.walks(alloc, &network));
-    let walk = walks.to(alloc, 4)?;
-    assert!(rt; walk.as_ref().map(|walk| walk.as_slice()) == Some([0, 2, 4].as_slice()));
-    Ok(())
+    expect_walk(&rt, rt.alloc())
 }
 
 #[test]
 fn of_walks_to(rt: HostRuntime) -> Result<(), Fail> {
-    let alloc = rt.alloc();
-    let network = six(&rt, alloc)?;
-    let costs = Solver::new(&network, Plan::usual(1)).from(&rt, alloc, 0)?;
-    let walks = costs.walks(alloc, &network)?;
-    let walk = tried_again!(rt, alloc, Memory, walks.to(alloc, 4));
-    assert!(rt; walk.as_ref().map(|walk| walk.as_slice()) == Some([0, 2, 4].as_slice()));
-    Ok(())
+    expect_walk(&rt, rt.alloc())
 }

@@ -1,11 +1,11 @@
 //! Many sources: in which order do they come, and by which workers?
 
-ghost use Rattle.std.specs.Prelude.{◌≡◌};
+ghost use Rattle.std.specs.Prelude.{◌≡◌, IfOk, IfSome};
 
 use crate::asked::{expect_costs, network_of, six};
-use least_costs::{AtOnce, Cost, Network, Plan, Solver};
+use least_costs::{AtOnce, Cost, Costs, Network, Plan, Solver};
 use obim_engine::{Gate, Settings};
-use route_walks::ArcRec;
+use route_walks::{ArcRec, Memory};
 use std::alloc::Global;
 use std::process::Abort;
 use std::sync::Wait;
@@ -47,6 +47,23 @@ fn plan_of(rt: &impl Abort, workers: u32, fitted: bool, at_once: AtOnce) -> Plan
     Plan { settings, at_once }
 }
 
+/// Asserts that these are the costs of the source at a place, or that there is none.
+fn expect_next(
+    rt: &impl Abort,
+    row: usize,
+    network: &Network,
+    found: Option<Result<Costs, Memory>>,
+) -> Result<(), Fail>
+    requires { IfSome found (λ costs. IfOk costs (λ costs. costs.net ≡ network.now)) }
+{
+    match (found, COSTS.get(row)) {
+        (Some(costs), Some(want)) => expect_costs(rt, row, network, &costs?, want),
+        (None, None) => {}
+        _ => assert!(rt; false, "row {row}"),
+    }
+    Ok(())
+}
+
 /// Asserts that the first so many sources come in their order, and none after the last.
 fn expect_first<H: Threads + Wait + Clock + Abort + Sync>(
     rt: &H,
@@ -60,12 +77,7 @@ fn expect_first<H: Threads + Wait + Clock + Abort + Sync>(
     let solver = Solver::new(network, plan);
     let mut each = solver.each(alloc, &SOURCES);
     for row in 0..count {
-        let found = each.next(rt, alloc);
-        match (found, COSTS.get(row)) {
-            (Some(costs), Some(want)) => expect_costs(rt, row, network, &costs?, want),
-            (None, None) => {}
-            _ => assert!(rt; false, "row {row}"),
-        }
+        expect_next(rt, row, network, each.next(rt, alloc))?;
     }
     Ok(())
 }
@@ -116,7 +128,7 @@ fn sources_meet(rt: HostRuntime) -> Result<(), Fail> {
     for _ in 0..2 {
         assert!(rt; each.next(&rt, alloc).is_some_and(|costs| costs.is_ok()));
     }
-    assert_eq!(rt; solver.gate.workers.load(Ordering::Relaxed), 0b11);
+    assert!(rt; solver.gate.workers.load(Ordering::Relaxed) == 0b11);
     Ok(())
 }
 
@@ -132,28 +144,48 @@ impl Gate for Counting {
     }
 }
 
-// One vertex after the other: workers go little further than to the target, or to the bound.
-#[test]
-fn few_visits_of_what_is_near(rt: HostRuntime) -> Result<(), Fail> {
-    let alloc = rt.alloc();
-    let mut arcs = Vec::new(alloc);
+/// One vertex after the other, 3,000 of them.
+fn path<H: Threads + Abort + Sync>(rt: &H, alloc: Global) -> Result<Network, Fail>
+    ensures { IfOk result (λ network. network.n ≡ 3000) }
+{
+    let mut arcs = Vec::with_capacity(alloc, 2_999)?;
     for v in 0..2_999_u32 {
         arcs.push(ArcRec::new(v, v + 1, 1))?;
     }
-    let network = network_of(&rt, alloc, 3_000, &arcs, Cost::Weight)?;
-    let solver = Solver {
-        network: &network,
+    network_of(rt, alloc, 3_000, &arcs, Cost::Weight)
+}
+
+fn solver_that_counts(network: &Network) -> Solver<'_, Counting>
+    ensures { result.network.now ≡ network.now }
+{
+    Solver {
+        network,
         plan: Plan::usual(1),
         gate: Counting {
             visits: AtomicU64::new(0),
         },
-    };
-    let costs = solver.between(&rt, alloc, &[(10, 13), (10, 12)])?;
+    }
+}
+
+// One vertex after the other: workers go little further than to the target.
+#[test]
+fn few_visits_of_near_targets(rt: HostRuntime) -> Result<(), Fail> {
+    let network = path(&rt, rt.alloc())?;
+    let solver = solver_that_counts(&network);
+    let costs = solver.between(&rt, rt.alloc(), &[(10, 13), (10, 12)])?;
     assert!(rt; costs.as_slice() == [Some(3), Some(2)].as_slice());
-    let of_pairs = solver.gate.visits.load(Ordering::Relaxed);
-    assert!(rt; of_pairs <= 100, "{of_pairs} visits");
-    solver.within(&rt, alloc, 10, 3)?;
-    let of_both = solver.gate.visits.load(Ordering::Relaxed);
-    assert!(rt; of_both <= 110, "{of_both} visits");
+    let visits = solver.gate.visits.load(Ordering::Relaxed);
+    assert!(rt; visits <= 100, "{visits} visits");
+    Ok(())
+}
+
+// Or to the bound.
+#[test]
+fn few_visits_within_a_bound(rt: HostRuntime) -> Result<(), Fail> {
+    let network = path(&rt, rt.alloc())?;
+    let solver = solver_that_counts(&network);
+    solver.within(&rt, rt.alloc(), 10, 3)?;
+    let visits = solver.gate.visits.load(Ordering::Relaxed);
+    assert!(rt; visits <= 10, "{visits} visits");
     Ok(())
 }

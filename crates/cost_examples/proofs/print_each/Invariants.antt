@@ -1,5 +1,5 @@
 use Rattle.std.proofs.Common.{◌≡◌, length}
-use Rattle.cost_examples.proofs.main.Given as goal
+use Rattle.cost_examples.proofs.print_each.Given as goal
 
 abbrev pub invariant-loop-found : goal.invariant-loop-found
 invariant-loop-found g l = l.each.net.n ≡ 3

@@ -1,0 +1,93 @@
+//! What does a run know of costs that goes no further than its goal?
+
+ghost use Rattle.std.specs.Prelude.{◌≡◌, ◌≤◌};
+ghost use Rattle.label_words.specs.Closed.{IsEnd, closed_labels};
+ghost use Rattle.route_walks.specs.declared.graph.TheConstants.{INF};
+ghost use Rattle.route_walks.specs.Limit.{AreLeastLabelsUpTo};
+ghost use Rattle.least_costs.specs.Below.{AreCostsBelow, AreLeastBelow, below_of};
+ghost use Rattle.least_costs.specs.Network.{IsStartWithin, graph_of, seeds_at};
+
+use crate::network::Network;
+use crate::start::Start;
+use obim_engine::{Closed, Reached};
+use std::marker::Model;
+use std::snapshot::Snapshot;
+
+/// The labels of a run from a start that went no further than its goal. They are least up to a limit: one of at most
+/// the limit is what its vertex costs, and one above it is what some walk costs, or `INF`. Contracts see in which
+/// network; of that it keeps nothing. It takes 8 bytes a vertex, and 1 more where the run stopped before its end.
+#[derive(Drop)]
+pub struct CostsBelow {
+    closed: Closed,
+    start: Start,
+    limit: u64,
+    of: Snapshot<Network>,
+}
+
+impl Model for CostsBelow {
+    ghost use Rattle.least_costs.specs.Below.{BelowSeen, IsLeftBelow, below_of};
+
+    ghost Value = { BelowSeen };
+
+    ghost view = { λ c. below_of c.of.value c.start c.limit c.closed };
+
+    ghost invariant = { λ c. IsLeftBelow c.of.value c.start c.limit c.closed };
+}
+
+impl CostsBelow {
+    pub(crate) fn new(network: &Network, start: Start, reached: Reached) -> CostsBelow
+        requires start { IsStartWithin network.now.n start }
+        requires end { IsEnd (graph_of network.now) (seeds_at network.now.n start) reached.closed }
+        requires least { AreLeastLabelsUpTo reached.limit network.now.n network.now.arcs
+            (seeds_at network.now.n start) (closed_labels reached.closed) }
+        ensures { result ≡ below_of network.now start reached.limit reached.closed }
+    {
+        let _ = network.n();
+        CostsBelow {
+            closed: reached.closed,
+            start,
+            limit: reached.limit,
+            of: Snapshot::of(network),
+        }
+    }
+
+    /// The label of each vertex: its least cost where it is at most the limit, and else no less than that. `INF` if no
+    /// walk was found.
+    pub fn labels(&self) -> &[u64]
+        ensures labels { result.now ≡ self.now.labels }
+        ensures least { AreLeastBelow self.now }
+    {
+        self.closed.labels()
+    }
+
+    /// Up to which limit labels are least: `INF` where all are.
+    pub fn limit(&self) -> u64
+        ensures limit { result ≡ self.now.limit }
+        ensures low { result ≤ INF }
+    {
+        self.limit
+    }
+
+    /// Where the walks begin.
+    pub fn start(&self) -> Start
+        ensures start { result ≡ self.now.start }
+        ensures costs { AreCostsBelow self.now }
+    {
+        self.start
+    }
+
+    /// The labels, given up.
+    pub fn into_labels(self) -> Vec<u64>
+        ensures labels { result.items ≡ self.labels }
+        ensures least { AreLeastBelow self }
+    {
+        self.closed.into_labels()
+    }
+
+    /// What the run left, given up: another one can go on from it.
+    pub(crate) fn into_closed(self) -> Closed
+        ensures end { IsEnd (graph_of self.net) (seeds_at self.net.n self.start) result }
+    {
+        self.closed
+    }
+}
