@@ -10,9 +10,9 @@ _obim_query() {
     case $before in
         --answer | -a) choices="distances levels components" ;;
         --at-once | --shift | -s) choices=auto ;;
-        --workers | -w | --chunk | -c) compopt +o bashdefault +o default; return ;;
+        --workers | -w | --chunk | -c | --within) compopt +o bashdefault +o default; return ;;
         *[\<\>]) return ;;
-        *) choices="-a --answer -W --walks -w --workers --at-once -s --shift -c --chunk --progress --stats
+        *) choices="-a --answer -W --walks --within -w --workers --at-once -s --shift -c --chunk --progress --stats
             --explain -h --help -V --version" ;;
     esac
     mapfile -t COMPREPLY < <(compgen -W "$choices" -- "$word")

@@ -1,10 +1,13 @@
 #!/usr/bin/env python3
 """Pairs whose targets are near, far and out of reach, beside Dijkstra's algorithm: tests/targets.py PROGRAM COUNT.
 
-A run for pairs stops as soon as the labels of its targets are least. So each job here asks for few targets, at any
-distance: of graphs of six kinds, drawn with the numbers from 0 on as seeds, by 1, 2 and 4 workers, with arcs added and
-without. Each line of an answer is compared with what a heap of vertices gives. COUNT jobs are drawn of each kind. It
-prints the seed and the kind of the first job whose answer is wrong, and the status is 1 then.
+A run for pairs stops as soon as the labels of its targets are least, or with walks those of the vertices on the way.
+So each job here asks for few targets, at any distance: of graphs of six kinds, drawn with the numbers from 0 on as
+seeds, by 1, 2 and 4 workers, with arcs added and without, and each job without walks and with them. Each line of an
+answer is compared with what a heap of vertices gives, and each walk with what its definition gives: the fewest arcs of a
+walk of least cost, found by going along all walks of one arc more at a time, and before each vertex the least one that
+fits. COUNT jobs are drawn of each kind. It prints the seed and the kind of the first job whose answer is wrong, and the
+status is 1 then.
 """
 
 import heapq
@@ -64,6 +67,54 @@ def costs_from(n, arcs, source):
     return costs
 
 
+def fewest_arcs(arcs, source, costs):
+    """The fewest arcs of a walk of least cost to each vertex that is reached, by vertex."""
+    fewest, cheapest, count = {}, {source: 0}, 0
+    while True:
+        fewest.update({v: count for v, cost in cheapest.items() if cost == costs[v] and v not in fewest})
+        if len(fewest) == len(costs):
+            return fewest
+        longer = {}
+        for tail, head, weight in arcs:
+            if tail in cheapest:
+                cost = cheapest[tail] + weight
+                longer[head] = min(cost, longer.get(head, cost))
+        cheapest, count = longer, count + 1
+
+
+class Source:
+    """What is known of walks from a source."""
+
+    def __init__(self, n, arcs, source):
+        self.arcs = arcs
+        self.source = source
+        self.costs = costs_from(n, arcs, source)
+        self.fewest = fewest_arcs(arcs, source, self.costs)
+
+    def before(self, v):
+        """The least vertex from which an arc leads to v, along least costs and from one arc nearer."""
+        return min(
+            tail
+            for tail, head, weight in self.arcs
+            if head == v
+            and tail in self.costs
+            and self.costs[tail] + weight == self.costs[v]
+            and self.fewest[tail] + 1 == self.fewest[v]
+        )
+
+    def lines(self, target, walks):
+        """The lines of a pair."""
+        line = f"q {self.source + 1} {target + 1} "
+        if target not in self.costs:
+            return [line + "inf"]
+        walk = [target]
+        while walks and self.fewest[walk[0]] > 0:
+            walk.insert(0, self.before(walk[0]))
+        cost = self.costs[target]
+        told = " ".join(str(v + 1) for v in walk)
+        return [f"{line}{cost}"] + ([f"w {target + 1} {cost} {told}"] if walks else [])
+
+
 def targets_of(draw, n, costs):
     """A few targets: near ones, far ones, any, and where there is one a vertex that is out of reach."""
     order = sorted(costs, key=costs.get)
@@ -76,7 +127,7 @@ def targets_of(draw, n, costs):
 
 
 def drawn(kind, seed):
-    """A job and its answer."""
+    """A job, and its answers without walks and with them."""
     draw = random.Random(f"{kind} {seed}")
     n = draw.choice((2, 30, 200, 800))
     arcs = KINDS[kind](draw, n)
@@ -90,24 +141,30 @@ def drawn(kind, seed):
     lines += [f"p aux sp p2p {len(pairs)}"] + [f"q {s + 1} {t + 1}" for s, t in pairs]
     if added:
         lines += [f"p aux sp add {len(added)}"] + [f"a {u + 1} {v + 1} {w}" for u, v, w in added]
-    tables = [{s: costs_from(n, arcs + more, s) for s, _ in pairs} for more in ([], added)]
-    answer = []
-    for s, t in pairs:
-        answer.append(f"q {s + 1} {t + 1} {tables[0][s].get(t, 'inf')}")
-        if added:
-            answer += [f"g {len(added)}", f"q {s + 1} {t + 1} {tables[1][s].get(t, 'inf')}"]
-    return "\n".join(lines) + "\n", "\n".join(answer) + "\n"
+    graphs = [arcs, arcs + added] if added else [arcs]
+    known = [{s: Source(n, along, s) for s in sorted({s for s, _ in pairs})} for along in graphs]
+    answers = []
+    for walks in (False, True):
+        answer = []
+        for s, t in pairs:
+            answer += known[0][s].lines(t, walks)
+            if added:
+                answer += [f"g {len(added)}"] + known[1][s].lines(t, walks)
+        answers.append("\n".join(answer) + "\n")
+    return "\n".join(lines) + "\n", answers
 
 
 def main():
     program, count = sys.argv[1], int(sys.argv[2])
     for kind in KINDS:
         for seed in range(count):
-            job, want = drawn(kind, seed)
+            job, answers = drawn(kind, seed)
             words = [program, "--workers", str((1, 2, 4)[seed % 3]), "--shift", ("auto", "0", "4", "20")[seed % 4]]
-            ended = subprocess.run(words, input=job, capture_output=True, text=True, check=False)
-            if (ended.returncode, ended.stdout) != (0, want):
-                sys.exit(f"{kind}, seed {seed}: {' '.join(words[1:])}: status {ended.returncode}, another answer")
+            for want, more in zip(answers, ([], ["--walks"])):
+                ended = subprocess.run(words + more, input=job, capture_output=True, text=True, check=False)
+                if (ended.returncode, ended.stdout) != (0, want):
+                    told = " ".join(words[1:] + more)
+                    sys.exit(f"{kind}, seed {seed}: {told}: status {ended.returncode}, another answer")
 
 
 if __name__ == "__main__":

@@ -283,10 +283,11 @@ const FEW: Fault = Fault::Text {
     kind: LineKind::TooFew,
 };
 
-const STATUSES: [(Fault, u8, &str); 7] = [
+const STATUSES: [(Fault, u8, &str); 8] = [
     (FEW, 2, "line 4: too few lines"),
     (Fault::TooLong, 2, "input too long"),
     (Fault::NoAsk, 2, "no sources or pairs"),
+    (Fault::NoSources, 2, "no sources, which a bound needs"),
     (Fault::Memory, 3, "out of memory"),
     (Fault::Read, 4, "read failed"),
     (Fault::Write, 4, "write failed"),

@@ -33,10 +33,10 @@ use Rattle.job_answer.specs.Costs.{SaysPairCost, unreached, reached}
 use Rattle.job_answer.specs.Costs.{IsWalkLine, unasked, no_walk, shortest, AnswersSayComponents, AreComponentLines}
 
 -- along these arcs INF means that no walk exists
-record AreLight (n : ℕ) (arcs : List ArcRec) : Type 0 where
-  few : n ≤ MAX_VERTICES
-  graph : IsGraph n arcs
-  light : All (λ (arc : ArcRec). arc.weight < 2 ^ 32) arcs
+pub record AreLight (n : ℕ) (arcs : List ArcRec) : Type 0 where
+  pub few : n ≤ MAX_VERTICES
+  pub graph : IsGraph n arcs
+  pub light : All (λ (arc : ArcRec). arc.weight < 2 ^ 32) arcs
 
 -- where a least label is INF there is no walk
 no_walk_at : InfMeansNoWalk → (n : ℕ) (arcs : List ArcRec) (source : ℕ) (labels : List ℕ) → AreLight n arcs
@@ -49,7 +49,7 @@ no_walk_at law n arcs source labels light within least v below is walk walks =
     least v below is (cost walk) (attained-by_walk arcs source v walk walks)
 
 -- what is written for a least label is the text of the cost
-label_is_cost : InfMeansNoWalk → (n : ℕ) (arcs : List ArcRec) (source : ℕ) (labels : List ℕ) → AreLight n arcs
+pub label_is_cost : InfMeansNoWalk → (n : ℕ) (arcs : List ArcRec) (source : ℕ) (labels : List ℕ) → AreLight n arcs
     → source < n → AreLeastLabels n arcs (seeds_from source) labels
     → (v : ℕ) → v < n → IsCostText arcs source v (cost_text (get_or labels v 0))
 label_is_cost law n arcs source labels light within least v below =
@@ -65,7 +65,7 @@ label_is_cost law n arcs source labels light within least v below =
     ]
 
 -- it is that of a walk of least cost and fewest arcs
-line_is_walk : InfMeansNoWalk → PrintedWalksAreWalks → (n : ℕ) (arcs : List ArcRec) (source : ℕ)
+pub line_is_walk : InfMeansNoWalk → PrintedWalksAreWalks → (n : ℕ) (arcs : List ArcRec) (source : ℕ)
     (labels hops parents : List ℕ) → AreLight n arcs → source < n → AreLeastLabels n arcs (seeds_from source) labels
     → AreHops n arcs source labels hops → AreParents n arcs labels hops parents
     → (v : ℕ) → v < n
@@ -192,7 +192,7 @@ pair_says_cost law printed true n arcs light pair text within block =
     )
 
 -- what each block says, all of them say
-blocks_say : {Query : Type 0} (IsWithin : Query → Type 0) (IsBlockOf Says : Query → List ℕ → Type 0)
+pub blocks_say : {Query : Type 0} (IsWithin : Query → Type 0) (IsBlockOf Says : Query → List ℕ → Type 0)
     → ((query : Query) (block : List ℕ) → IsWithin query → IsBlockOf query block → Says query block)
     → (queries : List Query) (text : List ℕ) → All IsWithin queries → AreBlocks IsBlockOf queries text
     → AreBlocks Says queries text
@@ -206,12 +206,12 @@ blocks_say IsWithin IsBlockOf Says each (query ∷ queries) text within blocks =
 )
 
 -- what is said of some arcs is said of all arcs, if some are added
-abbrev AreAllSo : (List ArcRec → Type 0) → List ArcRec → Option (List ArcRec) → Type 0
+abbrev pub AreAllSo : (List ArcRec → Type 0) → List ArcRec → Option (List ArcRec) → Type 0
 AreAllSo IsSo arcs None = Unit {0}
 AreAllSo IsSo arcs (Some added) = IsSo (arcs ++ added)
 
 -- what the text of arcs says, it says of the arcs before and of all arcs
-grown_says : (along other : List ArcRec → List ArcRec) (IsSo : List ArcRec → Type 0)
+pub grown_says : (along other : List ArcRec → List ArcRec) (IsSo : List ArcRec → Type 0)
     (IsTextOf Says : List ArcRec → List ℕ → Type 0)
     → ((arcs : List ArcRec) → IsSo arcs → (text : List ℕ) → IsTextOf (along arcs) text → Says (other arcs) text)
     → (arcs : List ArcRec) (added : Option (List ArcRec)) → IsSo arcs → AreAllSo IsSo arcs added
@@ -227,7 +227,7 @@ grown_says along other IsSo IsTextOf Says each arcs (Some added) so all text is 
 }
 
 -- arcs within the limits are light, and so are those of levels
-light_arcs : (n : ℕ) (arcs : List ArcRec) → n ≤ MAX_VERTICES → All (IsArcWithin n) arcs → AreLight n arcs
+pub light_arcs : (n : ℕ) (arcs : List ArcRec) → n ≤ MAX_VERTICES → All (IsArcWithin n) arcs → AreLight n arcs
 light_arcs n arcs few within = record {
   few = few;
   graph = All-weaker (IsArcWithin n) (IsArcBelow n) (λ arc are. (are.tail, are.head)) arcs within;
@@ -241,13 +241,13 @@ light_units n arcs light = record {
   light = All-map (λ (arc : ArcRec). arc.weight < 2 ^ 32) unit_weight arcs (λ k d below. omega arith);
 }
 
-light_kind : (kind : Answer) (n : ℕ) (arcs : List ArcRec) → kind ≢ Components → AreLight n arcs
+pub light_kind : (kind : Answer) (n : ℕ) (arcs : List ArcRec) → kind ≢ Components → AreLight n arcs
     → AreLight n (arcs_for kind arcs)
 light_kind Distances n arcs other light = light
 light_kind Levels n arcs other light = light_units n arcs light
 light_kind Components n arcs other light = absurd (other refl)
 
-light_all : (n : ℕ) (arcs : List ArcRec) (added : Option (List ArcRec)) → n ≤ MAX_VERTICES → All (IsArcWithin n) arcs
+pub light_all : (n : ℕ) (arcs : List ArcRec) (added : Option (List ArcRec)) → n ≤ MAX_VERTICES → All (IsArcWithin n) arcs
     → IsAddedWithin n added → AreAllSo (AreLight n) arcs added
 light_all n arcs None few within more = tt
 light_all n arcs (Some added) few within more =

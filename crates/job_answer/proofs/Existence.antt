@@ -24,7 +24,7 @@ use Rattle.least_costs.proofs.Facts.{start-seeds}
 use Rattle.least_costs.specs.declared.start.Start.TheVariants.{At, Everywhere}
 
 -- where each query has a block, there are the blocks of all
-blocks-exist : {Query : Type 0} (IsWithin : Query → Type 0) (IsBlockOf : Query → List ℕ → Type 0)
+pub blocks-exist : {Query : Type 0} (IsWithin : Query → Type 0) (IsBlockOf : Query → List ℕ → Type 0)
     → ((query : Query) → IsWithin query → (text : List ℕ) × IsBlockOf query text)
     → (queries : List Query) → All IsWithin queries
     → (text : List ℕ) × AreBlocks IsBlockOf queries text
@@ -37,10 +37,10 @@ blocks-exist IsWithin IsBlockOf each (query ∷ queries) within =
 module _ (labelled : LeastLabelsExist) (walked : HopsAndParentsExist) (n : ℕ) (arcs : List ArcRec)
     (few : n ≤ MAX_VERTICES)
     (graph : IsGraph n arcs) where
-  labels-exist : (source : ℕ) → source < n → (labels : List ℕ) × AreLeastLabels n arcs (seeds_from source) labels
+  pub labels-exist : (source : ℕ) → source < n → (labels : List ℕ) × AreLeastLabels n arcs (seeds_from source) labels
   labels-exist source within = labelled n arcs (seeds_from source) graph (start-seeds n (At source) within)
 
-  walks-exist : (source : ℕ) → source < n
+  pub walks-exist : (source : ℕ) → source < n
       → (labels : List ℕ) × (hops : List ℕ) × (parents : List ℕ) × AreWalksFrom n arcs source labels hops parents
   walks-exist source within =
       let found = labels-exist source within in
@@ -82,7 +82,7 @@ IsGrowthWithin n None = Unit {0}
 IsGrowthWithin n (Some growth) = IsGraph n growth.arcs
 
 -- where the arcs of each graph have a text, those of a graph and of what it grows to have one
-grown-exists : (n : ℕ) (IsTextOf : List ArcRec → List ℕ → Type 0)
+pub grown-exists : (n : ℕ) (IsTextOf : List ArcRec → List ℕ → Type 0)
     → ((arcs : List ArcRec) → IsGraph n arcs → (text : List ℕ) × IsTextOf arcs text)
     → (arcs : List ArcRec) (growth : Option Growth) → IsGraph n arcs → IsGrowthWithin n growth
     → (text : List ℕ) × IsGrownText IsTextOf arcs growth text
@@ -130,10 +130,10 @@ growth-graph kind n arcs (Some added) graph within =
 
 module _ (labelled : LeastLabelsExist) (walked : HopsAndParentsExist) (kind : Answer) (job : Content)
     (limits : IsWithinLimits job) where
-  job-graph : IsGraph job.n (arcs_for kind job.arcs)
+  pub job-graph : IsGraph job.n (arcs_for kind job.arcs)
   job-graph = kind-graph kind job.n job.arcs (arcs-graph job.n job.arcs limits.arcs)
 
-  job-grows : IsGrowthWithin job.n (growth_for kind job)
+  pub job-grows : IsGrowthWithin job.n (growth_for kind job)
   job-grows = growth-graph kind job.n job.arcs job.added (arcs-graph job.n job.arcs limits.arcs) limits.added
 
   blocks-asked : (walks : Bool) → job.question ≢ absent

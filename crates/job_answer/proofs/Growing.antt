@@ -1,5 +1,5 @@
 -- A block, and where the graph grows what comes after it: as texts, and as they are written.
-use Rattle.std.proofs.Common.{◌≡◌, Bool, ℕ, ◌<◌, ◌∙◌, List, [], ◌++◌, Option, Some, None, true, false, length, get_or}
+use Rattle.std.proofs.Common.{◌≡◌, ℕ, ◌<◌, ◌∙◌, List, [], ◌++◌, Option, Some, None, true, false, length, get_or}
 use Rattle.std.proofs.Common.{refl, sym, subst, ap, append_assoc}
 use Rattle.std.proofs.lemmas.List.{append-nil}
 use Rattle.least_costs.specs.declared.cost.Cost.{Cost}
@@ -24,6 +24,8 @@ use Rattle.job_answer.specs.declared.asked.Answer.{Answer}
 use Rattle.job_answer.specs.declared.asked.Answer.TheVariants.{Distances, Levels, Components}
 use Rattle.job_answer.specs.AnswerText.{arcs_for, growth_from}
 use Rattle.job_answer.specs.Graphs.{GrowAlike, GrowsInto, cost_for, growth_of}
+use Rattle.job_answer.specs.declared.asked.Lines.{Lines}
+use Rattle.job_answer.specs.Within.{LinesAreUnique}
 use Rattle.job_answer.specs.Solves.{AreCostsAfter, IsGrownStart, IsRest, IsStartBlock, IsWalked}
 use Rattle.job_answer.specs.Solves.{IsWalkedAfter}
 use Rattle.job_answer.specs.Solves.{walked_text, walked_after_text, with_growth}
@@ -140,17 +142,17 @@ grown-begins IsTextOf arcs (Some growth) text is = (
 )
 
 -- a start has only one block
-pub start-one : BlocksAreUnique → (walks : Bool) (n : ℕ) (arcs : List ArcRec) (start : Start)
-    → IsOneText (IsStartBlock walks start n arcs)
-start-one law walks n arcs (At source) = (law walks n arcs None).0 source
-start-one law walks n arcs Everywhere = (law walks n arcs None).2
+pub start-one : LinesAreUnique → BlocksAreUnique → (lines : Lines) (n : ℕ) (arcs : List ArcRec) (start : Start)
+    → IsOneText (IsStartBlock lines start n arcs)
+start-one law blocks lines n arcs (At source) = law lines n arcs None source
+start-one law blocks lines n arcs Everywhere = (blocks false n arcs None).2
 
 -- and where the graph grows only one text
-pub grown-start-one : BlocksAreUnique
-    → (walks : Bool) (n : ℕ) (arcs : List ArcRec) (growth : Option Growth) (start : Start)
-    → IsOneText (IsGrownStart walks n arcs growth start)
-grown-start-one law walks n arcs growth (At source) = (law walks n arcs growth).0 source
-grown-start-one law walks n arcs growth Everywhere = (law walks n arcs growth).2
+pub grown-start-one : LinesAreUnique → BlocksAreUnique
+    → (lines : Lines) (n : ℕ) (arcs : List ArcRec) (growth : Option Growth) (start : Start)
+    → IsOneText (IsGrownStart lines n arcs growth start)
+grown-start-one law blocks lines n arcs growth (At source) = law lines n arcs growth source
+grown-start-one law blocks lines n arcs growth Everywhere = (blocks false n arcs growth).2
 
 -- ---- the lines of a pair
 
@@ -195,31 +197,20 @@ plain-block law net (Some grown) pairs costs after k is grows within are later h
       written = refl;
     }
 
--- by the walks in a graph
-walked-block : (n : ℕ) (arcs : List ArcRec) (pair : ℕ × ℕ) (walked : Walked) → IsWalked n arcs pair.0 walked
-    → IsPairBlock true n arcs pair (walked_text pair walked)
-walked-block n arcs pair walked is = record {
-  labels = walked.labels.items;
-  hops = walked.hops.items;
-  parents = walked.parents.items;
-  walked = is.walks;
-  written = refl;
-}
-
--- and in both
+-- by the walks in both
 pub walked-blocks : (net : NetworkSeen) (grown : Option Grown) (pair : ℕ × ℕ) (walked : Walked) (after : Option Walked)
-    → GrowsInto net grown → IsWalked net.n net.arcs pair.0 walked → IsWalkedAfter grown pair.0 after
+    → GrowsInto net grown → IsWalked net.n net.arcs pair walked → IsWalkedAfter grown pair after
     → IsGrownPair true net.n net.arcs (growth_of grown) pair
     (with_growth (growth_of grown) (walked_text pair walked) (walked_after_text pair after))
-walked-blocks net None pair walked after grows is later = walked-block net.n net.arcs pair walked is
+walked-blocks net None pair walked after grows is later = is.lines
 walked-blocks net (Some grown) pair walked None grows is later = absurd later
 walked-blocks net (Some grown) pair walked (Some after) grows is later = record {
   before = walked_text pair walked;
   after = walked_text pair after;
-  first = walked-block net.n net.arcs pair walked is;
+  first = is.lines;
   second =
       subst (λ (n : ℕ). IsPairBlock true n grown.network.arcs pair (walked_text pair after)) grows.to.vertices
-      (walked-block grown.network.n grown.network.arcs pair after later);
+      later.lines;
   written = refl;
 }
 

@@ -9,3 +9,6 @@ pub mod Starts
 pub mod Existence
 pub mod Queries
 pub mod Growing
+pub mod WalksBelow
+pub mod Within
+pub mod Told

@@ -1,6 +1,5 @@
--- Labels and blocks that are right along the rows are right along the job's arcs, of which the rows were
--- built.
-use Rattle.std.proofs.Common.{◌≡◌, ◌↔◌, Bool, true, false, ℕ, List, [], ◌∷◌, ◌++◌, Option, Some, None, refl, sym, ap}
+-- Labels and blocks that are right along the arcs of a network are right along the job's arcs, of which it was made.
+use Rattle.std.proofs.Common.{◌≡◌, ◌≢◌, ◌↔◌, Bool, true, false, ℕ, List, [], ◌∷◌, ◌++◌, Option, Some, None, refl, sym, ap}
 use Rattle.std.proofs.Common.{◌∙◌}
 use Rattle.route_walks.specs.declared.graph.ArcRec.{ArcRec}
 use Rattle.route_walks.specs.Walk.{HaveSameArcs}
@@ -10,9 +9,9 @@ use Rattle.route_walks.proofs.Facts.{same_arcs-sym}
 use Rattle.walk_report.specs.Parent.{HopsAndParentsFollowTheArcs}
 use Rattle.dimacs_text.specs.Jobs.{Content, Question, absent, from_sources, of_pairs}
 use Rattle.answer_lines.specs.Lines.{grown_text}
-use Rattle.std.specs.Prelude.{Result, Ok, Err, IfErr, OnErr}
+use Rattle.std.specs.Prelude.{Result, Ok, Err, IfErr, IsTrue, OnErr}
 use Rattle.job_answer.specs.declared.fault.Fault.{Fault}
-use Rattle.job_answer.specs.declared.fault.Fault.TheVariants.{Read, TooLong, Text, NoAsk, Memory, Spawn, Write}
+use Rattle.job_answer.specs.declared.fault.Fault.TheVariants.{Read, TooLong, Text, NoAsk, NoSources, Memory, Spawn, Write}
 use Rattle.job_answer.specs.declared.asked.Answer.{Answer}
 use Rattle.job_answer.specs.declared.asked.Answer.TheVariants.{Distances, Levels, Components}
 use Rattle.job_answer.specs.declared.graphs.Graphs.{Graphs}
@@ -21,7 +20,11 @@ use Rattle.job_answer.specs.Graphs.{AreGraphsFor, GrowAlike, growth_of}
 use Rattle.job_answer.specs.Outcome.{IsReplyFault, IsUnasked, IsWritingFault, is_unasked}
 use Rattle.job_answer.specs.AnswerText.{IsBlock, IsPairBlock, AreWalksFrom, AreBlocks, AreAskedBlocks}
 use Rattle.job_answer.specs.AnswerText.{Growth, IsComponentsBlock, IsGrownBlock, IsGrownPair, IsGrownText}
-use Rattle.job_answer.specs.AnswerText.{IsAnswerText, IsTextFor, arcs_for, growth_for}
+use Rattle.job_answer.specs.AnswerText.{IsTextFor, arcs_for, growth_for}
+use Rattle.job_answer.specs.declared.asked.Lines.{Lines}
+use Rattle.job_answer.specs.declared.asked.Lines.TheVariants as lines
+use Rattle.job_answer.specs.Within.{AreBlocksWithin, AreLinesBlocks, HasNoSources, IsAnswerTextBy, IsGrownLines, IsLinesBlock}
+use Rattle.job_answer.specs.Within.{IsTextBy}
 
 module _ (law : LeastLabelsFollowTheArcs) (walked : HopsAndParentsFollowTheArcs) (n : ℕ) (one other : List ArcRec)
     (same : HaveSameArcs one other) where
@@ -40,6 +43,23 @@ module _ (law : LeastLabelsFollowTheArcs) (walked : HopsAndParentsFollowTheArcs)
     written = block.written;
   }
   block-over true source text block = record {
+    labels = block.labels;
+    hops = block.hops;
+    parents = block.parents;
+    walked = walks-over source block.labels block.hops block.parents block.walked;
+    written = block.written;
+  }
+
+  -- so is a block by any lines
+  lines-over : (by : Lines) (source : ℕ) (text : List ℕ) → IsLinesBlock by n one source text
+      → IsLinesBlock by n other source text
+  lines-over (lines.Each walks) source text block = block-over walks source text block
+  lines-over (lines.Within false bound) source text block = record {
+    labels = block.labels;
+    least = law n one other (seeds_from source) block.labels same block.least;
+    written = block.written;
+  }
+  lines-over (lines.Within true bound) source text block = record {
     labels = block.labels;
     hops = block.hops;
     parents = block.parents;
@@ -127,37 +147,73 @@ module _ (law : LeastLabelsFollowTheArcs) (walked : HopsAndParentsFollowTheArcs)
   text-over Components question text is =
       grown-over (IsComponentsBlock n) (components-over law n) one other first second same alike text is
 
+-- so is a text within a bound
+module _ (law : LeastLabelsFollowTheArcs) (walked : HopsAndParentsFollowTheArcs) (n : ℕ) (one other : List ArcRec)
+    (first second : Option Growth) (same : HaveSameArcs one other) (alike : GrowAlike first second) where
+  within-over : (walks : Bool) (bound : ℕ) (question : Question) (text : List ℕ)
+      → AreBlocksWithin walks bound n one first question text
+      → AreBlocksWithin walks bound n other second question text
+  within-over walks bound absent text blocks = blocks
+  within-over walks bound (of_pairs pairs) text blocks = blocks
+  within-over walks bound (from_sources sources) text blocks =
+      blocks-over (IsGrownLines (lines.Within walks bound) n one first)
+      (IsGrownLines (lines.Within walks bound) n other second)
+      (λ source.
+      grown-over (λ along. IsLinesBlock (lines.Within walks bound) n along source)
+      (λ these those are. lines-over law walked n these those are (lines.Within walks bound) source)
+      one other first second same alike)
+      sources text blocks
+
+  text-over-by : (kind : Answer) (by : Lines) (question : Question) (text : List ℕ)
+      → IsTextBy kind by n one first question text → IsTextBy kind by n other second question text
+  text-over-by kind (lines.Each walks) question text is =
+      text-over law walked walks n one other first second same alike kind question text is
+  text-over-by Distances (lines.Within walks bound) question text is = within-over walks bound question text is
+  text-over-by Levels (lines.Within walks bound) question text is = within-over walks bound question text is
+  text-over-by Components (lines.Within walks bound) question text is =
+      grown-over (IsComponentsBlock n) (components-over law n) one other first second same alike text is
+
 alike-sym : (first second : Option Growth) → GrowAlike first second → GrowAlike second first
 alike-sym None None alike = alike
 alike-sym None (Some second) alike = absurd alike
 alike-sym (Some first) None alike = absurd alike
 alike-sym (Some first) (Some second) alike = (sym alike.0, same_arcs-sym first.arcs second.arcs alike.1)
 
--- the text along the rows of a job is the job's answer
-module _ (law : LeastLabelsFollowTheArcs) (walked : HopsAndParentsFollowTheArcs) (kind : Answer) (walks : Bool)
+-- the text along the arcs of the networks is the job's answer
+module _ (law : LeastLabelsFollowTheArcs) (walked : HopsAndParentsFollowTheArcs) (kind : Answer) (by : Lines)
     (job : Content) (graphs : Graphs) (question : Question)
     (are : AreGraphsFor kind job.n job.arcs (growth_for kind job) graphs) (asked : question ≡ job.question) where
   pub text_answered : (text : List ℕ)
-      → (IsTextFor kind walks graphs.network.n graphs.network.arcs (growth_of graphs.grown) question text)
-      ↔ (IsAnswerText kind walks job text)
+      → (IsTextBy kind by graphs.network.n graphs.network.arcs (growth_of graphs.grown) question text)
+      ↔ (IsAnswerTextBy kind by job text)
   text_answered text =
       rw (are.vertices, asked) (
-        text-over law walked walks job.n graphs.network.arcs (arcs_for kind job.arcs) (growth_of graphs.grown)
-            (growth_for kind job) are.along are.alike kind job.question text,
-        text-over law walked walks job.n (arcs_for kind job.arcs) graphs.network.arcs (growth_for kind job)
+        text-over-by law walked job.n graphs.network.arcs (arcs_for kind job.arcs) (growth_of graphs.grown)
+            (growth_for kind job) are.along are.alike kind by job.question text,
+        text-over-by law walked job.n (arcs_for kind job.arcs) graphs.network.arcs (growth_for kind job)
             (growth_of graphs.grown) (same_arcs-sym graphs.network.arcs (arcs_for kind job.arcs) are.along)
-            (alike-sym (growth_of graphs.grown) (growth_for kind job) are.alike) kind job.question text,
+            (alike-sym (growth_of graphs.grown) (growth_for kind job) are.alike) kind by job.question text,
       )
 
   pub text_begun : (before after : Option (List ℕ))
-      → WritesPrefix (IsTextFor kind walks graphs.network.n graphs.network.arcs (growth_of graphs.grown) question) before
+      → WritesPrefix (IsTextBy kind by graphs.network.n graphs.network.arcs (growth_of graphs.grown) question) before
       after
-      → WritesPrefix (IsAnswerText kind walks job) before after
+      → WritesPrefix (IsAnswerTextBy kind by job) before after
   text_begun before after cut = record {
     given = cut.given;
     is_prefix = λ text answered. cut.is_prefix text ((text_answered text).1 answered);
     appended = cut.appended;
   }
+
+-- the blocks of the sources are the text of what is asked, but for components
+pub sources-text : (kind : Answer) (by : Lines) (n : ℕ) (arcs : List ArcRec) (growth : Option Growth)
+    (sources text : List ℕ) → kind ≢ Components
+    → AreLinesBlocks by n arcs growth sources text ↔ IsTextBy kind by n arcs growth (from_sources sources) text
+sources-text Distances (lines.Each walks) n arcs growth sources text other = (λ is. is, λ is. is)
+sources-text Distances (lines.Within walks bound) n arcs growth sources text other = (λ is. is, λ is. is)
+sources-text Levels (lines.Each walks) n arcs growth sources text other = (λ is. is, λ is. is)
+sources-text Levels (lines.Within walks bound) n arcs growth sources text other = (λ is. is, λ is. is)
+sources-text Components by n arcs growth sources text other = absurd (other refl)
 
 -- the test says whether a job is asked
 pub asked-if : (kind : Answer) (job : Content) → is_unasked kind job.question ≡ false → ¬ (IsUnasked kind job)
@@ -167,23 +223,32 @@ asked-if Levels job asked unasked =
     let clash : false ≡ true = sym asked ∙ ap (is_unasked Levels) unasked.unasked in cc
 asked-if Components job asked unasked = unasked.needed refl
 
--- what is said of a fault while blocks are written is said of a fault of the reply
-pub reply-fault : (kind : Answer) (walks : Bool) (job : Content) (before after : Option (List ℕ)) (fault : Fault)
-    → ¬ (IsUnasked kind job) → IsWritingFault fault → WritesPrefix (IsAnswerText kind walks job) before after
-    → IsReplyFault kind walks job before after fault
-reply-fault kind walks job before after Read asked never cut = absurd never
-reply-fault kind walks job before after TooLong asked never cut = absurd never
-reply-fault kind walks job before after (Text line what) asked never cut = absurd never
-reply-fault kind walks job before after NoAsk asked never cut = absurd never
-reply-fault kind walks job before after Memory asked writing cut = record { asked = asked; cut = cut }
-reply-fault kind walks job before after Spawn asked writing cut = record { asked = asked; cut = cut }
-reply-fault kind walks job before after Write asked writing cut = record { asked = asked; cut = cut }
+-- and so another test of what it tells
+pub untold-if : (test : Bool) (P : Type 0) → IsTrue test ↔ P → test ≡ false → ¬ P
+untold-if test P says is so = let clash : false ≡ true = sym is ∙ says.1 so in cc
 
-pub reply-says : {T : Type 0} (kind : Answer) (walks : Bool) (job : Content) (before after : Option (List ℕ))
+-- what is said of a fault while blocks are written is said of a fault of the reply
+pub reply-fault : (kind : Answer) (by : Lines) (job : Content) (before after : Option (List ℕ)) (fault : Fault)
+    → ¬ (IsUnasked kind job) → ¬ (HasNoSources kind by job.question) → IsWritingFault fault
+    → WritesPrefix (IsAnswerTextBy kind by job) before after
+    → IsReplyFault kind by job before after fault
+reply-fault kind by job before after Read asked sources never cut = absurd never
+reply-fault kind by job before after TooLong asked sources never cut = absurd never
+reply-fault kind by job before after (Text line what) asked sources never cut = absurd never
+reply-fault kind by job before after NoAsk asked sources never cut = absurd never
+reply-fault kind by job before after NoSources asked sources never cut = absurd never
+reply-fault kind by job before after Memory asked sources writing cut =
+    record { asked = asked; has_sources = sources; cut = cut }
+reply-fault kind by job before after Spawn asked sources writing cut =
+    record { asked = asked; has_sources = sources; cut = cut }
+reply-fault kind by job before after Write asked sources writing cut =
+    record { asked = asked; has_sources = sources; cut = cut }
+
+pub reply-says : {T : Type 0} (kind : Answer) (by : Lines) (job : Content) (before after : Option (List ℕ))
     (r : Result T Fault)
-    → ¬ (IsUnasked kind job) → IfErr r IsWritingFault
-    → OnErr r (WritesPrefix (IsAnswerText kind walks job) before after)
-    → IfErr r (IsReplyFault kind walks job before after)
-reply-says kind walks job before after (Ok x) asked kinds cut = tt
-reply-says kind walks job before after (Err fault) asked kinds cut =
-    reply-fault kind walks job before after fault asked kinds cut
+    → ¬ (IsUnasked kind job) → ¬ (HasNoSources kind by job.question) → IfErr r IsWritingFault
+    → OnErr r (WritesPrefix (IsAnswerTextBy kind by job) before after)
+    → IfErr r (IsReplyFault kind by job before after)
+reply-says kind by job before after (Ok x) asked sources kinds cut = tt
+reply-says kind by job before after (Err fault) asked sources kinds cut =
+    reply-fault kind by job before after fault asked sources kinds cut

@@ -4,9 +4,10 @@ use Rattle.std.proofs.Common.{suc, take, drop-cons, Option, Some, refl, sym, sub
 use Rattle.std.specs.Io.KnownBytes.{Appends}
 use Rattle.std.proofs.Math.Seq.{take-add}
 use Rattle.std.proofs.lemmas.List.{append-nil, take_all, take_more}
-use Rattle.job_answer.specs.AnswerText.{AreBlocks, vertex_text, vertex_lines}
+use Rattle.job_answer.specs.AnswerText.{AreBlocks}
 use Rattle.job_answer.specs.Bytes.{Waits, Writes, Puts}
 use Rattle.job_answer.specs.Sent.{AreSent}
+use Rattle.job_answer.specs.Within.{line_within, lines_within}
 use Rattle.job_answer.proofs.Known.{appends-then, waits-put, waits-sent}
 
 pub blocks-push : {Query : Type 0} (IsBlockOf : Query → List ℕ → Type 0) (queries : List Query) (query : Query)
@@ -56,15 +57,14 @@ put-more before between after waiting line left lines whole put sent = record {
   is_whole = append_assoc put.text line lines ∙ put.is_whole;
 }
 
-pub vertex_lines-next : (hop parent : ℕ → ℕ) (v : ℕ) (labels : List ℕ)
+pub lines_within-next : (bound : ℕ) (text : ℕ → ℕ → List ℕ) (v : ℕ) (labels : List ℕ)
     → v < length labels
-    → vertex_lines hop parent v (drop v labels)
-    ≡ vertex_text hop parent v (get_or labels v 0) ++ vertex_lines hop parent (v + 1) (drop (v + 1) labels)
-vertex_lines-next hop parent v labels below =
+    → lines_within bound text v (drop v labels)
+    ≡ line_within bound text v (get_or labels v 0) ++ lines_within bound text (v + 1) (drop (v + 1) labels)
+lines_within-next bound text v labels below =
     let one : suc v ≡ v + 1 = omega arith in
-    ap (vertex_lines hop parent v) (drop-cons labels v 0 below)
-    ∙ ap (λ (k : ℕ). vertex_text hop parent v (get_or labels v 0) ++ vertex_lines hop parent (v + 1) (drop k labels))
-    one
+    ap (lines_within bound text v) (drop-cons labels v 0 below)
+    ∙ ap (λ (k : ℕ). line_within bound text v (get_or labels v 0) ++ lines_within bound text (v + 1) (drop k labels)) one
 
 module _ {Query : Type 0} (IsBlockOf : Query → List ℕ → Type 0) (queries : List Query) where
   -- a block more is put, and some of what waits is given

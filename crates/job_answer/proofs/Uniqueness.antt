@@ -17,7 +17,7 @@ use Rattle.job_answer.specs.AnswerText.{AreWalksFrom, AreBlocks, AreAskedBlocks,
 use Rattle.job_answer.specs.AnswerText.{Growth, IsComponentsBlock, IsGrownBlock, IsGrownPair, IsGrownText, growth_for}
 use Rattle.job_answer.specs.AnswerText.{arcs_for}
 
-labels-same : LeastLabelsAreUnique
+pub labels-same : LeastLabelsAreUnique
     → (n : ℕ) (arcs : List ArcRec) (seeds : List Seed) (xs ys : List ℕ) → AreLeastLabels n arcs seeds xs
     → AreLeastLabels n arcs seeds ys
     → xs ≡ ys
@@ -29,7 +29,7 @@ labels-same law n arcs seeds xs ys first second =
 
 -- labels, hops and parents from a source are unique
 module _ (law : LeastLabelsAreUnique) (walked : HopsAndParentsAreUnique) (n : ℕ) (arcs : List ArcRec) where
-  walks-same : (source : ℕ) (labels hops parents others other-hops other-parents : List ℕ)
+  pub walks-same : (source : ℕ) (labels hops parents others other-hops other-parents : List ℕ)
       → AreWalksFrom n arcs source labels hops parents → AreWalksFrom n arcs source others other-hops other-parents
       → (labels ≡ others) × (hops ≡ other-hops) × (parents ≡ other-parents)
   walks-same source labels hops parents others other-hops other-parents one two =
@@ -77,7 +77,7 @@ components-same law n arcs first second one two =
     ∙ sym two.written
 
 -- where arcs have one text, those of a graph and of what it grows to have one
-grown-same : (IsTextOf : List ArcRec → List ℕ → Type 0) → ((arcs : List ArcRec) → IsOneText (IsTextOf arcs))
+pub grown-same : (IsTextOf : List ArcRec → List ℕ → Type 0) → ((arcs : List ArcRec) → IsOneText (IsTextOf arcs))
     → (arcs : List ArcRec) (growth : Option Growth) → IsOneText (IsGrownText IsTextOf arcs growth)
 grown-same IsTextOf only arcs None first second one two = only arcs first second one two
 grown-same IsTextOf only arcs (Some growth) first second one two =

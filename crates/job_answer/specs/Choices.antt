@@ -18,6 +18,7 @@ status_of fault.Read = 4
 status_of fault.TooLong = 2
 status_of (fault.Text line kind) = 2
 status_of fault.NoAsk = 2
+status_of fault.NoSources = 2
 status_of fault.Memory = 3
 status_of fault.Spawn = 5
 status_of fault.Write = 4

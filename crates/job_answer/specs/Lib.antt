@@ -3,8 +3,10 @@ pub mod Choices
 pub mod Bytes
 pub mod AnswerText
 pub mod Graphs
-pub mod Outcome
 pub mod Costs
+pub mod Within
+pub mod LineWalks
+pub mod Outcome
 pub mod Parts
 pub mod Existence
 pub mod Sent

@@ -6,19 +6,22 @@ use Rattle.dimacs_text.specs.Jobs.{Content, Question, absent, from_sources, of_p
 use Rattle.dimacs_text.specs.Faults.{IsFirstFault}
 use Rattle.job_answer.specs.declared.asked.Answer.{Answer}
 use Rattle.job_answer.specs.declared.asked.Answer.TheVariants as answer
+use Rattle.job_answer.specs.declared.asked.Lines.{Lines}
+use Rattle.job_answer.specs.declared.asked.Lines.TheVariants as lines
 use Rattle.job_answer.specs.declared.fault.Fault.{Fault}
 use Rattle.job_answer.specs.declared.fault.Fault.TheVariants as fault
 use Rattle.job_reader.specs.Request.{IsFaulty, IsRequest}
 use Rattle.job_reader.specs.Taken.{TakesAtMost, TakesOneMore}
 use Rattle.job_answer.specs.Bytes.{Writes, WritesPrefix}
 use Rattle.job_answer.specs.AnswerText.{IsAnswerText}
+use Rattle.job_answer.specs.Within.{HasNoSources, IsAnswerTextBy}
 
 -- the whole text was taken, it is a job's, and the job's answer was written and nothing else
-pub record IsAnswered (limit : ℕ) (kind : Answer) (walks : Bool)
+pub record IsAnsweredBy (limit : ℕ) (kind : Answer) (lines : Lines)
     (taken_from taken_to given_from given_to : Option (List ℕ)) : Type 0 where
   pub job : Content
   pub request : IsRequest limit taken_from taken_to job
-  pub reply : Writes (IsAnswerText kind walks job) given_from given_to
+  pub reply : Writes (IsAnswerTextBy kind lines job) given_from given_to
 
 -- without a section of queries nothing is asked, but for components, which need none
 abbrev pub is_unasked : Answer → Question → Bool
@@ -36,18 +39,19 @@ pub record IsUnasked (kind : Answer) (job : Content) : Type 0 where
   pub needed : kind ≢ answer.Components
 
 -- the job is asked, so it has an answer, and a prefix of that was written and nothing else
-pub record IsReplyBegun (kind : Answer) (walks : Bool) (job : Content) (before after : Option (List ℕ))
-    : Type 0 where
+pub record IsReplyBegun (kind : Answer) (lines : Lines) (job : Content)
+    (before after : Option (List ℕ)) : Type 0 where
   pub asked : ¬ (IsUnasked kind job)
-  pub cut : WritesPrefix (IsAnswerText kind walks job) before after
+  pub has_sources : ¬ (HasNoSources kind lines job.question)
+  pub cut : WritesPrefix (IsAnswerTextBy kind lines job) before after
 
 -- the whole text was taken, it is a job's that is asked, and a prefix of its answer was written and
 -- nothing else
-pub record IsBegun (limit : ℕ) (kind : Answer) (walks : Bool)
+pub record IsBegunBy (limit : ℕ) (kind : Answer) (lines : Lines)
     (taken_from taken_to given_from given_to : Option (List ℕ)) : Type 0 where
   pub job : Content
   pub request : IsRequest limit taken_from taken_to job
-  pub reply : IsReplyBegun kind walks job given_from given_to
+  pub reply : IsReplyBegun kind lines job given_from given_to
 
 -- the text is a job's, and the bytes are the job's answer
 pub record IsAnswerOf (kind : Answer) (walks : Bool) (text bytes : List ℕ) : Type 0 where
@@ -60,6 +64,13 @@ pub record IsRequestUnasked (limit : ℕ) (kind : Answer) (before after : Option
   pub job : Content
   pub request : IsRequest limit before after job
   pub unasked : IsUnasked kind job
+
+-- the whole text was taken, and it is a job's with pairs, though a bound asks for sources
+pub record IsRequestOfPairs (limit : ℕ) (kind : Answer) (lines : Lines) (before after : Option (List ℕ)) : Type 0
+  where
+    pub job : Content
+    pub request : IsRequest limit before after job
+    pub pairs : HasNoSources kind lines job.question
 
 -- the text is a job's without a section of queries
 pub record IsTextUnasked (kind : Answer) (text : List ℕ) : Type 0 where
@@ -79,7 +90,8 @@ abbrev pub HasTaken : ℕ → Option (List ℕ) → Option (List ℕ) → Fault 
 HasTaken limit before after fault.TooLong = TakesOneMore limit before after
 HasTaken limit before after _ = TakesAtMost limit before after
 
-module _ (limit : ℕ) (kind : Answer) (walks : Bool) (taken_from taken_to given_from given_to : Option (List ℕ)) where
+module _ (limit : ℕ) (kind : Answer) (lines : Lines)
+    (taken_from taken_to given_from given_to : Option (List ℕ)) where
   -- A fault by which the text is refused: nothing was written.
   abbrev pub refused_row : Fault → Type 0 → FaultRow
   refused_row fault says =
@@ -89,33 +101,43 @@ module _ (limit : ℕ) (kind : Answer) (walks : Bool) (taken_from taken_to given
   abbrev pub system_row : Fault → Type 0 → FaultRow
   system_row fault written = record { taken = HasTaken limit taken_from taken_to fault; says = ⊤; written = written }
 
+  -- an answer of which a prefix was written
+  abbrev pub HasBegun : Type 0
+  HasBegun = IsBegunBy limit kind lines taken_from taken_to given_from given_to
+
   -- The table of the faults. A fault of the text is its first one, and where nothing is asked the job is legal all the
   -- same. Once the job is read, a prefix of its answer was written; memory may be refused before that too.
   abbrev pub row_of : Fault → FaultRow
   row_of fault.TooLong = refused_row fault.TooLong ⊤
   row_of (fault.Text line what) = refused_row (fault.Text line what) (IsFaulty taken_from taken_to line what)
   row_of fault.NoAsk = refused_row fault.NoAsk (IsRequestUnasked limit kind taken_from taken_to)
+  row_of fault.NoSources = refused_row fault.NoSources (IsRequestOfPairs limit kind lines taken_from taken_to)
   row_of fault.Read = system_row fault.Read (Keeps given_from given_to)
-  row_of fault.Memory =
-      system_row fault.Memory
-      (Keeps given_from given_to ⊎ IsBegun limit kind walks taken_from taken_to given_from given_to)
-  row_of fault.Spawn = system_row fault.Spawn (IsBegun limit kind walks taken_from taken_to given_from given_to)
-  row_of fault.Write = system_row fault.Write (IsBegun limit kind walks taken_from taken_to given_from given_to)
+  row_of fault.Memory = system_row fault.Memory (Keeps given_from given_to ⊎ HasBegun)
+  row_of fault.Spawn = system_row fault.Spawn HasBegun
+  row_of fault.Write = system_row fault.Write HasBegun
 
-  -- what a call says that reads a job text and writes its answer
-  pub record IsReply (result : Result (Unit {0}) Fault) : Type 0 where
+  -- what a call says that reads a job text and writes its answer by some lines
+  pub record IsReplyBy (result : Result (Unit {0}) Fault) : Type 0 where
     -- the whole text was read, it is a job's, and exactly its answer was written
-    pub answered : OnOk result (IsAnswered limit kind walks taken_from taken_to given_from given_to)
+    pub answered : OnOk result (IsAnsweredBy limit kind lines taken_from taken_to given_from given_to)
     -- at a fault what the table says
     pub taken : IfErr result (λ fault. (row_of fault).taken)
     pub says : IfErr result (λ fault. (row_of fault).says)
     pub written : IfErr result (λ fault. (row_of fault).written)
+
+-- the same where the blocks of sources have the lines of each vertex
+abbrev pub IsReply : ℕ → Answer → Bool → Option (List ℕ) → Option (List ℕ) → Option (List ℕ) → Option (List ℕ)
+    → Result (Unit {0}) Fault → Type 0
+IsReply limit kind walks taken_from taken_to given_from given_to result =
+    IsReplyBy limit kind (lines.Each walks) taken_from taken_to given_from given_to result
 
 -- what a fault says of a text in memory, and of the limit; no writer can fail there
 abbrev pub IsTrueOfBytes : ℕ → Answer → List ℕ → Fault → Type 0
 IsTrueOfBytes limit kind text fault.TooLong = limit < length text
 IsTrueOfBytes limit kind text (fault.Text line what) = IsFirstFault text line what
 IsTrueOfBytes limit kind text fault.NoAsk = IsTextUnasked kind text
+IsTrueOfBytes limit kind text fault.NoSources = ⊥
 IsTrueOfBytes limit kind text fault.Write = ⊥
 IsTrueOfBytes limit kind text _ = ⊤
 
@@ -126,11 +148,12 @@ IsWritingFault fault.Spawn = ⊤
 IsWritingFault fault.Write = ⊤
 IsWritingFault _ = ⊥
 
--- the faults of answering a job: nothing is written where nothing was asked, and only there it is NoAsk;
--- and else a prefix
-abbrev pub IsReplyFault : Answer → Bool → Content → Option (List ℕ) → Option (List ℕ) → Fault → Type 0
-IsReplyFault kind walks job before after fault.NoAsk = IsUnasked kind job × Keeps before after
-IsReplyFault kind walks job before after fault.Memory = IsReplyBegun kind walks job before after
-IsReplyFault kind walks job before after fault.Spawn = IsReplyBegun kind walks job before after
-IsReplyFault kind walks job before after fault.Write = IsReplyBegun kind walks job before after
-IsReplyFault kind walks job before after _ = ⊥
+-- the faults of answering a job: nothing is written where nothing was asked, and only there it is NoAsk, nor where pairs
+-- were, though a bound asks for sources; and else a prefix
+abbrev pub IsReplyFault : Answer → Lines → Content → Option (List ℕ) → Option (List ℕ) → Fault → Type 0
+IsReplyFault kind lines job before after fault.NoAsk = IsUnasked kind job × Keeps before after
+IsReplyFault kind lines job before after fault.NoSources = HasNoSources kind lines job.question × Keeps before after
+IsReplyFault kind lines job before after fault.Memory = IsReplyBegun kind lines job before after
+IsReplyFault kind lines job before after fault.Spawn = IsReplyBegun kind lines job before after
+IsReplyFault kind lines job before after fault.Write = IsReplyBegun kind lines job before after
+IsReplyFault kind lines job before after _ = ⊥

@@ -1,35 +1,66 @@
 -- What a solve works out, and what the labels of pairs are.
-use Rattle.std.specs.Prelude.{◌≡◌, ◌≢◌, ℕ, ◌<◌, ◌≤◌, Bool, List, [], ◌++◌, length}
+use Rattle.std.specs.Prelude.{◌≡◌, ◌≢◌, ◌↔◌, ℕ, ◌+◌, ◌<◌, ◌≤◌, min, true, List, [], ◌++◌, length}
 use Rattle.std.specs.Prelude.{Option, Some, None, slice_index, ⊤}
-use Rattle.least_costs.specs.Costs.{CostsSeen}
+use Rattle.obim_engine.specs.Goal.{IsServedBy}
+use Rattle.obim_engine.specs.declared.goal.Goal.{Goal}
+use Rattle.least_costs.specs.Below.{BelowSeen}
 use Rattle.least_costs.specs.Pairs.{ArePairCosts, pair_at}
 use Rattle.least_costs.specs.Network.{NetworkSeen, seeds_at}
 use Rattle.answer_lines.specs.Lines.{grown_text}
 use Rattle.route_walks.specs.declared.graph.ArcRec.{ArcRec}
+use Rattle.route_walks.specs.declared.graph.TheConstants.{INF}
 use Rattle.route_walks.specs.Label.{AreLeastLabels}
+use Rattle.route_walks.specs.Limit.{AreLeastLabelsUpTo}
+use Rattle.obim_engine.specs.declared.goal.Goal.TheVariants as goal
 use Rattle.least_costs.specs.declared.start.Start.{Start}
 use Rattle.least_costs.specs.declared.start.Start.TheVariants as start
 use Rattle.job_answer.specs.declared.solves.Solve.{Solve}
 use Rattle.job_answer.specs.declared.graphs.Grown.{Grown}
 use Rattle.job_answer.specs.declared.walked_pairs.Walked.{Walked}
+use Rattle.walk_report.specs.declared.hop.TheConstants.{NONE}
 use Rattle.walk_report.specs.Parent.{LeadBack}
-use Rattle.job_answer.specs.AnswerText.{AreReached, AreWalksFrom, Growth, IsBlock, IsComponentsBlock, IsGrownText}
-use Rattle.job_answer.specs.AnswerText.{pair_walk_text}
+use Rattle.job_answer.specs.declared.asked.Lines.{Lines}
+use Rattle.job_answer.specs.declared.asked.Lines.TheVariants as lines
+use Rattle.job_answer.specs.AnswerText.{Growth, IsComponentsBlock, IsGrownText, IsPairBlock, pair_walk_text}
+use Rattle.job_answer.specs.Within.{IsLinesBlock}
 
--- the costs are those of a network from a start, and least in it
-pub record AreLeastCosts (net : NetworkSeen) (from : Start) (costs : CostsSeen) : Type 0 where
+-- the costs are those of a network from a start, least in it up to their limit, and that serves a goal
+pub record AreCostsFor (net : NetworkSeen) (from : Start) (goal : Goal) (costs : BelowSeen) : Type 0 where
+  pub net_is : costs.net ≡ net
+  pub start_is : costs.start ≡ from
+  pub least : AreLeastLabelsUpTo costs.limit net.n net.arcs (seeds_at net.n from) costs.labels
+  pub served : IsServedBy goal costs.labels costs.limit
+
+-- they are those of a network from a start, and least in it
+pub record AreLeastCosts (net : NetworkSeen) (from : Start) (costs : BelowSeen) : Type 0 where
   pub net_is : costs.net ≡ net
   pub start_is : costs.start ≡ from
   pub least : AreLeastLabels net.n net.arcs (seeds_at net.n from) costs.labels
 
 -- the block of the labels from a start
-abbrev pub IsStartBlock : Bool → Start → ℕ → List ArcRec → List ℕ → Type 0
-IsStartBlock walks (start.At source) n arcs text = IsBlock walks n arcs source text
-IsStartBlock walks start.Everywhere n arcs text = IsComponentsBlock n arcs text
+abbrev pub IsStartBlock : Lines → Start → ℕ → List ArcRec → List ℕ → Type 0
+IsStartBlock lines (start.At source) n arcs text = IsLinesBlock lines n arcs source text
+IsStartBlock lines start.Everywhere n arcs text = IsComponentsBlock n arcs text
+
+-- the labels that a block needs: all, or those within a bound
+abbrev pub goal_of : Lines → Goal
+goal_of (lines.Each walks) = goal.EachVertex
+goal_of (lines.Within walks bound) = goal.Within bound
+
+-- a bound is a cost
+abbrev pub IsLinesAsked : Lines → Type 0
+IsLinesAsked (lines.Each walks) = ⊤
+IsLinesAsked (lines.Within walks bound) = bound < INF
+
+-- and from a start: components are of each vertex
+abbrev pub IsStartLines : Start → Lines → Type 0
+IsStartLines (start.At source) lines = IsLinesAsked lines
+IsStartLines start.Everywhere (lines.Each walks) = ⊤
+IsStartLines start.Everywhere (lines.Within walks bound) = ⊥
 
 -- the same in the graph and after it grows
-abbrev pub IsGrownStart : Bool → ℕ → List ArcRec → Option Growth → Start → List ℕ → Type 0
-IsGrownStart walks n arcs growth start text = IsGrownText (λ along. IsStartBlock walks start n along) arcs growth text
+abbrev pub IsGrownStart : Lines → ℕ → List ArcRec → Option Growth → Start → List ℕ → Type 0
+IsGrownStart lines n arcs growth start text = IsGrownText (λ along. IsStartBlock lines start n along) arcs growth text
 
 -- what comes after a block where the graph grows: how many arcs are added, and another block
 pub record IsRest (count : ℕ) (IsText : List ℕ → Type 0) (text : List ℕ) : Type 0 where
@@ -52,6 +83,11 @@ pub record IsForQueries (queries : List (ℕ × ℕ)) (solve : Solve) : Type 0 w
 abbrev pub EndsWithSource : List (ℕ × ℕ) → Solve → Type 0
 EndsWithSource queries solve = solve.end < length queries → solve.start ≢ start.At (pair_at queries solve.end).0
 
+-- these are the targets of the queries of a solve, in their order, each of which ends with its target
+pub record AreTargetsOf (queries : List (ℕ × ℕ)) (first end : ℕ) (targets : List ℕ) : Type 0 where
+  pub count : first + length targets ≡ end
+  pub each : (k : ℕ) → k < length targets → slice_index targets k ≡ (pair_at queries (first + k)).1
+
 -- each pair has its cost in the grown network, if there is one
 abbrev pub AreCostsAfter : Option Grown → List (ℕ × ℕ) → List (Option ℕ) → Type 0
 AreCostsAfter None pairs costs = ⊤
@@ -62,24 +98,33 @@ abbrev pub HasCostAfter : Option Grown → ℕ → List (Option ℕ) → Type 0
 HasCostAfter None place costs = ⊤
 HasCostAfter (Some grown) place costs = place < length costs
 
--- the walks from a source, as they were worked out along these arcs
-pub record IsWalked (n : ℕ) (arcs : List ArcRec) (source : ℕ) (walked : Walked) : Type 0 where
-  pub walks : AreWalksFrom n arcs source walked.labels.items walked.hops.items walked.parents.items
-  pub labels : length walked.labels.items ≡ n
-  pub hops : length walked.hops.items ≡ n
-  pub back : LeadBack walked.hops.items walked.parents.items
-  pub reached : AreReached walked.labels.items walked.hops.items
-
--- the same in the grown graph, if there is one
-abbrev pub IsWalkedAfter : Option Grown → ℕ → Option Walked → Type 0
-IsWalkedAfter None source after = ⊤
-IsWalkedAfter (Some grown) source None = ⊥
-IsWalkedAfter (Some grown) source (Some walked) = IsWalked grown.network.n grown.network.arcs source walked
-
--- the lines of a pair by the walks from its source
+-- the lines of a pair by walks from its source
 abbrev pub walked_text : ℕ × ℕ → Walked → List ℕ
 walked_text pair walked =
     pair_walk_text pair walked.labels.items (slice_index walked.hops.items) (slice_index walked.parents.items)
+
+-- the walks, as they were worked out along these arcs, tell the lines of a pair
+pub record IsWalked (n : ℕ) (arcs : List ArcRec) (pair : ℕ × ℕ) (walked : Walked) : Type 0 where
+  pub lines : IsPairBlock true n arcs pair (walked_text pair walked)
+  pub labels : length walked.labels.items ≡ n
+  pub hops : length walked.hops.items ≡ n
+  pub back : LeadBack walked.hops.items walked.parents.items
+  pub reached : (slice_index walked.labels.items pair.1 ≡ INF) ↔ (slice_index walked.hops.items pair.1 ≡ NONE)
+
+-- they do for each target from a source whose label is below the limit, or where the limit is INF
+abbrev pub AreWalkedBelow : ℕ → ℕ → List ArcRec → ℕ → Walked → Type 0
+AreWalkedBelow limit n arcs source walked =
+    (t : ℕ) → t < n → min (slice_index walked.labels.items t + 1) INF ≤ limit → IsWalked n arcs (source, t) walked
+
+-- the same of a pair in the grown graph, if there is one
+abbrev pub IsWalkedAfter : Option Grown → ℕ × ℕ → Option Walked → Type 0
+IsWalkedAfter None pair after = ⊤
+IsWalkedAfter (Some grown) pair None = ⊥
+IsWalkedAfter (Some grown) pair (Some walked) = IsWalked grown.network.n grown.network.arcs pair walked
+
+-- this is so of each query from one place up to another one
+abbrev pub AreEachTold : (ℕ × ℕ → Type 0) → List (ℕ × ℕ) → ℕ → ℕ → Type 0
+AreEachTold IsTold queries first end = (k : ℕ) → first ≤ k → k < end → IsTold (pair_at queries k)
 
 abbrev pub walked_after_text : ℕ × ℕ → Option Walked → List ℕ
 walked_after_text pair None = []

@@ -1,14 +1,16 @@
 //! How do the bytes of a job text become the bytes of its answer?
 
-ghost use Rattle.std.specs.Prelude.{◌≡◌, ◌≤◌, ◌^◌, false, IfOk, IfErr, OnErr, OnOk};
+ghost use Rattle.std.specs.Prelude.{◌≡◌, ◌≤◌, ◌^◌, ◌↔◌, false, IfOk, IfErr, IsTrue, OnErr, OnOk};
 ghost use Rattle.dimacs_text.specs.Jobs.{content_of, question_of, IsQuestionWithin, IsWithinLimits};
-ghost use Rattle.job_answer.specs.AnswerText.{IsAnswerText, IsTextFor};
 ghost use Rattle.job_answer.specs.Bytes.{Writes, WritesPrefix};
 ghost use Rattle.job_answer.specs.Graphs.{AreGraphs, growth_of};
-ghost use Rattle.job_answer.specs.Outcome.{IsAnswerOf, IsReply, IsReplyFault, IsTrueOfBytes};
+ghost use Rattle.job_answer.specs.Outcome.{IsAnswerOf, IsReply, IsReplyFault, IsReplyBy, IsTrueOfBytes};
 ghost use Rattle.job_answer.specs.Outcome.{IsWritingFault, is_unasked};
+ghost use Rattle.job_answer.specs.LineWalks.{has_walks};
+ghost use Rattle.job_answer.specs.Solves.{IsLinesAsked};
+ghost use Rattle.job_answer.specs.Within.{HasNoSources, IsAnswerTextBy, IsTextBy};
 
-use crate::asked::{Answer, Asked};
+use crate::asked::{Answer, Asked, Lines};
 use crate::blocks::{BlockKind, write_sources, write_start};
 use crate::fault::Fault;
 use crate::figures::Figures;
@@ -60,10 +62,34 @@ pub fn answer_watched<H: Threads + Wait + Clock + Sync, R: Read, W: Write, G: Ga
         (R.remaining reader.old) (R.remaining reader.new)
         (W.contents writer.old) (W.contents writer.new) result }
 {
+    let walks = asked.walks;
+    let lines = Lines::Each { walks };
+    answer_by(rt, alloc, reader, writer, asked, lines, gate, watch)
+}
+
+/// The same by other lines: within a bound the block of a source has the lines of those vertices alone that cost at
+/// most the bound, in rising order, and the source is solved no further. A job with pairs has no answer then; that of
+/// components, which have no costs, is the same by all lines.
+pub fn answer_by<H: Threads + Wait + Clock + Sync, R: Read, W: Write, G: Gate + Sync>(
+    rt: &H,
+    alloc: Global,
+    reader: &mut R,
+    writer: &mut W,
+    asked: &Asked,
+    lines: Lines,
+    gate: &G,
+    watch: &mut (impl ReadWatch + Watch),
+) -> Result<(), Fault>
+    requires walks { has_walks lines ≡ asked.now.walks }
+    requires bound { IsLinesAsked lines }
+    ensures { IsReplyBy asked.now.limit asked.now.answer lines
+        (R.remaining reader.old) (R.remaining reader.new)
+        (W.contents writer.old) (W.contents writer.new) result }
+{
     let threads = asked.settings.workers as usize;
     let job = read_job_from(rt, alloc, reader, asked.limit, threads, watch)?;
     watch.end(rt, Phase::Reading);
-    answer_job(rt, alloc, writer, asked, job, gate, watch)
+    answer_job(rt, alloc, writer, asked, lines, job, gate, watch)
 }
 
 /// The same over memory: the bytes of the answer to the text. No fault is `Write`.
@@ -94,14 +120,17 @@ fn answer_job<H: Threads + Wait + Clock + Sync, W: Write, G: Gate + Sync>(
     alloc: Global,
     writer: &mut W,
     asked: &Asked,
+    lines: Lines,
     job: Job,
     gate: &G,
     watch: &mut impl Watch,
 ) -> Result<(), Fault>
-    requires { IsWithinLimits (content_of job) }
-    ensures reply { OnOk result (Writes (IsAnswerText asked.now.answer asked.now.walks (content_of job))
+    requires limits { IsWithinLimits (content_of job) }
+    requires walks { has_walks lines ≡ asked.now.walks }
+    requires bound { IsLinesAsked lines }
+    ensures reply { OnOk result (Writes (IsAnswerTextBy asked.now.answer lines (content_of job))
         (W.contents writer.old) (W.contents writer.new)) }
-    ensures says { IfErr result (IsReplyFault asked.now.answer asked.now.walks (content_of job)
+    ensures says { IfErr result (IsReplyFault asked.now.answer lines (content_of job)
         (W.contents writer.old) (W.contents writer.new)) }
 {
     // What is least in the network is least for the arcs that it was made of, and so are its walks.
@@ -109,6 +138,9 @@ fn answer_job<H: Threads + Wait + Clock + Sync, W: Write, G: Gate + Sync>(
     hops_and_parents_follow_the_arcs();
     if is_unasked(asked.answer, &job.ask) {
         return Err(Fault::NoAsk);
+    }
+    if has_no_sources(asked.answer, lines, &job.ask) {
+        return Err(Fault::NoSources);
     }
     let Job {
         n,
@@ -121,7 +153,11 @@ fn answer_job<H: Threads + Wait + Clock + Sync, W: Write, G: Gate + Sync>(
     let rows = graphs.network.rows();
     watch.see_rows(rows.n(), rows.arc_count());
     watch.end(rt, Phase::Rows);
-    write_text(rt, alloc, writer, &graphs, &ask, asked, gate, watch)
+    let kind = BlockKind {
+        graphs: &graphs,
+        lines,
+    };
+    write_text(rt, alloc, writer, kind, &ask, asked, gate, watch)
 }
 
 /// Whether the job asks for nothing: it has no section of queries, and the answer needs one.
@@ -137,41 +173,56 @@ fn is_unasked(answer: Answer, ask: &Ask) -> bool
     }
 }
 
+/// Whether the job has pairs, though a bound asks for sources.
+fn has_no_sources(answer: Answer, lines: Lines, ask: &Ask) -> bool
+    ensures { IsTrue result ↔ HasNoSources answer lines (question_of ask.now) }
+{
+    match (answer, lines) {
+        (Answer::Components, _) | (_, Lines::Each { .. }) => false,
+        (_, Lines::Within { .. }) => matches!(ask, Ask::Pairs(_)),
+    }
+}
+
 /// Writes the text of what is asked.
 fn write_text<H: Threads + Wait + Clock + Sync, W: Write, G: Gate + Sync>(
     rt: &H,
     alloc: Global,
     writer: &mut W,
-    graphs: &Graphs,
+    kind: BlockKind<'_>,
     ask: &Ask,
     asked: &Asked,
     gate: &G,
     watch: &mut impl Watch,
 ) -> Result<(), Fault>
-    requires graphs { AreGraphs graphs.now }
-    requires question { IsQuestionWithin graphs.now.network.n (question_of ask.now) }
+    requires graphs { AreGraphs kind.graphs.now }
+    requires walks { has_walks kind.lines ≡ asked.now.walks }
+    requires bound { IsLinesAsked kind.lines }
+    requires question { IsQuestionWithin kind.graphs.now.network.n (question_of ask.now) }
     requires asked { is_unasked asked.now.answer (question_of ask.now) ≡ false }
-    ensures text { OnOk result (Writes (IsTextFor asked.now.answer asked.now.walks graphs.now.network.n
-        graphs.now.network.arcs (growth_of graphs.now.grown) (question_of ask.now))
+    requires sources { ¬ (HasNoSources asked.now.answer kind.lines (question_of ask.now)) }
+    ensures text { OnOk result (Writes (IsTextBy asked.now.answer kind.entry.lines kind.entry.graphs.now.network.n
+        kind.entry.graphs.now.network.arcs (growth_of kind.entry.graphs.now.grown) (question_of ask.now))
         (W.contents writer.old) (W.contents writer.new)) }
-    ensures prefix { OnErr result (WritesPrefix (IsTextFor asked.now.answer asked.now.walks graphs.now.network.n
-        graphs.now.network.arcs (growth_of graphs.now.grown) (question_of ask.now))
+    ensures prefix { OnErr result (WritesPrefix (IsTextBy asked.now.answer kind.entry.lines kind.entry.graphs.now.network.n
+        kind.entry.graphs.now.network.arcs (growth_of kind.entry.graphs.now.grown) (question_of ask.now))
         (W.contents writer.old) (W.contents writer.new)) }
     ensures kinds { IfErr result IsWritingFault }
 {
     match (asked.answer, ask) {
         (Answer::Components, _) => {
-            let walks = asked.walks;
-            let kind = BlockKind { graphs, walks };
+            let kind = BlockKind {
+                graphs: kind.graphs,
+                lines: Lines::Each { walks: false },
+            };
             let mut workers = Workers::new(asked.settings, gate, None);
             let start = Start::Everywhere;
             write_start(rt, alloc, writer, &kind, start, &mut workers, watch)
         }
         (_, Ask::Sources(sources)) => {
-            write_sources(rt, alloc, writer, graphs, sources, asked, gate, watch)
+            write_sources(rt, alloc, writer, kind, sources, asked, gate, watch)
         }
         (_, Ask::Pairs(pairs)) => {
-            write_pairs(rt, alloc, writer, graphs, pairs, asked, gate, watch)
+            write_pairs(rt, alloc, writer, kind.graphs, pairs, asked, gate, watch)
         }
         (_, Ask::Absent) => unreachable!(),
     }

@@ -1,10 +1,14 @@
 //! What may be asked of a job text?
 
-ghost use Rattle.std.specs.Prelude.{◌≡◌, ◌↔◌, IsSome, IfSome};
+ghost use Rattle.std.specs.Prelude.{◌≡◌, ◌↔◌, false, IsSome, IsTrue, IfSome};
 ghost use Rattle.job_answer.specs.Choices.{IsAsked};
+ghost use Rattle.job_answer.specs.declared.asked.Lines.TheVariants as lines;
+ghost use Rattle.job_answer.specs.LineWalks.{bound_in, bound_of, has_walks};
+ghost use Rattle.job_answer.specs.Solves.{goal_of};
 
 use least_costs::AtOnce;
-use obim_engine::Settings;
+use obim_engine::{Goal, Settings};
+use route_walks::INF;
 
 /// Which labels are asked for.
 #[derive(Clone, Copy, Debug, PartialEq, Eq)]
@@ -15,6 +19,64 @@ pub enum Answer {
     Levels,
     /// The least number of a vertex that arcs join to each vertex, whichever way they point.
     Components,
+}
+
+/// Which lines the block of a source has.
+#[derive(Clone, Copy, Debug, PartialEq, Eq)]
+pub enum Lines {
+    /// One of each vertex, and its walk after it where walks are asked for.
+    Each { walks: bool },
+    /// Those of the vertices that cost at most the bound, which is less than `INF`.
+    Within { walks: bool, bound: u64 },
+}
+
+impl Lines {
+    /// The lines of each vertex, or of those within a bound if there is one.
+    pub fn of(walks: bool, within: Option<u64>) -> Lines
+        ensures walks { has_walks result ≡ walks }
+        ensures within { bound_in result ≡ within }
+    {
+        match within {
+            None => Lines::Each { walks },
+            Some(bound) => Lines::Within { walks, bound },
+        }
+    }
+
+    /// Whether walks are asked for.
+    pub fn has_walks(self) -> bool
+        ensures { result ≡ has_walks self }
+    {
+        match self {
+            Lines::Each { walks } | Lines::Within { walks, .. } => walks,
+        }
+    }
+
+    /// Whether each vertex has its line and nothing else.
+    pub fn is_plain(self) -> bool
+        ensures { IsTrue result ↔ (self ≡ lines.Each false) }
+    {
+        matches!(self, Lines::Each { walks: false })
+    }
+
+    /// The greatest label that has a line.
+    pub fn bound(self) -> u64
+        ensures { result ≡ bound_of self }
+    {
+        match self {
+            Lines::Each { .. } => INF,
+            Lines::Within { bound, .. } => bound,
+        }
+    }
+
+    /// The labels that the lines need.
+    pub fn goal(self) -> Goal<'static>
+        ensures { result ≡ goal_of self }
+    {
+        match self {
+            Lines::Each { .. } => Goal::EachVertex,
+            Lines::Within { bound, .. } => Goal::Within(bound),
+        }
+    }
 }
 
 /// The most sources that are solved at the same time.

@@ -6,43 +6,46 @@ ghost use Rattle.std.specs.Thread.{IsSync};
 ghost use Rattle.least_costs.specs.Rounds.{AreMade};
 ghost use Rattle.answer_lines.specs.Lines.{distances_text, components_text};
 ghost use Rattle.walk_report.specs.Parent.{LeadBack};
-ghost use Rattle.job_answer.specs.AnswerText.{AreSourceBlocks, IsBlock, IsGrownBlock, IsGrownText};
 ghost use Rattle.job_answer.specs.AnswerText.{AreReached, vertex_text, walk_line, walks_text};
 ghost use Rattle.job_answer.specs.Bytes.{GivesPrefix, Puts, PutsPrefix, Waits, Writes, WritesPrefix};
 ghost use Rattle.job_answer.specs.Graphs.{AreGraphs, growth_of};
 ghost use Rattle.least_costs.specs.Network.{IsStartWithin};
 ghost use Rattle.job_answer.specs.Outcome.{IsWritingFault};
 ghost use Rattle.job_answer.specs.declared.output_buffer.TheConstants.{PIECE};
-ghost use Rattle.job_answer.specs.Solves.{AreLeastCosts, IsGrownStart, IsRest, IsStartBlock};
+ghost use Rattle.job_answer.specs.Solves.{AreCostsFor, IsGrownStart, IsLinesAsked, IsRest};
+ghost use Rattle.job_answer.specs.Solves.{IsStartBlock, IsStartLines, goal_of};
 ghost use Rattle.job_answer.specs.Tasks.{AreSourceTasks, IsBlockText};
+ghost use Rattle.job_answer.specs.LineWalks.{AreWalksFor, has_walks};
+ghost use Rattle.job_answer.specs.Within.{AreLinesBlocks, IsGrownLines, IsLinesBlock};
+ghost use Rattle.least_costs.specs.declared.start.Start.TheVariants.{At};
 
-use crate::asked::Asked;
+use crate::asked::{Asked, Lines};
 use crate::fault::Fault;
 use crate::graphs::{Graphs, Grown, teams_for};
-use crate::laws::blocks_are_unique;
+use crate::laws::{blocks_are_unique, lines_are_unique};
+use crate::lines::{LineWalks, put_components, put_labels, put_within};
 use crate::output_buffer::{Held, OutputBuffer, most_bytes};
 use crate::solves::{costs_after, costs_from};
 use crate::team_watch::{SolveCount, TeamWatch};
 use crate::watch::{Phase, Watch};
-use answer_lines::{put_grown, put_label, put_source, put_walk};
-use least_costs::{Costs, Network, Part, Rounds, Runner, Start, Team, TeamGate, Workers};
+use answer_lines::put_grown;
+use least_costs::{CostsBelow, Network, Part, Rounds, Runner, Start, Team, TeamGate, Workers};
 use obim_engine::{Gate, Settings};
-use route_walks::{INF, MAX_VERTICES, Memory};
+use route_walks::laws::least_labels_exist;
+use route_walks::{MAX_VERTICES, Memory};
 use std::alloc::Global;
 use std::io::Write;
 use std::sync::Wait;
 use std::thread::Threads;
 use std::time::Clock;
-use walk_report::{NONE, hops, parents, walk_to};
+use walk_report::laws::{hops_and_parents_exist, walks_below_agree};
+use walk_report::{hops_below, parents};
 
-/// Lines put between two checks of the buffer's size.
-const LINES: usize = 512;
-
-/// In which networks the costs of a block are least, and whether it has walks.
+/// In which networks the costs of a block are least, and which lines it has.
 #[derive(Drop)]
 pub struct BlockKind<'a> {
     pub graphs: &'a Graphs,
-    pub walks: bool,
+    pub lines: Lines,
 }
 
 /// The sources whose blocks are asked for. A task for each gives its block.
@@ -70,35 +73,33 @@ pub fn write_sources<H: Threads + Wait + Clock + Sync, W: Write, G: Gate + Sync>
     rt: &H,
     alloc: Global,
     writer: &mut W,
-    graphs: &Graphs,
+    kind: BlockKind<'_>,
     sources: &[u32],
     asked: &Asked,
     gate: &G,
     watch: &mut impl Watch,
 ) -> Result<(), Fault>
-    requires graphs { AreGraphs graphs.now }
-    requires sources { All (λ source. source < graphs.now.network.n) sources.now }
-    ensures blocks { OnOk result (Writes (AreSourceBlocks asked.now.walks graphs.now.network.n
-        graphs.now.network.arcs (growth_of graphs.now.grown) sources.now)
+    requires graphs { AreGraphs kind.graphs.now }
+    requires lines { IsLinesAsked kind.lines }
+    requires sources { All (λ source. source < kind.graphs.now.network.n) sources.now }
+    ensures blocks { OnOk result (Writes (AreLinesBlocks kind.entry.lines kind.entry.graphs.now.network.n
+        kind.entry.graphs.now.network.arcs (growth_of kind.entry.graphs.now.grown) sources.now)
         (W.contents writer.old) (W.contents writer.new)) }
-    ensures prefix { OnErr result (WritesPrefix (AreSourceBlocks asked.now.walks graphs.now.network.n
-        graphs.now.network.arcs (growth_of graphs.now.grown) sources.now)
+    ensures prefix { OnErr result (WritesPrefix (AreLinesBlocks kind.entry.lines kind.entry.graphs.now.network.n
+        kind.entry.graphs.now.network.arcs (growth_of kind.entry.graphs.now.grown) sources.now)
         (W.contents writer.old) (W.contents writer.new)) }
     ensures kinds { IfErr result IsWritingFault }
 {
     // So what is a prefix of these blocks is one of the blocks that another run would write.
-    blocks_are_unique();
+    lines_are_unique();
+    let teams = teams_for(kind.graphs, asked);
     let mut waiting = OutputBuffer::new(alloc);
     let tasks = SourceTasks {
-        kind: BlockKind {
-            graphs,
-            walks: asked.walks,
-        },
+        kind,
         sources,
         settings: &asked.settings,
         solves: SolveCount::new(),
     };
-    let teams = teams_for(graphs, asked);
     let mut rounds = Rounds::new(alloc, sources.len(), teams, asked.settings.workers);
     let mut workers = Workers::new(asked.settings, gate, None);
     for place in 0..sources.len() {
@@ -134,15 +135,17 @@ pub fn write_start<H: Threads + Wait + Clock + Sync, W: Write, G: Gate + Sync>(
     watch: &mut impl Watch,
 ) -> Result<(), Fault>
     requires graphs { AreGraphs kind.now.graphs.now }
+    requires lines { IsStartLines start kind.now.lines }
     requires start { IsStartWithin kind.now.graphs.now.network.n start }
-    ensures block { OnOk result (Writes (IsGrownStart kind.now.walks kind.now.graphs.now.network.n
+    ensures block { OnOk result (Writes (IsGrownStart kind.now.lines kind.now.graphs.now.network.n
         kind.now.graphs.now.network.arcs (growth_of kind.now.graphs.now.grown) start)
         (W.contents writer.old) (W.contents writer.new)) }
-    ensures prefix { OnErr result (WritesPrefix (IsGrownStart kind.now.walks kind.now.graphs.now.network.n
+    ensures prefix { OnErr result (WritesPrefix (IsGrownStart kind.now.lines kind.now.graphs.now.network.n
         kind.now.graphs.now.network.arcs (growth_of kind.now.graphs.now.grown) start)
         (W.contents writer.old) (W.contents writer.new)) }
     ensures kinds { IfErr result IsWritingFault }
 {
+    lines_are_unique();
     blocks_are_unique();
     let mut waiting = OutputBuffer::new(alloc);
     put_solved(rt, alloc, writer, &mut waiting, kind, start, workers, watch)?;
@@ -220,9 +223,10 @@ fn held_block<H: Threads + Wait + Clock + Sync, G: Gate + Sync>(
     watch: &mut impl Watch,
 ) -> Result<BlockText, Fault>
     requires graphs { AreGraphs kind.now.graphs.now }
+    requires lines { IsLinesAsked kind.now.lines }
     requires source { source < kind.now.graphs.now.network.n }
     requires team { workers.old.settings.workers ≡ workers.old.gate.now.team.workers }
-    ensures { IfOk result (λ text. IsGrownBlock kind.now.walks kind.now.graphs.now.network.n
+    ensures { IfOk result (λ text. IsGrownLines kind.now.lines kind.now.graphs.now.network.n
         kind.now.graphs.now.network.arcs (growth_of kind.now.graphs.now.grown) source text.bytes.items) }
 {
     let mut held = Held::new(alloc, most_bytes(kind.graphs));
@@ -246,26 +250,30 @@ fn put_solved<H: Threads + Wait + Clock + Sync, W: Write, G: Gate + Sync>(
     watch: &mut impl Watch,
 ) -> Result<(), Fault>
     requires graphs { AreGraphs kind.now.graphs.now }
+    requires lines { IsStartLines start kind.now.lines }
     requires start { IsStartWithin kind.now.graphs.now.network.n start }
-    ensures block { OnOk result (Puts (IsGrownStart kind.now.walks kind.now.graphs.now.network.n
+    ensures block { OnOk result (Puts (IsGrownStart kind.now.lines kind.now.graphs.now.network.n
         kind.now.graphs.now.network.arcs (growth_of kind.now.graphs.now.grown) start)
         (W.contents writer.old) (W.contents writer.new) waiting.old.bytes.items waiting.new.bytes.items) }
-    ensures prefix { OnErr result (PutsPrefix (IsGrownStart kind.now.walks kind.now.graphs.now.network.n
+    ensures prefix { OnErr result (PutsPrefix (IsGrownStart kind.now.lines kind.now.graphs.now.network.n
         kind.now.graphs.now.network.arcs (growth_of kind.now.graphs.now.grown) start)
         (W.contents writer.old) (W.contents writer.new) waiting.old.bytes.items) }
     ensures kinds { IfErr result IsWritingFault }
 {
+    lines_are_unique();
     blocks_are_unique();
-    let (graphs, walks) = (kind.graphs, kind.walks);
+    let (graphs, lines) = (kind.graphs, kind.lines);
     let network = &graphs.network;
-    let costs = costs_from(rt, alloc, network, start, workers, watch)?;
-    put_block(alloc, writer, waiting, network, walks, start, &costs)?;
+    let goal = lines.goal();
+    let costs = costs_from(rt, alloc, network, start, goal, workers, watch)?;
+    put_block(alloc, writer, waiting, network, lines, start, &costs)?;
     watch.end(rt, Phase::Writing);
     let Some(grown) = &graphs.grown else {
         return Ok(());
     };
-    let after = costs_after(rt, alloc, network, &grown.network, costs, workers, watch)?;
-    put_grown_block(alloc, writer, waiting, grown, walks, start, &after)?;
+    let more = &grown.network;
+    let after = costs_after(rt, alloc, network, more, costs, goal, workers, watch)?;
+    put_grown_block(alloc, writer, waiting, grown, lines, start, &after)?;
     watch.end(rt, Phase::Writing);
     Ok(())
 }
@@ -276,24 +284,25 @@ fn put_grown_block<W: Write>(
     writer: &mut W,
     waiting: &mut OutputBuffer,
     grown: &Grown,
-    walks: bool,
+    lines: Lines,
     start: Start,
-    costs: &Costs,
+    costs: &CostsBelow,
 ) -> Result<(), Fault>
     requires vertices { grown.now.network.n ≤ MAX_VERTICES }
     requires start { IsStartWithin grown.now.network.n start }
-    requires costs { AreLeastCosts grown.now.network start costs.now }
+    requires lines { IsStartLines start lines }
+    requires costs { AreCostsFor grown.now.network start (goal_of lines) costs.now }
     ensures block { OnOk result (Puts (IsRest grown.now.count
-        (IsStartBlock walks start grown.now.network.n grown.now.network.arcs))
+        (IsStartBlock lines start grown.now.network.n grown.now.network.arcs))
         (W.contents writer.old) (W.contents writer.new) waiting.old.bytes.items waiting.new.bytes.items) }
     ensures prefix { OnErr result (PutsPrefix (IsRest grown.now.count
-        (IsStartBlock walks start grown.now.network.n grown.now.network.arcs))
+        (IsStartBlock lines start grown.now.network.n grown.now.network.arcs))
         (W.contents writer.old) (W.contents writer.new) waiting.old.bytes.items) }
     ensures kinds { IfErr result IsWritingFault }
 {
     put_grown(&mut waiting.bytes, grown.count)?;
     let network = &grown.network;
-    put_block(alloc, writer, waiting, network, walks, start, costs)?;
+    put_block(alloc, writer, waiting, network, lines, start, costs)?;
     Ok(())
 }
 
@@ -303,134 +312,90 @@ fn put_block<W: Write>(
     writer: &mut W,
     waiting: &mut OutputBuffer,
     network: &Network,
-    walks: bool,
+    lines: Lines,
     start: Start,
-    costs: &Costs,
+    costs: &CostsBelow,
 ) -> Result<(), Fault>
     requires vertices { network.now.n ≤ MAX_VERTICES }
     requires start { IsStartWithin network.now.n start }
-    requires costs { AreLeastCosts network.now start costs.now }
-    ensures block { OnOk result (Puts (IsStartBlock walks start network.now.n network.now.arcs)
+    requires lines { IsStartLines start lines }
+    requires costs { AreCostsFor network.now start (goal_of lines) costs.now }
+    ensures block { OnOk result (Puts (IsStartBlock lines start network.now.n network.now.arcs)
         (W.contents writer.old) (W.contents writer.new) waiting.old.bytes.items waiting.new.bytes.items) }
-    ensures prefix { OnErr result (PutsPrefix (IsStartBlock walks start network.now.n network.now.arcs)
+    ensures prefix { OnErr result (PutsPrefix (IsStartBlock lines start network.now.n network.now.arcs)
         (W.contents writer.old) (W.contents writer.new) waiting.old.bytes.items) }
     ensures kinds { IfErr result IsWritingFault }
 {
     blocks_are_unique();
-    let labels = costs.labels();
     match start {
-        Start::Everywhere => put_components(writer, waiting, labels),
-        Start::At(source) if walks => {
-            let rows = network.rows();
-            let hops = hops(alloc, rows, labels, source)?;
-            let parents = parents(alloc, rows, labels, &hops)?;
-            put_walks(alloc, writer, waiting, source, labels, &hops, &parents)
-        }
-        Start::At(source) => put_labels(writer, waiting, source, labels),
+        Start::Everywhere => put_components(writer, waiting, costs.labels()),
+        Start::At(source) => put_source_block(
+            alloc, writer, waiting, network, source, lines, costs,
+        ),
     }
 }
 
-/// Puts the lines of the components.
-fn put_components<W: Write>(
-    writer: &mut W,
-    waiting: &mut OutputBuffer,
-    labels: &[u64],
-) -> Result<(), Fault>
-    requires vertices { length labels.now ≤ MAX_VERTICES }
-    requires finite { All (λ label. label < INF) labels.now }
-    ensures sent { OnOk result (Waits (W.contents writer.old) (W.contents writer.new)
-        waiting.new.bytes.items (waiting.old.bytes.items ++ components_text labels.now)) }
-    ensures prefix { OnErr result (GivesPrefix (W.contents writer.old) (W.contents writer.new)
-        (waiting.old.bytes.items ++ components_text labels.now)) }
-    ensures few { labels.now ≢ [] → OnOk result (length waiting.new.bytes.items < PIECE) }
-    ensures kinds { IfErr result IsWritingFault }
-{
-    let mut v = 0;
-    for group in labels.chunks(LINES) {
-        answer_lines::put_components(&mut waiting.bytes, v, group)?;
-        waiting.send_if_full(writer)?;
-        v += group.len() as u32;
-    }
-    Ok(())
-}
-
-/// Puts the line of a source and those of the labels from it.
-fn put_labels<W: Write>(
-    writer: &mut W,
-    waiting: &mut OutputBuffer,
-    source: u32,
-    labels: &[u64],
-) -> Result<(), Fault>
-    requires source { source < MAX_VERTICES }
-    requires vertices { length labels.now ≤ MAX_VERTICES }
-    ensures sent { OnOk result (Waits (W.contents writer.old) (W.contents writer.new)
-        waiting.new.bytes.items (waiting.old.bytes.items ++ distances_text source labels.now)) }
-    ensures prefix { OnErr result (GivesPrefix (W.contents writer.old) (W.contents writer.new)
-        (waiting.old.bytes.items ++ distances_text source labels.now)) }
-    ensures few { labels.now ≢ [] → OnOk result (length waiting.new.bytes.items < PIECE) }
-    ensures kinds { IfErr result IsWritingFault }
-{
-    put_source(&mut waiting.bytes, source)?;
-    let mut v = 0;
-    for group in labels.chunks(LINES) {
-        answer_lines::put_labels(&mut waiting.bytes, v, group)?;
-        waiting.send_if_full(writer)?;
-        v += group.len() as u32;
-    }
-    Ok(())
-}
-
-/// Puts the line of a source and those of the labels from it, each with its walk.
-fn put_walks<W: Write>(
+/// Puts the block of a source.
+fn put_source_block<W: Write>(
     alloc: Global,
     writer: &mut W,
     waiting: &mut OutputBuffer,
+    network: &Network,
     source: u32,
-    labels: &[u64],
-    hops: &[u32],
-    parents: &[u32],
+    lines: Lines,
+    costs: &CostsBelow,
 ) -> Result<(), Fault>
-    requires source { source < MAX_VERTICES }
-    requires vertices { length hops.now ≤ MAX_VERTICES }
-    requires count { length labels.now ≡ length hops.now }
-    requires back { LeadBack hops.now parents.now }
-    requires reached { AreReached labels.now hops.now }
-    ensures sent { OnOk result (Waits (W.contents writer.old) (W.contents writer.new)
-        waiting.new.bytes.items (waiting.old.bytes.items
-        ++ walks_text source (slice_index hops.now) (slice_index parents.now) labels.now)) }
-    ensures prefix { OnErr result (GivesPrefix (W.contents writer.old) (W.contents writer.new)
-        (waiting.old.bytes.items
-        ++ walks_text source (slice_index hops.now) (slice_index parents.now) labels.now)) }
-    ensures few { labels.now ≢ [] → OnOk result (length waiting.new.bytes.items < PIECE) }
+    requires vertices { network.now.n ≤ MAX_VERTICES }
+    requires source { source < network.now.n }
+    requires lines { IsLinesAsked lines }
+    requires costs { AreCostsFor network.now (At source) (goal_of lines) costs.now }
+    ensures block { OnOk result (Puts (IsLinesBlock lines network.now.n network.now.arcs source)
+        (W.contents writer.old) (W.contents writer.new) waiting.old.bytes.items waiting.new.bytes.items) }
+    ensures prefix { OnErr result (PutsPrefix (IsLinesBlock lines network.now.n network.now.arcs source)
+        (W.contents writer.old) (W.contents writer.new) waiting.old.bytes.items) }
     ensures kinds { IfErr result IsWritingFault }
 {
-    put_source(&mut waiting.bytes, source)?;
-    for (v, label) in labels.iter().enumerate() {
-        put_label(&mut waiting.bytes, v as u32, *label)?;
-        put_walk_line(alloc, &mut waiting.bytes, v as u32, *label, hops, parents)?;
-        waiting.send_if_full(writer)?;
+    lines_are_unique();
+    least_labels_exist();
+    hops_and_parents_exist();
+    walks_below_agree();
+    let _ = (network.n(), costs.limit());
+    let labels = costs.labels();
+    if lines.is_plain() {
+        return put_labels(writer, waiting, source, labels);
     }
-    Ok(())
+    let walks = walks_for(alloc, network, source, lines, costs)?;
+    put_within(
+        alloc,
+        writer,
+        waiting,
+        source,
+        lines.bound(),
+        labels,
+        &walks,
+    )
 }
 
-/// Puts the line of the walk to a vertex, where one leads to it.
-pub fn put_walk_line(
+/// The walks of the lines that have them.
+fn walks_for(
     alloc: Global,
-    out: &mut Vec<u8>,
-    v: u32,
-    label: u64,
-    hops: &[u32],
-    parents: &[u32],
-) -> Result<(), Memory>
-    requires vertex { v < length hops.now }
-    requires vertices { length hops.now ≤ MAX_VERTICES }
-    requires back { LeadBack hops.now parents.now }
-    requires reached { (label ≡ INF) ↔ (slice_index hops.now v ≡ NONE) }
-    ensures put { OnOk result (out.new.items ≡ out.old.items
-        ++ walk_line (slice_index hops.now) (slice_index parents.now) v label) }
+    network: &Network,
+    source: u32,
+    lines: Lines,
+    costs: &CostsBelow,
+) -> Result<Option<LineWalks>, Memory>
+    requires source { source < network.now.n }
+    requires lines { IsLinesAsked lines }
+    requires costs { AreCostsFor network.now (At source) (goal_of lines) costs.now }
+    ensures walks { IfOk result (AreWalksFor (has_walks lines) network.now.n network.now.arcs source costs.now.limit
+        costs.now.labels) }
 {
-    match walk_to(alloc, hops, parents, v)? {
-        None => Ok(()),
-        Some(walk) => put_walk(out, label, &walk),
+    if !lines.has_walks() {
+        return Ok(None);
     }
+    let rows = network.rows();
+    let labels = costs.labels();
+    let hops = hops_below(alloc, rows, labels, source, costs.limit())?;
+    let parents = parents(alloc, rows, labels, &hops)?;
+    Ok(Some(LineWalks { hops, parents }))
 }

@@ -24,6 +24,9 @@ pub enum Fault {
     /// Distances or levels were asked for, and the text has no section of queries. Nothing was written.
     #[error("no sources or pairs")]
     NoAsk,
+    /// The vertices within a bound were asked for, and the text has pairs in place of sources. Nothing was written.
+    #[error("no sources, which a bound needs")]
+    NoSources,
     /// The system refused memory. A prefix of the answer may have been written.
     #[error("out of memory")]
     Memory,
@@ -70,7 +73,7 @@ pub fn status(fault: &Fault) -> u8
     ensures { result ≡ status_of fault.now }
 {
     match fault {
-        Fault::TooLong | Fault::Text { .. } | Fault::NoAsk => 2,
+        Fault::TooLong | Fault::Text { .. } | Fault::NoAsk | Fault::NoSources => 2,
         Fault::Memory => 3,
         Fault::Read | Fault::Write => 4,
         Fault::Spawn => 5,

@@ -2,8 +2,9 @@
 
 ghost use Rattle.job_answer.specs.AnswerText.{AnswerTextsAreUnique, BlocksAreUnique};
 ghost use Rattle.job_answer.specs.Costs.{AnswersSayCosts, AnswersSayPairCosts, AnswersSayComponents};
-ghost use Rattle.job_answer.specs.Existence.{AskedJobsHaveAnswers};
+ghost use Rattle.job_answer.specs.Existence.{AskedJobsHaveAnswers, AskedJobsHaveAnswersByLines};
 ghost use Rattle.job_answer.specs.Parts.{AnswersOfPartsJoin};
+ghost use Rattle.job_answer.specs.Within.{AnswerTextsByLinesAreUnique, AnswersSayCostsWithin, LinesAreUnique};
 
 use route_walks::laws::{
     inf_means_no_walk, least_labels_are_components, least_labels_are_unique, least_labels_exist,
@@ -20,12 +21,30 @@ pub fn blocks_are_unique()
     hops_and_parents_are_unique();
 }
 
+/// A source has only one block, of each vertex or within a bound.
+pub fn lines_are_unique()
+    ensures { LinesAreUnique }
+{
+    least_labels_are_unique();
+    hops_and_parents_are_unique();
+    blocks_are_unique();
+}
+
 /// A job has only one answer text of a kind. So what `answer` writes does not depend on how the labels
 /// were worked out.
 pub fn answer_texts_are_unique()
     ensures { AnswerTextsAreUnique }
 {
     blocks_are_unique();
+}
+
+/// The same by whichever lines blocks of sources have.
+pub fn answer_texts_by_lines_are_unique()
+    ensures { AnswerTextsByLinesAreUnique }
+{
+    answer_texts_are_unique();
+    blocks_are_unique();
+    lines_are_unique();
 }
 
 /// A job within the limits has an answer text of each kind, unless it asks for nothing. So what is said of
@@ -37,11 +56,29 @@ pub fn asked_jobs_have_answers()
     hops_and_parents_exist();
 }
 
+/// So it has by any lines, unless they are within a bound, which asks for sources, and it has pairs.
+pub fn asked_jobs_have_answers_by_lines()
+    ensures { AskedJobsHaveAnswersByLines }
+{
+    asked_jobs_have_answers();
+    least_labels_exist();
+    hops_and_parents_exist();
+}
+
 /// In an answer of distances or levels the line of a vertex says `inf` where no walk at all leads there
 /// from the source, and else what the cheapest walk costs. Where walks are asked for, the line after it has
 /// the vertices of such a walk, with no more arcs than another of that cost.
 pub fn answers_say_costs()
     ensures { AnswersSayCosts }
+{
+    inf_means_no_walk();
+    printed_walks_are_walks();
+}
+
+/// In such an answer within a bound exactly those vertices have a line to which a walk leads that costs no more than
+/// the bound, and it says what the cheapest one costs, and which it is where walks are asked for.
+pub fn answers_say_costs_within()
+    ensures { AnswersSayCostsWithin }
 {
     inf_means_no_walk();
     printed_walks_are_walks();

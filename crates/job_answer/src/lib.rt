@@ -3,7 +3,8 @@
 //! `answer` reads a job text from any reader and writes its answer to any writer. Its contract says that
 //! the bytes written are exactly those that the least labels of the job make, for all settings and
 //! however the workers' steps interleave, and what was read and written at each fault. `answer_bytes`
-//! is the same from bytes to bytes, and `answer_watched` tells how far it is besides.
+//! is the same from bytes to bytes, `answer_watched` tells how far it is besides, and `answer_by` can have the
+//! lines alone of vertices within a bound.
 //!
 //! The answer to a text in memory, by two workers:
 //!
@@ -29,6 +30,7 @@ mod fault;
 mod figures;
 mod graphs;
 pub mod laws;
+mod lines;
 mod output_buffer;
 mod pairs;
 mod solves;
@@ -36,8 +38,8 @@ mod team_watch;
 mod walked_pairs;
 mod watch;
 
-pub use answering::{answer, answer_bytes, answer_watched};
-pub use asked::{Answer, Asked, MAX_AT_ONCE, MAX_BYTES};
+pub use answering::{answer, answer_by, answer_bytes, answer_watched};
+pub use asked::{Answer, Asked, Lines, MAX_AT_ONCE, MAX_BYTES};
 pub use counter::Counter;
 pub use fault::{Fault, status};
 pub use figures::Figures;

@@ -1,57 +1,62 @@
 //! Which solves does an answer need, and which of its queries does each one answer?
 
 ghost use Rattle.std.specs.Prelude.{◌≡◌, ◌<◌, length, IfErr, IfOk};
+ghost use Rattle.obim_engine.specs.Goal.{IsGoalWithin};
 ghost use Rattle.least_costs.specs.Network.{GrowsTo, IsStartWithin};
 ghost use Rattle.job_answer.specs.Outcome.{IsWritingFault};
-ghost use Rattle.job_answer.specs.Solves.{AreLeastCosts, EndsWithSource, IsForQueries};
+ghost use Rattle.job_answer.specs.Solves.{AreCostsFor, EndsWithSource, IsForQueries};
 
 use crate::fault::Fault;
 use crate::watch::{Phase, Watch};
-use least_costs::{Costs, Network, Start, Workers};
-use obim_engine::Gate;
+use least_costs::{CostsBelow, Network, Start, Workers};
+use obim_engine::{Gate, Goal};
 use std::alloc::Global;
 use std::sync::Wait;
 use std::thread::Threads;
 use std::time::Clock;
 
-/// The least costs of a network from a start, by these workers.
+/// The costs of a network from a start that serve a goal, by these workers. They go no further.
 pub fn costs_from<H: Threads + Wait + Clock + Sync, G: Gate + Sync>(
     rt: &H,
     alloc: Global,
     network: &Network,
     start: Start,
+    goal: Goal<'_>,
     workers: &mut Workers<'_, G>,
     watch: &mut impl Watch,
-) -> Result<Costs, Fault>
-    requires { IsStartWithin network.now.n start }
-    ensures costs { IfOk result (AreLeastCosts network.now start) }
+) -> Result<CostsBelow, Fault>
+    requires start { IsStartWithin network.now.n start }
+    requires goal { IsGoalWithin network.now.n goal }
+    ensures costs { IfOk result (AreCostsFor network.now start goal.entry) }
     ensures kinds { IfErr result IsWritingFault }
 {
-    let costs = workers.costs_from(rt, alloc, network, start)?;
-    // What costs are least in is known of each.
+    let costs = workers.costs_for(rt, alloc, network, start, goal)?;
+    // In what costs are least, and up to which limit, is known of each.
     let _ = costs.start();
     watch.see_solves(1);
     watch.end(rt, Phase::Solving);
     Ok(costs)
 }
 
-/// The least costs of the grown network from the same start, from the costs before. Only what the added arcs
-/// change is visited.
+/// The costs of the grown network from the same start that serve a goal, from what the run before left. Only what the
+/// added arcs change is visited, and what the goal wants besides.
 pub fn costs_after<H: Threads + Wait + Clock + Sync, G: Gate + Sync>(
     rt: &H,
     alloc: Global,
     network: &Network,
     grown: &Network,
-    costs: Costs,
+    costs: CostsBelow,
+    goal: Goal<'_>,
     workers: &mut Workers<'_, G>,
     watch: &mut impl Watch,
-) -> Result<Costs, Fault>
+) -> Result<CostsBelow, Fault>
     requires net { costs.net ≡ network.now }
     requires grown { GrowsTo network.now grown.now }
-    ensures costs { IfOk result (AreLeastCosts grown.now costs.start) }
+    requires goal { IsGoalWithin grown.now.n goal }
+    ensures costs { IfOk result (AreCostsFor grown.now costs.start goal.entry) }
     ensures kinds { IfErr result IsWritingFault }
 {
-    let costs = workers.costs_after(rt, alloc, network, grown, costs)?;
+    let costs = workers.costs_for_after(rt, alloc, network, grown, costs, goal)?;
     let _ = costs.start();
     watch.see_solves(1);
     watch.end(rt, Phase::Solving);

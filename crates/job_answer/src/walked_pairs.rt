@@ -4,39 +4,42 @@ ghost use Rattle.std.specs.Prelude.{◌≡◌, ◌<◌, ◌≤◌, ◌++◌, ◌
 ghost use Rattle.std.specs.Prelude.{All, IfErr, IfOk, IfSome, OnErr, OnOk, true};
 ghost use Rattle.std.specs.Thread.{IsSync};
 ghost use Rattle.least_costs.specs.Rounds.{AreMade};
-ghost use Rattle.least_costs.specs.declared.start.Start.TheVariants.{At};
+ghost use Rattle.route_walks.specs.Limit.{AreLeastLabelsUpTo};
+ghost use Rattle.route_walks.specs.Operators.{seeds_from};
 ghost use Rattle.walk_report.specs.Parent.{LeadBack};
 ghost use Rattle.dimacs_text.specs.Jobs.{IsPairWithin};
-ghost use Rattle.job_answer.specs.AnswerText.{ArePairBlocks, AreReached};
+ghost use Rattle.job_answer.specs.AnswerText.{ArePairBlocks};
 ghost use Rattle.job_answer.specs.Bytes.{Writes, WritesPrefix};
 ghost use Rattle.job_answer.specs.Graphs.{AreGraphs, growth_of};
 ghost use Rattle.job_answer.specs.Outcome.{IsWritingFault};
 ghost use Rattle.job_answer.specs.declared.output_buffer.TheConstants.{PIECE};
 ghost use Rattle.job_answer.specs.Sent.{IsWalkedPair, SendsOn, SendsPrefix};
 ghost use Rattle.least_costs.specs.Pairs.{pair_at};
-ghost use Rattle.job_answer.specs.Solves.{AreLeastCosts, IsForQueries, IsWalked, IsWalkedAfter};
-ghost use Rattle.job_answer.specs.Solves.{walked_text, walked_after_text, with_growth};
+ghost use Rattle.job_answer.specs.Solves.{AreEachTold, AreTargetsOf, AreWalkedBelow, IsForQueries, IsWalked};
+ghost use Rattle.job_answer.specs.Solves.{IsWalkedAfter, walked_text, walked_after_text, with_growth};
 ghost use Rattle.job_answer.specs.Tasks.{AreLines, AreWalkTasks, IsLinesText};
 
 use crate::asked::Asked;
-use crate::blocks::put_walk_line;
 use crate::fault::Fault;
 use crate::graphs::{Graphs, teams_for};
 use crate::laws::blocks_are_unique;
+use crate::lines::put_walk_line;
 use crate::output_buffer::{Held, OutputBuffer, most_bytes};
 use crate::solves::{Solve, costs_after, costs_from, next_source};
 use crate::team_watch::{SolveCount, TeamWatch};
 use crate::watch::{Phase, Watch};
 use answer_lines::{put_grown, put_pair};
-use least_costs::{Costs, Network, Part, Rounds, Runner, Start, Team, TeamGate, Workers};
-use obim_engine::{Gate, Settings};
-use route_walks::{MAX_VERTICES, Memory};
+use least_costs::{Network, Part, Rounds, Runner, Start, Team, TeamGate, Workers};
+use obim_engine::{Gate, Goal, Settings};
+use route_walks::laws::least_labels_exist;
+use route_walks::{INF, MAX_VERTICES, Memory};
 use std::alloc::Global;
 use std::io::Write;
 use std::sync::Wait;
 use std::thread::Threads;
 use std::time::Clock;
-use walk_report::{NONE, hops, parents};
+use walk_report::laws::{hops_and_parents_exist, walks_below_agree};
+use walk_report::{NONE, hops_below, parents};
 
 /// Pairs, and the networks in which their costs are least.
 #[derive(Drop)]
@@ -241,18 +244,29 @@ fn put_solved_pairs<H: Threads + Wait + Clock + Sync, W: Write, G: Gate + Sync>(
     ensures kinds { IfErr result IsWritingFault }
 {
     blocks_are_unique();
-    let graphs = queries.graphs;
-    let network = &graphs.network;
-    let source = queries.pairs[solve.first].0;
-    let costs = costs_from(rt, alloc, network, Start::At(source), workers, watch)?;
-    let after = walked_after(rt, alloc, graphs, source, &costs, workers, watch)?;
-    let walked = walked_from(alloc, network, source, costs)?;
-    put_walked(alloc, writer, waiting, queries, solve, &walked, &after)?;
+    let (graphs, pairs) = (queries.graphs, queries.pairs);
+    let source = pairs[solve.first].0;
+    let targets = targets_of(alloc, pairs, solve)?;
+    let walks = walks_to(rt, alloc, graphs, source, &targets, workers, watch)?;
+    let (walked, after) = (&walks.before, &walks.after);
+    put_walked(alloc, writer, waiting, queries, solve, walked, after)?;
     watch.end(rt, Phase::Writing);
     Ok(())
 }
 
-/// The walks from one source: the least labels, and by which walks they are.
+/// The targets of the pairs that a solve is for, in their order.
+fn targets_of(alloc: Global, pairs: &[(u32, u32)], solve: Solve) -> Result<Vec<u32>, Memory>
+    requires { IsForQueries pairs.now solve }
+    ensures { IfOk result (λ targets. AreTargetsOf pairs.now solve.first solve.end targets.items) }
+{
+    let mut targets = Vec::with_capacity(alloc, solve.end - solve.first)?;
+    for at in solve.first..solve.end {
+        targets.push(pairs[at].1)?;
+    }
+    Ok(targets)
+}
+
+/// The walks from one source as far as they are wanted: labels, and by which walks they are.
 #[derive(Drop)]
 struct Walked {
     labels: Vec<u64>,
@@ -260,51 +274,81 @@ struct Walked {
     parents: Vec<u32>,
 }
 
-/// The walks from a source, by its least costs in the network.
+/// Such walks in the network, and in the one that it grows to if it does.
+#[derive(Drop)]
+struct BothWalked {
+    before: Walked,
+    after: Option<Walked>,
+}
+
+/// The walks from a source to some targets. Workers go no further than these want, in either network.
+fn walks_to<H: Threads + Wait + Clock + Sync, G: Gate + Sync>(
+    rt: &H,
+    alloc: Global,
+    graphs: &Graphs,
+    source: u32,
+    targets: &[u32],
+    workers: &mut Workers<'_, G>,
+    watch: &mut impl Watch,
+) -> Result<BothWalked, Fault>
+    requires graphs { AreGraphs graphs.now }
+    requires source { source < graphs.now.network.n }
+    requires targets { All (λ t. t < graphs.now.network.n) targets.now }
+    ensures before { IfOk result (λ both. All
+        (λ t. IsWalked graphs.now.network.n graphs.now.network.arcs (source, t) both.before) targets.now) }
+    ensures after { IfOk result (λ both. All
+        (λ t. IsWalkedAfter graphs.now.grown (source, t) both.after) targets.now) }
+    ensures kinds { IfErr result IsWritingFault }
+{
+    let (network, goal) = (&graphs.network, Goal::WalksTo(targets));
+    let costs = costs_from(rt, alloc, network, Start::At(source), goal, workers, watch)?;
+    let limit = costs.limit();
+    match &graphs.grown {
+        None => {
+            let before = walked_from(alloc, network, source, limit, costs.into_labels())?;
+            let after = None;
+            Ok(BothWalked { before, after })
+        }
+        Some(grown) => {
+            // The second run goes on from what the first one left, so the labels are copied.
+            let labels = costs.labels().to_vec(alloc)?;
+            let more = &grown.network;
+            let costs = costs_after(rt, alloc, network, more, costs, goal, workers, watch)?;
+            let far = costs.limit();
+            let after = walked_from(alloc, more, source, far, costs.into_labels())?;
+            let before = walked_from(alloc, network, source, limit, labels)?;
+            let after = Some(after);
+            Ok(BothWalked { before, after })
+        }
+    }
+}
+
+/// The walks from a source by labels that are least up to a limit.
 fn walked_from(
     alloc: Global,
     network: &Network,
     source: u32,
-    costs: Costs,
+    limit: u64,
+    labels: Vec<u64>,
 ) -> Result<Walked, Memory>
     requires source { source < network.now.n }
-    requires costs { AreLeastCosts network.now (At source) costs }
-    ensures walked { IfOk result (IsWalked network.now.n network.now.arcs source) }
+    requires labels { AreLeastLabelsUpTo limit network.now.n network.now.arcs (seeds_from source) labels.items }
+    ensures labels { IfOk result (λ walked. walked.labels.items ≡ labels.items) }
+    ensures walked { IfOk result (AreWalkedBelow limit network.now.n network.now.arcs source) }
 {
+    // Whatever the least labels are, and the walks by them: below the limit these are the same.
+    least_labels_exist();
+    hops_and_parents_exist();
+    walks_below_agree();
+    let _ = network.n();
     let rows = network.rows();
-    let labels = costs.into_labels();
-    let hops = hops(alloc, rows, &labels, source)?;
+    let hops = hops_below(alloc, rows, &labels, source, limit)?;
     let parents = parents(alloc, rows, &labels, &hops)?;
     Ok(Walked {
         labels,
         hops,
         parents,
     })
-}
-
-/// The walks from a source in the grown network, if there is one. The costs before are still to be written.
-fn walked_after<H: Threads + Wait + Clock + Sync, G: Gate + Sync>(
-    rt: &H,
-    alloc: Global,
-    graphs: &Graphs,
-    source: u32,
-    costs: &Costs,
-    workers: &mut Workers<'_, G>,
-    watch: &mut impl Watch,
-) -> Result<Option<Walked>, Fault>
-    requires graphs { AreGraphs graphs.now }
-    requires source { source < graphs.now.network.n }
-    requires costs { AreLeastCosts graphs.now.network (At source) costs.now }
-    ensures walked { IfOk result (IsWalkedAfter graphs.now.grown source) }
-    ensures kinds { IfErr result IsWritingFault }
-{
-    let Some(grown) = &graphs.grown else {
-        return Ok(None);
-    };
-    let (network, more) = (&graphs.network, &grown.network);
-    let costs = costs.copied(alloc, network)?;
-    let after = costs_after(rt, alloc, network, more, costs, workers, watch)?;
-    Ok(Some(walked_from(alloc, more, source, after)?))
 }
 
 /// Puts the lines of the pairs that a solve is for, each with its walk, and those in the grown network.
@@ -320,9 +364,10 @@ fn put_walked<W: Write>(
     requires graphs { AreGraphs queries.now.graphs.now }
     requires pairs { All (IsPairWithin queries.now.graphs.now.network.n) queries.now.pairs.now }
     requires solve { IsForQueries queries.now.pairs.now solve }
-    requires walked { IsWalked queries.now.graphs.now.network.n queries.now.graphs.now.network.arcs
-        (pair_at queries.now.pairs.now solve.first).0 walked.now }
-    requires after { IsWalkedAfter queries.now.graphs.now.grown (pair_at queries.now.pairs.now solve.first).0 after.now }
+    requires walked { AreEachTold (λ pair. IsWalked queries.now.graphs.now.network.n
+        queries.now.graphs.now.network.arcs pair walked.now) queries.now.pairs.now solve.first solve.end }
+    requires after { AreEachTold (λ pair. IsWalkedAfter queries.now.graphs.now.grown pair after.now)
+        queries.now.pairs.now solve.first solve.end }
     ensures sent { OnOk result (SendsOn (IsWalkedPair queries.now.graphs.now) queries.now.pairs.now solve.first solve.end
         (W.contents writer.old) (W.contents writer.new) waiting.old.bytes.items waiting.new.bytes.items) }
     ensures prefix { OnErr result (SendsPrefix (IsWalkedPair queries.now.graphs.now) queries.now.pairs.now solve.first
@@ -350,8 +395,8 @@ fn put_walked_lines(
 ) -> Result<(), Memory>
     requires graphs { AreGraphs graphs.now }
     requires pair { IsPairWithin graphs.now.network.n pair }
-    requires walked { IsWalked graphs.now.network.n graphs.now.network.arcs pair.0 walked.now }
-    requires after { IsWalkedAfter graphs.now.grown pair.0 after.now }
+    requires walked { IsWalked graphs.now.network.n graphs.now.network.arcs pair walked.now }
+    requires after { IsWalkedAfter graphs.now.grown pair after.now }
     ensures put { OnOk result (out.new.items ≡ out.old.items ++ with_growth (growth_of graphs.now.grown)
         (walked_text pair walked.now) (walked_after_text pair after.now)) }
 {
@@ -376,7 +421,8 @@ fn put_walked_pair(
     requires vertices { length walked.now.hops.items ≤ MAX_VERTICES }
     requires count { length walked.now.labels.items ≡ length walked.now.hops.items }
     requires back { LeadBack walked.now.hops.items walked.now.parents.items }
-    requires reached { AreReached walked.now.labels.items walked.now.hops.items }
+    requires reached { (slice_index walked.now.labels.items pair.1 ≡ INF)
+        ↔ (slice_index walked.now.hops.items pair.1 ≡ NONE) }
     ensures put { OnOk result (out.new.items ≡ out.old.items ++ walked_text pair walked.now) }
 {
     let (source, target) = pair;

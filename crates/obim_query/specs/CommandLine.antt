@@ -2,7 +2,7 @@
 --
 -- Which words are values of which option is a matter of clap, whose `matches_of` says it of a command with these
 -- arguments: long and short options, bundles of short ones, `=`, `--`, and the last use of an option counts.
-use Rattle.std.specs.Prelude.{◌≡◌, ◌⊎◌, ℕ, ⊤, Bool, true, false, List, [], ◌∷◌, codes, Option, Some, None}
+use Rattle.std.specs.Prelude.{◌≡◌, ◌<◌, ◌⊎◌, ℕ, ⊤, Bool, true, false, List, [], ◌∷◌, codes, Option, Some, None}
 use Rattle.std.specs.Prelude.{unwrap_or, ◌==◌, if◌then◌else◌}
 use Rattle.std.specs.Str.Parse.{IsNumeral, digits_value, without_leading_plus}
 use Rattle.clap.specs.Lexer.{usize_max}
@@ -16,11 +16,13 @@ use Rattle.obim_engine.specs.declared.settings.Buckets.TheVariants.{Even, Wideni
 use Rattle.obim_engine.specs.declared.settings.TheConstants.{MAX_CHUNK}
 use Rattle.obim_engine.specs.declared.settings.Settings.{Settings}
 use Rattle.job_answer.specs.declared.asked.TheConstants.{MAX_BYTES}
+use Rattle.route_walks.specs.declared.graph.TheConstants.{INF}
+use Rattle.job_answer.specs.LineWalks.{bound_in, has_walks}
 use Rattle.job_answer.specs.declared.asked.Answer.{Answer}
 use Rattle.job_answer.specs.declared.asked.Answer.TheVariants.{Distances, Levels, Components}
 use Rattle.least_costs.specs.declared.plan.AtOnce.{AtOnce}
 use Rattle.least_costs.specs.declared.plan.AtOnce.TheVariants as at_once
-use Rattle.obim_query.specs.declared.command_line.Options.{Options}
+use Rattle.obim_query.specs.declared.options.Options.{Options}
 use Rattle.obim_query.specs.declared.refusals.Refusal.{Refusal}
 use Rattle.obim_query.specs.declared.refusals.Refusal.TheVariants as refusal
 use Rattle.obim_query.specs.declared.values.TheConstants.{SHARED_CHUNK}
@@ -40,6 +42,9 @@ answer_rule = record (valued (codes "answer")) { short = Some 97; defaults = cod
 
 abbrev pub walks_rule : Rule
 walks_rule = record (flag (codes "walks")) { short = Some 87 }
+
+abbrev pub within_rule : Rule
+within_rule = valued (codes "within")
 
 abbrev pub workers_rule : Rule
 workers_rule = record (valued (codes "workers")) { short = Some 119; defaults = codes "2" ∷ [] }
@@ -61,7 +66,7 @@ operand_rule = record (new_rule (codes "operand")) {
 }
 
 abbrev pub program_rules : List Rule
-program_rules = answer_rule ∷ walks_rule ∷ workers_rule ∷ at_once_rule ∷ shift_rule ∷ chunk_rule
+program_rules = answer_rule ∷ walks_rule ∷ within_rule ∷ workers_rule ∷ at_once_rule ∷ shift_rule ∷ chunk_rule
     ∷ flag (codes "progress") ∷ flag (codes "stats") ∷ flag (codes "explain") ∷ operand_rule ∷ []
 
 -- a command with a version, and of an option that is given twice the last one counts
@@ -98,6 +103,12 @@ AsksNumber None number = number ≡ None
 AsksNumber (Some text) None = text ≡ codes "auto"
 AsksNumber (Some text) (Some number) = IsNumeralOf text number
 
+-- the value is a number below INF; there is none without a value
+abbrev pub AsksCost : Option Text → Option ℕ → Type 0
+AsksCost None cost = cost ≡ None
+AsksCost (Some text) None = ⊥
+AsksCost (Some text) (Some cost) = IsNumeralOf text cost × (cost < INF)
+
 -- the flag is there
 abbrev pub IsFlag : Option Text → Bool → Type 0
 IsFlag None is_there = is_there ≡ false
@@ -133,6 +144,8 @@ pub record AsksSettings (workers shift chunk : Option Text) (settings : Settings
 pub record AsksFor (rows : List Row) (options : Options) : Type 0 where
   pub answer : NamesKind (first_of (codes "answer") rows) options.asked.answer
   pub walks : IsFlag (first_of (codes "walks") rows) options.asked.walks
+  pub lines : has_walks options.lines ≡ options.asked.walks
+  pub within : AsksCost (first_of (codes "within") rows) (bound_in options.lines)
   pub settings : AsksSettings (first_of (codes "workers") rows) (first_of (codes "shift") rows)
       (first_of (codes "chunk") rows) options.asked.settings
   pub at_once : AsksAtOnce (first_of (codes "at-once") rows) options.asked.at_once

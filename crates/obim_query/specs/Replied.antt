@@ -5,8 +5,9 @@ use Rattle.clap.specs.Words.{Text}
 use Rattle.job_answer.specs.declared.asked.Asked.{Asked}
 use Rattle.job_answer.specs.declared.fault.Fault.{Fault}
 use Rattle.job_answer.specs.Choices.{status_of}
-use Rattle.job_answer.specs.Outcome.{IsAnswered, IsBegun, IsReply}
-use Rattle.obim_query.specs.declared.command_line.Options.{Options}
+use Rattle.job_answer.specs.declared.asked.Lines.{Lines}
+use Rattle.job_answer.specs.Outcome.{IsAnsweredBy, IsBegunBy, IsReplyBy}
+use Rattle.obim_query.specs.declared.options.Options.{Options}
 use Rattle.obim_query.specs.CommandLine.{AskForText, WordsAskFor}
 
 -- 0 after an answer, and else the status of the fault
@@ -19,33 +20,33 @@ abbrev pub IsSystemStatus : ℕ → Type 0
 IsSystemStatus status = (status ≡ 3) ⊎ (status ≡ 4) ⊎ (status ≡ 5)
 
 -- The status of a reply to a job, of which these bytes were taken and to which these were given.
-pub record StatusSays (asked : Asked) (taken_from taken_to given_from given_to : Option (List ℕ)) (status : ℕ)
+pub record StatusSays (asked : Asked) (lines : Lines) (taken_from taken_to given_from given_to : Option (List ℕ)) (status : ℕ)
     : Type 0 where
   -- at 0 the whole text was taken, and exactly its answer was written
   pub answered : status ≡ 0
-      → IsAnswered asked.limit asked.answer asked.walks taken_from taken_to given_from given_to
+      → IsAnsweredBy asked.limit asked.answer lines taken_from taken_to given_from given_to
   -- at 2, where the text is refused, nothing was written
   pub refused : status ≡ 2 → Keeps given_from given_to
   -- where the system failed, nothing was written, or a prefix of the answer to the whole text
   pub cut : IsSystemStatus status → Keeps given_from given_to
-      ⊎ IsBegun asked.limit asked.answer asked.walks taken_from taken_to given_from given_to
+      ⊎ IsBegunBy asked.limit asked.answer lines taken_from taken_to given_from given_to
   -- and there is no other status: 1 is the command line's
   pub only : (status ≡ 0) ⊎ (status ≡ 2) ⊎ IsSystemStatus status
 
 -- The reply, of which the status tells: which fault it was, and what that one says.
-pub record HasReplied (asked : Asked) (taken_from taken_to given_from given_to : Option (List ℕ)) (status : ℕ)
+pub record HasReplied (asked : Asked) (lines : Lines) (taken_from taken_to given_from given_to : Option (List ℕ)) (status : ℕ)
     : Type 0 where
   pub result : Result (Unit {0}) Fault
-  pub reply : IsReply asked.limit asked.answer asked.walks taken_from taken_to given_from given_to result
+  pub reply : IsReplyBy asked.limit asked.answer lines taken_from taken_to given_from given_to result
   pub status_is : status ≡ status_after result
-  pub says : StatusSays asked taken_from taken_to given_from given_to status
+  pub says : StatusSays asked lines taken_from taken_to given_from given_to status
 
 -- The words ask for an answer, and the status is that of the reply.
 pub record HasAnswered (words : List Text) (taken_from taken_to given_from given_to : Option (List ℕ)) (status : ℕ)
     : Type 0 where
   pub options : Options
   pub asked : WordsAskFor words options
-  pub replied : HasReplied options.asked taken_from taken_to given_from given_to status
+  pub replied : HasReplied options.asked options.lines taken_from taken_to given_from given_to status
 
 -- the status of a text that is asked for: 0, or 4 if it can't be printed
 abbrev pub IsTextStatus : ℕ → Type 0

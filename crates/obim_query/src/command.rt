@@ -43,10 +43,12 @@ Vertices count from 1.
 
 For each source the answer has the line `s V`, and for each vertex a line
 `d V COST`: the least cost of a walk there, or the fewest arcs for levels, or
-`inf` if there is no walk. For each pair it has the line `q S T COST`. With
---walks a line `w V COST U .. V` follows if there is a walk: its vertices in
-order. For components, which are the weak ones, the answer has for each vertex
-`k V LABEL`: the least vertex that arcs join to V, whichever way they point.
+`inf` if there is no walk. With --within COST only vertices that cost at most
+COST have a line, and sources are solved no further; that is for sources alone.
+For each pair the answer has the line `q S T COST`. With --walks a line
+`w V COST U .. V` follows if there is a walk: its vertices in order. For
+components, which are the weak ones, the answer has for each vertex `k V LABEL`:
+the least vertex that arcs join to V, whichever way they point.
 With added arcs the line `g K` follows the lines of each source, each pair or
 the components, and then the same lines for the graph with these arcs.
 
@@ -86,7 +88,9 @@ pub(crate) fn command<'a>(alloc: Global, limits: &'a Limits) -> Result<Command<'
 {
     let help = "Print a shortest path for each cost, of fewest arcs";
     let walks = flag(alloc, "walks", help).short('W');
-    let command = texts(alloc).arg(answer_option(alloc))?.arg(walks)?;
+    let within = option(alloc, "within", "COST", "Leave out vertices that cost more");
+    let command = texts(alloc).arg(answer_option(alloc))?;
+    let command = command.arg(walks)?.arg(within)?;
     with_flags(alloc, with_settings(alloc, command, limits)?)
 }
 

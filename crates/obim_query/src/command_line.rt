@@ -5,26 +5,13 @@ ghost use Rattle.clap.specs.Words.{found_of, rows_of};
 ghost use Rattle.obim_query.specs.CommandLine.{AskForText, AsksFor, IsText, WordsAskFor};
 
 use crate::command::{Limits, command};
+use crate::options::Options;
 use crate::refusals::{Refusal, refused_by};
-use crate::values::{Misuse, answer_in, at_once_in, has_flag, has_hyphen, settings_in};
+use crate::values::{Misuse, answer_in, at_once_in, has_flag, has_hyphen, settings_in, within_in};
 use clap::ArgMatches;
-use job_answer::{Asked, MAX_BYTES};
+use job_answer::{Answer, Asked, Lines, MAX_BYTES};
 use std::alloc::Global;
 use std::convert::AsStr;
-
-/// What a command line asks for.
-#[derive(Clone, Copy)]
-pub(crate) struct Options {
-    pub(crate) asked: Asked,
-    /// Whether figures are printed after the answer.
-    pub(crate) stats: bool,
-    /// Whether it is printed how far the answer is.
-    pub(crate) progress: bool,
-    /// Whether a fault is explained.
-    pub(crate) explain: bool,
-    /// Whether the job may come from a terminal, since the argument `-` is there.
-    pub(crate) typed: bool,
-}
 
 /// Judges the command line: what its arguments ask for, or why they are refused. The first is the
 /// program's name.
@@ -51,11 +38,16 @@ fn options_in(alloc: Global, matches: &ArgMatches) -> Result<Options, Misuse>
     let settings = settings_in(alloc, matches)?;
     let at_once = at_once_in(alloc, matches)?;
     let walks = has_flag(matches, "walks");
+    let within = within_in(alloc, matches)?;
+    if within.is_some() && matches!(answer, Answer::Components) {
+        return Err(Misuse::Line(format!(in alloc; "--within needs distances or levels")?));
+    }
     let Some(asked) = Asked::new(answer, settings, walks, MAX_BYTES) else {
         return Err(Misuse::Line(format!(in alloc; "--walks needs distances or levels")?));
     };
     Ok(Options {
         asked: asked.with_at_once(at_once),
+        lines: Lines::of(walks, within),
         stats: has_flag(matches, "stats"),
         progress: has_flag(matches, "progress"),
         explain: has_flag(matches, "explain"),

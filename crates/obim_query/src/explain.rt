@@ -26,6 +26,7 @@ pub(crate) fn print_explanation<H: Eprint>(
         }
         Fault::TooLong => say(rt, Words::Limit),
         Fault::NoAsk => say(rt, Words::Advice(NO_ASK)),
+        Fault::NoSources => say(rt, Words::Advice(NO_SOURCES)),
         Fault::Memory => say(rt, Words::Advice(NO_MEMORY)),
         Fault::Spawn => {}
     }
@@ -33,6 +34,9 @@ pub(crate) fn print_explanation<H: Eprint>(
 
 const NO_ASK: &str =
     "expected 'p aux sp ss K' or 'p aux sp p2p K' after the arcs, or --answer components";
+
+const NO_SOURCES: &str =
+    "--within takes 'p aux sp ss K', sources; without it pairs say what each target costs";
 
 const NO_MEMORY: &str = "--at-once 1 takes least: MEMORY in the manual says how much";
 

@@ -10,7 +10,8 @@
 
 ghost use Rattle.std.specs.Prelude.{◌≡◌, map};
 ghost use Rattle.job_answer.specs.Choices.{status_of};
-ghost use Rattle.job_answer.specs.Outcome.{IsReply};
+ghost use Rattle.job_answer.specs.Outcome.{IsReplyBy};
+ghost use Rattle.job_answer.specs.Solves.{IsLinesAsked};
 ghost use Rattle.obim_query.specs.CommandLine.{IsText};
 ghost use Rattle.obim_query.specs.Replied.{HasReplied, HasRun, IsRefusalStatus, IsTextStatus};
 
@@ -19,18 +20,20 @@ mod command_line;
 mod explain;
 mod guess;
 mod input;
+mod options;
 mod output;
 mod progress;
 mod refusals;
 mod stats;
 mod values;
 
-use command_line::{Options, parse_options};
+use command_line::parse_options;
 use dimacs_text::Explanation;
 use explain::print_explanation;
 use input::Input;
-use job_answer::{Counter, Fault, Phase, Watch, answer_watched, status};
+use job_answer::{Counter, Fault, Phase, Watch, answer_by, status};
 use obim_engine::OpenGate;
+use options::Options;
 use output::Output;
 use progress::{Progress, Shown};
 use refusals::Refusal;
@@ -156,7 +159,8 @@ fn answer_job<H: AllocGlobal + Eprint + Threads + Wait + Clock + Sync, R: Read, 
     options: &Options,
     is_terminal: bool,
 ) -> u8
-    ensures { HasReplied options.now.asked (R.remaining input.old.inner) (R.remaining input.new.inner)
+    requires bound { IsLinesAsked options.now.lines }
+    ensures { HasReplied options.now.asked options.now.lines (R.remaining input.old.inner) (R.remaining input.new.inner)
         (W.contents output.old.inner) (W.contents output.new.inner) result }
 {
     let mut progress = Progress::new(rt, shown_at(options, is_terminal));
@@ -180,23 +184,17 @@ fn reply<H: AllocGlobal + Eprint + Threads + Wait + Clock + Sync, R: Read, W: Wr
     options: &Options,
     progress: &mut Progress<H>,
 ) -> Result<(), Fault>
-    ensures { IsReply options.now.asked.limit options.now.asked.answer options.now.asked.walks
+    requires bound { IsLinesAsked options.now.lines }
+    ensures { IsReplyBy options.now.asked.limit options.now.asked.answer options.now.lines
         (R.remaining reader.old) (R.remaining reader.new)
         (W.contents writer.old) (W.contents writer.new) result }
 {
     if options.stats || options.progress {
         return answer_with_figures(rt, reader, writer, options, progress);
     }
+    let (asked, lines) = (&options.asked, options.lines);
     let gate = &OpenGate;
-    answer_watched(
-        rt,
-        rt.alloc(),
-        reader,
-        writer,
-        &options.asked,
-        gate,
-        progress,
-    )
+    answer_by(rt, rt.alloc(), reader, writer, asked, lines, gate, progress)
 }
 
 /// Answers, and prints how far it is and figures after the answer, as they are asked for.
@@ -207,13 +205,14 @@ fn answer_with_figures<H: AllocGlobal + Eprint + Threads + Wait + Clock + Sync, 
     options: &Options,
     progress: &mut Progress<H>,
 ) -> Result<(), Fault>
-    ensures { IsReply options.now.asked.limit options.now.asked.answer options.now.asked.walks
+    requires bound { IsLinesAsked options.now.lines }
+    ensures { IsReplyBy options.now.asked.limit options.now.asked.answer options.now.lines
         (R.remaining reader.old) (R.remaining reader.new)
         (W.contents writer.old) (W.contents writer.new) result }
 {
-    let asked = &options.asked;
-    let counter = Counter::open(rt.alloc(), asked.settings.workers)?;
-    let replied = answer_watched(rt, rt.alloc(), reader, writer, asked, &counter, progress);
+    let (asked, lines, alloc) = (&options.asked, options.lines, rt.alloc());
+    let counter = Counter::open(alloc, asked.settings.workers)?;
+    let replied = answer_by(rt, alloc, reader, writer, asked, lines, &counter, progress);
     progress.clear();
     replied?;
     progress.end(rt, Phase::Writing);

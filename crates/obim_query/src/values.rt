@@ -2,11 +2,13 @@
 
 ghost use Rattle.std.specs.Prelude.{◌≡◌, codes, IfOk};
 ghost use Rattle.clap.specs.Words.{first_value, found_of};
-ghost use Rattle.obim_query.specs.CommandLine.{AsksAtOnce, AsksNumber, AsksSettings, IsFlag, NamesKind, usual_chunk};
+ghost use Rattle.obim_query.specs.CommandLine.{AsksAtOnce, AsksCost, AsksNumber, AsksSettings, IsFlag, NamesKind};
+ghost use Rattle.obim_query.specs.CommandLine.{usual_chunk};
 
 use clap::ArgMatches;
 use job_answer::{Answer, AtOnce, MAX_AT_ONCE};
 use obim_engine::{MAX_CHUNK, MAX_SHIFT, MAX_WORKERS, Settings};
+use route_walks::INF;
 use std::alloc::{AllocError, Global};
 use std::fmt;
 
@@ -40,6 +42,9 @@ pub(crate) const CHUNK: Numbers = Numbers {
     most: MAX_CHUNK as u32,
     has_auto: false,
 };
+
+/// The greatest value of `--within`. `INF`, which is one more, is no cost.
+pub(crate) const MAX_COST: u64 = INF - 1;
 
 /// How many vertices a chunk of several workers has, if nothing else is asked for.
 pub(crate) const SHARED_CHUNK: usize = 64;
@@ -157,6 +162,21 @@ fn usual_chunk(workers: u32) -> usize
         MAX_CHUNK
     } else {
         SHARED_CHUNK
+    }
+}
+
+/// The bound that is asked for, if one is.
+pub(crate) fn within_in(alloc: Global, matches: &ArgMatches) -> Result<Option<u64>, Misuse>
+    ensures { IfOk result (AsksCost (first_value (found_of matches.now) (codes "within"))) }
+{
+    let Some(text) = matches.get_str("within") else {
+        return Ok(None);
+    };
+    match text.parse::<u64>() {
+        Ok(cost) if cost < INF => Ok(Some(cost)),
+        _ => Err(Misuse::Line(format!(in alloc;
+            "invalid value '{text}' for '--within': a cost from 0 to {MAX_COST}"
+        )?)),
     }
 }
 

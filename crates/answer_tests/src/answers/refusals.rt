@@ -6,7 +6,9 @@ use crate::answers::added::{SIX_ADDED, SIX_ADDED_WALKS};
 use crate::answers::at_once::{SIX_SOURCES, SIX_SOURCES_ANSWER, asked_at_once};
 use crate::answers::pairs::{SIX_PAIRS, SIX_PAIRS_ANSWER, SIX_PAIRS_WALKS};
 use crate::answers::{SIX, SIX_WALKS, asked_for_walks, asked_with};
-use job_answer::{Answer, AtOnce, Counter, Fault, Figures, answer, answer_bytes, answer_watched};
+use job_answer::{
+    Answer, AtOnce, Counter, Fault, Figures, Lines, answer, answer_by, answer_bytes, answer_watched,
+};
 use obim_engine::{Gate, OpenGate};
 use route_walks::{Memory, refusable, tried_again};
 use std::process::Abort;
@@ -46,6 +48,51 @@ fn of_answer(rt: HostRuntime) -> Result<(), Fail> {
         }
         assert_eq!(rt; out.as_slice(), want);
     }
+    Ok(())
+}
+
+const SIX_WITHIN: &[u8] =
+    b"s 1\nd 1 0\nw 1 0 1\nd 2 10\nw 2 10 1 3 5 2\nd 3 10\nw 3 10 1 3\nd 5 10\nw 5 10 1 3 5\n";
+
+// Of the vertices within a bound: those that cost at most 10.
+#[test]
+fn of_answer_by(rt: HostRuntime) -> Result<(), Fail> {
+    let alloc = rt.alloc();
+    let asked = asked_for_walks(&rt, 2, 1000);
+    let (walks, bound) = (asked.walks, 10);
+    let lines = Lines::Within { walks, bound };
+    let (mut reader, mut same) = (SIX, SIX);
+    let mut out = Vec::with_capacity(alloc, ROOM)?;
+    let mut figures = Figures::new(&rt);
+    let gate = &OpenGate;
+    if let Err(fault) = refusable!(
+        alloc,
+        answer_by(
+            &rt,
+            alloc,
+            &mut reader,
+            &mut out,
+            &asked,
+            lines,
+            gate,
+            &mut figures
+        )
+    ) {
+        expect_refused(&rt, fault);
+        assert!(rt; SIX_WITHIN.starts_with(&out));
+        out.clear();
+        answer_by(
+            &rt,
+            alloc,
+            &mut same,
+            &mut out,
+            &asked,
+            lines,
+            gate,
+            &mut figures,
+        )?;
+    }
+    assert!(rt; out.as_slice() == SIX_WITHIN);
     Ok(())
 }
 

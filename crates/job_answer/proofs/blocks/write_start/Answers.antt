@@ -13,9 +13,9 @@ pub returns-clause-prefix : goal.returns-clause-prefix
 returns-clause-prefix g c =
     let graphs = c.args.kind.now.graphs.now in
     let growth = growth_of graphs.grown in
-    let walks = c.args.kind.now.walks in
+    let lines = c.args.kind.now.lines in
     on_err_weaker c.finish.result
-    (put-cut-short (IsGrownStart walks graphs.network.n graphs.network.arcs growth c.args.start)
-    (grown-start-one c.blocks_are_unique.ensures walks graphs.network.n graphs.network.arcs growth c.args.start) _ _ _ [] _
+    (put-cut-short (IsGrownStart lines graphs.network.n graphs.network.arcs growth c.args.start)
+    (grown-start-one c.lines_are_unique.ensures c.blocks_are_unique.ensures lines graphs.network.n graphs.network.arcs growth c.args.start) _ _ _ [] _
     (rw c.new-waiting.ensures at c.in_ok-put_solved.ensures.block))
     c.finish.ensures.prefix

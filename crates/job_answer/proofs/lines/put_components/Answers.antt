@@ -5,7 +5,7 @@ use Rattle.answer_lines.proofs.Facts.{component_lines-append, All-rest}
 use Rattle.job_answer.specs.Bytes.{GivesPrefix, Waits}
 use Rattle.job_answer.proofs.Sending.{put-more}
 use Rattle.job_answer.proofs.Prefixes.{at-err, put-cut, put-left}
-use Rattle.job_answer.proofs.blocks.put_components.Goals as goal
+use Rattle.job_answer.proofs.lines.put_components.Goals as goal
 
 pub loop-group-preserved : goal.loop-group-preserved
 loop-group-preserved g c =

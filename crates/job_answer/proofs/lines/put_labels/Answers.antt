@@ -6,7 +6,7 @@ use Rattle.answer_lines.proofs.Facts.{label_lines-append}
 use Rattle.job_answer.specs.Bytes.{GivesPrefix, Waits}
 use Rattle.job_answer.proofs.Sending.{put-more}
 use Rattle.job_answer.proofs.Prefixes.{appends-nothing, at-err, put-cut, put-left}
-use Rattle.job_answer.proofs.blocks.put_labels.Goals as goal
+use Rattle.job_answer.proofs.lines.put_labels.Goals as goal
 
 pub loop-group-init : goal.loop-group-init
 loop-group-init g c =

@@ -3,7 +3,7 @@ use Rattle.std.specs.Slice.Iter.{chunks_rest}
 use Rattle.job_answer.specs.declared.output_buffer.TheConstants.{PIECE}
 use Rattle.answer_lines.specs.Lines.{label_lines, distances_text}
 use Rattle.job_answer.proofs.Sending.{IsPut}
-use Rattle.job_answer.proofs.blocks.put_labels.Given as goal
+use Rattle.job_answer.proofs.lines.put_labels.Given as goal
 
 abbrev pub invariant-loop-group : goal.invariant-loop-group
 invariant-loop-group g l = record {

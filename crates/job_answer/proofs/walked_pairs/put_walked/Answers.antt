@@ -1,4 +1,4 @@
-use Rattle.std.proofs.Common.{◌≡◌, ℕ, List, Option, subst, true, arith}
+use Rattle.std.proofs.Common.{◌≡◌, ◌≤◌, ℕ, List, Option, subst, true, arith}
 use Rattle.job_answer.specs.AnswerText.{ArePairBlocks, IsGrownPair}
 use Rattle.job_answer.specs.Bytes.{GivesPrefix, Waits, WritesPrefix}
 use Rattle.job_answer.specs.Graphs.{growth_of}
@@ -6,24 +6,17 @@ use Rattle.job_answer.specs.Sent.{AreSent}
 use Rattle.job_answer.specs.Solves.{walked_text, walked_after_text, with_growth}
 use Rattle.least_costs.specs.Pairs.{pair_at}
 use Rattle.job_answer.proofs.Growing.{walked-blocks}
-use Rattle.job_answer.proofs.Queries.{one_source}
 use Rattle.job_answer.proofs.Prefixes.{at-err, block-cut, only-text, puts-nothing}
 use Rattle.job_answer.proofs.Sending.{sent-more}
 use Rattle.job_answer.proofs.walked_pairs.put_walked.Goals as goal
 
 pub put_walked_lines-requires-clause-walked : goal.put_walked_lines-requires-clause-walked
 put_walked_lines-requires-clause-walked g c =
-    let same =
-    one_source c.args.queries.now.pairs.now c.args.solve c.loop-at.at c.requires.solve (omega (arith, c.loop-at.auto.at))
-    c.loop-at-test.true in
-    rw same at c.requires.walked
+    c.requires.walked c.loop-at.at (omega (arith, c.loop-at.auto.at)) c.loop-at-test.true
 
 pub put_walked_lines-requires-clause-after : goal.put_walked_lines-requires-clause-after
 put_walked_lines-requires-clause-after g c =
-    let same =
-    one_source c.args.queries.now.pairs.now c.args.solve c.loop-at.at c.requires.solve (omega (arith, c.loop-at.auto.at))
-    c.loop-at-test.true in
-    rw same at c.requires.after
+    c.requires.after c.loop-at.at (omega (arith, c.loop-at.auto.at)) c.loop-at-test.true
 
 pub loop-at-preserved : goal.loop-at-preserved
 loop-at-preserved g c =
@@ -34,7 +27,7 @@ loop-at-preserved g c =
     let walked = c.args.walked.now in
     let solve = c.requires.solve in
     let here = c.loop-at-test.true in
-    let same = one_source pairs c.args.solve k solve (omega (arith, c.loop-at.auto.at)) here in
+    let from : c.args.solve.first ≤ k = omega (arith, c.loop-at.auto.at) in
     record {
       few = λ _. c.in_ok-send_if_full.ensures.few;
       sent =
@@ -46,7 +39,7 @@ loop-at-preserved g c =
                 (walked_after_text (pair_at pairs k) c.args.after.now);
             is_text =
                 walked-blocks graphs.network graphs.grown (pair_at pairs k) walked c.args.after.now c.requires.graphs.grows
-                (rw same at c.requires.walked) (rw same at c.requires.after);
+                (c.requires.walked k from here) (c.requires.after k from here);
             waits =
                 subst (Waits (g.W.Write.contents c.loop-at.writer) (g.W.Write.contents c.send_if_full.new.writer)
                 c.send_if_full.new.self.bytes.items) c.in_ok-put_walked_lines.ensures.put
@@ -89,13 +82,13 @@ returns-in_err-send_if_full-clause-prefix g c =
     let k = c.loop-at.at in
     let pairs = c.args.queries.now.pairs.now in
     let walked = c.args.walked.now in
-    let same =
-    one_source pairs c.args.solve k c.requires.solve (omega (arith, c.loop-at.auto.at)) c.loop-at-test.true in
+    let here = c.loop-at-test.true in
+    let from : c.args.solve.first ≤ k = omega (arith, c.loop-at.auto.at) in
     let text =
     with_growth growth (walked_text (pair_at pairs k) walked) (walked_after_text (pair_at pairs k) c.args.after.now) in
     let is_block =
     walked-blocks graphs.network graphs.grown (pair_at pairs k) walked c.args.after.now c.requires.graphs.grows
-    (rw same at c.requires.walked) (rw same at c.requires.after) in
+    (c.requires.walked k from here) (c.requires.after k from here) in
     let only = (c.blocks_are_unique.ensures true graphs.network.n graphs.network.arcs growth).1 in
     let cut : (before : Option (List ℕ))
     → AreSent (IsGrownPair true graphs.network.n graphs.network.arcs growth) pairs c.args.solve.first before

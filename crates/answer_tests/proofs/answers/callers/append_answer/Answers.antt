@@ -4,17 +4,18 @@ use Rattle.std.proofs.lemmas.Result.{IfErr-weaker}
 use Rattle.dimacs_text.specs.Jobs.{Content, IsJobText}
 use Rattle.dimacs_text.specs.Laws.{ATextHasOneJob}
 use Rattle.job_answer.specs.declared.asked.Answer.{Answer}
+use Rattle.job_answer.specs.declared.asked.Lines.TheVariants as lines
 use Rattle.job_answer.specs.declared.fault.Fault.{Fault}
-use Rattle.job_answer.specs.declared.fault.Fault.TheVariants.{Read, TooLong, Text, NoAsk, Memory, Spawn, Write}
+use Rattle.job_answer.specs.declared.fault.Fault.TheVariants.{Read, TooLong, Text, NoAsk, NoSources, Memory, Spawn, Write}
 use Rattle.job_answer.specs.AnswerText.{IsAnswerText}
 use Rattle.job_answer.specs.Bytes.{IsPrefix}
-use Rattle.job_answer.specs.Outcome.{IsAnswerOf, IsBegun, row_of}
+use Rattle.job_answer.specs.Outcome.{IsAnswerOf, IsBegunBy, row_of}
 use Rattle.job_answer.specs.Existence.{AskedJobsHaveAnswers}
 use Rattle.answer_tests.proofs.answers.callers.append_answer.Goals as goal
 
 module _ (limit : ℕ) (kind : Answer) (walks : Bool) (text rest old new : List ℕ) where
   abbrev Begun : Type 0
-  Begun = IsBegun limit kind walks (Some text) (Some rest) (Some old) (Some new)
+  Begun = IsBegunBy limit kind (lines.Each walks) (Some text) (Some rest) (Some old) (Some new)
 
   job_text : (run : Begun) → IsJobText text run.job
   job_text run =
@@ -51,12 +52,13 @@ module _ (limit : ℕ) (kind : Answer) (walks : Bool) (text rest old new : List 
         let same = law text job run.job is_job (job_text run) in
         prefix-of run reply (subst (λ (j : Content). IsAnswerText kind walks j reply) same answered)
 
-    at-fault : (fault : Fault) → (row_of limit kind walks (Some text) (Some rest) (Some old) (Some new) fault).written
+    at-fault : (fault : Fault) → (row_of limit kind (lines.Each walks) (Some text) (Some rest) (Some old) (Some new) fault).written
         → IsPrefix new (old ++ reply)
     at-fault Read same = kept same
     at-fault TooLong same = kept same
     at-fault (Text line what) same = kept same
     at-fault NoAsk same = kept same
+    at-fault NoSources same = kept same
     at-fault Memory written = elim written [ inl same ↦ kept same | inr run ↦ begun run ]
     at-fault Spawn run = begun run
     at-fault Write run = begun run

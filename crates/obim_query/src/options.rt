@@ -1,0 +1,23 @@
+//! What may a command line ask for?
+
+ghost use Rattle.std.specs.Prelude.{◌≡◌};
+ghost use Rattle.job_answer.specs.LineWalks.{has_walks};
+
+use job_answer::{Asked, Lines};
+
+/// What a command line asks for.
+#[derive(Clone, Copy)]
+pub(crate) struct Options {
+    pub(crate) asked: Asked,
+    /// Which lines the block of a source has.
+    pub(crate) lines: Lines,
+    /// Whether figures are printed after the answer.
+    pub(crate) stats: bool,
+    /// Whether it is printed how far the answer is.
+    pub(crate) progress: bool,
+    /// Whether a fault is explained.
+    pub(crate) explain: bool,
+    /// Whether the job may come from a terminal, since the argument `-` is there.
+    pub(crate) typed: bool,
+    ghost walks: { has_walks lines ≡ asked.walks },
+}
