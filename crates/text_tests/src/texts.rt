@@ -9,7 +9,7 @@ use answer_lines::{
     put_components, put_distances, put_grown, put_label, put_labels, put_pair, put_source, put_walk,
 };
 use dimacs_text::{Ask, Job, JobReader, LineKind, TextFault, read_job};
-use route_walks::{ArcRec, INF};
+use route_walks::{ArcRec, INF, Memory};
 use std::alloc::Global;
 use std::process::Abort;
 use std::test::Fail;
@@ -223,34 +223,37 @@ fn faults_of_added_sections(rt: HostRuntime) {
 
 /// Asserts what a job's text asks for, and its last arc.
 fn assert_job(rt: &impl Abort, job: &Job, n: u32, last: ArcRec, sources: &[u32]) {
-    assert_eq!(rt; job.n, n);
-    assert_eq!(rt; job.arcs.last().copied(), Some(last));
-    match &job.ask {
-        Ask::Absent => assert_eq!(rt; sources.len(), 0),
-        Ask::Sources(given) => assert_eq!(rt; given.as_slice(), sources),
-        Ask::Pairs(_) => assert!(rt; false, "pairs for sources"),
-    }
+    assert!(rt; job.n == n && job.arcs.last().copied() == Some(last));
+    let same = match &job.ask {
+        Ask::Absent => sources.is_empty(),
+        Ask::Sources(given) => given.as_slice() == sources,
+        Ask::Pairs(_) => false,
+    };
+    assert!(rt; same);
 }
 
 /// Asserts that a text asks for these pairs.
 fn assert_pairs(rt: &impl Abort, job: &Job, pairs: &[(u32, u32)]) {
-    match &job.ask {
-        Ask::Pairs(given) => assert_eq!(rt; given.as_slice(), pairs),
-        _ => assert!(rt; false, "no pairs"),
-    }
+    let same = match &job.ask {
+        Ask::Pairs(given) => given.as_slice() == pairs,
+        _ => false,
+    };
+    assert!(rt; same);
 }
+
+/// What comes after `GRAPH`, and the pairs that it asks for.
+const PAIRS: [(&[u8], &[(u32, u32)]); 3] = [
+    (b"p aux sp p2p 0", &[]),
+    (b"p aux sp p2p 1\nq 6 6\n", &[(5, 5)]),
+    (
+        b"p aux sp p2p 3\nq 1 6\n\tq  03 2\r\nq 1 6",
+        &[(0, 5), (2, 1), (0, 5)],
+    ),
+];
 
 #[test]
 fn jobs_of_pairs(rt: HostRuntime) -> Result<(), Fail> {
-    let rows: [(&[u8], &[(u32, u32)]); 3] = [
-        (b"p aux sp p2p 0", &[]),
-        (b"p aux sp p2p 1\nq 6 6\n", &[(5, 5)]),
-        (
-            b"p aux sp p2p 3\nq 1 6\n\tq  03 2\r\nq 1 6",
-            &[(0, 5), (2, 1), (0, 5)],
-        ),
-    ];
-    for (tail, pairs) in rows {
+    for (tail, pairs) in PAIRS {
         assert_pairs(&rt, &read(rt.alloc(), GRAPH, tail)?, pairs);
         let text = joined(rt.alloc(), GRAPH, tail)?;
         assert_pairs(&rt, &read_pieces(rt.alloc(), &text, 3)?, pairs);
@@ -266,10 +269,10 @@ fn assert_added(
     ask: &str,
     added: &[ArcRec],
 ) -> Result<(), Fail> {
-    assert_eq!(rt; format!(in alloc; "{:?}", job.ask)?.as_str(), ask);
-    assert_eq!(rt; (job.n, job.arcs.len()), (6, 8));
-    assert_eq!(rt; job.arcs.last().copied(), Some(LAST));
-    assert_eq!(rt; job.added.as_deref(), Some(added));
+    assert!(rt; job.n == 6 && job.arcs.len() == 8 && job.arcs.last().copied() == Some(LAST));
+    assert!(rt; job.added.as_deref() == Some(added));
+    let asked = format!(in alloc; "{:?}", job.ask)?;
+    assert!(rt; asked.as_str() == ask);
     Ok(())
 }
 
@@ -321,15 +324,36 @@ const ADDING: [(&[u8], &str, &[ArcRec]); 8] = [
     ),
 ];
 
+/// Asserts what a text that comes in pieces of `size` bytes asks for, and adds.
+fn expect_added(
+    rt: &impl Abort,
+    alloc: Global,
+    text: &[u8],
+    size: usize,
+    ask: &str,
+    added: &[ArcRec],
+) -> Result<(), Fail> {
+    let job = read_pieces(alloc, text, size)?;
+    assert_added(rt, alloc, &job, ask, added)
+}
+
 #[test]
 fn jobs_with_added_arcs(rt: HostRuntime) -> Result<(), Fail> {
-    let alloc = rt.alloc();
     for (tail, ask, added) in ADDING {
-        assert_added(&rt, alloc, &read(alloc, GRAPH, tail)?, ask, added)?;
-        let text = joined(alloc, GRAPH, tail)?;
-        for size in [1, 7] {
-            assert_added(&rt, alloc, &read_pieces(alloc, &text, size)?, ask, added)?;
+        let text = joined(rt.alloc(), GRAPH, tail)?;
+        for size in [1, 7, 1000] {
+            expect_added(&rt, rt.alloc(), &text, size, ask, added)?;
         }
+    }
+    Ok(())
+}
+
+// The same of texts that come whole.
+#[test]
+fn whole_jobs_with_added_arcs(rt: HostRuntime) -> Result<(), Fail> {
+    for (tail, ask, added) in ADDING {
+        let job = read(rt.alloc(), GRAPH, tail)?;
+        assert_added(&rt, rt.alloc(), &job, ask, added)?;
     }
     Ok(())
 }
@@ -341,7 +365,13 @@ fn jobs(rt: HostRuntime) -> Result<(), Fail> {
     let asked = read(alloc, GRAPH, b"p aux sp ss 3\ns 3\ns 5\ns 3")?;
     assert_job(&rt, &asked, 6, LAST, &[2, 4, 2]);
     assert!(rt; asked.arcs.len() == 8 && asked.added.is_none());
-    assert_eq!(rt; read(alloc, "", b"p sp 268435456 0\n\n")?.n, 268435456);
+    Ok(())
+}
+
+#[test]
+fn a_job_of_most_vertices(rt: HostRuntime) -> Result<(), Fail> {
+    let job = read(rt.alloc(), "", b"p sp 268435456 0\n\n")?;
+    assert!(rt; job.n == 268435456);
     Ok(())
 }
 
@@ -357,46 +387,67 @@ fn a_job_with_all_kinds_of_blanks(rt: HostRuntime) -> Result<(), Fail> {
     Ok(())
 }
 
+/// Asserts the lines that were put.
+fn expect_lines(rt: &impl Abort, out: &[u8], want: &str) {
+    assert!(rt; out == want.as_bytes());
+}
+
+fn put_of_each_kind(out: &mut Vec<u8>) -> Result<(), Memory> {
+    put_source(out, 268435455)?;
+    put_label(out, 9, INF)?;
+    put_label(out, 0, INF - 1)?;
+    put_distances(out, 2, &[INF, 0, 10])?;
+    put_components(out, 0, &[0, 0, 2])
+}
+
+fn put_more_kinds(out: &mut Vec<u8>) -> Result<(), Memory> {
+    put_walk(out, 15, &[0, 2, 4, 1, 3, 5])?;
+    put_walk(out, 0, &[3])?;
+    put_pair(out, 0, 5, 15)?;
+    put_pair(out, 268435455, 268435454, INF - 1)?;
+    put_pair(out, 5, 0, INF)?;
+    put_grown(out, 0)?;
+    put_grown(out, 1048576)
+}
+
 #[test]
 fn answers(rt: HostRuntime) -> Result<(), Fail> {
     let mut out = Vec::new(rt.alloc());
-    put_source(&mut out, 268435455)?;
-    put_label(&mut out, 9, INF)?;
-    put_label(&mut out, 0, INF - 1)?;
-    put_distances(&mut out, 2, &[INF, 0, 10])?;
-    put_components(&mut out, 0, &[0, 0, 2])?;
-    put_walk(&mut out, 15, &[0, 2, 4, 1, 3, 5])?;
-    put_walk(&mut out, 0, &[3])?;
-    put_pair(&mut out, 0, 5, 15)?;
-    put_pair(&mut out, 268435455, 268435454, INF - 1)?;
-    put_pair(&mut out, 5, 0, INF)?;
-    put_grown(&mut out, 0)?;
-    put_grown(&mut out, 1048576)?;
+    put_of_each_kind(&mut out)?;
+    put_more_kinds(&mut out)?;
     let lines = "s 268435456\nd 10 inf\nd 1 18446744073709551614\ns 3\nd 1 inf\nd 2 0\nd 3 10\n\
          k 1 1\nk 2 1\nk 3 3\nw 6 15 1 3 5 2 4 6\nw 4 0 4\n\
          q 1 6 15\nq 268435456 268435455 18446744073709551614\nq 6 1 inf\n\
          g 0\ng 1048576\n";
-    assert_eq!(rt; out.as_slice(), lines.as_bytes());
+    expect_lines(&rt, &out, lines);
     Ok(())
 }
 
-// Lines where groups begin and end, and at the ends of what numbers there are.
+/// Lines where groups begin and end, and at the ends of what numbers there are.
+fn put_groups(out: &mut Vec<u8>) -> Result<(), Memory> {
+    put_labels(out, 268435456, &[])?;
+    put_labels(out, 8, &[0, INF, 12])?;
+    put_labels(out, 48, &[1, 2])?;
+    put_labels(out, 98, &[7, INF - 1, 100])?;
+    put_labels(out, 999998, &[9, 10])
+}
+
+fn put_last_groups(out: &mut Vec<u8>) -> Result<(), Memory> {
+    put_labels(out, 268435454, &[INF, INF - 1])?;
+    put_components(out, 98, &[98, 0])?;
+    put_components(out, 268435455, &[268435455])
+}
+
 #[test]
 fn lines_of_groups(rt: HostRuntime) -> Result<(), Fail> {
     let mut out = Vec::new(rt.alloc());
-    put_labels(&mut out, 268435456, &[])?;
-    put_labels(&mut out, 8, &[0, INF, 12])?;
-    put_labels(&mut out, 48, &[1, 2])?;
-    put_labels(&mut out, 98, &[7, INF - 1, 100])?;
-    put_labels(&mut out, 999998, &[9, 10])?;
-    put_labels(&mut out, 268435454, &[INF, INF - 1])?;
-    put_components(&mut out, 98, &[98, 0])?;
-    put_components(&mut out, 268435455, &[268435455])?;
+    put_groups(&mut out)?;
+    put_last_groups(&mut out)?;
     let lines = "d 9 0\nd 10 inf\nd 11 12\nd 49 1\nd 50 2\n\
          d 99 7\nd 100 18446744073709551614\nd 101 100\nd 999999 9\nd 1000000 10\n\
          d 268435455 inf\nd 268435456 18446744073709551614\n\
          k 99 99\nk 100 1\nk 268435456 268435456\n";
-    assert_eq!(rt; out.as_slice(), lines.as_bytes());
+    expect_lines(&rt, &out, lines);
     Ok(())
 }
 
@@ -413,7 +464,8 @@ const KINDS: [(LineKind, &str); 8] = [
 
 /// Asserts what a fault prints.
 fn expect_text(rt: &impl Abort, alloc: Global, fault: &TextFault, want: &str) -> Result<(), Fail> {
-    assert_eq!(rt; format!(in alloc; "{fault}")?.as_str(), want);
+    let text = format!(in alloc; "{fault}")?;
+    assert!(rt; text.as_str() == want);
     Ok(())
 }
 

@@ -93,19 +93,25 @@ pub(crate) fn settings_of(rt: &impl Abort, workers: u32, chunk: usize) -> Settin
 /// which share a bucket.
 const CHUNKS: &[(usize, u64)] = &[(1, 65), (3, 23), (16, 5), (64, 2), (256, 2)];
 
+/// How many chunks one worker opens.
+fn chunks_by<H: Threads + Wait + Clock + Abort + Sync>(
+    rt: &H,
+    alloc: Global,
+    csr: &Csr,
+    settings: &Settings,
+) -> Result<u64, Fail> {
+    Ok(count(rt, alloc, csr, 0, settings, (0, 0))?.chunks)
+}
+
 #[test]
 fn chunks_are_of_the_size_asked(rt: HostRuntime) -> Result<(), Fail> {
-    let alloc = rt.alloc();
-    let csr = star(&rt, alloc, 65, 1)?;
+    let csr = star(&rt, rt.alloc(), 65, 1)?;
     for &(chunk, chunks) in CHUNKS {
         let narrow = settings_of(&rt, 1, chunk);
-        let wide = narrow.with_widening_buckets();
-        let in_narrow = count(&rt, alloc, &csr, 0, &narrow, (0, 0))?.chunks;
-        let in_wide = count(&rt, alloc, &csr, 0, &wide, (0, 0))?.chunks;
-        assert!(rt;
-            in_narrow == chunks && in_wide == chunks,
-            "chunks of {chunk}"
-        );
+        let in_narrow = chunks_by(&rt, rt.alloc(), &csr, &narrow)?;
+        assert!(rt; in_narrow == chunks, "chunks of {chunk}");
+        let in_wide = chunks_by(&rt, rt.alloc(), &csr, &narrow.with_widening_buckets())?;
+        assert!(rt; in_wide == chunks, "wide, chunks of {chunk}");
     }
     Ok(())
 }
@@ -114,6 +120,30 @@ fn chunks_are_of_the_size_asked(rt: HostRuntime) -> Result<(), Fail> {
 /// than it makes.
 const VISITS: &[(Option<u32>, u64)] = &[(None, 3_300), (Some(4), 3_300), (Some(10), 3_900)];
 
+/// Buckets by a shift, or those that widen.
+fn settings_by(rt: &impl Abort, shift: Option<u32>) -> Settings {
+    let narrow = Settings::new(1, shift.unwrap_or(0), 256);
+    let narrow = narrow.expect(rt, "settings within their limits");
+    if shift.is_some() {
+        narrow
+    } else {
+        narrow.with_widening_buckets()
+    }
+}
+
+/// Asserts how many visits one worker makes at most.
+fn expect_visits<H: Threads + Wait + Clock + Abort + Sync>(
+    rt: &H,
+    alloc: Global,
+    csr: &Csr,
+    settings: &Settings,
+    most: u64,
+) -> Result<(), Fail> {
+    let visits = count(rt, alloc, csr, 0, settings, (0, 0))?.visits;
+    assert!(rt; visits <= most, "{visits} visits of at most {most}");
+    Ok(())
+}
+
 // A random graph of which nearly all vertices are reached. A vertex that the pool loses is found by a sweep, which
 // comes too early for its label.
 #[test]
@@ -121,15 +151,7 @@ fn few_visits_of_random_arcs(rt: HostRuntime) -> Result<(), Fail> {
     let alloc = rt.alloc();
     let csr = rows_of(&rt, alloc, 3_000, &random_arcs(alloc, 3_000, 15_000)?)?;
     for &(shift, most) in VISITS {
-        let narrow = Settings::new(1, shift.unwrap_or(0), 256);
-        let narrow = narrow.expect(&rt, "settings within their limits");
-        let settings = if shift.is_some() {
-            narrow
-        } else {
-            narrow.with_widening_buckets()
-        };
-        let visits = count(&rt, alloc, &csr, 0, &settings, (0, 0))?.visits;
-        assert!(rt; visits <= most, "{visits} visits at {shift:?}");
+        expect_visits(&rt, alloc, &csr, &settings_by(&rt, shift), most)?;
     }
     Ok(())
 }
@@ -138,12 +160,13 @@ fn few_visits_of_random_arcs(rt: HostRuntime) -> Result<(), Fail> {
 #[test]
 fn few_visits_of_a_long_strip(rt: HostRuntime) -> Result<(), Fail> {
     let alloc = rt.alloc();
-    let arcs = street_arcs(alloc, 2100, 128, 24, 1877)?;
-    let csr = rows_of(&rt, alloc, 268_800, &arcs)?;
-    let settings = settings_of(&rt, 1, 256).with_widening_buckets();
-    let counted = count(&rt, alloc, &csr, 0, &settings, (0, 0))?;
-    assert!(rt; counted.visits <= 295_680, "{} visits", counted.visits);
-    Ok(())
+    let csr = rows_of(
+        &rt,
+        alloc,
+        268_800,
+        &street_arcs(alloc, 2100, 128, 24, 1877)?,
+    )?;
+    expect_visits(&rt, alloc, &csr, &settings_by(&rt, None), 295_680)
 }
 
 /// So many workers, one of which is held at this visit of its own.

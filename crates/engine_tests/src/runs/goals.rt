@@ -194,20 +194,40 @@ fn count_until<H: Threads + Wait + Clock + Abort + Sync>(
     Ok((gate.visits.load(Ordering::Relaxed), stopped))
 }
 
+/// The labels of a whole run.
+fn whole_of<H: Threads + Wait + Clock + Abort + Sync>(
+    rt: &H,
+    alloc: Global,
+    csr: &Csr,
+) -> Result<Vec<u64>, Fail> {
+    assert!(rt; 0 < csr.n());
+    let one = settings(rt, 1, 4, true);
+    Ok(distances(rt, alloc, csr, 0, &one, &OpenGate)?)
+}
+
+/// Asserts that each goal gives the labels of a whole run as far as its limit.
+fn expect_wanted<H: Threads + Wait + Clock + Abort + Sync>(
+    rt: &H,
+    alloc: Global,
+    csr: &Csr,
+    whole: &[u64],
+) -> Result<(), Fail> {
+    for workers in [1, 2, 4] {
+        let settings = settings(rt, workers, 4, workers < 4);
+        for wanted in WANTED {
+            count_until(rt, alloc, csr, whole, wanted, &settings)?;
+        }
+    }
+    Ok(())
+}
+
 // Each goal in each graph, by one worker and by several.
 #[test]
 fn goals_beside_whole_runs(rt: HostRuntime) -> Result<(), Fail> {
-    let alloc = rt.alloc();
     for shape in SHAPES {
-        let csr = graph_of(&rt, alloc, shape)?;
-        let one = settings(&rt, 1, 4, true);
-        let whole = distances(&rt, alloc, &csr, 0, &one, &OpenGate)?;
-        for workers in [1, 2, 4] {
-            for wanted in WANTED {
-                let settings = settings(&rt, workers, 4, workers < 4);
-                count_until(&rt, alloc, &csr, &whole, wanted, &settings)?;
-            }
-        }
+        let csr = graph_of(&rt, rt.alloc(), shape)?;
+        let whole = whole_of(&rt, rt.alloc(), &csr)?;
+        expect_wanted(&rt, rt.alloc(), &csr, &whole)?;
     }
     Ok(())
 }
@@ -225,22 +245,31 @@ const FEW: &[(Shape, Wanted, u64)] = &[
     (Shape::Path, Wanted::Within(1_500), 1_650),
 ];
 
-// A pool that loses nothing: the run stops early, and isn't gone on with to its end.
+/// Asserts that a run stops early, after so many visits at most.
+fn expect_few<H: Threads + Wait + Clock + Abort + Sync>(
+    rt: &H,
+    alloc: Global,
+    csr: &Csr,
+    whole: &[u64],
+    wanted: Wanted,
+    most: u64,
+) -> Result<(), Fail> {
+    for workers in [1, 4] {
+        let settings = settings(rt, workers, 4, true);
+        let (visits, stopped) = count_until(rt, alloc, csr, whole, wanted, &settings)?;
+        let few = stopped && visits <= most;
+        assert!(rt; few, "{wanted:?}: {visits} visits by {workers}");
+    }
+    Ok(())
+}
+
+// A pool that loses nothing: the run isn't gone on with to its end.
 #[test]
 fn few_visits_of_what_is_near(rt: HostRuntime) -> Result<(), Fail> {
-    let alloc = rt.alloc();
-    for (row, &(shape, wanted, most)) in FEW.iter().enumerate() {
-        let csr = graph_of(&rt, alloc, shape)?;
-        let one = settings(&rt, 1, 4, true);
-        let whole = distances(&rt, alloc, &csr, 0, &one, &OpenGate)?;
-        for workers in [1, 4] {
-            let settings = settings(&rt, workers, 4, true);
-            let (visits, stopped) = count_until(&rt, alloc, &csr, &whole, wanted, &settings)?;
-            assert!(rt;
-                stopped && visits <= most,
-                "row {row}: {visits} visits by {workers}"
-            );
-        }
+    for &(shape, wanted, most) in FEW {
+        let csr = graph_of(&rt, rt.alloc(), shape)?;
+        let whole = whole_of(&rt, rt.alloc(), &csr)?;
+        expect_few(&rt, rt.alloc(), &csr, &whole, wanted, most)?;
     }
     Ok(())
 }
@@ -343,12 +372,11 @@ const POOLS: &[(Kind, u32, Goal<'static>)] = &[
 
 #[test]
 fn stops_over_each_pool(rt: HostRuntime) -> Result<(), Fail> {
-    let alloc = rt.alloc();
-    let csr = six(alloc)?;
+    let csr = six(rt.alloc())?;
     for (row, &(kind, workers, goal)) in POOLS.iter().enumerate() {
         let settings = settings(&rt, workers, 2, false);
         assert!(rt; goal.is_within(6));
-        let labels = over_pool(&rt, alloc, &csr, goal, &settings, kind)?;
+        let labels = over_pool(&rt, rt.alloc(), &csr, goal, &settings, kind)?;
         same_labels(&rt, row, &labels, &SIX_LABELS);
     }
     Ok(())
@@ -356,17 +384,15 @@ fn stops_over_each_pool(rt: HostRuntime) -> Result<(), Fail> {
 
 #[test]
 fn stops_over_hostile_pools(rt: HostRuntime) -> Result<(), Fail> {
-    let alloc = rt.alloc();
-    let csr = graph_of(&rt, alloc, Shape::Random)?;
+    let csr = graph_of(&rt, rt.alloc(), Shape::Random)?;
+    let whole = whole_of(&rt, rt.alloc(), &csr)?;
     let mut draws = Draws::new();
-    let one = settings(&rt, 1, 4, true);
-    let whole = distances(&rt, alloc, &csr, 0, &one, &OpenGate)?;
-    for round in 0..12_u32 {
-        let settings = settings(&rt, 1 + round % 4, 4, false);
+    for round in 0..12_usize {
+        let settings = settings(&rt, 1 + round as u32 % 4, 4, false);
         let goal = Goal::Within(u64::from(draws.below(2_000)));
         let kind = Kind::Hostile(draws.other());
-        let labels = over_pool(&rt, alloc, &csr, goal, &settings, kind)?;
-        assert!(rt; labels.as_slice() == whole.as_slice(), "round {round}");
+        let labels = over_pool(&rt, rt.alloc(), &csr, goal, &settings, kind)?;
+        same_labels(&rt, round, &labels, &whole);
     }
     Ok(())
 }

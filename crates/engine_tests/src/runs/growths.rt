@@ -119,7 +119,16 @@ pub(crate) const ONE_VISIT: [u64; 6] = [0, 17, 10, INF, INF, INF];
 /// A pool, how many workers, how many visits each makes, the labels and the marked vertices that this leaves, and the
 /// marked ones once the graph has the shorter arc. Visits of a sweep count: over a pool that keeps nothing there are no
 /// others.
-const PAUSES: &[(Kind, u32, u64, &[u64], &[u32], &[u32])] = &[
+type PauseRow = (
+    Kind,
+    u32,
+    u64,
+    &'static [u64],
+    &'static [u32],
+    &'static [u32],
+);
+
+const PAUSES: &[PauseRow] = &[
     (Kind::Locked, 2, 0, &NO_VISIT, &[0], &[0]),
     (Kind::Locked, 1, 1, &ONE_VISIT, &[1, 2], &[0, 1, 2]),
     (
@@ -132,30 +141,74 @@ const PAUSES: &[(Kind, u32, u64, &[u64], &[u32], &[u32])] = &[
     ),
 ];
 
-// A pause comes back from a run that may visit nothing, gets an arc, and is settled.
+/// Asserts that a pause comes back from a run that may visit nothing.
+fn expect_same_pause<H: Threads + Wait + Clock + Abort + Sync>(
+    rt: &H,
+    alloc: Global,
+    csr: &Csr,
+    at: usize,
+    row: &PauseRow,
+    rest: Paused,
+    settings: Settings,
+) -> Result<Paused, Fail>
+    requires pause { IsPause csr.now EXAMPLE_SEEDS rest }
+    requires six { csr.now.n ≡ 6 }
+    ensures { IfOk result (λ rest. IsPause csr.now EXAMPLE_SEEDS rest) }
+{
+    let (kind, _, _, labels, marked, _) = *row;
+    let none = Piece {
+        settings,
+        kind,
+        budget: 0,
+    };
+    let rest = pause_after(rt, alloc, csr, &EXAMPLE_SEEDS, Some(rest), &none)?;
+    expect_pause(rt, at, &rest, labels, marked);
+    Ok(rest)
+}
+
+/// Asserts the labels and marks of a row, and the labels at the end once there is the shorter arc.
+fn expect_row<H: Threads + Wait + Clock + Abort + Sync>(
+    rt: &H,
+    alloc: Global,
+    csr: &Csr,
+    at: usize,
+    row: &PauseRow,
+) -> Result<(), Fail>
+    requires six { csr.now.n ≡ 6 }
+    requires few { length csr.now.arcs ≡ 8 }
+{
+    let seeds = EXAMPLE_SEEDS;
+    let (kind, workers, budget, labels, marked, grown_marked) = *row;
+    let settings = settings(rt, workers, 4, false);
+    let mut piece = Piece {
+        settings,
+        kind,
+        budget,
+    };
+    let rest = pause_after(rt, alloc, csr, &seeds, None, &piece)?;
+    expect_pause(rt, at, &rest, labels, marked);
+    let rest = expect_same_pause(rt, alloc, csr, at, row, rest, settings)?;
+    let (grown, rest) = grown_pause(alloc, csr, &seeds, rest, &SHORTER)?;
+    expect_pause(rt, at, &rest, labels, grown_marked);
+    piece.budget = 1;
+    let labels = settle(
+        rt,
+        alloc,
+        &grown,
+        &seeds,
+        Some(rest),
+        &mut Plan::Same(piece),
+    )?;
+    same_labels(rt, at, &labels, &SHORTER_LABELS);
+    Ok(())
+}
+
+// A pause comes back, gets an arc, and is settled.
 #[test]
 fn pauses_of_a_budget(rt: HostRuntime) -> Result<(), Fail> {
-    let (alloc, seeds) = (rt.alloc(), EXAMPLE_SEEDS);
-    let csr = six(alloc)?;
-    for row in 0..PAUSES.len() {
-        let (kind, workers, budget, labels, marked, grown_marked) = PAUSES[row];
-        let settings = settings(&rt, workers, 4, false);
-        let mut piece = Piece {
-            settings,
-            kind,
-            budget,
-        };
-        let rest = pause_after(&rt, alloc, &csr, &seeds, None, &piece)?;
-        expect_pause(&rt, row, &rest, labels, marked);
-        piece.budget = 0;
-        let rest = pause_after(&rt, alloc, &csr, &seeds, Some(rest), &piece)?;
-        expect_pause(&rt, row, &rest, labels, marked);
-        let (grown, rest) = grown_pause(alloc, &csr, &seeds, rest, &SHORTER)?;
-        expect_pause(&rt, row, &rest, labels, grown_marked);
-        piece.budget = 1;
-        let mut plan = Plan::Same(piece);
-        let labels = settle(&rt, alloc, &grown, &seeds, Some(rest), &mut plan)?;
-        same_labels(&rt, row, &labels, &SHORTER_LABELS);
+    let csr = six(rt.alloc())?;
+    for (at, row) in PAUSES.iter().enumerate() {
+        expect_row(&rt, rt.alloc(), &csr, at, row)?;
     }
     Ok(())
 }
@@ -368,7 +421,7 @@ fn tails_of_added_arcs_are_handed_over(rt: HostRuntime) -> Result<(), Fail> {
     for settings in [narrow, narrow.with_widening_buckets()] {
         let gate = Holding::new(&rt, (0, 0));
         go_on_grown(&rt, alloc, &csr, &NO_SHORTER, &settings, &gate)?;
-        assert_eq!(rt; gate.chunks.load(Ordering::Relaxed), 2);
+        assert!(rt; gate.chunks.load(Ordering::Relaxed) == 2);
     }
     Ok(())
 }

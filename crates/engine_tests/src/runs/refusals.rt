@@ -2,7 +2,7 @@
 //! it gives the labels that were worked by hand. `tests/refusals` refuses each in turn; `tests/refusals.tsv` has the
 //! calls.
 
-ghost use Rattle.std.specs.Prelude.{IfOk};
+ghost use Rattle.std.specs.Prelude.{◌≡◌, IfOk};
 ghost use Rattle.route_walks.specs.Walk.{AreSeeds};
 ghost use Rattle.label_words.specs.Paused.{IsPause};
 
@@ -171,44 +171,68 @@ fn gone_on_again<H: Threads + Wait + Clock + Abort + Sync>(
     }
 }
 
-// A run leaves what one worker's first visit leaves, and goes on to the end from there.
+fn piece_of(rt: &impl Abort, kind: Kind, workers: u32, budget: u64) -> Piece {
+    Piece {
+        settings: settings(rt, workers, 4, false),
+        kind,
+        budget,
+    }
+}
+
+// Asserts what a run leaves, and that it goes on to the end from there.
+fn expect_begun<H: Threads + Wait + Clock + Abort + Sync>(
+    rt: &H,
+    alloc: Global,
+    row: usize,
+    csr: &Csr,
+    kind: Kind,
+    workers: u32,
+) -> Result<(), Fail>
+    requires { csr.now.n ≡ 6 }
+{
+    let seeds = EXAMPLE_SEEDS;
+    let piece = piece_of(rt, kind, workers, 1);
+    let rest = begun_again(rt, alloc, csr, &seeds, &piece)?;
+    if workers == 1 {
+        expect_pause(rt, row, &rest, &ONE_VISIT, &[1, 2]);
+    }
+    let labels = settle(rt, alloc, csr, &seeds, Some(rest), &mut Plan::Same(piece))?;
+    same_labels(rt, row, &labels, &SIX_LABELS);
+    Ok(())
+}
+
+// A run leaves what one worker's first visit leaves.
 #[test]
 fn of_run_for(rt: HostRuntime) -> Result<(), Fail> {
-    let (alloc, seeds) = (rt.alloc(), EXAMPLE_SEEDS);
-    let csr = six(alloc)?;
+    let csr = six(rt.alloc())?;
     for (row, &(kind, workers)) in POOLS.iter().enumerate() {
-        let settings = settings(&rt, workers, 4, false);
-        let piece = Piece {
-            settings,
-            kind,
-            budget: 1,
-        };
-        let rest = begun_again(&rt, alloc, &csr, &seeds, &piece)?;
-        if workers == 1 {
-            expect_pause(&rt, row, &rest, &ONE_VISIT, &[1, 2]);
-        }
-        let mut plan = Plan::Same(piece);
-        let labels = settle(&rt, alloc, &csr, &seeds, Some(rest), &mut plan)?;
-        same_labels(&rt, row, &labels, &SIX_LABELS);
+        expect_begun(&rt, rt.alloc(), row, &csr, kind, workers)?;
     }
     Ok(())
 }
 
+// The end of a run that goes on.
+fn resumed_again<H: Threads + Wait + Clock + Abort + Sync>(
+    rt: &H,
+    alloc: Global,
+    csr: &Csr,
+    kind: Kind,
+    workers: u32,
+) -> Result<Closed, Fail>
+    requires { csr.now.n ≡ 6 }
+{
+    let (seeds, piece) = (EXAMPLE_SEEDS, piece_of(rt, kind, workers, 1));
+    let rest = pause_after(rt, alloc, csr, &seeds, None, &piece)?;
+    let same = pause_after(rt, alloc, csr, &seeds, None, &piece)?;
+    let whole = piece_of(rt, kind, workers, u64::MAX);
+    gone_on_again(rt, alloc, csr, &seeds, rest, same, &whole)
+}
+
 #[test]
 fn of_resume(rt: HostRuntime) -> Result<(), Fail> {
-    let (alloc, seeds) = (rt.alloc(), EXAMPLE_SEEDS);
-    let csr = six(alloc)?;
+    let csr = six(rt.alloc())?;
     for (row, &(kind, workers)) in POOLS.iter().enumerate() {
-        let settings = settings(&rt, workers, 4, false);
-        let mut piece = Piece {
-            settings,
-            kind,
-            budget: 1,
-        };
-        let rest = pause_after(&rt, alloc, &csr, &seeds, None, &piece)?;
-        let same = pause_after(&rt, alloc, &csr, &seeds, None, &piece)?;
-        piece.budget = u64::MAX;
-        match gone_on_again(&rt, alloc, &csr, &seeds, rest, same, &piece)? {
+        match resumed_again(&rt, rt.alloc(), &csr, kind, workers)? {
             Closed::Settled(labels) => same_labels(&rt, row, &labels, &SIX_LABELS),
             Closed::Paused(_) => assert!(rt; false, "row {row}: paused"),
         }

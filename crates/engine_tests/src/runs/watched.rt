@@ -1,18 +1,22 @@
 //! What a gate and a pool see of workers: their numbers, and marks before pushes; and workers that yield at random.
 
-ghost use Rattle.std.specs.Prelude.{⊤};
+ghost use Rattle.std.specs.Prelude.{◌<◌, ⊤};
 
 use crate::runs::gates::settings_of;
 use crate::runs::graphs::{random_arcs, rows_of, same_labels, star};
 use crate::runs::pools::{Unused, Useless};
 use crate::runs::settings;
+use csr_graph::Csr;
 use obim_engine::{Gate, OpenGate, Yielding, distances, run};
 use obim_pool::WorkPool;
 use route_walks::EXAMPLE_SEEDS;
+use std::alloc::Global;
+use std::process::Abort;
 use std::sync::Wait;
 use std::sync::atomic::{AtomicU64, Ordering};
 use std::test::Fail;
-use std::thread::yield_now;
+use std::thread::{Threads, yield_now};
+use std::time::Clock;
 
 /// A worker waits this many turns at most.
 const TURNS: u32 = 10_000_000;
@@ -159,7 +163,28 @@ impl Gate for Dawdling {
     }
 }
 
-// Workers that are held back at random, on a graph that has many bags: the same labels each time.
+/// Asserts that workers that are held back at random give these labels.
+fn expect_held<H: Threads + Wait + Clock + Abort + Sync>(
+    rt: &H,
+    alloc: Global,
+    csr: &Csr,
+    want: &[u64],
+    round: u32,
+    workers: u32,
+) -> Result<(), Fail>
+    requires { 0 < csr.now.n }
+{
+    let gate = Dawdling::new(u64::from(round) * 8 + u64::from(workers));
+    let settings = settings(rt, workers, 3 + round % 8, false);
+    let labels = distances(rt, alloc, csr, 0, &settings, &gate)?;
+    assert!(rt;
+        labels.as_slice() == want,
+        "round {round}, workers {workers}"
+    );
+    Ok(())
+}
+
+// On a graph that has many bags: the same labels each time.
 #[test]
 fn workers_that_are_held_at_random(rt: HostRuntime) -> Result<(), Fail> {
     let (alloc, n) = (rt.alloc(), 20_000);
@@ -167,11 +192,7 @@ fn workers_that_are_held_at_random(rt: HostRuntime) -> Result<(), Fail> {
     let one = distances(&rt, alloc, &csr, 0, &settings(&rt, 1, 7, false), &OpenGate)?;
     for round in 0..24_u32 {
         for workers in [2, 4, 8] {
-            let gate = Dawdling::new(u64::from(round * 8 + workers));
-            let settings = settings(&rt, workers, 3 + round % 8, false);
-            let labels = distances(&rt, alloc, &csr, 0, &settings, &gate)?;
-            let same = labels.as_slice() == one.as_slice();
-            assert!(rt; same, "round {round}, workers {workers}");
+            expect_held(&rt, alloc, &csr, &one, round, workers)?;
         }
     }
     Ok(())

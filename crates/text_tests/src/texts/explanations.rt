@@ -17,26 +17,28 @@ fn refused(alloc: Global, text: &[u8], size: usize) -> Option<ExplainedFault> {
     reader.finish_explained().err()
 }
 
-/// The line with its fields and the one that is wrong, what belongs there, and where it stands.
-fn told(alloc: Global, explanation: &Explanation) -> Result<String, Fail> {
-    let Explanation {
-        line,
-        text,
-        fields,
-        field,
-        expected,
-        place,
-        ..
-    } = *explanation;
-    let text = match text {
+/// The line itself.
+fn line_of(alloc: Global, explanation: &Explanation) -> Result<String, Fail> {
+    Ok(match explanation.text {
         Some(text) => format!(in alloc; "{text}")?,
         None => format!(in alloc; "no line")?,
-    };
-    let place = match place {
+    })
+}
+
+/// Where it stands.
+fn place_of(alloc: Global, explanation: &Explanation) -> Result<String, Fail> {
+    Ok(match explanation.place {
         Some(place) => format!(in alloc; "{place}")?,
         None => format!(in alloc; "no section")?,
-    };
-    let field = field.unwrap_or(0);
+    })
+}
+
+/// The line with its fields and the one that is wrong, what belongs there, and where it stands.
+fn told(alloc: Global, explanation: &Explanation) -> Result<String, Fail> {
+    let (line, fields, expected) = (explanation.line, explanation.fields, explanation.expected);
+    let field = explanation.field.unwrap_or(0);
+    let text = line_of(alloc, explanation)?;
+    let place = place_of(alloc, explanation)?;
     Ok(format!(in alloc; "{line}: {text}; {field} of {fields}: {expected}; {place}")?)
 }
 
@@ -77,32 +79,69 @@ const EXPLAINED: [(&str, &str); 9] = [
     ),
 ];
 
+/// The explanation of a text that is refused and comes in pieces of a size.
+fn explanation_of(rt: &impl Abort, alloc: Global, text: &[u8], size: usize) -> Explanation {
+    let refused = refused(alloc, text, size);
+    let explanation = refused.and_then(|refused| refused.explanation);
+    explanation.expect(rt, "a text that is refused")
+}
+
+fn expect_told(
+    rt: &impl Abort,
+    alloc: Global,
+    text: &str,
+    size: usize,
+    want: &str,
+) -> Result<(), Fail> {
+    let explanation = explanation_of(rt, alloc, text.as_bytes(), size);
+    let told = told(alloc, &explanation)?;
+    assert!(rt; told.as_str() == want, "{want}");
+    Ok(())
+}
+
 #[test]
 fn explanations(rt: HostRuntime) -> Result<(), Fail> {
     for (text, want) in EXPLAINED {
         for size in [1, 7, 1000] {
-            let refused = refused(rt.alloc(), text.as_bytes(), size);
-            let explanation = refused.and_then(|refused| refused.explanation);
-            let explanation = explanation.expect(&rt, "a text that is refused");
-            assert_eq!(rt; told(rt.alloc(), &explanation)?.as_str(), want);
+            expect_told(&rt, rt.alloc(), text, size, want)?;
         }
     }
     Ok(())
 }
 
-// Of a long line the first bytes are kept, and its length.
+/// A text whose second line has 1,000 bytes.
+fn long_text(alloc: Global) -> Result<Vec<u8>, Fail> {
+    let mut text = b"p sp 1 0\n".to_vec(alloc)?;
+    text.resize(1009, b'\x1f')?;
+    Ok(text)
+}
+
+const UNKNOWN: TextFault = TextFault::Line {
+    line: 2,
+    kind: LineKind::Unknown,
+};
+
+#[test]
+fn fault_of_a_long_line(rt: HostRuntime) -> Result<(), Fail> {
+    let text = long_text(rt.alloc())?;
+    let refused = refused(rt.alloc(), &text, 100).expect(&rt, "a text that is refused");
+    assert!(rt; refused.fault == UNKNOWN);
+    Ok(())
+}
+
+/// Asserts that of the line the first bytes are kept, and its length.
+fn expect_beginning(rt: &impl Abort, alloc: Global, explanation: &Explanation) -> Result<(), Fail> {
+    assert!(rt; explanation.line == 2 && explanation.kind == LineKind::Unknown);
+    let line = explanation.text.expect(rt, "a line");
+    assert!(rt; line.length() == 1000 && line.bytes() == [b'\x1f'; MAX_KEPT].as_slice());
+    let shown = format!(in alloc; "{line}")?;
+    assert!(rt; shown.len() == 4 * MAX_KEPT);
+    Ok(())
+}
+
 #[test]
 fn beginnings_of_long_lines(rt: HostRuntime) -> Result<(), Fail> {
-    let mut text = b"p sp 1 0\n".to_vec(rt.alloc())?;
-    text.resize(1009, b'\x1f')?;
-    let refused = refused(rt.alloc(), &text, 100).expect(&rt, "a text that is refused");
-    let kind = LineKind::Unknown;
-    assert_eq!(rt; refused.fault, TextFault::Line { line: 2, kind });
-    let explanation = refused.explanation.expect(&rt, "an explanation");
-    assert_eq!(rt; (explanation.line, explanation.kind), (2, kind));
-    let line = explanation.text.expect(&rt, "a line");
-    assert_eq!(rt; line.length(), 1000);
-    assert_eq!(rt; line.bytes(), [b'\x1f'; MAX_KEPT].as_slice());
-    assert_eq!(rt; format!(in rt.alloc(); "{line}")?.len(), 4 * MAX_KEPT);
-    Ok(())
+    let text = long_text(rt.alloc())?;
+    let explanation = explanation_of(&rt, rt.alloc(), &text, 100);
+    expect_beginning(&rt, rt.alloc(), &explanation)
 }

@@ -3,7 +3,11 @@
 use dimacs_text::{Explanation, LineKind};
 use job_reader::{ReadFault, ReadWatch, read_job_from};
 use route_walks::ArcRec;
+use std::alloc::Global;
+use std::process::Abort;
 use std::test::Fail;
+use std::thread::Threads;
+use std::time::Clock;
 
 /// What a watch was told.
 #[derive(Clone, Copy, Debug, PartialEq, Eq)]
@@ -33,20 +37,30 @@ impl ReadWatch for Told {
 /// A job of one arc, in 17 bytes.
 pub const ONE_ARC: &[u8] = b"p sp 2 1\na 1 2 7\n";
 
+/// What the watch is told of that job.
+const ALL: Told = Told {
+    bytes: 17,
+    arcs: Some((1, 1)),
+    faults: 0,
+};
+
+/// Asserts the job, what the watch is told, and that nothing is left.
+fn expect_one_arc<H: Threads + Clock + Abort + Sync>(
+    rt: &H,
+    alloc: Global,
+    threads: usize,
+) -> Result<(), Fail> {
+    let (mut text, mut told) = (ONE_ARC, NOTHING);
+    let job = read_job_from(rt, alloc, &mut text, 17, threads, &mut told)?;
+    assert!(rt; job.n == 2 && job.arcs.as_slice() == [ArcRec::new(0, 1, 7)].as_slice());
+    assert!(rt; told == ALL && text.is_empty());
+    Ok(())
+}
+
 #[test]
 fn jobs_of_readers(rt: HostRuntime) -> Result<(), Fail> {
     for threads in [0, 1, 4] {
-        let mut text = ONE_ARC;
-        let mut told = NOTHING;
-        let job = read_job_from(&rt, rt.alloc(), &mut text, 17, threads, &mut told)?;
-        assert_eq!(rt; job.n, 2);
-        assert_eq!(rt; job.arcs.as_slice(), [ArcRec::new(0, 1, 7)].as_slice());
-        let all = Told {
-            bytes: 17,
-            arcs: Some((1, 1)),
-            faults: 0,
-        };
-        assert_eq!(rt; (told, text.len()), (all, 0));
+        expect_one_arc(&rt, rt.alloc(), threads)?;
     }
     Ok(())
 }
@@ -70,8 +84,8 @@ fn readers_without_a_job(rt: HostRuntime) {
         let mut text = text;
         let mut told = NOTHING;
         let refused = read_job_from(&rt, rt.alloc(), &mut text, limit, 2, &mut told);
-        assert_eq!(rt; refused.err(), Some(want));
-        assert_eq!(rt; (text.len(), told.faults), (left, faults));
+        assert!(rt; refused.err() == Some(want));
+        assert!(rt; text.len() == left && told.faults == faults);
     }
 }
 
@@ -85,7 +99,8 @@ const MESSAGES: [(ReadFault, &str); 4] = [
 #[test]
 fn faults_of_readers_print_themselves(rt: HostRuntime) -> Result<(), Fail> {
     for (fault, want) in MESSAGES {
-        assert_eq!(rt; format!(in rt.alloc(); "{fault}")?.as_str(), want);
+        let text = format!(in rt.alloc(); "{fault}")?;
+        assert!(rt; text.as_str() == want);
     }
     Ok(())
 }

@@ -2,6 +2,7 @@
 //! once more it gives the job, the fault or the bytes that were worked by hand. `tests/refusals` refuses each in
 //! turn; `tests/refusals.tsv` has the calls.
 
+ghost use Rattle.std.specs.Prelude.{◌<◌, length};
 ghost use Rattle.dimacs_text.specs.Reading.{IsReadAhead};
 
 use crate::texts::readers::{NOTHING, ONE_ARC};
@@ -11,14 +12,16 @@ use answer_lines::{
     put_components, put_distances, put_grown, put_label, put_labels, put_pair, put_source, put_walk,
 };
 use dimacs_text::{
-    ExplainedFault, JobReader, LineKind, Parts, ReadAhead, TextFault, read_job, read_side_by_side,
+    ExplainedFault, Job, JobReader, LineKind, Parts, ReadAhead, TextFault, read_job,
+    read_side_by_side,
 };
 use job_reader::{ReadFault, read_job_from};
-use route_walks::{ArcRec, INF, Memory, refusable, tried_again};
+use route_walks::{ArcRec, INF, Memory, refusable};
 use std::alloc::Global;
 use std::process::Abort;
 use std::test::Fail;
 use std::thread::Threads;
+use std::time::Clock;
 
 // What stands in a vector before a call puts its lines there.
 const FRONT: &[u8] = b"c\n";
@@ -29,17 +32,41 @@ const QUERIES: &[u8] = b"p aux sp ss 3\ns 3\ns 5\ns 3\np aux sp add 1\na 1 6 4";
 // More vertices than a walk's line has room for at first.
 const WALK: [u32; 12] = [0, 2, 4, 1, 3, 5, 3, 2, 4, 1, 3, 5];
 
-// A line that is put into a vector without room, or the vector as it was, and then the line.
-macro_rules! expect_put {
-    ($rt:expr, $out:ident, $call:expr, $want:expr) => {{
-        let alloc = $rt.alloc();
-        let mut $out = Vec::from_slice(alloc, FRONT)?;
-        if let Err(Memory) = refusable!(alloc, $call) {
-            assert_eq!($rt; $out.as_slice(), FRONT);
-            $call?;
-        }
-        assert_eq!($rt; $out.as_slice(), $want.as_bytes());
-    }};
+// A line that is put into a vector.
+#[derive(Clone, Copy)]
+enum Line {
+    Source,
+    Label,
+    Labels,
+    Distances,
+    Components,
+    Walk,
+    Pair,
+    Grown,
+}
+
+fn put(out: &mut Vec<u8>, line: Line) -> Result<(), Memory> {
+    match line {
+        Line::Source => put_source(out, 268435455),
+        Line::Label => put_label(out, 9, INF),
+        Line::Labels => put_labels(out, 47, &[0, INF, 12, 7]),
+        Line::Distances => put_distances(out, 0, &[0, 10, 10, 12, 10, 15]),
+        Line::Components => put_components(out, 47, &[0, 0, 0, 47]),
+        Line::Walk => put_walk(out, 15, &WALK),
+        Line::Pair => put_pair(out, 0, 5, INF),
+        Line::Grown => put_grown(out, 1),
+    }
+}
+
+// Asserts what comes of a line that is put into a vector without room, or of the vector as it was and then the line.
+fn expect_put(rt: &impl Abort, alloc: Global, line: Line, want: &str) -> Result<(), Fail> {
+    let mut out = Vec::from_slice(alloc, FRONT)?;
+    if let Err(Memory) = refusable!(alloc, put(&mut out, line)) {
+        assert!(rt; out.as_slice() == FRONT);
+        put(&mut out, line)?;
+    }
+    assert!(rt; out.as_slice() == want.as_bytes());
+    Ok(())
 }
 
 // Hands a reader a text in two pieces.
@@ -48,29 +75,104 @@ fn feed_both(reader: &mut JobReader, front: &[u8], back: &[u8]) -> Result<(), Me
     reader.feed(back)
 }
 
+// What gives the job of a text.
+#[derive(Clone, Copy)]
+enum Read {
+    Text,
+    Pieces,
+    Explained,
+    Reader,
+}
+
+// A reader that was fed a text.
+fn fed(alloc: Global, text: &[u8]) -> Result<JobReader, Memory> {
+    let mut reader = JobReader::new(alloc);
+    reader.feed(text)?;
+    Ok(reader)
+}
+
+fn finished(alloc: Global, text: &[u8]) -> Result<Job, TextFault> {
+    match fed(alloc, text) {
+        Ok(reader) => reader.finish(),
+        Err(Memory) => Err(TextFault::Memory),
+    }
+}
+
+const REFUSED: ExplainedFault = ExplainedFault {
+    fault: TextFault::Memory,
+    explanation: None,
+};
+
+fn explained(alloc: Global, text: &[u8]) -> Result<Job, ExplainedFault> {
+    match fed(alloc, text) {
+        Ok(reader) => reader.finish_explained(),
+        Err(Memory) => Err(REFUSED),
+    }
+}
+
+// The job of a text, or whether the fault is that memory was refused.
+fn job_by<H: Threads + Clock + Sync>(
+    rt: &H,
+    alloc: Global,
+    text: &[u8],
+    read: Read,
+) -> Result<Job, bool>
+    requires { length text.now < 1000 }
+{
+    let (mut reader, mut told) = (text, NOTHING);
+    match read {
+        Read::Text => read_job(alloc, text).map_err(|fault| fault == TextFault::Memory),
+        Read::Pieces => finished(alloc, text).map_err(|fault| fault == TextFault::Memory),
+        Read::Explained => explained(alloc, text).map_err(|refused| refused == REFUSED),
+        Read::Reader => read_job_from(rt, alloc, &mut reader, 1000, 2, &mut told).map_err(
+            |fault| fault == ReadFault::Memory,
+        ),
+    }
+}
+
+// The job of a text, read once more where memory was refused.
+fn read_again<H: Threads + Clock + Abort + Sync>(
+    rt: &H,
+    alloc: Global,
+    text: &[u8],
+    read: Read,
+) -> Result<Job, Fail> {
+    assert!(rt; text.len() < 1000);
+    let job = match refusable!(alloc, job_by(rt, alloc, text, read)) {
+        Ok(job) => Some(job),
+        Err(is_memory) => {
+            assert!(rt; is_memory);
+            job_by(rt, alloc, text, read).ok()
+        }
+    };
+    Ok(job.expect(rt, "the job of the text"))
+}
+
 #[test]
 fn of_read_job(rt: HostRuntime) -> Result<(), Fail> {
-    let alloc = rt.alloc();
-    let text = joined(alloc, GRAPH, QUERIES)?;
-    assert!(rt; text.len() < 1000);
-    let job = tried_again!(rt, alloc, TextFault::Memory, read_job(alloc, &text));
-    assert_added(&rt, alloc, &job, "Sources([2, 4, 2])", &[SHORT])
+    let text = joined(rt.alloc(), GRAPH, QUERIES)?;
+    let job = read_again(&rt, rt.alloc(), &text, Read::Text)?;
+    assert_added(&rt, rt.alloc(), &job, "Sources([2, 4, 2])", &[SHORT])
 }
 
 // After a refusal nothing is known of the reader: the text goes to another one.
+// The job of a text in two pieces, by another reader where memory was refused.
+fn fed_again(rt: &impl Abort, alloc: Global, text: &[u8], cut: usize) -> Result<(), Fail> {
+    let (front, back) = text.split_at(text.len().min(cut));
+    let mut reader = JobReader::new(alloc);
+    if let Err(Memory) = refusable!(alloc, feed_both(&mut reader, front, back)) {
+        reader = JobReader::new(alloc);
+        feed_both(&mut reader, front, back)?;
+    }
+    let job = reader.finish()?;
+    assert_added(rt, alloc, &job, "Sources([2, 4, 2])", &[SHORT])
+}
+
 #[test]
 fn of_job_reader_feed(rt: HostRuntime) -> Result<(), Fail> {
-    let alloc = rt.alloc();
-    let text = joined(alloc, GRAPH, QUERIES)?;
+    let text = joined(rt.alloc(), GRAPH, QUERIES)?;
     for cut in [0, 5, 30, 90] {
-        let (front, back) = text.split_at(text.len().min(cut));
-        let mut reader = JobReader::new(alloc);
-        if let Err(Memory) = refusable!(alloc, feed_both(&mut reader, front, back)) {
-            reader = JobReader::new(alloc);
-            feed_both(&mut reader, front, back)?;
-        }
-        let job = reader.finish()?;
-        assert_added(&rt, alloc, &job, "Sources([2, 4, 2])", &[SHORT])?;
+        fed_again(&rt, rt.alloc(), &text, cut)?;
     }
     Ok(())
 }
@@ -127,37 +229,34 @@ fn of_read_ahead_new(rt: HostRuntime) -> Result<(), Fail> {
     refusable!(alloc, ahead.clear());
     let mut reader = JobReader::new(alloc);
     reader.feed_with(b"p sp 1 0\n", &ahead)?;
-    assert_eq!(rt; reader.finish()?.n, 1);
+    let job = reader.finish()?;
+    assert!(rt; job.n == 1);
     Ok(())
 }
 
-// A reader that was fed all but a last line of an arc.
-fn fed(alloc: Global) -> Result<JobReader, Memory> {
-    let mut reader = JobReader::new(alloc);
-    reader.feed(b"p sp 2 1\na 1 2 7")?;
-    Ok(reader)
+// Asserts the job of a text of one arc.
+fn expect_one_arc<H: Threads + Clock + Abort + Sync>(
+    rt: &H,
+    alloc: Global,
+    text: &[u8],
+    read: Read,
+) -> Result<(), Fail> {
+    let job = read_again(rt, alloc, text, read)?;
+    assert_job(rt, &job, 2, ArcRec::new(0, 1, 7), &[]);
+    Ok(())
 }
+
+// The last line of an arc has no end.
+const UNENDED: &[u8] = b"p sp 2 1\na 1 2 7";
 
 #[test]
 fn of_job_reader_finish(rt: HostRuntime) -> Result<(), Fail> {
-    let alloc = rt.alloc();
-    let (reader, same) = (fed(alloc)?, fed(alloc)?);
-    let job = tried_again!(rt, alloc, TextFault::Memory, reader.finish(), same.finish());
-    assert_job(&rt, &job, 2, ArcRec::new(0, 1, 7), &[]);
-    Ok(())
+    expect_one_arc(&rt, rt.alloc(), UNENDED, Read::Pieces)
 }
 
 #[test]
 fn of_job_reader_finish_explained(rt: HostRuntime) -> Result<(), Fail> {
-    let alloc = rt.alloc();
-    let (reader, same) = (fed(alloc)?, fed(alloc)?);
-    let memory = ExplainedFault {
-        fault: TextFault::Memory,
-        explanation: None,
-    };
-    let job = tried_again!(rt, alloc, memory, reader.finish_explained(), same.finish());
-    assert_job(&rt, &job, 2, ArcRec::new(0, 1, 7), &[]);
-    Ok(())
+    expect_one_arc(&rt, rt.alloc(), UNENDED, Read::Explained)
 }
 
 #[test]
@@ -168,89 +267,55 @@ fn of_job_reader_new(rt: HostRuntime) -> Result<(), Fail> {
         line: 1,
         kind: LineKind::NoProblem,
     };
-    assert_eq!(rt; reader.finish().err(), Some(none));
+    assert!(rt; reader.finish().err() == Some(none));
     Ok(())
 }
 
 #[test]
 fn of_read_job_from(rt: HostRuntime) -> Result<(), Fail> {
-    let alloc = rt.alloc();
-    let (mut text, mut same, mut told) = (ONE_ARC, ONE_ARC, NOTHING);
-    let job = tried_again!(
-        rt,
-        alloc,
-        ReadFault::Memory,
-        read_job_from(&rt, alloc, &mut text, 1000, 2, &mut told),
-        read_job_from(&rt, alloc, &mut same, 1000, 2, &mut told)
-    );
-    assert_job(&rt, &job, 2, ArcRec::new(0, 1, 7), &[]);
-    Ok(())
+    expect_one_arc(&rt, rt.alloc(), ONE_ARC, Read::Reader)
 }
 
 #[test]
 fn of_put_source(rt: HostRuntime) -> Result<(), Fail> {
-    expect_put!(rt, out, put_source(&mut out, 268435455), "c\ns 268435456\n");
-    Ok(())
+    expect_put(&rt, rt.alloc(), Line::Source, "c\ns 268435456\n")
 }
 
 #[test]
 fn of_put_label(rt: HostRuntime) -> Result<(), Fail> {
-    expect_put!(rt, out, put_label(&mut out, 9, INF), "c\nd 10 inf\n");
-    Ok(())
+    expect_put(&rt, rt.alloc(), Line::Label, "c\nd 10 inf\n")
 }
 
 #[test]
 fn of_put_labels(rt: HostRuntime) -> Result<(), Fail> {
-    expect_put!(
-        rt,
-        out,
-        put_labels(&mut out, 47, &[0, INF, 12, 7]),
-        "c\nd 48 0\nd 49 inf\nd 50 12\nd 51 7\n"
-    );
-    Ok(())
+    let lines = "c\nd 48 0\nd 49 inf\nd 50 12\nd 51 7\n";
+    expect_put(&rt, rt.alloc(), Line::Labels, lines)
 }
 
 #[test]
 fn of_put_distances(rt: HostRuntime) -> Result<(), Fail> {
-    expect_put!(
-        rt,
-        out,
-        put_distances(&mut out, 0, &[0, 10, 10, 12, 10, 15]),
-        "c\ns 1\nd 1 0\nd 2 10\nd 3 10\nd 4 12\nd 5 10\nd 6 15\n"
-    );
-    Ok(())
+    let lines = "c\ns 1\nd 1 0\nd 2 10\nd 3 10\nd 4 12\nd 5 10\nd 6 15\n";
+    expect_put(&rt, rt.alloc(), Line::Distances, lines)
 }
 
 #[test]
 fn of_put_components(rt: HostRuntime) -> Result<(), Fail> {
-    expect_put!(
-        rt,
-        out,
-        put_components(&mut out, 47, &[0, 0, 0, 47]),
-        "c\nk 48 1\nk 49 1\nk 50 1\nk 51 48\n"
-    );
-    Ok(())
+    let lines = "c\nk 48 1\nk 49 1\nk 50 1\nk 51 48\n";
+    expect_put(&rt, rt.alloc(), Line::Components, lines)
 }
 
 #[test]
 fn of_put_walk(rt: HostRuntime) -> Result<(), Fail> {
-    expect_put!(
-        rt,
-        out,
-        put_walk(&mut out, 15, &WALK),
-        "c\nw 6 15 1 3 5 2 4 6 4 3 5 2 4 6\n"
-    );
-    Ok(())
+    let line = "c\nw 6 15 1 3 5 2 4 6 4 3 5 2 4 6\n";
+    expect_put(&rt, rt.alloc(), Line::Walk, line)
 }
 
 #[test]
 fn of_put_pair(rt: HostRuntime) -> Result<(), Fail> {
-    expect_put!(rt, out, put_pair(&mut out, 0, 5, INF), "c\nq 1 6 inf\n");
-    Ok(())
+    expect_put(&rt, rt.alloc(), Line::Pair, "c\nq 1 6 inf\n")
 }
 
 #[test]
 fn of_put_grown(rt: HostRuntime) -> Result<(), Fail> {
-    expect_put!(rt, out, put_grown(&mut out, 1), "c\ng 1\n");
-    Ok(())
+    expect_put(&rt, rt.alloc(), Line::Grown, "c\ng 1\n")
 }

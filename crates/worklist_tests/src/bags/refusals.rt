@@ -22,15 +22,30 @@ const CHUNKS: u64 = 40;
 // More metrics than a list or an index has room for at first.
 const METRICS: u64 = 12;
 
-fn opens<R: Wait>(rt: &R, alloc: Global) -> bool {
-    Bag::open(rt, alloc, 3, 2).is_ok()
+// A bag, or a log.
+fn opens<R: Wait>(rt: &R, alloc: Global, is_log: bool) -> bool {
+    if is_log {
+        BagLog::open(alloc, 2).is_ok()
+    } else {
+        Bag::open(rt, alloc, 3, 2).is_ok()
+    }
+}
+
+// Opens it, once more where memory was refused.
+fn open_again<R: Wait + Abort>(rt: &R, alloc: Global, is_log: bool) -> Result<(), Memory> {
+    let opened = refusable!(alloc, opens(rt, alloc, is_log));
+    assert!(rt; opened || opens(rt, alloc, is_log));
+    Ok(())
 }
 
 #[test]
 fn of_bag_open(rt: HostRuntime) -> Result<(), Memory> {
-    let opened = refusable!(rt.alloc(), opens(&rt, rt.alloc()));
-    assert!(rt; opened || opens(&rt, rt.alloc()));
-    Ok(())
+    open_again(&rt, rt.alloc(), false)
+}
+
+#[test]
+fn of_bag_log_open(rt: HostRuntime) -> Result<(), Memory> {
+    open_again(&rt, rt.alloc(), true)
 }
 
 fn put_of(is_boxed: bool, serial: u64) -> Call {
@@ -133,17 +148,6 @@ fn drain_filled<R: Wait + Abort>(rt: &R, alloc: Global) -> bool {
 #[test]
 fn of_bag_drain(rt: HostRuntime) {
     assert!(rt; drain_filled(&rt, rt.alloc()) || drain_filled(&rt, rt.alloc()));
-}
-
-fn opens_log(alloc: Global) -> bool {
-    BagLog::open(alloc, 2).is_ok()
-}
-
-#[test]
-fn of_bag_log_open(rt: HostRuntime) -> Result<(), Memory> {
-    let opened = refusable!(rt.alloc(), opens_log(rt.alloc()));
-    assert!(rt; opened || opens_log(rt.alloc()));
-    Ok(())
 }
 
 // Finds the bag of a metric, which is its place.

@@ -124,16 +124,32 @@ fn pop_again<P: WorkPool, R: Wait + Abort>(
     Ok(())
 }
 
-fn opens_locked(alloc: Global) -> bool {
-    LockedPool::open(alloc, 2).is_ok()
+// A kind of pool.
+#[derive(Clone, Copy)]
+enum Kind {
+    Locked,
+    Obim,
+    Widening,
+}
+
+fn opens(alloc: Global, kind: Kind) -> bool {
+    match kind {
+        Kind::Locked => LockedPool::open(alloc, 2).is_ok(),
+        Kind::Obim => ObimPool::open(alloc, 2, 1).is_ok(),
+        Kind::Widening => open_widening(alloc, 2).is_ok(),
+    }
+}
+
+// Opens a pool, once more where memory was refused.
+fn open_again(rt: &impl Abort, alloc: Global, kind: Kind) -> Result<(), Memory> {
+    let opened = refusable!(alloc, opens(alloc, kind));
+    assert!(rt; opened || opens(alloc, kind));
+    Ok(())
 }
 
 #[test]
 fn of_locked_pool_open(rt: HostRuntime) -> Result<(), Memory> {
-    let alloc = rt.alloc();
-    let opened = refusable!(alloc, opens_locked(alloc));
-    assert!(rt; opened || opens_locked(alloc));
-    Ok(())
+    open_again(&rt, rt.alloc(), Kind::Locked)
 }
 
 #[test]
@@ -148,16 +164,9 @@ fn of_locked_pool_pop(rt: HostRuntime) {
     expect_pops(&rt, rt.alloc(), &pool, &mut sides);
 }
 
-fn opens_obim(alloc: Global) -> bool {
-    ObimPool::open(alloc, 2, 1).is_ok()
-}
-
 #[test]
 fn of_obim_pool_open(rt: HostRuntime) -> Result<(), Memory> {
-    let alloc = rt.alloc();
-    let opened = refusable!(alloc, opens_obim(alloc));
-    assert!(rt; opened || opens_obim(alloc));
-    Ok(())
+    open_again(&rt, rt.alloc(), Kind::Obim)
 }
 
 #[test]
@@ -198,16 +207,9 @@ fn open_widening(alloc: Global, workers: u32) -> Result<(WideningPool, Vec<ObimS
     WideningPool::open(alloc, workers, 1, Scale::widening())
 }
 
-fn opens_widening(alloc: Global) -> bool {
-    open_widening(alloc, 2).is_ok()
-}
-
 #[test]
 fn of_widening_pool_open(rt: HostRuntime) -> Result<(), Memory> {
-    let alloc = rt.alloc();
-    let opened = refusable!(alloc, opens_widening(alloc));
-    assert!(rt; opened || opens_widening(alloc));
-    Ok(())
+    open_again(&rt, rt.alloc(), Kind::Widening)
 }
 
 #[test]
