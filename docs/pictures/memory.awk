@@ -15,10 +15,10 @@ function number(words) {
     return words * (words ~ /million/ ? 1000000 : 1)
 }
 
-# bar(DOWN, PHASE, BYTES): of which BYTES are for an arc.
-function bar(down, phase, bytes, arcs, vertices) {
+# bar(DOWN, PHASE, BYTES, MORE): of which BYTES are for an arc, and MORE for a vertex.
+function bar(down, phase, bytes, more, arcs, vertices) {
     arcs = bytes * arc_count / 1000000
-    vertices = for_vertex[phase] * vertex_count / 1000000
+    vertices = more * vertex_count / 1000000
     text(left - 10, down + 14, "end", name[phase])
     box(left, down, arcs * scale, 18, "#1b6ca8")
     box(left + arcs * scale, down, vertices * scale, 18, "#e0a030")
@@ -36,7 +36,8 @@ section == "## Limits" && $3 ~ /^[0-9]+/ {
     name[++phases] = $2
     for_arc[phases] = for_components[phases] = $3 + 0
     if (match($3, /for components [0-9]+/)) for_components[phases] = substr($3, RSTART + 15) + 0
-    for_vertex[phases] = $4 + 0
+    for_vertex[phases] = for_vertices[phases] = $4 + 0
+    if (match($4, /for components [0-9]+/)) for_vertices[phases] = substr($4, RSTART + 15) + 0
     besides[phases] = $5
 }
 
@@ -49,7 +50,7 @@ END {
     for (components = 0; components <= 1; components++) {
         top = components * (phases * 24 + 34)
         printf "<text x=\"10\" y=\"%d\" font-weight=\"bold\">%s</text>\n", top + 20, components ? "components" : "distances, levels"
-        for (i = 1; i <= phases; i++) bar(top + 30 + (i - 1) * 24, i, components ? for_components[i] : for_arc[i])
+        for (i = 1; i <= phases; i++) bar(top + 30 + (i - 1) * 24, i, components ? for_components[i] : for_arc[i], components ? for_vertices[i] : for_vertex[i])
     }
     print "</svg>"
 }
