@@ -1,12 +1,13 @@
 //! The same job in plain Rust, to compare with: reads all, parses by bytes, builds rows by counting sort,
 //! finds distances by Dijkstra with a radix heap, and formats into one buffer. With --walks it prints walks
-//! of fewest arcs along least tails too, in pieces. It stops at the first line that is wrong, and says no
-//! more of it.
+//! of fewest arcs along least tails too, in pieces. With --stats it prints on standard error how long reading,
+//! rows, solving and writing took. It stops at the first line that is wrong, and says no more of it.
 
 mod shared;
 
 use shared::{Arc, Rows};
 use std::io::{self, Read, Write};
+use std::time::{Duration, Instant};
 
 struct Job {
     n: usize,
@@ -319,26 +320,66 @@ fn put_line(out: &mut Vec<u8>, letter: u8, numbers: &[u64]) {
     out.push(b'\n');
 }
 
-fn main() -> io::Result<()> {
-    let walks = std::env::args().any(|word| word == "--walks");
+/// Reads a whole job from standard input.
+fn read() -> io::Result<Job> {
     let mut bytes = Vec::new();
     io::stdin().lock().read_to_end(&mut bytes)?;
     let Some(job) = parse(&bytes) else {
         eprintln!("baseline: not a job");
         std::process::exit(2);
     };
-    drop(bytes);
+    Ok(job)
+}
+
+/// How long the parts of a job took.
+#[derive(Default)]
+struct Times {
+    reading: Duration,
+    rows: Duration,
+    solving: Duration,
+    writing: Duration,
+}
+
+impl Times {
+    fn print(&self) {
+        let print = |name: &str, time: Duration| eprintln!("{name}: {} ms", time.as_millis());
+        print("reading", self.reading);
+        print("rows", self.rows);
+        print("solving", self.solving);
+        print("writing", self.writing);
+    }
+}
+
+/// Does some work, and adds the time that it took.
+fn timed<T>(time: &mut Duration, work: impl FnOnce() -> T) -> T {
+    let begun = Instant::now();
+    let made = work();
+    *time += begun.elapsed();
+    made
+}
+
+fn main() -> io::Result<()> {
+    let has = |flag: &str| std::env::args().any(|word| word == flag);
+    let (walks, stats) = (has("--walks"), has("--stats"));
+    let mut times = Times::default();
+    let job = timed(&mut times.reading, read)?;
     let mut out = Vec::new();
     if !job.sources.is_empty() {
-        let rows = Rows::build(job.n, &job.arcs);
+        let rows = timed(&mut times.rows, || Rows::build(job.n, &job.arcs));
         for source in &job.sources {
-            let labels = distances(&rows, *source);
-            if walks {
-                write_walks(&mut io::stdout().lock(), &rows, *source, &labels)?;
-            } else {
+            let labels = timed(&mut times.solving, || distances(&rows, *source));
+            timed(&mut times.writing, || {
+                if walks {
+                    return write_walks(&mut io::stdout().lock(), &rows, *source, &labels);
+                }
                 put_block(&mut out, *source, &labels);
-            }
+                Ok(())
+            })?;
         }
     }
-    io::stdout().lock().write_all(&out)
+    timed(&mut times.writing, || io::stdout().lock().write_all(&out))?;
+    if stats {
+        times.print();
+    }
+    Ok(())
 }
