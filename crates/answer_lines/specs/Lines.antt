@@ -31,6 +31,14 @@ pair_text s t label = pair_line s t (cost_text label)
 abbrev pub grown_text : ℕ → List ℕ
 grown_text k = codes "g " ++ decimal k ++ codes "\n"
 
+-- 'r N M': how many vertices and arcs a graph has, which are the numbers themselves
+abbrev pub ready_text : ℕ → ℕ → List ℕ
+ready_text n m = codes "r " ++ decimal n ++ codes " " ++ decimal m ++ codes "\n"
+
+-- 'e LINE WORDS': a line that is wrong, and what is wrong with it
+abbrev pub refusal_text : ℕ → List ℕ → List ℕ
+refusal_text line words = codes "e " ++ decimal line ++ codes " " ++ words ++ codes "\n"
+
 -- the digits of a number without the last two, for how many hundreds it has
 abbrev pub front_digits : ℕ → List ℕ
 front_digits hundreds = if hundreds == 0 then [] else decimal hundreds

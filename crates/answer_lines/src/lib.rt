@@ -20,5 +20,5 @@ mod lines;
 mod walks;
 
 pub use groups::{put_components, put_distances, put_labels};
-pub use lines::{put_grown, put_label, put_pair, put_source};
+pub use lines::{put_grown, put_label, put_pair, put_ready, put_refusal, put_source};
 pub use walks::put_walk;

@@ -2,8 +2,8 @@
 //!
 //! A line goes out at once, when it is made: so a refusal of memory leaves the vector as it was.
 
-ghost use Rattle.std.specs.Prelude.{◌≡◌, ◌<◌, ◌++◌, OnOk, OnErr};
-ghost use Rattle.answer_lines.specs.Lines.{grown_text, label_text, pair_text, source_text};
+ghost use Rattle.std.specs.Prelude.{◌≡◌, ◌<◌, ◌++◌, codes, decimal, OnOk, OnErr};
+ghost use Rattle.answer_lines.specs.Lines.{grown_text, label_text, pair_text, ready_text, refusal_text, source_text};
 
 use crate::digits::{ROOM, put_byte, put_cost, put_number, put_start};
 use route_walks::{MAX_VERTICES, Memory};
@@ -64,5 +64,59 @@ pub fn put_grown(out: &mut Vec<u8>, k: u32) -> Result<(), Memory>
     let end = put_byte(&mut line, ROOM, b'\n');
     let start = put_start(&mut line, end, b'g', u64::from(k));
     out.extend_from_slice(&line[start..])?;
+    Ok(())
+}
+
+/// Appends the line `r N M` of a graph: how many vertices and arcs it has.
+pub fn put_ready(out: &mut Vec<u8>, n: u32, arcs: u64) -> Result<(), Memory>
+    ensures ok { OnOk result (out.new.items ≡ out.old.items ++ ready_text n arcs) }
+    ensures err { OnErr result (out.new.items ≡ out.old.items) }
+{
+    let mut line = [0u8; ROOM];
+    let end = put_byte(&mut line, ROOM, b'\n');
+    let end = put_number(&mut line, end, arcs);
+    let end = put_byte(&mut line, end, b' ');
+    let start = put_start(&mut line, end, b'r', u64::from(n));
+    out.extend_from_slice(&line[start..])?;
+    Ok(())
+}
+
+/// Appends the line `e LINE WORDS` of a line that is wrong: its number, and what is wrong with it.
+pub fn put_refusal(out: &mut Vec<u8>, line: u64, words: &str) -> Result<(), Memory>
+    ensures ok { OnOk result (out.new.items ≡ out.old.items ++ refusal_text line words.now) }
+    ensures err { OnErr result (out.new.items ≡ out.old.items) }
+{
+    let before = out.len();
+    put_wrong(out, line)?;
+    if put_words(out, words).is_err() {
+        out.truncate(before);
+        return Err(Memory);
+    }
+    Ok(())
+}
+
+/// Appends the start `e LINE ` of a refusal.
+fn put_wrong(out: &mut Vec<u8>, number: u64) -> Result<(), Memory>
+    ensures ok { OnOk result (out.new.items ≡ out.old.items ++ codes "e " ++ decimal number ++ codes " ") }
+    ensures err { OnErr result (out.new.items ≡ out.old.items) }
+{
+    let mut line = [0u8; ROOM];
+    let end = put_byte(&mut line, ROOM, b' ');
+    let start = put_start(&mut line, end, b'e', number);
+    out.extend_from_slice(&line[start..])?;
+    Ok(())
+}
+
+/// Appends words, and ends the line.
+fn put_words(out: &mut Vec<u8>, words: &str) -> Result<(), Memory>
+    ensures ok { OnOk result (out.new.items ≡ out.old.items ++ words.now ++ codes "\n") }
+    ensures err { OnErr result (out.new.items ≡ out.old.items) }
+{
+    let before = out.len();
+    out.extend_from_slice(words.as_bytes())?;
+    if out.push(b'\n').is_err() {
+        out.truncate(before);
+        return Err(Memory);
+    }
     Ok(())
 }

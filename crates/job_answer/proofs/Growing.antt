@@ -1,4 +1,4 @@
--- A block, and where the graph grows what comes after it: as texts, and as they are written.
+-- A block, and where the graph grows what comes after it.
 use Rattle.std.proofs.Common.{◌≡◌, ℕ, ◌<◌, ◌∙◌, List, [], ◌++◌, Option, Some, None, true, false, length, get_or}
 use Rattle.std.proofs.Common.{refl, sym, subst, ap, append_assoc}
 use Rattle.std.proofs.lemmas.List.{append-nil}
@@ -18,7 +18,6 @@ use Rattle.least_costs.specs.declared.start.Start.{Start}
 use Rattle.least_costs.specs.declared.start.Start.TheVariants.{At, Everywhere}
 use Rattle.job_answer.specs.AnswerText.{AreBothTexts, BlocksAreUnique, Growth, IsGrownPair, IsGrownText, IsOneText}
 use Rattle.job_answer.specs.AnswerText.{IsPairBlock}
-use Rattle.job_answer.specs.Bytes.{GivesPrefix, IsPrefix, Puts, PutsPrefix, Waits}
 use Rattle.route_walks.specs.Walk.{HaveSameArcs}
 use Rattle.job_answer.specs.declared.asked.Answer.{Answer}
 use Rattle.job_answer.specs.declared.asked.Answer.TheVariants.{Distances, Levels, Components}
@@ -26,83 +25,9 @@ use Rattle.job_answer.specs.AnswerText.{arcs_for, growth_from}
 use Rattle.job_answer.specs.Graphs.{GrowAlike, GrowsInto, cost_for, growth_of}
 use Rattle.job_answer.specs.declared.asked.Lines.{Lines}
 use Rattle.job_answer.specs.Within.{LinesAreUnique}
-use Rattle.job_answer.specs.Solves.{AreCostsAfter, IsGrownStart, IsRest, IsStartBlock, IsWalked}
+use Rattle.job_answer.specs.Solves.{AreCostsAfter, IsRest, IsStartBlock, IsWalked}
 use Rattle.job_answer.specs.Solves.{IsWalkedAfter}
 use Rattle.job_answer.specs.Solves.{walked_text, walked_after_text, with_growth}
-use Rattle.job_answer.proofs.Known.{appends-then, waits-put, waits-sent}
-use Rattle.job_answer.proofs.Prefixes.{prefix-after, prefix-longer}
-
--- ---- one text after another
-
--- where a text of one kind is put and then one of a second, both are put
-pub puts-then : (IsFirst IsSecond IsBoth : List ℕ → Type 0)
-    → ((a b : List ℕ) → IsFirst a → IsSecond b → IsBoth (a ++ b))
-    → (before between after : Option (List ℕ)) (old middle new : List ℕ)
-    → Puts IsFirst before between old middle → Puts IsSecond between after middle new
-    → Puts IsBoth before after old new
-puts-then IsFirst IsSecond IsBoth join before between after old middle new first second = record {
-  text = first.text ++ second.text;
-  is_text = join first.text second.text first.is_text second.is_text;
-  waits =
-      subst (Waits before after new) (append_assoc old first.text second.text)
-      (waits-sent before between after (middle ++ second.text) new ((old ++ first.text) ++ second.text)
-      (waits-put before between middle (old ++ first.text) second.text first.waits) second.waits);
-}
-
--- the first is cut
-pub first-cut : (IsFirst IsBoth : List ℕ → Type 0)
-    → ((text : List ℕ) → IsBoth text → (a : List ℕ) × (b : List ℕ) × IsFirst a × (text ≡ a ++ b))
-    → (before after : Option (List ℕ)) (old : List ℕ) → PutsPrefix IsFirst before after old
-    → PutsPrefix IsBoth before after old
-first-cut IsFirst IsBoth split before after old cut = record {
-  given = cut.given;
-  is_prefix =
-      λ text both.
-      let parts = split text both in
-      subst (IsPrefix cut.given)
-      (append_assoc old parts.0 parts.1 ∙ ap (λ (xs : List ℕ). old ++ xs) (sym parts.3))
-      (prefix-longer cut.given (old ++ parts.0) parts.1 (cut.is_prefix parts.0 parts.2));
-  appended = cut.appended;
-}
-
--- the first is put, and the second is cut
-pub second-cut : (IsFirst IsSecond IsBoth : List ℕ → Type 0) → IsOneText IsFirst
-    → ((text : List ℕ) → IsBoth text → (a : List ℕ) × (b : List ℕ) × IsFirst a × IsSecond b × (text ≡ a ++ b))
-    → (before between after : Option (List ℕ)) (old middle : List ℕ)
-    → Puts IsFirst before between old middle → PutsPrefix IsSecond between after middle
-    → PutsPrefix IsBoth before after old
-second-cut IsFirst IsSecond IsBoth only split before between after old middle put cut = record {
-  given = put.waits.given ++ cut.given;
-  is_prefix =
-      λ text both.
-      let parts = split text both in
-      let same : put.text ≡ parts.0 = only put.text parts.0 put.is_text parts.2 in
-      subst (IsPrefix (put.waits.given ++ cut.given))
-      (append_assoc old put.text parts.1
-      ∙ ap (λ (xs : List ℕ). old ++ (xs ++ parts.1)) same
-      ∙ ap (λ (xs : List ℕ). old ++ xs) (sym parts.4))
-      (prefix-after put.waits.given middle (old ++ put.text) parts.1 cut.given put.waits.whole
-      (cut.is_prefix parts.1 parts.3));
-  appended = appends-then before between after put.waits.given cut.given put.waits.appended cut.appended;
-}
-
--- a text is put, and a write of what waits fails
-pub put-cut-short : (IsText : List ℕ → Type 0) → IsOneText IsText
-    → (before between after : Option (List ℕ)) (old waiting : List ℕ)
-    → Puts IsText before between old waiting → GivesPrefix between after waiting
-    → PutsPrefix IsText before after old
-put-cut-short IsText only before between after old waiting put cut = record {
-  given = put.waits.given ++ cut.given;
-  is_prefix =
-      λ text is.
-      subst (λ (xs : List ℕ). IsPrefix (put.waits.given ++ cut.given) (old ++ xs)) (only put.text text put.is_text is) (
-        cut.is_prefix.0,
-        put.waits.whole
-            ∙ ap (λ (xs : List ℕ). put.waits.given ++ xs) cut.is_prefix.1
-            ∙ sym (append_assoc put.waits.given cut.given cut.is_prefix.0),
-      );
-  appended = appends-then before between after put.waits.given cut.given put.waits.appended cut.appended;
-}
 
 -- ---- a block, and what comes after it
 
@@ -146,13 +71,6 @@ pub start-one : LinesAreUnique → BlocksAreUnique → (lines : Lines) (n : ℕ)
     → IsOneText (IsStartBlock lines start n arcs)
 start-one law blocks lines n arcs (At source) = law lines n arcs None source
 start-one law blocks lines n arcs Everywhere = (blocks false n arcs None).2
-
--- and where the graph grows only one text
-pub grown-start-one : LinesAreUnique → BlocksAreUnique
-    → (lines : Lines) (n : ℕ) (arcs : List ArcRec) (growth : Option Growth) (start : Start)
-    → IsOneText (IsGrownStart lines n arcs growth start)
-grown-start-one law blocks lines n arcs growth (At source) = law lines n arcs growth source
-grown-start-one law blocks lines n arcs growth Everywhere = (blocks false n arcs growth).2
 
 -- ---- the lines of a pair
 

@@ -1,10 +1,11 @@
 pub mod Known
-pub mod Sending
+pub mod Facts
+pub mod Sinks
 pub mod Replies
 pub mod Costs
 pub mod Parts
 pub mod Uniqueness
-pub mod Prefixes
+pub mod BlockLists
 pub mod Starts
 pub mod Existence
 pub mod Queries

@@ -1,17 +1,28 @@
 -- The blocks of some queries and those of others, one after the other.
 use Rattle.std.proofs.Common.{refl}
 use Rattle.job_answer.specs.declared.asked.Answer.TheVariants.{Distances, Levels, Components}
+use Rattle.job_answer.specs.declared.asked.Lines.TheVariants as lines
 use Rattle.job_answer.specs.AnswerText.{IsGrownBlock, IsGrownPair, arcs_for, growth_for}
 use Rattle.job_answer.specs.Parts.{AnswersOfPartsJoin}
-use Rattle.job_answer.proofs.Sending.{blocks-append}
+use Rattle.job_answer.specs.Within.{IsGrownLines}
+use Rattle.job_answer.proofs.BlockLists.{blocks-append}
 
 pub answers_of_parts_join : AnswersOfPartsJoin
-answers_of_parts_join Distances walks job other = (
+answers_of_parts_join Distances (lines.Each walks) job other = (
   blocks-append (IsGrownBlock walks job.n (arcs_for Distances job.arcs) (growth_for Distances job)),
   blocks-append (IsGrownPair walks job.n (arcs_for Distances job.arcs) (growth_for Distances job)),
 )
-answers_of_parts_join Levels walks job other = (
+answers_of_parts_join Distances (lines.Within walks bound) job other = (
+  blocks-append
+      (IsGrownLines (lines.Within walks bound) job.n (arcs_for Distances job.arcs) (growth_for Distances job)),
+  λ first second text more one two. absurd one,
+)
+answers_of_parts_join Levels (lines.Each walks) job other = (
   blocks-append (IsGrownBlock walks job.n (arcs_for Levels job.arcs) (growth_for Levels job)),
   blocks-append (IsGrownPair walks job.n (arcs_for Levels job.arcs) (growth_for Levels job)),
 )
-answers_of_parts_join Components walks job other = absurd (other refl)
+answers_of_parts_join Levels (lines.Within walks bound) job other = (
+  blocks-append (IsGrownLines (lines.Within walks bound) job.n (arcs_for Levels job.arcs) (growth_for Levels job)),
+  λ first second text more one two. absurd one,
+)
+answers_of_parts_join Components by job other = absurd (other refl)

@@ -1,8 +1,9 @@
 -- Costs up to a limit tell the block of a source by any lines: which labels are within its bound, and by which walks.
 use Rattle.std.proofs.Common.{◌≡◌, ◌∙◌, ℕ, ◌+◌, ◌<◌, ◌≤◌, Bool, true, false, List, [], ◌∷◌, ◌++◌, Option, None, Some}
-use Rattle.std.proofs.Common.{length, get_or, slice_index, suc, refl, subst, sym, ap, ap₂, arith, inl, inr, min, nat_le}
+use Rattle.std.proofs.Common.{drop, length, get_or, slice_index, suc, refl, subst, sym, ap, ap₂, arith, inl, inr, min, nat_le}
 use Rattle.std.specs.Prelude.{◌==◌, if◌then◌else◌, IfSome}
 use Rattle.std.proofs.lemmas.Bool.{cases_lt}
+use Rattle.std.proofs.lemmas.List.{drop_more}
 use Rattle.std.proofs.lemmas.Bool.Decides.{nat_tests}
 use Rattle.route_walks.specs.declared.graph.ArcRec.{ArcRec}
 use Rattle.route_walks.specs.declared.graph.TheConstants.{INF, MAX_VERTICES}
@@ -24,7 +25,7 @@ use Rattle.walk_report.specs.Printed.{WalksBelowAgree}
 use Rattle.answer_lines.specs.Lines.{label_lines, label_text, source_text, walk_text}
 use Rattle.job_answer.specs.declared.asked.Lines.{Lines}
 use Rattle.job_answer.specs.declared.asked.Lines.TheVariants as lines
-use Rattle.job_answer.specs.declared.lines.LineWalks.{LineWalks}
+use Rattle.job_answer.specs.declared.line_walks.LineWalks.{LineWalks}
 use Rattle.job_answer.specs.AnswerText.{AreWalksFrom, vertex_lines, vertex_text}
 use Rattle.job_answer.specs.LineWalks.{AreReachedWithin, AreWalksBelow, AreWalksFor, bound_of, has_walks, text_by}
 use Rattle.job_answer.proofs.Starts.{whole-costs}
@@ -45,6 +46,12 @@ lines-alike bound v text other (x ∷ xs) (y ∷ ys) count each =
     ap₂ (λ (line lines : List ℕ). line ++ lines) (each 0 v (omega arith) (omega arith))
     (lines-alike bound (v + 1) text other xs ys (omega arith)
     (λ k w below is. each (suc k) w (omega arith) (omega arith)))
+
+pub lines_within-next : (bound : ℕ) (text : ℕ → ℕ → List ℕ) (v : ℕ) (labels : List ℕ)
+    → v < length labels
+    → lines_within bound text v (drop v labels)
+    ≡ line_within bound text v (get_or labels v 0) ++ lines_within bound text (v + 1) (drop (v + 1) labels)
+lines_within-next bound text v labels below = ap (lines_within bound text v) (drop_more labels v 0 below)
 
 -- of labels of at most INF all are within INF
 all-labels : (v : ℕ) (labels : List ℕ) → ((k : ℕ) → k < length labels → get_or labels k 0 ≤ INF)

@@ -109,7 +109,7 @@ blocks-same IsBlockOf only (query ∷ queries) first second one two =
     ∙ ap (λ (rest : List ℕ). two.0 ++ rest) (blocks-same IsBlockOf only queries one.1 two.1 one.3 two.3)
     ∙ sym two.4
 
-asked-same : BlocksAreUnique
+pub asked-same : BlocksAreUnique
     → (walks : Bool) (n : ℕ) (arcs : List ArcRec) (growth : Option Growth) (question : Question)
     → IsOneText (AreAskedBlocks walks n arcs growth question)
 asked-same law walks n arcs growth absent first second one two = absurd one

@@ -14,11 +14,10 @@ use Rattle.route_walks.specs.Operators.{seeds_from}
 use Rattle.route_walks.specs.Walk.{IsGraph}
 use Rattle.walk_report.specs.declared.hop.TheConstants.{NONE}
 use Rattle.walk_report.specs.Existence.{HopsAndParentsExist}
-use Rattle.walk_report.specs.Hop.{AreHopsBelow}
-use Rattle.walk_report.specs.Parent.{AreParents, LeadBack}
 use Rattle.walk_report.specs.Printed.{printed_walk, WalksBelowAgree}
 use Rattle.job_answer.specs.declared.walked_pairs.Walked.{Walked}
 use Rattle.job_answer.specs.AnswerText.{AreWalksFrom, IsPairBlock}
+use Rattle.job_answer.specs.LineWalks.{AreWalksBelow}
 use Rattle.job_answer.specs.Solves.{AreWalkedBelow, walked_text}
 
 -- the lines of a pair, by the label of its target and a walk there
@@ -54,14 +53,12 @@ pub walked-below : LeastLabelsExist → HopsAndParentsExist → WalksBelowAgree
     → (limit n : ℕ) (arcs : List ArcRec) (source : ℕ) (walked : Walked)
     → limit ≤ INF → n ≤ MAX_VERTICES → IsGraph n arcs → source < n
     → AreLeastLabelsUpTo limit n arcs (seeds_from source) walked.labels.items
-    → AreHopsBelow limit n arcs source walked.labels.items walked.hops.items
-    → AreParents n arcs walked.labels.items walked.hops.items walked.parents.items
-    → LeadBack walked.hops.items walked.parents.items
+    → AreWalksBelow n arcs source limit walked.labels.items walked.walks
     → AreWalkedBelow limit n arcs source walked
-walked-below exist led agree limit n arcs source walked low few graph within up exact before back t below served =
+walked-below exist led agree limit n arcs source walked low few graph within up found t below served =
     let labels = walked.labels.items in
-    let hops = walked.hops.items in
-    let parents = walked.parents.items in
+    let hops = walked.walks.hops.items in
+    let parents = walked.walks.parents.items in
     let (least, whole) = exist n arcs (seeds_from source) graph (start-seeds n (At source) within) in
     let (fewest, nearest, are_hops, are_parents) = led n arcs source least few graph within whole in
     let are : AreWalksFrom n arcs source least fewest nearest =
@@ -73,20 +70,23 @@ walked-below exist led agree limit n arcs source walked low few graph within up 
     elim (cases_lt (slice_index labels t) limit) [
       | inl small ↦
           let same = agree limit n arcs source least fewest nearest labels hops parents low graph whole are_hops are_parents
-          up exact before t below small in
+          up found.hops found.parents t below small in
           record {
             lines =
                 block
                 (ap
                 (λ (d : ℕ). lines-by source t d (printed_walk (slice_index parents) (slice_index hops t) t)) same.label
                 ∙ ap (lines-by source t (slice_index least t)) same.walk);
-            labels = up.count;
-            hops = exact.count;
-            back = back;
-            reached = (
-              λ (is : slice_index labels t ≡ INF). absurd (omega (arith, is, small, low)),
-              λ (none : slice_index hops t ≡ NONE). absurd (omega (arith, none, exact.below t below small)),
-            );
+            count = up.count;
+            target = record {
+              vertex = omega (arith, below, found.hops.count);
+              vertices = omega (arith, few, found.hops.count);
+              back = found.back;
+              reached = (
+                λ (is : slice_index labels t ≡ INF). absurd (omega (arith, is, small, low)),
+                λ (none : slice_index hops t ≡ NONE). absurd (omega (arith, none, found.hops.below t below small)),
+              );
+            };
           }
       | inr past ↦
           let both = past-is-inf limit n arcs source labels least low up whole t below served past in
@@ -96,9 +96,12 @@ walked-below exist led agree limit n arcs source walked low few graph within up 
                 (lines-without source t (slice_index labels t) (slice_index least t)
                 (printed_walk (slice_index parents) (slice_index hops t) t)
                 (printed_walk (slice_index nearest) (slice_index fewest t) t) both.0 both.1);
-            labels = up.count;
-            hops = exact.count;
-            back = back;
-            reached = (λ _. exact.none t below past, λ _. both.0);
+            count = up.count;
+            target = record {
+              vertex = omega (arith, below, found.hops.count);
+              vertices = omega (arith, few, found.hops.count);
+              back = found.back;
+              reached = (λ _. found.hops.none t below past, λ _. both.0);
+            };
           }
     ]

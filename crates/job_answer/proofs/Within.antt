@@ -21,17 +21,17 @@ use Rattle.job_answer.specs.declared.asked.Answer.{Answer}
 use Rattle.job_answer.specs.declared.asked.Answer.TheVariants.{Distances, Levels, Components}
 use Rattle.job_answer.specs.declared.asked.Lines.{Lines}
 use Rattle.job_answer.specs.declared.asked.Lines.TheVariants as lines
-use Rattle.job_answer.specs.AnswerText.{AnswerTextsAreUnique, AreBlocks, BlocksAreUnique, Growth, IsOneBlock, IsOneText}
+use Rattle.job_answer.specs.AnswerText.{AreBlocks, BlocksAreUnique, Growth, IsOneBlock, IsOneText}
 use Rattle.job_answer.specs.AnswerText.{IsGrownText, arcs_for, growth_for, vertex_text, walk_line}
 use Rattle.job_answer.specs.Costs.{IsCostText, IsWalkLine, unasked}
 use Rattle.job_answer.specs.Existence.{AskedJobsHaveAnswers, AskedJobsHaveAnswersByLines}
 use Rattle.job_answer.specs.Within.{AnswerTextsByLinesAreUnique, AnswersSayCostsWithin, AreLinesFrom, AreLinesOf}
-use Rattle.job_answer.specs.Within.{AreBlocksWithin, IsGrownLines, IsLinesBlock, IsOfPairs}
+use Rattle.job_answer.specs.Within.{AreBlocksWithin, IsGrownLines, IsLinesBlock, IsOfPairs, IsTextBy}
 use Rattle.job_answer.specs.Within.{LinesAreUnique, SaysCostsWithin, beyond, line_within, lines_within, near}
 use Rattle.job_answer.proofs.Costs.{AreLight, blocks_say, grown_says, label_is_cost, light_all, light_arcs, light_kind}
 use Rattle.job_answer.proofs.Costs.{line_is_walk}
 use Rattle.job_answer.proofs.Existence.{blocks-exist, grown-exists, job-graph, job-grows, labels-exist, walks-exist}
-use Rattle.job_answer.proofs.Uniqueness.{blocks-same, grown-same, labels-same, walks-same}
+use Rattle.job_answer.proofs.Uniqueness.{asked-same, blocks-same, grown-same, labels-same, walks-same}
 
 -- ---- there is one
 
@@ -68,14 +68,22 @@ within-same law walks bound n arcs growth (from_sources sources) first second on
     sources first second one two
 within-same law walks bound n arcs growth (of_pairs pairs) first second one two = absurd one
 
-pub answer_texts_by_lines_are_unique : AnswerTextsAreUnique → BlocksAreUnique → LinesAreUnique → AnswerTextsByLinesAreUnique
-answer_texts_by_lines_are_unique texts blocks law kind (lines.Each walks) job = texts kind walks job
-answer_texts_by_lines_are_unique texts blocks law Components (lines.Within walks bound) job =
-    (blocks walks job.n (arcs_for Components job.arcs) (growth_for Components job)).2
-answer_texts_by_lines_are_unique texts blocks law Distances (lines.Within walks bound) job =
-    within-same law walks bound job.n (arcs_for Distances job.arcs) (growth_for Distances job) job.question
-answer_texts_by_lines_are_unique texts blocks law Levels (lines.Within walks bound) job =
-    within-same law walks bound job.n (arcs_for Levels job.arcs) (growth_for Levels job) job.question
+-- there is only one text by some lines
+pub text-same : BlocksAreUnique → LinesAreUnique → (kind : Answer) (by : Lines) (n : ℕ) (arcs : List ArcRec)
+    (growth : Option Growth) (question : Question)
+    → IsOneText (IsTextBy kind by n arcs growth question)
+text-same blocks law Distances (lines.Each walks) n arcs growth question = asked-same blocks walks n arcs growth question
+text-same blocks law Levels (lines.Each walks) n arcs growth question = asked-same blocks walks n arcs growth question
+text-same blocks law Components (lines.Each walks) n arcs growth question = (blocks walks n arcs growth).2
+text-same blocks law Distances (lines.Within walks bound) n arcs growth question =
+    within-same law walks bound n arcs growth question
+text-same blocks law Levels (lines.Within walks bound) n arcs growth question =
+    within-same law walks bound n arcs growth question
+text-same blocks law Components (lines.Within walks bound) n arcs growth question = (blocks walks n arcs growth).2
+
+pub answer_texts_by_lines_are_unique : BlocksAreUnique → LinesAreUnique → AnswerTextsByLinesAreUnique
+answer_texts_by_lines_are_unique blocks law kind by job =
+    text-same blocks law kind by job.n (arcs_for kind job.arcs) (growth_for kind job) job.question
 
 -- ---- there is some
 

@@ -1,5 +1,5 @@
 -- The text that answers a job, by least labels alone: no worker, worklist or order of visits is in it.
-use Rattle.std.specs.Prelude.{◌≡◌, ℕ, ◌+◌, ◌<◌, ◌==◌, ◌↔◌, Bool, true, false, if◌then◌else◌}
+use Rattle.std.specs.Prelude.{◌≡◌, ℕ, ◌+◌, ◌==◌, Bool, true, false, if◌then◌else◌}
 use Rattle.std.specs.Prelude.{List, [], ◌∷◌, ◌++◌, length, slice_index, Option, Some, None, option_map}
 use Rattle.route_walks.specs.declared.graph.ArcRec.{ArcRec}
 use Rattle.route_walks.specs.declared.graph.TheConstants.{INF}
@@ -8,7 +8,6 @@ use Rattle.route_walks.specs.Operators.{seeds_from, seeds_all, unit_weights, bot
 use Rattle.dimacs_text.specs.Jobs.{Content, Question, absent, from_sources, of_pairs}
 use Rattle.answer_lines.specs.Lines.{source_text, label_text, pair_text, walk_text}
 use Rattle.answer_lines.specs.Lines.{distances_text, components_text, grown_text}
-use Rattle.walk_report.specs.declared.hop.TheConstants.{NONE}
 use Rattle.walk_report.specs.Hop.{AreHops}
 use Rattle.walk_report.specs.Parent.{AreParents}
 use Rattle.walk_report.specs.Printed.{printed_walk}
@@ -38,11 +37,6 @@ vertex_lines hop parent v (label ∷ labels) =
 -- the labels from a source, with their walks
 abbrev pub walks_text : ℕ → (ℕ → ℕ) → (ℕ → ℕ) → List ℕ → List ℕ
 walks_text source hop parent labels = source_text source ++ vertex_lines hop parent 0 labels
-
--- a label is INF exactly where there is no hop
-abbrev pub AreReached : List ℕ → List ℕ → Type 0
-AreReached labels hops =
-    (v : ℕ) → v < length hops → (slice_index labels v ≡ INF) ↔ (slice_index hops v ≡ NONE)
 
 -- the least labels from a source, and by which walks
 pub record AreWalksFrom (n : ℕ) (arcs : List ArcRec) (source : ℕ) (labels hops parents : List ℕ) : Type 0 where

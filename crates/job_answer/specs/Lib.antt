@@ -9,5 +9,5 @@ pub mod LineWalks
 pub mod Outcome
 pub mod Parts
 pub mod Existence
-pub mod Sent
+pub mod Sinks
 pub mod Solves

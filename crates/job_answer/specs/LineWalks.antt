@@ -8,7 +8,7 @@ use Rattle.route_walks.specs.declared.graph.TheConstants.{INF, MAX_VERTICES}
 use Rattle.answer_lines.specs.Lines.{label_text}
 use Rattle.job_answer.specs.declared.asked.Lines.{Lines}
 use Rattle.job_answer.specs.declared.asked.Lines.TheVariants as lines
-use Rattle.job_answer.specs.declared.lines.LineWalks.{LineWalks}
+use Rattle.job_answer.specs.declared.line_walks.LineWalks.{LineWalks}
 use Rattle.job_answer.specs.AnswerText.{vertex_text}
 
 -- the text of a vertex, with its walk where there are walks
@@ -38,7 +38,7 @@ abbrev pub bound_in : Lines → Option ℕ
 bound_in (lines.Each walks) = None
 bound_in (lines.Within walks bound) = Some bound
 
--- the greatest label that has a line
+-- the greatest label whose vertex has a line
 abbrev pub bound_of : Lines → ℕ
 bound_of (lines.Each walks) = INF
 bound_of (lines.Within walks bound) = bound

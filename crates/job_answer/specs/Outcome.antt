@@ -148,8 +148,9 @@ IsWritingFault fault.Spawn = ⊤
 IsWritingFault fault.Write = ⊤
 IsWritingFault _ = ⊥
 
--- the faults of answering a job: nothing is written where nothing was asked, and only there it is NoAsk, nor where pairs
--- were, though a bound asks for sources; and else a prefix
+-- What is so after each fault of answering a job that was read. NoAsk: the job asks for nothing, and nothing was
+-- written. NoSources: it has pairs, a bound asks for sources, and nothing was written. After a fault of the system a
+-- prefix of the answer was written. There is no other fault.
 abbrev pub IsReplyFault : Answer → Lines → Content → Option (List ℕ) → Option (List ℕ) → Fault → Type 0
 IsReplyFault kind lines job before after fault.NoAsk = IsUnasked kind job × Keeps before after
 IsReplyFault kind lines job before after fault.NoSources = HasNoSources kind lines job.question × Keeps before after

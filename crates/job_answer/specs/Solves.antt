@@ -1,5 +1,5 @@
 -- What a solve works out, and what the labels of pairs are.
-use Rattle.std.specs.Prelude.{◌≡◌, ◌≢◌, ◌↔◌, ℕ, ◌+◌, ◌<◌, ◌≤◌, min, true, List, [], ◌++◌, length}
+use Rattle.std.specs.Prelude.{◌≡◌, ◌≢◌, ℕ, ◌+◌, ◌<◌, ◌≤◌, min, true, List, [], ◌++◌, length}
 use Rattle.std.specs.Prelude.{Option, Some, None, slice_index, ⊤}
 use Rattle.obim_engine.specs.Goal.{IsServedBy}
 use Rattle.obim_engine.specs.declared.goal.Goal.{Goal}
@@ -9,7 +9,6 @@ use Rattle.least_costs.specs.Network.{NetworkSeen, seeds_at}
 use Rattle.answer_lines.specs.Lines.{grown_text}
 use Rattle.route_walks.specs.declared.graph.ArcRec.{ArcRec}
 use Rattle.route_walks.specs.declared.graph.TheConstants.{INF}
-use Rattle.route_walks.specs.Label.{AreLeastLabels}
 use Rattle.route_walks.specs.Limit.{AreLeastLabelsUpTo}
 use Rattle.obim_engine.specs.declared.goal.Goal.TheVariants as goal
 use Rattle.least_costs.specs.declared.start.Start.{Start}
@@ -17,11 +16,10 @@ use Rattle.least_costs.specs.declared.start.Start.TheVariants as start
 use Rattle.job_answer.specs.declared.solves.Solve.{Solve}
 use Rattle.job_answer.specs.declared.graphs.Grown.{Grown}
 use Rattle.job_answer.specs.declared.walked_pairs.Walked.{Walked}
-use Rattle.walk_report.specs.declared.hop.TheConstants.{NONE}
-use Rattle.walk_report.specs.Parent.{LeadBack}
 use Rattle.job_answer.specs.declared.asked.Lines.{Lines}
 use Rattle.job_answer.specs.declared.asked.Lines.TheVariants as lines
 use Rattle.job_answer.specs.AnswerText.{Growth, IsComponentsBlock, IsGrownText, IsPairBlock, pair_walk_text}
+use Rattle.job_answer.specs.LineWalks.{HasWalkAt}
 use Rattle.job_answer.specs.Within.{IsLinesBlock}
 
 -- the costs are those of a network from a start, least in it up to their limit, and that serves a goal
@@ -30,12 +28,6 @@ pub record AreCostsFor (net : NetworkSeen) (from : Start) (goal : Goal) (costs :
   pub start_is : costs.start ≡ from
   pub least : AreLeastLabelsUpTo costs.limit net.n net.arcs (seeds_at net.n from) costs.labels
   pub served : IsServedBy goal costs.labels costs.limit
-
--- they are those of a network from a start, and least in it
-pub record AreLeastCosts (net : NetworkSeen) (from : Start) (costs : BelowSeen) : Type 0 where
-  pub net_is : costs.net ≡ net
-  pub start_is : costs.start ≡ from
-  pub least : AreLeastLabels net.n net.arcs (seeds_at net.n from) costs.labels
 
 -- the block of the labels from a start
 abbrev pub IsStartBlock : Lines → Start → ℕ → List ArcRec → List ℕ → Type 0
@@ -52,7 +44,7 @@ abbrev pub IsLinesAsked : Lines → Type 0
 IsLinesAsked (lines.Each walks) = ⊤
 IsLinesAsked (lines.Within walks bound) = bound < INF
 
--- and from a start: components are of each vertex
+-- lines that may be asked for from a start: from everywhere a line of each vertex, since components have no costs
 abbrev pub IsStartLines : Start → Lines → Type 0
 IsStartLines (start.At source) lines = IsLinesAsked lines
 IsStartLines start.Everywhere (lines.Each walks) = ⊤
@@ -101,15 +93,13 @@ HasCostAfter (Some grown) place costs = place < length costs
 -- the lines of a pair by walks from its source
 abbrev pub walked_text : ℕ × ℕ → Walked → List ℕ
 walked_text pair walked =
-    pair_walk_text pair walked.labels.items (slice_index walked.hops.items) (slice_index walked.parents.items)
+    pair_walk_text pair walked.labels.items (slice_index walked.walks.hops.items) (slice_index walked.walks.parents.items)
 
 -- the walks, as they were worked out along these arcs, tell the lines of a pair
 pub record IsWalked (n : ℕ) (arcs : List ArcRec) (pair : ℕ × ℕ) (walked : Walked) : Type 0 where
   pub lines : IsPairBlock true n arcs pair (walked_text pair walked)
-  pub labels : length walked.labels.items ≡ n
-  pub hops : length walked.hops.items ≡ n
-  pub back : LeadBack walked.hops.items walked.parents.items
-  pub reached : (slice_index walked.labels.items pair.1 ≡ INF) ↔ (slice_index walked.hops.items pair.1 ≡ NONE)
+  pub count : length walked.labels.items ≡ n
+  pub target : HasWalkAt pair.1 (slice_index walked.labels.items pair.1) walked.walks
 
 -- they do for each target from a source whose label is below the limit, or where the limit is INF
 abbrev pub AreWalkedBelow : ℕ → ℕ → List ArcRec → ℕ → Walked → Type 0
@@ -122,10 +112,11 @@ IsWalkedAfter None pair after = ⊤
 IsWalkedAfter (Some grown) pair None = ⊥
 IsWalkedAfter (Some grown) pair (Some walked) = IsWalked grown.network.n grown.network.arcs pair walked
 
--- this is so of each query from one place up to another one
+-- something is so of each query from the place `first` up to the one before `end`
 abbrev pub AreEachTold : (ℕ × ℕ → Type 0) → List (ℕ × ℕ) → ℕ → ℕ → Type 0
 AreEachTold IsTold queries first end = (k : ℕ) → first ≤ k → k < end → IsTold (pair_at queries k)
 
+-- the lines of a pair by walks in the grown graph, or nothing where it does not grow
 abbrev pub walked_after_text : ℕ × ℕ → Option Walked → List ℕ
 walked_after_text pair None = []
 walked_after_text pair (Some walked) = walked_text pair walked

@@ -33,13 +33,15 @@ pub record AreWalkTasks (of : WalkTasks) : Type 0 where
   pub are : AreGraphs of.queries.graphs.now
   pub within : All (IsPairWithin of.queries.graphs.now.network.n) of.queries.pairs.now
 
+-- the text has the lines of a pair with its walk, in the network and the one that it grows to
+abbrev pub IsWalkedBlock : Graphs → ℕ × ℕ → List ℕ → Type 0
+IsWalkedBlock graphs = IsGrownPair true graphs.network.n graphs.network.arcs (growth_of graphs.grown)
+
 -- the text has the lines of some pairs from a place on
 pub record IsLinesText (graphs : Graphs) (pairs : List (ℕ × ℕ)) (place : ℕ) (text : LinesText) : Type 0 where
   pub some : 1 ≤ text.count
   pub within : place + text.count ≤ length pairs
-  pub lines :
-      AreBlocks (IsGrownPair true graphs.network.n graphs.network.arcs (growth_of graphs.grown))
-      (take text.count (drop place pairs)) text.bytes.items
+  pub lines : AreBlocks (IsWalkedBlock graphs) (take text.count (drop place pairs)) text.bytes.items
 
 -- the text has the lines of the pairs from a place on
 abbrev pub AreLines : WalkTasks → ℕ → LinesText → Type 0

@@ -66,14 +66,14 @@ IsOfPairs absent = ⊥
 IsOfPairs (from_sources sources) = ⊥
 IsOfPairs (of_pairs pairs) = ⊤
 
--- the blocks of a job's sources within the bound; without sources there are none
+-- the text has the blocks within the bound of the sources that are asked for. Where none are, no text does
 abbrev pub AreBlocksWithin : Bool → ℕ → ℕ → List ArcRec → Option Growth → Question → List ℕ → Type 0
 AreBlocksWithin walks bound n arcs growth absent text = ⊥
 AreBlocksWithin walks bound n arcs growth (from_sources sources) text =
     AreLinesBlocks (lines.Within walks bound) n arcs growth sources text
 AreBlocksWithin walks bound n arcs growth (of_pairs pairs) text = ⊥
 
--- the text of an answer kind within the bound. Components have no costs, so that theirs is as without
+-- the text is one of an answer kind within the bound. Components have no costs, so a bound changes nothing there
 abbrev pub IsTextWithin : Answer → Bool → ℕ → ℕ → List ArcRec → Option Growth → Question → List ℕ → Type 0
 IsTextWithin Distances walks bound n arcs growth question text = AreBlocksWithin walks bound n arcs growth question text
 IsTextWithin Levels walks bound n arcs growth question text = AreBlocksWithin walks bound n arcs growth question text
@@ -99,7 +99,7 @@ HasNoSources Levels (lines.Within walks bound) question = IsOfPairs question
 
 -- ---- what it says
 
--- a source has only one block of a kind
+-- by the same lines a source has only one block
 abbrev pub LinesAreUnique : Type 0
 LinesAreUnique =
     (lines : Lines) (n : ℕ) (arcs : List ArcRec) (growth : Option Growth) → IsOneBlock (IsGrownLines lines n arcs growth)

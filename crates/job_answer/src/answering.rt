@@ -1,21 +1,25 @@
 //! How do the bytes of a job text become the bytes of its answer?
 
-ghost use Rattle.std.specs.Prelude.{◌≡◌, ◌≤◌, ◌^◌, ◌↔◌, false, IfOk, IfErr, IsTrue, OnErr, OnOk};
-ghost use Rattle.dimacs_text.specs.Jobs.{content_of, question_of, IsQuestionWithin, IsWithinLimits};
+ghost use Rattle.std.specs.Prelude.{◌≡◌, ◌↔◌, false, IfOk, IfErr, IsTrue, OnErr, OnOk};
+ghost use Rattle.dimacs_text.specs.Jobs.{Content, content_of, question_of, IsQuestionWithin, IsWithinLimits};
+ghost use Rattle.job_answer.specs.AnswerText.{growth_for};
 ghost use Rattle.job_answer.specs.Bytes.{Writes, WritesPrefix};
-ghost use Rattle.job_answer.specs.Graphs.{AreGraphs, growth_of};
+ghost use Rattle.job_answer.specs.Graphs.{AreGraphs, AreGraphsFor, growth_of};
 ghost use Rattle.job_answer.specs.Outcome.{IsAnswerOf, IsReply, IsReplyFault, IsReplyBy, IsTrueOfBytes};
 ghost use Rattle.job_answer.specs.Outcome.{IsWritingFault, is_unasked};
 ghost use Rattle.job_answer.specs.LineWalks.{has_walks};
+ghost use Rattle.job_answer.specs.Sinks.{Cuts, IsSame, Puts};
 ghost use Rattle.job_answer.specs.Solves.{IsLinesAsked};
 ghost use Rattle.job_answer.specs.Within.{HasNoSources, IsAnswerTextBy, IsTextBy};
 
 use crate::asked::{Answer, Asked, Lines};
-use crate::blocks::{BlockKind, write_sources, write_start};
+use crate::blocks::{BlockKind, put_solved, put_sources};
 use crate::fault::Fault;
 use crate::figures::Figures;
 use crate::graphs::{Graphs, graphs_for};
-use crate::pairs::write_pairs;
+use crate::laws::{blocks_are_unique, lines_are_unique};
+use crate::pairs::put_pairs;
+use crate::sink::{PIECE, Sink};
 use crate::watch::{Phase, Watch};
 use dimacs_text::{Ask, Job};
 use job_reader::{ReadWatch, read_job_from};
@@ -92,7 +96,7 @@ pub fn answer_by<H: Threads + Wait + Clock + Sync, R: Read, W: Write, G: Gate + 
     answer_job(rt, alloc, writer, asked, lines, job, gate, watch)
 }
 
-/// The same over memory: the bytes of the answer to the text. No fault is `Write`.
+/// What `answer` does, over memory: the bytes of the answer to the text. No fault is `Write` or `NoSources`.
 pub fn answer_bytes<H: Threads + Wait + Clock + Sync, G: Gate + Sync>(
     rt: &H,
     alloc: Global,
@@ -126,16 +130,12 @@ fn answer_job<H: Threads + Wait + Clock + Sync, W: Write, G: Gate + Sync>(
     watch: &mut impl Watch,
 ) -> Result<(), Fault>
     requires limits { IsWithinLimits (content_of job) }
-    requires walks { has_walks lines ≡ asked.now.walks }
     requires bound { IsLinesAsked lines }
     ensures reply { OnOk result (Writes (IsAnswerTextBy asked.now.answer lines (content_of job))
         (W.contents writer.old) (W.contents writer.new)) }
     ensures says { IfErr result (IsReplyFault asked.now.answer lines (content_of job)
         (W.contents writer.old) (W.contents writer.new)) }
 {
-    // What is least in the network is least for the arcs that it was made of, and so are its walks.
-    least_labels_follow_the_arcs();
-    hops_and_parents_follow_the_arcs();
     if is_unasked(asked.answer, &job.ask) {
         return Err(Fault::NoAsk);
     }
@@ -157,11 +157,47 @@ fn answer_job<H: Threads + Wait + Clock + Sync, W: Write, G: Gate + Sync>(
         graphs: &graphs,
         lines,
     };
-    write_text(rt, alloc, writer, kind, &ask, asked, gate, watch)
+    answer_question(rt, alloc, writer, kind, &ask, asked, gate, watch)
 }
 
-/// Whether the job asks for nothing: it has no section of queries, and the answer needs one.
-fn is_unasked(answer: Answer, ask: &Ask) -> bool
+/// Writes the answer to a question, by networks that are kept: exactly the bytes that answer a job of the same graph
+/// which asks the same. Walks come of the lines alone. Nothing is written after the answer, and the writer is flushed
+/// once, at its end.
+pub fn answer_question<H: Threads + Wait + Clock + Sync, W: Write, G: Gate + Sync>(
+    rt: &H,
+    alloc: Global,
+    writer: &mut W,
+    kind: BlockKind<'_>,
+    ask: &Ask,
+    asked: &Asked,
+    gate: &G,
+    watch: &mut impl Watch,
+) -> Result<(), Fault>
+    requires graphs { AreGraphs kind.graphs.now }
+    requires bound { IsLinesAsked kind.lines }
+    requires question { IsQuestionWithin kind.graphs.now.network.n (question_of ask.now) }
+    requires asked { is_unasked asked.now.answer (question_of ask.now) ≡ false }
+    requires sources { ¬ (HasNoSources asked.now.answer kind.lines (question_of ask.now)) }
+    ensures reply { (job : Content)
+        → AreGraphsFor asked.now.answer job.n job.arcs (growth_for asked.now.answer job) kind.entry.graphs.now
+        → question_of ask.now ≡ job.question
+        → OnOk result (Writes (IsAnswerTextBy asked.now.answer kind.entry.lines job)
+        (W.contents writer.old) (W.contents writer.new)) }
+    ensures prefix { (job : Content)
+        → AreGraphsFor asked.now.answer job.n job.arcs (growth_for asked.now.answer job) kind.entry.graphs.now
+        → question_of ask.now ≡ job.question
+        → OnErr result (WritesPrefix (IsAnswerTextBy asked.now.answer kind.entry.lines job)
+        (W.contents writer.old) (W.contents writer.new)) }
+    ensures kinds { IfErr result IsWritingFault }
+{
+    // What is least in the network is least for the arcs that it was made of, and so are its walks.
+    least_labels_follow_the_arcs();
+    hops_and_parents_follow_the_arcs();
+    write_text(rt, alloc, writer, kind, ask, asked, gate, watch)
+}
+
+/// Whether a job asks for nothing: it has no section of queries, and the answer needs one.
+pub fn is_unasked(answer: Answer, ask: &Ask) -> bool
     ensures { result ≡ is_unasked answer (question_of ask.now) }
 {
     match answer {
@@ -195,7 +231,6 @@ fn write_text<H: Threads + Wait + Clock + Sync, W: Write, G: Gate + Sync>(
     watch: &mut impl Watch,
 ) -> Result<(), Fault>
     requires graphs { AreGraphs kind.graphs.now }
-    requires walks { has_walks kind.lines ≡ asked.now.walks }
     requires bound { IsLinesAsked kind.lines }
     requires question { IsQuestionWithin kind.graphs.now.network.n (question_of ask.now) }
     requires asked { is_unasked asked.now.answer (question_of ask.now) ≡ false }
@@ -208,22 +243,59 @@ fn write_text<H: Threads + Wait + Clock + Sync, W: Write, G: Gate + Sync>(
         (W.contents writer.old) (W.contents writer.new)) }
     ensures kinds { IfErr result IsWritingFault }
 {
+    // So what is a prefix of this text is one of the text that another run would write.
+    blocks_are_unique();
+    lines_are_unique();
+    let mut waiting = Vec::new(alloc);
+    let mut sink = Sink {
+        writer,
+        waiting: &mut waiting,
+        piece: PIECE,
+    };
+    put_text(rt, alloc, &mut sink, kind, ask, asked, gate, watch)?;
+    sink.finish()
+}
+
+/// Puts the text of what is asked.
+fn put_text<H: Threads + Wait + Clock + Sync, W: Write, G: Gate + Sync>(
+    rt: &H,
+    alloc: Global,
+    sink: &mut Sink<'_, W>,
+    kind: BlockKind<'_>,
+    ask: &Ask,
+    asked: &Asked,
+    gate: &G,
+    watch: &mut impl Watch,
+) -> Result<(), Fault>
+    requires graphs { AreGraphs kind.graphs.now }
+    requires bound { IsLinesAsked kind.lines }
+    requires question { IsQuestionWithin kind.graphs.now.network.n (question_of ask.now) }
+    requires asked { is_unasked asked.now.answer (question_of ask.now) ≡ false }
+    requires sources { ¬ (HasNoSources asked.now.answer kind.lines (question_of ask.now)) }
+    ensures same { IsSame sink.old sink.new }
+    ensures text { OnOk result (Puts W.contents (IsTextBy asked.now.answer kind.entry.lines
+        kind.entry.graphs.now.network.n kind.entry.graphs.now.network.arcs (growth_of kind.entry.graphs.now.grown)
+        (question_of ask.now)) sink.old sink.new) }
+    ensures prefix { OnErr result (Cuts W.contents (IsTextBy asked.now.answer kind.entry.lines
+        kind.entry.graphs.now.network.n kind.entry.graphs.now.network.arcs (growth_of kind.entry.graphs.now.grown)
+        (question_of ask.now)) sink.old sink.new) }
+    ensures kinds { IfErr result IsWritingFault }
+{
     match (asked.answer, ask) {
         (Answer::Components, _) => {
+            // Components have neither walks nor costs, so their block is the same by all lines.
             let kind = BlockKind {
                 graphs: kind.graphs,
                 lines: Lines::Each { walks: false },
             };
             let mut workers = Workers::new(asked.settings, gate, None);
             let start = Start::Everywhere;
-            write_start(rt, alloc, writer, &kind, start, &mut workers, watch)
+            put_solved(rt, alloc, sink, &kind, start, &mut workers, watch)
         }
         (_, Ask::Sources(sources)) => {
-            write_sources(rt, alloc, writer, kind, sources, asked, gate, watch)
+            put_sources(rt, alloc, sink, kind, sources, asked, gate, watch)
         }
-        (_, Ask::Pairs(pairs)) => {
-            write_pairs(rt, alloc, writer, kind.graphs, pairs, asked, gate, watch)
-        }
+        (_, Ask::Pairs(pairs)) => put_pairs(rt, alloc, sink, kind, pairs, asked, gate, watch),
         (_, Ask::Absent) => unreachable!(),
     }
 }

@@ -43,7 +43,7 @@ impl Lines {
     }
 
     /// Whether walks are asked for.
-    pub fn has_walks(self) -> bool
+    pub(crate) fn has_walks(self) -> bool
         ensures { result ≡ has_walks self }
     {
         match self {
@@ -52,14 +52,14 @@ impl Lines {
     }
 
     /// Whether each vertex has its line and nothing else.
-    pub fn is_plain(self) -> bool
+    pub(crate) fn is_plain(self) -> bool
         ensures { IsTrue result ↔ (self ≡ lines.Each false) }
     {
         matches!(self, Lines::Each { walks: false })
     }
 
     /// The greatest label that has a line.
-    pub fn bound(self) -> u64
+    pub(crate) fn bound(self) -> u64
         ensures { result ≡ bound_of self }
     {
         match self {
@@ -69,7 +69,7 @@ impl Lines {
     }
 
     /// The labels that the lines need.
-    pub fn goal(self) -> Goal<'static>
+    pub(crate) fn goal(self) -> Goal<'static>
         ensures { result ≡ goal_of self }
     {
         match self {

@@ -1,17 +1,12 @@
-//! Which lines make the blocks of an answer?
+//! Which blocks answer sources and components?
 
-ghost use Rattle.std.specs.Prelude.{◌≡◌, ◌≢◌, ◌<◌, ◌≤◌, ◌++◌, ◌↔◌, [], length, slice_index};
-ghost use Rattle.std.specs.Prelude.{All, IfErr, IfOk, IfSome, OnErr, OnOk, Some};
+ghost use Rattle.std.specs.Prelude.{◌≡◌, ◌<◌, ◌≤◌, All, IfErr, IfOk, IfSome, OnErr, OnOk};
 ghost use Rattle.std.specs.Thread.{IsSync};
 ghost use Rattle.least_costs.specs.Rounds.{AreMade};
-ghost use Rattle.answer_lines.specs.Lines.{distances_text, components_text};
-ghost use Rattle.walk_report.specs.Parent.{LeadBack};
-ghost use Rattle.job_answer.specs.AnswerText.{AreReached, vertex_text, walk_line, walks_text};
-ghost use Rattle.job_answer.specs.Bytes.{GivesPrefix, Puts, PutsPrefix, Waits, Writes, WritesPrefix};
 ghost use Rattle.job_answer.specs.Graphs.{AreGraphs, growth_of};
 ghost use Rattle.least_costs.specs.Network.{IsStartWithin};
 ghost use Rattle.job_answer.specs.Outcome.{IsWritingFault};
-ghost use Rattle.job_answer.specs.declared.output_buffer.TheConstants.{PIECE};
+ghost use Rattle.job_answer.specs.Sinks.{Cuts, IsSame, Puts};
 ghost use Rattle.job_answer.specs.Solves.{AreCostsFor, IsGrownStart, IsLinesAsked, IsRest};
 ghost use Rattle.job_answer.specs.Solves.{IsStartBlock, IsStartLines, goal_of};
 ghost use Rattle.job_answer.specs.Tasks.{AreSourceTasks, IsBlockText};
@@ -23,8 +18,9 @@ use crate::asked::{Asked, Lines};
 use crate::fault::Fault;
 use crate::graphs::{Graphs, Grown, teams_for};
 use crate::laws::{blocks_are_unique, lines_are_unique};
-use crate::lines::{LineWalks, put_components, put_labels, put_within};
-use crate::output_buffer::{Held, OutputBuffer, most_bytes};
+use crate::line_walks::{LineWalks, walks_below};
+use crate::lines::{put_components, put_labels, put_within};
+use crate::sink::{NoWriter, Sink, most_bytes};
 use crate::solves::{costs_after, costs_from};
 use crate::team_watch::{SolveCount, TeamWatch};
 use crate::watch::{Phase, Watch};
@@ -39,9 +35,8 @@ use std::sync::Wait;
 use std::thread::Threads;
 use std::time::Clock;
 use walk_report::laws::{hops_and_parents_exist, walks_below_agree};
-use walk_report::{hops_below, parents};
 
-/// In which networks the costs of a block are least, and which lines it has.
+/// In which networks the costs of a block are least, and which lines the block of a source has.
 #[derive(Drop)]
 pub struct BlockKind<'a> {
     pub graphs: &'a Graphs,
@@ -67,12 +62,12 @@ impl<'a> Part<SourceTasks<'a>> for BlockText {
     ghost is_part = { IsBlockText };
 }
 
-/// Writes the block of each source in turn: the least costs from it, with their walks where they are asked
+/// Puts the block of each source in turn: the least costs from it, with their walks where they are asked
 /// for. Where the network grows, the same in the grown one comes after each block.
-pub fn write_sources<H: Threads + Wait + Clock + Sync, W: Write, G: Gate + Sync>(
+pub fn put_sources<H: Threads + Wait + Clock + Sync, W: Write, G: Gate + Sync>(
     rt: &H,
     alloc: Global,
-    writer: &mut W,
+    sink: &mut Sink<'_, W>,
     kind: BlockKind<'_>,
     sources: &[u32],
     asked: &Asked,
@@ -82,18 +77,16 @@ pub fn write_sources<H: Threads + Wait + Clock + Sync, W: Write, G: Gate + Sync>
     requires graphs { AreGraphs kind.graphs.now }
     requires lines { IsLinesAsked kind.lines }
     requires sources { All (λ source. source < kind.graphs.now.network.n) sources.now }
-    ensures blocks { OnOk result (Writes (AreLinesBlocks kind.entry.lines kind.entry.graphs.now.network.n
-        kind.entry.graphs.now.network.arcs (growth_of kind.entry.graphs.now.grown) sources.now)
-        (W.contents writer.old) (W.contents writer.new)) }
-    ensures prefix { OnErr result (WritesPrefix (AreLinesBlocks kind.entry.lines kind.entry.graphs.now.network.n
-        kind.entry.graphs.now.network.arcs (growth_of kind.entry.graphs.now.grown) sources.now)
-        (W.contents writer.old) (W.contents writer.new)) }
+    ensures same { IsSame sink.old sink.new }
+    ensures blocks { OnOk result (Puts W.contents (AreLinesBlocks kind.entry.lines kind.entry.graphs.now.network.n
+        kind.entry.graphs.now.network.arcs (growth_of kind.entry.graphs.now.grown) sources.now) sink.old sink.new) }
+    ensures prefix { OnErr result (Cuts W.contents (AreLinesBlocks kind.entry.lines kind.entry.graphs.now.network.n
+        kind.entry.graphs.now.network.arcs (growth_of kind.entry.graphs.now.grown) sources.now) sink.old sink.new) }
     ensures kinds { IfErr result IsWritingFault }
 {
     // So what is a prefix of these blocks is one of the blocks that another run would write.
     lines_are_unique();
     let teams = teams_for(kind.graphs, asked);
-    let mut waiting = OutputBuffer::new(alloc);
     let tasks = SourceTasks {
         kind,
         sources,
@@ -105,51 +98,14 @@ pub fn write_sources<H: Threads + Wait + Clock + Sync, W: Write, G: Gate + Sync>
     for place in 0..sources.len() {
         watch.see_answered(place, sources.len());
         if let Some(text) = take_block(rt, alloc, &mut rounds, &tasks, gate, place, watch) {
-            waiting.send_with(writer, &text.bytes)?;
+            sink.send_with(&text.bytes)?;
             watch.end(rt, Phase::Writing);
             continue;
         }
         let start = Start::At(sources[place]);
-        put_solved(
-            rt,
-            alloc,
-            writer,
-            &mut waiting,
-            &tasks.kind,
-            start,
-            &mut workers,
-            watch,
-        )?;
+        put_solved(rt, alloc, sink, &tasks.kind, start, &mut workers, watch)?;
     }
-    waiting.finish(writer)
-}
-
-/// Writes the block of a start, and where the network grows what comes after it.
-pub fn write_start<H: Threads + Wait + Clock + Sync, W: Write, G: Gate + Sync>(
-    rt: &H,
-    alloc: Global,
-    writer: &mut W,
-    kind: &BlockKind<'_>,
-    start: Start,
-    workers: &mut Workers<'_, G>,
-    watch: &mut impl Watch,
-) -> Result<(), Fault>
-    requires graphs { AreGraphs kind.now.graphs.now }
-    requires lines { IsStartLines start kind.now.lines }
-    requires start { IsStartWithin kind.now.graphs.now.network.n start }
-    ensures block { OnOk result (Writes (IsGrownStart kind.now.lines kind.now.graphs.now.network.n
-        kind.now.graphs.now.network.arcs (growth_of kind.now.graphs.now.grown) start)
-        (W.contents writer.old) (W.contents writer.new)) }
-    ensures prefix { OnErr result (WritesPrefix (IsGrownStart kind.now.lines kind.now.graphs.now.network.n
-        kind.now.graphs.now.network.arcs (growth_of kind.now.graphs.now.grown) start)
-        (W.contents writer.old) (W.contents writer.new)) }
-    ensures kinds { IfErr result IsWritingFault }
-{
-    lines_are_unique();
-    blocks_are_unique();
-    let mut waiting = OutputBuffer::new(alloc);
-    put_solved(rt, alloc, writer, &mut waiting, kind, start, workers, watch)?;
-    waiting.finish(writer)
+    Ok(())
 }
 
 /// The block of the source at a place, if it was made before its turn.
@@ -229,21 +185,22 @@ fn held_block<H: Threads + Wait + Clock + Sync, G: Gate + Sync>(
     ensures { IfOk result (λ text. IsGrownLines kind.now.lines kind.now.graphs.now.network.n
         kind.now.graphs.now.network.arcs (growth_of kind.now.graphs.now.grown) source text.bytes.items) }
 {
-    let mut held = Held::new(alloc, most_bytes(kind.graphs));
+    let (mut nobody, mut bytes) = (NoWriter, Vec::new(alloc));
+    let mut sink = Sink {
+        writer: &mut nobody,
+        waiting: &mut bytes,
+        piece: most_bytes(kind.graphs),
+    };
     let start = Start::At(source);
-    write_start(rt, alloc, &mut held, kind, start, workers, watch)?;
-    Ok(BlockText {
-        bytes: held.into_bytes(),
-    })
+    put_solved(rt, alloc, &mut sink, kind, start, workers, watch)?;
+    Ok(BlockText { bytes })
 }
 
-/// Solves from a start, and puts the block of the costs after what waits. Where the network grows, what comes
-/// after it is put too.
-fn put_solved<H: Threads + Wait + Clock + Sync, W: Write, G: Gate + Sync>(
+/// Solves from a start, and puts the block of the costs. Where the network grows, what comes after it is put too.
+pub fn put_solved<H: Threads + Wait + Clock + Sync, W: Write, G: Gate + Sync>(
     rt: &H,
     alloc: Global,
-    writer: &mut W,
-    waiting: &mut OutputBuffer,
+    sink: &mut Sink<'_, W>,
     kind: &BlockKind<'_>,
     start: Start,
     workers: &mut Workers<'_, G>,
@@ -252,12 +209,11 @@ fn put_solved<H: Threads + Wait + Clock + Sync, W: Write, G: Gate + Sync>(
     requires graphs { AreGraphs kind.now.graphs.now }
     requires lines { IsStartLines start kind.now.lines }
     requires start { IsStartWithin kind.now.graphs.now.network.n start }
-    ensures block { OnOk result (Puts (IsGrownStart kind.now.lines kind.now.graphs.now.network.n
-        kind.now.graphs.now.network.arcs (growth_of kind.now.graphs.now.grown) start)
-        (W.contents writer.old) (W.contents writer.new) waiting.old.bytes.items waiting.new.bytes.items) }
-    ensures prefix { OnErr result (PutsPrefix (IsGrownStart kind.now.lines kind.now.graphs.now.network.n
-        kind.now.graphs.now.network.arcs (growth_of kind.now.graphs.now.grown) start)
-        (W.contents writer.old) (W.contents writer.new) waiting.old.bytes.items) }
+    ensures same { IsSame sink.old sink.new }
+    ensures block { OnOk result (Puts W.contents (IsGrownStart kind.now.lines kind.now.graphs.now.network.n
+        kind.now.graphs.now.network.arcs (growth_of kind.now.graphs.now.grown) start) sink.old sink.new) }
+    ensures prefix { OnErr result (Cuts W.contents (IsGrownStart kind.now.lines kind.now.graphs.now.network.n
+        kind.now.graphs.now.network.arcs (growth_of kind.now.graphs.now.grown) start) sink.old sink.new) }
     ensures kinds { IfErr result IsWritingFault }
 {
     lines_are_unique();
@@ -266,14 +222,14 @@ fn put_solved<H: Threads + Wait + Clock + Sync, W: Write, G: Gate + Sync>(
     let network = &graphs.network;
     let goal = lines.goal();
     let costs = costs_from(rt, alloc, network, start, goal, workers, watch)?;
-    put_block(alloc, writer, waiting, network, lines, start, &costs)?;
+    put_block(alloc, sink, network, lines, start, &costs)?;
     watch.end(rt, Phase::Writing);
     let Some(grown) = &graphs.grown else {
         return Ok(());
     };
     let more = &grown.network;
     let after = costs_after(rt, alloc, network, more, costs, goal, workers, watch)?;
-    put_grown_block(alloc, writer, waiting, grown, lines, start, &after)?;
+    put_grown_block(alloc, sink, grown, lines, start, &after)?;
     watch.end(rt, Phase::Writing);
     Ok(())
 }
@@ -281,8 +237,7 @@ fn put_solved<H: Threads + Wait + Clock + Sync, W: Write, G: Gate + Sync>(
 /// Puts the line of how many arcs are added, and the block of the grown network.
 fn put_grown_block<W: Write>(
     alloc: Global,
-    writer: &mut W,
-    waiting: &mut OutputBuffer,
+    sink: &mut Sink<'_, W>,
     grown: &Grown,
     lines: Lines,
     start: Start,
@@ -292,25 +247,23 @@ fn put_grown_block<W: Write>(
     requires start { IsStartWithin grown.now.network.n start }
     requires lines { IsStartLines start lines }
     requires costs { AreCostsFor grown.now.network start (goal_of lines) costs.now }
-    ensures block { OnOk result (Puts (IsRest grown.now.count
-        (IsStartBlock lines start grown.now.network.n grown.now.network.arcs))
-        (W.contents writer.old) (W.contents writer.new) waiting.old.bytes.items waiting.new.bytes.items) }
-    ensures prefix { OnErr result (PutsPrefix (IsRest grown.now.count
-        (IsStartBlock lines start grown.now.network.n grown.now.network.arcs))
-        (W.contents writer.old) (W.contents writer.new) waiting.old.bytes.items) }
+    ensures same { IsSame sink.old sink.new }
+    ensures block { OnOk result (Puts W.contents (IsRest grown.now.count
+        (IsStartBlock lines start grown.now.network.n grown.now.network.arcs)) sink.old sink.new) }
+    ensures prefix { OnErr result (Cuts W.contents (IsRest grown.now.count
+        (IsStartBlock lines start grown.now.network.n grown.now.network.arcs)) sink.old sink.new) }
     ensures kinds { IfErr result IsWritingFault }
 {
-    put_grown(&mut waiting.bytes, grown.count)?;
+    put_grown(sink.waiting, grown.count)?;
     let network = &grown.network;
-    put_block(alloc, writer, waiting, network, lines, start, costs)?;
+    put_block(alloc, sink, network, lines, start, costs)?;
     Ok(())
 }
 
-/// Puts the block of a start after what waits, and writes what is full of it.
+/// Puts the block of a start.
 fn put_block<W: Write>(
     alloc: Global,
-    writer: &mut W,
-    waiting: &mut OutputBuffer,
+    sink: &mut Sink<'_, W>,
     network: &Network,
     lines: Lines,
     start: Start,
@@ -320,26 +273,24 @@ fn put_block<W: Write>(
     requires start { IsStartWithin network.now.n start }
     requires lines { IsStartLines start lines }
     requires costs { AreCostsFor network.now start (goal_of lines) costs.now }
-    ensures block { OnOk result (Puts (IsStartBlock lines start network.now.n network.now.arcs)
-        (W.contents writer.old) (W.contents writer.new) waiting.old.bytes.items waiting.new.bytes.items) }
-    ensures prefix { OnErr result (PutsPrefix (IsStartBlock lines start network.now.n network.now.arcs)
-        (W.contents writer.old) (W.contents writer.new) waiting.old.bytes.items) }
+    ensures same { IsSame sink.old sink.new }
+    ensures block { OnOk result (Puts W.contents (IsStartBlock lines start network.now.n network.now.arcs)
+        sink.old sink.new) }
+    ensures prefix { OnErr result (Cuts W.contents (IsStartBlock lines start network.now.n network.now.arcs)
+        sink.old sink.new) }
     ensures kinds { IfErr result IsWritingFault }
 {
     blocks_are_unique();
     match start {
-        Start::Everywhere => put_components(writer, waiting, costs.labels()),
-        Start::At(source) => put_source_block(
-            alloc, writer, waiting, network, source, lines, costs,
-        ),
+        Start::Everywhere => put_components(sink, costs.labels()),
+        Start::At(source) => put_source_block(alloc, sink, network, source, lines, costs),
     }
 }
 
 /// Puts the block of a source.
 fn put_source_block<W: Write>(
     alloc: Global,
-    writer: &mut W,
-    waiting: &mut OutputBuffer,
+    sink: &mut Sink<'_, W>,
     network: &Network,
     source: u32,
     lines: Lines,
@@ -349,10 +300,11 @@ fn put_source_block<W: Write>(
     requires source { source < network.now.n }
     requires lines { IsLinesAsked lines }
     requires costs { AreCostsFor network.now (At source) (goal_of lines) costs.now }
-    ensures block { OnOk result (Puts (IsLinesBlock lines network.now.n network.now.arcs source)
-        (W.contents writer.old) (W.contents writer.new) waiting.old.bytes.items waiting.new.bytes.items) }
-    ensures prefix { OnErr result (PutsPrefix (IsLinesBlock lines network.now.n network.now.arcs source)
-        (W.contents writer.old) (W.contents writer.new) waiting.old.bytes.items) }
+    ensures same { IsSame sink.old sink.new }
+    ensures block { OnOk result (Puts W.contents (IsLinesBlock lines network.now.n network.now.arcs source)
+        sink.old sink.new) }
+    ensures prefix { OnErr result (Cuts W.contents (IsLinesBlock lines network.now.n network.now.arcs source)
+        sink.old sink.new) }
     ensures kinds { IfErr result IsWritingFault }
 {
     lines_are_unique();
@@ -362,18 +314,11 @@ fn put_source_block<W: Write>(
     let _ = (network.n(), costs.limit());
     let labels = costs.labels();
     if lines.is_plain() {
-        return put_labels(writer, waiting, source, labels);
+        return put_labels(sink, source, labels);
     }
     let walks = walks_for(alloc, network, source, lines, costs)?;
-    put_within(
-        alloc,
-        writer,
-        waiting,
-        source,
-        lines.bound(),
-        labels,
-        &walks,
-    )
+    let bound = lines.bound();
+    put_within(alloc, sink, source, bound, labels, &walks)
 }
 
 /// The walks of the lines that have them.
@@ -393,9 +338,6 @@ fn walks_for(
     if !lines.has_walks() {
         return Ok(None);
     }
-    let rows = network.rows();
-    let labels = costs.labels();
-    let hops = hops_below(alloc, rows, labels, source, costs.limit())?;
-    let parents = parents(alloc, rows, labels, &hops)?;
-    Ok(Some(LineWalks { hops, parents }))
+    let walks = walks_below(alloc, network, source, costs.labels(), costs.limit())?;
+    Ok(Some(walks))
 }

@@ -1,6 +1,7 @@
 //! Which networks does an answer kind make of a job's arcs, before and after the added ones?
 
-ghost use Rattle.std.specs.Prelude.{◌≡◌, ◌≤◌, ◌^◌, length, IfOk, IfSome};
+ghost use Rattle.std.specs.Prelude.{◌≡◌, ◌≤◌, ◌^◌, None, length, IfOk, IfSome};
+ghost use Rattle.least_costs.specs.Network.{IsNetworkOf};
 ghost use Rattle.route_walks.specs.declared.graph.ArcRec.{ArcRec};
 ghost use Rattle.route_walks.specs.declared.graph.TheConstants.{MAX_VERTICES};
 ghost use Rattle.dimacs_text.specs.Jobs.{added_of};
@@ -44,8 +45,10 @@ pub fn graphs_for<H: Threads + Sync>(
 ) -> Result<Graphs, Memory>
     requires vertices { n ≤ MAX_VERTICES }
     requires added { IfSome added (λ added. length added.items ≤ 2 ^ 20) }
-    ensures { IfOk result (AreGraphsFor answer n arcs.items
+    ensures graphs { IfOk result (AreGraphsFor answer n arcs.items
         (growth_from (arcs_for answer) arcs.items (added_of added))) }
+    ensures network { IfOk result (λ graphs. IsNetworkOf n (cost_for answer) arcs.items graphs.network) }
+    ensures grown { IfOk result (λ graphs. added ≡ None → graphs.grown ≡ None) }
 {
     networks_grow();
     let network = match Network::new(rt, alloc, n, arcs, cost_for(answer), threads) {

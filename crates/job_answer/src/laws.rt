@@ -42,7 +42,6 @@ pub fn answer_texts_are_unique()
 pub fn answer_texts_by_lines_are_unique()
     ensures { AnswerTextsByLinesAreUnique }
 {
-    answer_texts_are_unique();
     blocks_are_unique();
     lines_are_unique();
 }
@@ -100,9 +99,9 @@ pub fn answers_say_components()
     least_labels_are_components();
 }
 
-/// Where the sources or the pairs of a job are cut in two, the answers of the two parts, one after the other,
-/// are the answer of the job; so a job can be cut anywhere, and into any number of parts. Each part has the
-/// graph and the added arcs.
+/// Where the sources or the pairs of a job are cut in two, the answers of the two parts by some lines, one after the
+/// other, are the answer of the job by the same lines; so a job can be cut anywhere, and into any number of parts.
+/// Each part has the graph and the added arcs.
 pub fn answers_of_parts_join()
     ensures { AnswersOfPartsJoin }
 {}

@@ -4,7 +4,8 @@
 //! the bytes written are exactly those that the least labels of the job make, for all settings and
 //! however the workers' steps interleave, and what was read and written at each fault. `answer_bytes`
 //! is the same from bytes to bytes, `answer_watched` tells how far it is besides, and `answer_by` can have the
-//! lines alone of vertices within a bound.
+//! lines alone of vertices within a bound. `answer_question` answers one question by networks that a caller keeps
+//! (`graphs_for`), so that many questions can be asked of one graph.
 //!
 //! The answer to a text in memory, by two workers:
 //!
@@ -30,19 +31,23 @@ mod fault;
 mod figures;
 mod graphs;
 pub mod laws;
+mod line_walks;
 mod lines;
-mod output_buffer;
 mod pairs;
+mod sink;
 mod solves;
 mod team_watch;
 mod walked_pairs;
 mod watch;
 
-pub use answering::{answer, answer_by, answer_bytes, answer_watched};
+pub use answering::{answer, answer_by, answer_bytes, answer_question, answer_watched, is_unasked};
 pub use asked::{Answer, Asked, Lines, MAX_AT_ONCE, MAX_BYTES};
+pub use blocks::BlockKind;
 pub use counter::Counter;
 pub use fault::{Fault, status};
 pub use figures::Figures;
+pub use graphs::{Graphs, Grown, graphs_for};
 pub use job_reader::ReadWatch;
 pub use least_costs::AtOnce;
+pub use sink::write_whole;
 pub use watch::{Phase, Watch};

@@ -7,17 +7,19 @@ ghost use Rattle.least_costs.specs.Pairs.{ArePairCosts};
 ghost use Rattle.dimacs_text.specs.Jobs.{IsPairWithin};
 ghost use Rattle.answer_lines.specs.Lines.{pair_text};
 ghost use Rattle.job_answer.specs.AnswerText.{ArePairBlocks};
-ghost use Rattle.job_answer.specs.Bytes.{Writes, WritesPrefix};
 ghost use Rattle.job_answer.specs.Graphs.{AreGraphs, growth_of};
+ghost use Rattle.job_answer.specs.LineWalks.{has_walks};
 ghost use Rattle.job_answer.specs.Outcome.{IsWritingFault};
+ghost use Rattle.job_answer.specs.Sinks.{Cuts, IsSame, Puts};
 ghost use Rattle.job_answer.specs.Solves.{AreCostsAfter, HasCostAfter, with_growth};
 
 use crate::asked::Asked;
+use crate::blocks::BlockKind;
 use crate::fault::Fault;
 use crate::graphs::{Graphs, plan_of};
 use crate::laws::blocks_are_unique;
-use crate::output_buffer::OutputBuffer;
-use crate::walked_pairs::write_walked;
+use crate::sink::Sink;
+use crate::walked_pairs::put_all_walked;
 use crate::watch::{Phase, Watch};
 use answer_lines::{put_grown, put_pair};
 use least_costs::laws::costs_are_labels;
@@ -45,36 +47,39 @@ impl<W: Watch> Progress for PairWatch<'_, W> {
     }
 }
 
-/// Writes the lines of each pair in turn: the least cost from its source to its target, with its walk where
+/// Puts the lines of each pair in turn: the least cost from its source to its target, with its walk where
 /// walks are asked for. Where the network grows, the same in the grown one comes after each pair's lines.
 ///
 /// Without walks each source is solved once, however the pairs stand, and their costs are kept until all
 /// are known. With walks only pairs that stand side by side share the solve of their source, and no cost
 /// is kept from one source to the next.
-pub fn write_pairs<H: Threads + Wait + Clock + Sync, W: Write, G: Gate + Sync>(
+pub fn put_pairs<H: Threads + Wait + Clock + Sync, W: Write, G: Gate + Sync>(
     rt: &H,
     alloc: Global,
-    writer: &mut W,
-    graphs: &Graphs,
+    sink: &mut Sink<'_, W>,
+    kind: BlockKind<'_>,
     pairs: &[(u32, u32)],
     asked: &Asked,
     gate: &G,
     watch: &mut impl Watch,
 ) -> Result<(), Fault>
-    requires graphs { AreGraphs graphs.now }
+    requires graphs { AreGraphs kind.graphs.now }
     requires count { length pairs.now ≤ 2 ^ 20 }
-    requires pairs { All (IsPairWithin graphs.now.network.n) pairs.now }
-    ensures blocks { OnOk result (Writes (ArePairBlocks asked.now.walks graphs.now.network.n graphs.now.network.arcs
-        (growth_of graphs.now.grown) pairs.now) (W.contents writer.old) (W.contents writer.new)) }
-    ensures prefix { OnErr result (WritesPrefix (ArePairBlocks asked.now.walks graphs.now.network.n
-        graphs.now.network.arcs (growth_of graphs.now.grown) pairs.now) (W.contents writer.old) (W.contents writer.new)) }
+    requires pairs { All (IsPairWithin kind.graphs.now.network.n) pairs.now }
+    ensures same { IsSame sink.old sink.new }
+    ensures blocks { OnOk result (Puts W.contents (ArePairBlocks (has_walks kind.entry.lines) kind.entry.graphs.now.network.n
+        kind.entry.graphs.now.network.arcs (growth_of kind.entry.graphs.now.grown) pairs.now) sink.old sink.new) }
+    ensures prefix { OnErr result (Cuts W.contents (ArePairBlocks (has_walks kind.entry.lines)
+        kind.entry.graphs.now.network.n kind.entry.graphs.now.network.arcs (growth_of kind.entry.graphs.now.grown)
+        pairs.now) sink.old sink.new) }
     ensures kinds { IfErr result IsWritingFault }
 {
-    if asked.walks {
-        return write_walked(rt, alloc, writer, graphs, pairs, asked, gate, watch);
+    let graphs = kind.graphs;
+    if kind.lines.has_walks() {
+        return put_all_walked(rt, alloc, sink, graphs, pairs, asked, gate, watch);
     }
     let costs = costs_between(rt, alloc, graphs, pairs, asked, gate, watch)?;
-    write_lines(alloc, writer, graphs, pairs, &costs)
+    put_lines(sink, graphs, pairs, &costs)
 }
 
 /// The costs of the pairs, and where the network grows those in the grown one.
@@ -114,10 +119,9 @@ fn costs_between<H: Threads + Wait + Clock + Sync, G: Gate + Sync>(
     Ok(costs)
 }
 
-/// Writes the lines of pairs that have these costs.
-fn write_lines<W: Write>(
-    alloc: Global,
-    writer: &mut W,
+/// Puts the lines of pairs that have these costs.
+fn put_lines<W: Write>(
+    sink: &mut Sink<'_, W>,
     graphs: &Graphs,
     pairs: &[(u32, u32)],
     costs: &PairCosts,
@@ -126,21 +130,20 @@ fn write_lines<W: Write>(
     requires pairs { All (IsPairWithin graphs.now.network.n) pairs.now }
     requires costs { ArePairCosts graphs.now.network pairs.now costs.now.costs.items }
     requires after { AreCostsAfter graphs.now.grown pairs.now costs.now.after.items }
-    ensures blocks { OnOk result (Writes (ArePairBlocks false graphs.now.network.n graphs.now.network.arcs
-        (growth_of graphs.now.grown) pairs.now) (W.contents writer.old) (W.contents writer.new)) }
-    ensures prefix { OnErr result (WritesPrefix (ArePairBlocks false graphs.now.network.n graphs.now.network.arcs
-        (growth_of graphs.now.grown) pairs.now) (W.contents writer.old) (W.contents writer.new)) }
+    ensures same { IsSame sink.old sink.new }
+    ensures blocks { OnOk result (Puts W.contents (ArePairBlocks false graphs.now.network.n graphs.now.network.arcs
+        (growth_of graphs.now.grown) pairs.now) sink.old sink.new) }
+    ensures prefix { OnErr result (Cuts W.contents (ArePairBlocks false graphs.now.network.n graphs.now.network.arcs
+        (growth_of graphs.now.grown) pairs.now) sink.old sink.new) }
     ensures kinds { IfErr result IsWritingFault }
 {
     blocks_are_unique();
     costs_are_labels();
-    let mut waiting = OutputBuffer::new(alloc);
     for place in 0..pairs.len() {
-        let bytes = &mut waiting.bytes;
-        put_pair_lines(bytes, graphs, pairs[place], place, costs)?;
-        waiting.send_if_full(writer)?;
+        put_pair_lines(sink.waiting, graphs, pairs[place], place, costs)?;
+        sink.send_if_full()?;
     }
-    waiting.finish(writer)
+    Ok(())
 }
 
 /// Puts the line of a pair, which is at this place, and where the network grows that in the grown one.

@@ -1,30 +1,27 @@
 //! Which lines answer pairs with walks?
 
-ghost use Rattle.std.specs.Prelude.{◌≡◌, ◌<◌, ◌≤◌, ◌++◌, ◌↔◌, length, slice_index};
+ghost use Rattle.std.specs.Prelude.{◌≡◌, ◌<◌, ◌≤◌, ◌++◌, drop, length, max, slice_index, slice_range};
 ghost use Rattle.std.specs.Prelude.{All, IfErr, IfOk, IfSome, OnErr, OnOk, true};
 ghost use Rattle.std.specs.Thread.{IsSync};
 ghost use Rattle.least_costs.specs.Rounds.{AreMade};
 ghost use Rattle.route_walks.specs.Limit.{AreLeastLabelsUpTo};
 ghost use Rattle.route_walks.specs.Operators.{seeds_from};
-ghost use Rattle.walk_report.specs.Parent.{LeadBack};
 ghost use Rattle.dimacs_text.specs.Jobs.{IsPairWithin};
-ghost use Rattle.job_answer.specs.AnswerText.{ArePairBlocks};
-ghost use Rattle.job_answer.specs.Bytes.{Writes, WritesPrefix};
+ghost use Rattle.job_answer.specs.AnswerText.{AreBlocks, ArePairBlocks};
 ghost use Rattle.job_answer.specs.Graphs.{AreGraphs, growth_of};
+ghost use Rattle.job_answer.specs.LineWalks.{HasWalkAt};
 ghost use Rattle.job_answer.specs.Outcome.{IsWritingFault};
-ghost use Rattle.job_answer.specs.declared.output_buffer.TheConstants.{PIECE};
-ghost use Rattle.job_answer.specs.Sent.{IsWalkedPair, SendsOn, SendsPrefix};
-ghost use Rattle.least_costs.specs.Pairs.{pair_at};
+ghost use Rattle.job_answer.specs.Sinks.{Cuts, IsSame, Puts};
 ghost use Rattle.job_answer.specs.Solves.{AreEachTold, AreTargetsOf, AreWalkedBelow, IsForQueries, IsWalked};
 ghost use Rattle.job_answer.specs.Solves.{IsWalkedAfter, walked_text, walked_after_text, with_growth};
-ghost use Rattle.job_answer.specs.Tasks.{AreLines, AreWalkTasks, IsLinesText};
+ghost use Rattle.job_answer.specs.Tasks.{AreLines, AreWalkTasks, IsLinesText, IsWalkedBlock};
 
 use crate::asked::Asked;
 use crate::fault::Fault;
 use crate::graphs::{Graphs, teams_for};
 use crate::laws::blocks_are_unique;
-use crate::lines::put_walk_line;
-use crate::output_buffer::{Held, OutputBuffer, most_bytes};
+use crate::line_walks::{LineWalks, put_walk_line, walks_below};
+use crate::sink::{NoWriter, Sink, most_bytes};
 use crate::solves::{Solve, costs_after, costs_from, next_source};
 use crate::team_watch::{SolveCount, TeamWatch};
 use crate::watch::{Phase, Watch};
@@ -32,14 +29,13 @@ use answer_lines::{put_grown, put_pair};
 use least_costs::{Network, Part, Rounds, Runner, Start, Team, TeamGate, Workers};
 use obim_engine::{Gate, Goal, Settings};
 use route_walks::laws::least_labels_exist;
-use route_walks::{INF, MAX_VERTICES, Memory};
+use route_walks::{MAX_VERTICES, Memory};
 use std::alloc::Global;
 use std::io::Write;
 use std::sync::Wait;
 use std::thread::Threads;
 use std::time::Clock;
 use walk_report::laws::{hops_and_parents_exist, walks_below_agree};
-use walk_report::{NONE, hops_below, parents};
 
 /// Pairs, and the networks in which their costs are least.
 #[derive(Drop)]
@@ -69,12 +65,12 @@ impl<'a> Part<WalkTasks<'a>> for LinesText {
     ghost is_part = { AreLines };
 }
 
-/// Writes the lines of each pair in turn, each with its walk. Only pairs that stand side by side share the
+/// Puts the lines of each pair in turn, each with its walk. Only pairs that stand side by side share the
 /// solve of their source.
-pub fn write_walked<H: Threads + Wait + Clock + Sync, W: Write, G: Gate + Sync>(
+pub fn put_all_walked<H: Threads + Wait + Clock + Sync, W: Write, G: Gate + Sync>(
     rt: &H,
     alloc: Global,
-    writer: &mut W,
+    sink: &mut Sink<'_, W>,
     graphs: &Graphs,
     pairs: &[(u32, u32)],
     asked: &Asked,
@@ -83,14 +79,14 @@ pub fn write_walked<H: Threads + Wait + Clock + Sync, W: Write, G: Gate + Sync>(
 ) -> Result<(), Fault>
     requires pairs { All (IsPairWithin graphs.now.network.n) pairs.now }
     requires graphs { AreGraphs graphs.now }
-    ensures blocks { OnOk result (Writes (ArePairBlocks true graphs.now.network.n graphs.now.network.arcs
-        (growth_of graphs.now.grown) pairs.now) (W.contents writer.old) (W.contents writer.new)) }
-    ensures prefix { OnErr result (WritesPrefix (ArePairBlocks true graphs.now.network.n graphs.now.network.arcs
-        (growth_of graphs.now.grown) pairs.now) (W.contents writer.old) (W.contents writer.new)) }
+    ensures same { IsSame sink.old sink.new }
+    ensures blocks { OnOk result (Puts W.contents (ArePairBlocks true graphs.now.network.n graphs.now.network.arcs
+        (growth_of graphs.now.grown) pairs.now) sink.old sink.new) }
+    ensures prefix { OnErr result (Cuts W.contents (ArePairBlocks true graphs.now.network.n graphs.now.network.arcs
+        (growth_of graphs.now.grown) pairs.now) sink.old sink.new) }
     ensures kinds { IfErr result IsWritingFault }
 {
     blocks_are_unique();
-    let mut waiting = OutputBuffer::new(alloc);
     let tasks = WalkTasks {
         queries: PairQueries { graphs, pairs },
         settings: &asked.settings,
@@ -103,25 +99,17 @@ pub fn write_walked<H: Threads + Wait + Clock + Sync, W: Write, G: Gate + Sync>(
     while first < pairs.len() {
         watch.see_answered(first, pairs.len());
         if let Some(text) = take_lines(rt, alloc, &mut rounds, &tasks, gate, first, watch) {
-            waiting.send_with(writer, &text.bytes)?;
+            sink.send_with(&text.bytes)?;
             watch.end(rt, Phase::Writing);
             first += text.count;
             continue;
         }
         let solve = Solve::of_queries(pairs, first);
-        put_solved_pairs(
-            rt,
-            alloc,
-            writer,
-            &mut waiting,
-            &tasks.queries,
-            solve,
-            &mut workers,
-            watch,
-        )?;
+        let queries = &tasks.queries;
+        put_solved_pairs(rt, alloc, sink, queries, solve, &mut workers, watch)?;
         first = solve.end;
     }
-    waiting.finish(writer)
+    Ok(())
 }
 
 /// The lines of the pairs from a place on, if they were made before their turn.
@@ -204,31 +192,24 @@ fn held_lines<H: Threads + Wait + Clock + Sync, G: Gate + Sync>(
     let pairs = &queries.pairs[first..];
     let solve = Solve::of_queries(pairs, 0);
     let rest = PairQueries { graphs, pairs };
-    let mut held = Held::new(alloc, most_bytes(graphs));
-    let mut waiting = OutputBuffer::new(alloc);
-    put_solved_pairs(
-        rt,
-        alloc,
-        &mut held,
-        &mut waiting,
-        &rest,
-        solve,
-        workers,
-        watch,
-    )?;
-    waiting.finish(&mut held)?;
+    let (mut nobody, mut bytes) = (NoWriter, Vec::new(alloc));
+    let mut sink = Sink {
+        writer: &mut nobody,
+        waiting: &mut bytes,
+        piece: most_bytes(graphs),
+    };
+    put_solved_pairs(rt, alloc, &mut sink, &rest, solve, workers, watch)?;
     Ok(LinesText {
         count: solve.end,
-        bytes: held.into_bytes(),
+        bytes,
     })
 }
 
-/// Solves for some of the pairs, and puts their lines, each with its walk, after what waits.
+/// Solves for some of the pairs, and puts their lines, each with its walk.
 fn put_solved_pairs<H: Threads + Wait + Clock + Sync, W: Write, G: Gate + Sync>(
     rt: &H,
     alloc: Global,
-    writer: &mut W,
-    waiting: &mut OutputBuffer,
+    sink: &mut Sink<'_, W>,
     queries: &PairQueries<'_>,
     solve: Solve,
     workers: &mut Workers<'_, G>,
@@ -237,10 +218,11 @@ fn put_solved_pairs<H: Threads + Wait + Clock + Sync, W: Write, G: Gate + Sync>(
     requires graphs { AreGraphs queries.now.graphs.now }
     requires pairs { All (IsPairWithin queries.now.graphs.now.network.n) queries.now.pairs.now }
     requires solve { IsForQueries queries.now.pairs.now solve }
-    ensures sent { OnOk result (SendsOn (IsWalkedPair queries.now.graphs.now) queries.now.pairs.now solve.first solve.end
-        (W.contents writer.old) (W.contents writer.new) waiting.old.bytes.items waiting.new.bytes.items) }
-    ensures prefix { OnErr result (SendsPrefix (IsWalkedPair queries.now.graphs.now) queries.now.pairs.now solve.first
-        (W.contents writer.old) (W.contents writer.new) waiting.old.bytes.items) }
+    ensures same { IsSame sink.old sink.new }
+    ensures blocks { OnOk result (Puts W.contents (AreBlocks (IsWalkedBlock queries.now.graphs.now)
+        (slice_range queries.now.pairs.now solve.first solve.end)) sink.old sink.new) }
+    ensures prefix { OnErr result (Cuts W.contents (AreBlocks (IsWalkedBlock queries.now.graphs.now)
+        (drop solve.first queries.now.pairs.now)) sink.old sink.new) }
     ensures kinds { IfErr result IsWritingFault }
 {
     blocks_are_unique();
@@ -249,7 +231,7 @@ fn put_solved_pairs<H: Threads + Wait + Clock + Sync, W: Write, G: Gate + Sync>(
     let targets = targets_of(alloc, pairs, solve)?;
     let walks = walks_to(rt, alloc, graphs, source, &targets, workers, watch)?;
     let (walked, after) = (&walks.before, &walks.after);
-    put_walked(alloc, writer, waiting, queries, solve, walked, after)?;
+    put_walked(alloc, sink, queries, solve, walked, after)?;
     watch.end(rt, Phase::Writing);
     Ok(())
 }
@@ -270,8 +252,7 @@ fn targets_of(alloc: Global, pairs: &[(u32, u32)], solve: Solve) -> Result<Vec<u
 #[derive(Drop)]
 struct Walked {
     labels: Vec<u64>,
-    hops: Vec<u32>,
-    parents: Vec<u32>,
+    walks: LineWalks,
 }
 
 /// Such walks in the network, and in the one that it grows to if it does.
@@ -341,21 +322,14 @@ fn walked_from(
     hops_and_parents_exist();
     walks_below_agree();
     let _ = network.n();
-    let rows = network.rows();
-    let hops = hops_below(alloc, rows, &labels, source, limit)?;
-    let parents = parents(alloc, rows, &labels, &hops)?;
-    Ok(Walked {
-        labels,
-        hops,
-        parents,
-    })
+    let walks = walks_below(alloc, network, source, &labels, limit)?;
+    Ok(Walked { labels, walks })
 }
 
 /// Puts the lines of the pairs that a solve is for, each with its walk, and those in the grown network.
 fn put_walked<W: Write>(
     alloc: Global,
-    writer: &mut W,
-    waiting: &mut OutputBuffer,
+    sink: &mut Sink<'_, W>,
     queries: &PairQueries<'_>,
     solve: Solve,
     walked: &Walked,
@@ -368,18 +342,19 @@ fn put_walked<W: Write>(
         queries.now.graphs.now.network.arcs pair walked.now) queries.now.pairs.now solve.first solve.end }
     requires after { AreEachTold (λ pair. IsWalkedAfter queries.now.graphs.now.grown pair after.now)
         queries.now.pairs.now solve.first solve.end }
-    ensures sent { OnOk result (SendsOn (IsWalkedPair queries.now.graphs.now) queries.now.pairs.now solve.first solve.end
-        (W.contents writer.old) (W.contents writer.new) waiting.old.bytes.items waiting.new.bytes.items) }
-    ensures prefix { OnErr result (SendsPrefix (IsWalkedPair queries.now.graphs.now) queries.now.pairs.now solve.first
-        (W.contents writer.old) (W.contents writer.new) waiting.old.bytes.items) }
-    ensures few { OnOk result (length waiting.new.bytes.items < PIECE) }
+    ensures same { IsSame sink.old sink.new }
+    ensures blocks { OnOk result (Puts W.contents (AreBlocks (IsWalkedBlock queries.now.graphs.now)
+        (slice_range queries.now.pairs.now solve.first solve.end)) sink.old sink.new) }
+    ensures prefix { OnErr result (Cuts W.contents (AreBlocks (IsWalkedBlock queries.now.graphs.now)
+        (drop solve.first queries.now.pairs.now)) sink.old sink.new) }
+    ensures few { OnOk result (length sink.new.waiting.now.items < max 1 sink.new.piece) }
     ensures kinds { IfErr result IsWritingFault }
 {
     blocks_are_unique();
     let (graphs, pairs) = (queries.graphs, queries.pairs);
     for at in solve.first..solve.end {
-        put_walked_lines(alloc, &mut waiting.bytes, graphs, pairs[at], walked, after)?;
-        waiting.send_if_full(writer)?;
+        put_walked_lines(alloc, sink.waiting, graphs, pairs[at], walked, after)?;
+        sink.send_if_full()?;
     }
     Ok(())
 }
@@ -417,16 +392,13 @@ fn put_walked_pair(
     pair: (u32, u32),
     walked: &Walked,
 ) -> Result<(), Memory>
-    requires pair { IsPairWithin (length walked.now.hops.items) pair }
-    requires vertices { length walked.now.hops.items ≤ MAX_VERTICES }
-    requires count { length walked.now.labels.items ≡ length walked.now.hops.items }
-    requires back { LeadBack walked.now.hops.items walked.now.parents.items }
-    requires reached { (slice_index walked.now.labels.items pair.1 ≡ INF)
-        ↔ (slice_index walked.now.hops.items pair.1 ≡ NONE) }
+    requires pair { IsPairWithin (length walked.now.labels.items) pair }
+    requires vertices { length walked.now.labels.items ≤ MAX_VERTICES }
+    requires walk { HasWalkAt pair.1 (slice_index walked.now.labels.items pair.1) walked.now.walks }
     ensures put { OnOk result (out.new.items ≡ out.old.items ++ walked_text pair walked.now) }
 {
     let (source, target) = pair;
     let label = walked.labels[target as usize];
     put_pair(out, source, target, label)?;
-    put_walk_line(alloc, out, target, label, &walked.hops, &walked.parents)
+    put_walk_line(alloc, out, target, label, &walked.walks)
 }

@@ -1,34 +1,33 @@
-use Rattle.std.proofs.lemmas.Result.{on_err_weaker, on_ok_weaker}
+use Rattle.std.proofs.Common.{rules}
+use Rattle.std.proofs.lemmas.Result.{on_err_weaker}
+use Rattle.dimacs_text.specs.Jobs.{question_of}
 use Rattle.job_answer.specs.Graphs.{growth_of}
-use Rattle.job_answer.proofs.Replies.{sources-text}
+use Rattle.job_answer.specs.Within.{IsTextBy}
+use Rattle.job_answer.proofs.Sinks.{all-given, last-cut, writes-cut}
+use Rattle.job_answer.proofs.Within.{text-same}
 use Rattle.job_answer.proofs.answering.write_text.Goals as goal
 
-pub returns-in_default-Sources : goal.returns-in_default-Sources
-returns-in_default-Sources g c =
-    let kind = c.args.asked.now.answer in
-    let by = c.args.kind.lines in
+pub returns-in_err-put_text-clause-prefix : goal.returns-in_err-put_text-clause-prefix
+returns-in_err-put_text-clause-prefix g c =
+    let cut = writes-cut g.W.Write.contents _ _ _ c.new-waiting.ensures.items c.in_err-put_text.ensures.prefix in
+    search rules
+
+pub returns-clause-text : goal.returns-clause-text
+returns-clause-text g c =
+    let given = all-given g.W.Write.contents c.finish.result _ _ _ _ c.new-waiting.ensures.items
+    c.in_ok-put_text.ensures.text c.finish.ensures.put c.finish.ensures.none in
+    search rules
+
+pub returns-clause-prefix : goal.returns-clause-prefix
+returns-clause-prefix g c =
     let graphs = c.args.kind.graphs.now in
     let growth = growth_of graphs.grown in
-    let sources = c.in_default-Sources.sources.items in
-    let other = c.in_default-Sources.not-Components-0 in
-    rw c.in_default-Sources.is-1
-    (record {
-      text = on_ok_weaker c.write_sources.result
-          (λ written. record {
-            text = written.text;
-            is_text =
-                (sources-text kind by graphs.network.n graphs.network.arcs growth sources written.text other).0
-                written.is_text;
-            appended = written.appended;
-          })
-          (rw c.deref.ensures.value at c.write_sources.ensures.blocks);
-      prefix = on_err_weaker c.write_sources.result
-          (λ cut. record {
-            given = cut.given;
-            is_prefix = λ text is. cut.is_prefix text
-                ((sources-text kind by graphs.network.n graphs.network.arcs growth sources text other).1 is);
-            appended = cut.appended;
-          })
-          (rw c.deref.ensures.value at c.write_sources.ensures.prefix);
-      kinds = c.write_sources.ensures.kinds;
-    })
+    let text = IsTextBy c.args.asked.now.answer c.args.kind.lines graphs.network.n graphs.network.arcs growth
+    (question_of c.args.ask.now) in
+    let only = text-same c.blocks_are_unique.ensures c.lines_are_unique.ensures c.args.asked.now.answer c.args.kind.lines
+    graphs.network.n graphs.network.arcs growth (question_of c.args.ask.now) in
+    let cut = on_err_weaker c.finish.result
+    (λ cut. writes-cut g.W.Write.contents text _ _ c.new-waiting.ensures.items
+    (last-cut g.W.Write.contents text _ _ _ only c.in_ok-put_text.ensures.text cut))
+    c.finish.ensures.prefix in
+    search rules

@@ -5,7 +5,7 @@ use Rattle.least_costs.specs.declared.start.Start.TheVariants.{Everywhere}
 use Rattle.route_walks.specs.Label.{AreLeastLabels}
 use Rattle.answer_lines.specs.Lines.{components_text}
 use Rattle.job_answer.specs.AnswerText.{IsComponentsBlock}
-use Rattle.job_answer.proofs.Prefixes.{only-text}
+use Rattle.job_answer.proofs.Sinks.{cuts-is, puts-is}
 use Rattle.job_answer.proofs.Starts.{labels-finite}
 use Rattle.job_answer.proofs.Told.{everywhere-least}
 use Rattle.job_answer.proofs.blocks.put_block.Goals as goal
@@ -29,8 +29,9 @@ returns-in-Everywhere-clause-block g c =
     let is_block : IsComponentsBlock net.n net.arcs text =
     record { labels = c.labels.result.now; least = rw (← c.labels.ensures.labels) at least; written = refl } in
     rw c.in-Everywhere.is
-    (on_ok_weaker c.put_components.result (λ sent. record { text = text; is_text = is_block; waits = sent })
-    c.put_components.ensures.sent)
+    (on_ok_weaker c.put_components.result
+    (puts-is g.W.Write.contents (IsComponentsBlock net.n net.arcs) text _ _ is_block)
+    c.put_components.ensures.put)
 
 pub returns-in-Everywhere-clause-prefix : goal.returns-in-Everywhere-clause-prefix
 returns-in-Everywhere-clause-prefix g c =
@@ -43,6 +44,6 @@ returns-in-Everywhere-clause-prefix g c =
     record { labels = c.labels.result.now; least = rw (← c.labels.ensures.labels) at least; written = refl } in
     rw c.in-Everywhere.is
     (on_err_weaker c.put_components.result
-    (only-text (IsComponentsBlock net.n net.arcs) _ _ c.args.waiting.now.bytes.items text
+    (cuts-is g.W.Write.contents (IsComponentsBlock net.n net.arcs) text _ _
     (λ other. (c.blocks_are_unique.ensures false net.n net.arcs None).2 text other is_block))
     c.put_components.ensures.prefix)

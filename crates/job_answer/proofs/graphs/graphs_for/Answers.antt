@@ -5,8 +5,11 @@ use Rattle.job_answer.specs.declared.graphs.Grown.{Grown}
 use Rattle.job_answer.proofs.Growing.{along-kind, grown-alike}
 use Rattle.job_answer.proofs.graphs.graphs_for.Goals as goal
 
-pub returns-in-None : goal.returns-in-None
-returns-in-None g c =
+pub returns-in-None-clause-network : goal.returns-in-None-clause-network
+returns-in-None-clause-network g c = rw c.cost_for.ensures at c.in-Ok.ensures.network
+
+pub returns-in-None-clause-graphs : goal.returns-in-None-clause-graphs
+returns-in-None-clause-graphs g c =
     let is : IsNetworkOf c.args.n (cost_for c.args.answer) c.args.arcs.items c.in-Ok.network =
     rw c.cost_for.ensures at c.in-Ok.ensures.network in
     record {
@@ -16,8 +19,11 @@ returns-in-None g c =
       alike = rw c.in-None.is tt;
     }
 
-pub returns : goal.returns
-returns g c =
+pub returns-clause-network : goal.returns-clause-network
+returns-clause-network g c = rw c.cost_for.ensures at c.in-Ok.ensures.network
+
+pub returns-clause-graphs : goal.returns-clause-graphs
+returns-clause-graphs g c =
     let is : IsNetworkOf c.args.n (cost_for c.args.answer) c.args.arcs.items c.in-Ok.network =
     rw c.cost_for.ensures at c.in-Ok.ensures.network in
     let more = c.in-Ok-with_arcs.ensures in

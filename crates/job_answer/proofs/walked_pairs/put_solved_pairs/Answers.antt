@@ -1,9 +1,7 @@
-use Rattle.std.proofs.Common.{true}
-use Rattle.job_answer.specs.AnswerText.{IsGrownPair}
-use Rattle.job_answer.specs.Graphs.{growth_of}
+use Rattle.std.proofs.Common.{refl}
 use Rattle.job_answer.specs.Solves.{IsWalked, IsWalkedAfter}
-use Rattle.job_answer.proofs.Prefixes.{err-stands}
 use Rattle.job_answer.proofs.Queries.{each-told, targets-within}
+use Rattle.job_answer.proofs.Sinks.{at-err, cuts-nothing}
 use Rattle.job_answer.proofs.walked_pairs.put_solved_pairs.Goals as goal
 
 pub walks_to-requires-clause-targets : goal.walks_to-requires-clause-targets
@@ -27,19 +25,7 @@ put_walked-requires-clause-after g c =
     (rw c.deref.ensures.value at c.in_ok-walks.ensures.after)
 
 pub returns-in_err-targets-clause-prefix : goal.returns-in_err-targets-clause-prefix
-returns-in_err-targets-clause-prefix g c =
-    let graphs = c.args.queries.now.graphs.now in
-    let growth = growth_of graphs.grown in
-    err-stands (IsGrownPair true graphs.network.n graphs.network.arcs growth)
-    (c.blocks_are_unique.ensures true graphs.network.n graphs.network.arcs growth).1 c.args.queries.now.pairs.now _ c.args.solve.first
-    (0, 0)
-    (g.W.Write.contents c.args.writer.now) c.args.waiting.now.bytes.items
+returns-in_err-targets-clause-prefix g c = at-err _ (cuts-nothing g.W.Write.contents _ _ _ refl)
 
 pub returns-in_err-walks-clause-prefix : goal.returns-in_err-walks-clause-prefix
-returns-in_err-walks-clause-prefix g c =
-    let graphs = c.args.queries.now.graphs.now in
-    let growth = growth_of graphs.grown in
-    err-stands (IsGrownPair true graphs.network.n graphs.network.arcs growth)
-    (c.blocks_are_unique.ensures true graphs.network.n graphs.network.arcs growth).1 c.args.queries.now.pairs.now _ c.args.solve.first
-    (0, 0)
-    (g.W.Write.contents c.args.writer.now) c.args.waiting.now.bytes.items
+returns-in_err-walks-clause-prefix g c = at-err _ (cuts-nothing g.W.Write.contents _ _ _ refl)

@@ -9,6 +9,4 @@ returns-clause-walked c =
     let is = c.n.ensures.network in
     walked-below c.least_labels_exist.ensures c.hops_and_parents_exist.ensures c.walks_below_agree.ensures c.args.limit net.n
     net.arcs c.args.source _ (omega (arith, c.ranges.limit.fits)) is.few is.ends c.requires.source c.requires.labels
-    (rw (c.deref.ensures.value, c.rows-rows.ensures) at c.in_ok-hops.ensures.exact)
-    (rw (c.deref-2.ensures.value, c.deref-3.ensures.value, c.rows-rows.ensures) at c.in_ok-parents.ensures.exact)
-    (rw c.deref-3.ensures.value at c.in_ok-parents.ensures.back)
+    (rw c.deref.ensures.value at c.in_ok-walks.ensures)

@@ -1,0 +1,16 @@
+use Rattle.std.proofs.Common.{◌-◌, length, take}
+use Rattle.job_answer.specs.AnswerText.{AreBlocks}
+use Rattle.job_answer.specs.Sinks.{IsSame, Puts}
+use Rattle.job_answer.specs.Tasks.{AreLines, IsWalkedBlock}
+use Rattle.least_costs.specs.Rounds.{AreMade}
+use Rattle.job_answer.proofs.walked_pairs.put_all_walked.Given as goal
+
+abbrev pub invariant-loop-first : goal.invariant-loop-first
+invariant-loop-first g l = record {
+  same : IsSame l.initial.sink l.sink;
+  put : Puts g.W.Write.contents (AreBlocks (IsWalkedBlock l.graphs) (take l.first l.pairs)) l.initial.sink l.sink;
+  made : AreMade (AreLines l.tasks) l.rounds.made.items;
+}
+
+abbrev pub decreases-loop-first : goal.decreases-loop-first
+decreases-loop-first g l = length l.pairs - l.first
