@@ -8,3 +8,10 @@ pub mod FastArcLemmas
 pub mod TextLaws
 pub mod Existence
 pub mod Limits
+pub mod GraphTextLemmas
+pub mod AfterGraphLemmas
+pub mod RequestLemmas
+pub mod RequestLimits
+pub mod Facts
+pub mod RequestLaws
+pub mod OneRequest

@@ -43,7 +43,7 @@ line_within n false (Some form) fs r e =
     let args = drop (length (leading form)) fs in
     form_within n form args (numbers_within (limits n form) args) r refl e
 
-fields_within : (n : ℕ) (fs : List (List ℕ)) (r : Record) → fields_reading n fs ≡ Ok (Some r) → IsWithin n r
+pub fields_within : (n : ℕ) (fs : List (List ℕ)) (r : Record) → fields_reading n fs ≡ Ok (Some r) → IsWithin n r
 unfolding fields_reading
 fields_within n [] r e = absurd (cc)
 fields_within n (f ∷ fs) r e = line_within n (eqb (get_or f 0 0) 99) (form_of (f ∷ fs)) (f ∷ fs) r e
@@ -110,7 +110,7 @@ pairs_within n (p ∷ ps) rest w =
     let first = w.0 in
     (All-cons (IsPairWithin n) p ps (grind (arith, nat_tests), grind (arith, nat_tests)) later.0, later.1)
 
-question_within : (n : ℕ) (q : Question) (rest : List Record)
+pub question_within : (n : ℕ) (q : Question) (rest : List Record)
     → AreWithin n (records_of_question q ++ rest)
     → IsQuestionWithin n q × AreWithin n rest
 question_within n absent rest w = (tt, w)
@@ -123,7 +123,7 @@ question_within n (of_pairs ps) rest w =
     let both = pairs_within n ps rest w.1 in
     ((grind (arith, nat_tests), both.0), both.1)
 
-added_within : (n : ℕ) (added : Option (List ArcRec)) → AreWithin n (records_of_added added) → IsAddedWithin n added
+pub added_within : (n : ℕ) (added : Option (List ArcRec)) → AreWithin n (records_of_added added) → IsAddedWithin n added
 added_within n None w = tt
 added_within n (Some arcs) w =
     let first = w.0 in

@@ -82,7 +82,7 @@ run_leads (m ∷ ms) a b rest e c =
     step_leads a m (ms ++ rest) on.0 (run_leads ms (next_at a m) b rest on.1 c)
 
 -- the machine reads a legal list to its end
-items_run : (s : Section) (j : ℕ) (rest : List Token)
+pub items_run : (s : Section) (j : ℕ) (rest : List Token)
     → run (Within s j) (replicate j (adds (item_of s)) ++ rest) ≡ run (Within s 0) rest
 items_run s zero rest = refl
 items_run s (suc j) rest =

@@ -73,7 +73,7 @@ after-at old None fits = refl
 after-at old (Some r) fits =
     rw (ap (λ f. misfit_at old.stage f) (form-token r.form r.numbers) ∙ fits) refl
 
-one_more : (old : Progress) (said : List (Option Record)) (s : Option Record)
+pub one_more : (old : Progress) (said : List (Option Record)) (s : Option Record)
     → records_among said ≡ old.records → run Start (tokens_among said) ≡ Some old.stage → Fits old.stage s
     → (records_among (said ++ s ∷ []) ≡ (after_line old s).records)
     × (run Start (tokens_among (said ++ s ∷ [])) ≡ Some (after_line old s).stage)

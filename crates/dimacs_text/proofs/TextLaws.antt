@@ -18,6 +18,7 @@ use Rattle.dimacs_text.specs.Grammar.{Part, tokens_of, AreInTurn, Token, opens, 
 use Rattle.dimacs_text.specs.Grammar.{item_of, may_follow}
 use Rattle.dimacs_text.specs.Grammar.{IsLegal, BeginsLegal, IsMisfit, MisfitKind, lack_of}
 use Rattle.dimacs_text.specs.Lines.{lines}
+use Rattle.dimacs_text.specs.AfterGraph.{IsJobAmong}
 use Rattle.dimacs_text.specs.Forms.{Record, Reading, readings}
 use Rattle.dimacs_text.specs.declared.stage.Stage.{Stage}
 use Rattle.dimacs_text.specs.declared.stage.Stage.TheVariants.{Start, Within}
@@ -167,27 +168,30 @@ content_back job =
     ∙ ap₂ (λ q a. record { n = job.n; arcs = job.arcs; question = q; added = a }) (asked_back job.question job.added)
     (ap (λ rs. added_in rs) (left_back job.question job.added) ∙ added_back job.added)
 
-job_by : (text : List ℕ) (job : Content)
-    → IsJobText text job
-    → job ≡ content_by (records_among (map said_back (readings MAX_VERTICES (lines text))))
-unfolding IsJobText
-job_by text job (s, reads, is) =
+job_by : (rs : List Reading) (job : Content)
+    → IsJobAmong rs job
+    → job ≡ content_by (records_among (map said_back rs))
+job_by rs job (s, reads, is) =
     sym (content_back job) ∙ ap (λ l. content_by l) (sym is)
     ∙ ap (λ l. content_by (records_among l))
     (sym (ap (λ l. map said_back l) reads ∙ items_back (λ x. Ok x) said_back s (λ x. refl)))
 
+pub one_job_among : (rs : List Reading) (a b : Content) → IsJobAmong rs a → IsJobAmong rs b → a ≡ b
+one_job_among rs a b of_a of_b = job_by rs a of_a ∙ sym (job_by rs b of_b)
+
 pub one_job : (text : List ℕ) (a b : Content) → IsJobText text a → IsJobText text b → a ≡ b
-one_job text a b of_a of_b = job_by text a of_a ∙ sym (job_by text b of_b)
+unfolding IsJobText
+one_job text a b of_a of_b = one_job_among (readings MAX_VERTICES (lines text)) a b of_a of_b
 
 -- the records of a job are legal
-tokens_of_items : {X : Type 0} (rec : X → Record) (i : Item) (xs : List X)
+pub tokens_of_items : {X : Type 0} (rec : X → Record) (i : Item) (xs : List X)
     → ((x : X) → token_in (rec x) ≡ adds i)
     → map token_in (map rec xs) ≡ replicate (length xs) (adds i)
 tokens_of_items rec i [] each = refl
 tokens_of_items rec i (x ∷ xs) each = ap₂ (λ m l. m ∷ l) (each x) (tokens_of_items rec i xs each)
 
 -- a section of items is one part
-abbrev PartsAfter : Section → List Record → Type 0
+abbrev pub PartsAfter : Section → List Record → Type 0
 PartsAfter s rs = (ps : List Part) × AreInTurn s ps × (map token_in rs ≡ flat_map tokens_of ps)
 
 one_part_more : {X : Type 0} (rec : X → Record) (s t : Section) (xs : List X) (head : Record) (rest : List Record)
@@ -209,7 +213,7 @@ parts_of_added s (Some arcs) may =
     subst (λ rs. PartsAfter s (added_record (length arcs) ∷ rs)) (append-nil (map arc_record arcs))
     (one_part_more arc_record s Added arcs (added_record (length arcs)) [] (λ a. refl) refl may ([], tt, refl))
 
-parts_of_question : (q : Question) (added : Option (List ArcRec))
+pub parts_of_question : (q : Question) (added : Option (List ArcRec))
     → PartsAfter Problem (records_of_question q ++ records_of_added added)
 parts_of_question absent added = parts_of_added Problem added refl
 parts_of_question (from_sources vs) added =
@@ -219,7 +223,7 @@ parts_of_question (of_pairs ps) added =
     one_part_more pair_record Problem Pairs ps (pairs_record (length ps)) (records_of_added added) (λ p. refl) refl
     refl (parts_of_added Pairs added refl)
 
-legal_by : (job : Content) → IsLegal (map token_in (records_of job))
+pub legal_by : (job : Content) → IsLegal (map token_in (records_of job))
 unfolding IsLegal
 legal_by job =
     let (ps, turn, same) = parts_of_question job.question job.added in (
@@ -311,7 +315,7 @@ lack_start [] e = refl
 lack_start (adds i ∷ ms) e = absurd (cc)
 lack_start (opens t k ∷ ms) e = absurd (stays ms t k (goes _ (run (Within t k) ms) Start e).1)
 
-lack_within : (ms : List Token) (s : Section) (j : ℕ) → run Start ms ≡ Some (Within s j) → lack_of ms ≡ TooFew
+pub lack_within : (ms : List Token) (s : Section) (j : ℕ) → run Start ms ≡ Some (Within s j) → lack_of ms ≡ TooFew
 lack_within [] s j e = absurd (cc)
 lack_within (m ∷ ms) s j e = refl
 
@@ -334,6 +338,15 @@ reaches s rest line (more, legal) number =
     let count : 1 + length s ≡ line = omega arith in
     (runs.0, runs.1, passes s rest Start runs.0 1 runs.1 ∙ ap (λ n. fault_by runs.0 n rest) count)
 
+-- lines with which a legal list begins lead somewhere
+pub led : (said : List (Option Record))
+    → BeginsLegal (tokens_among said)
+    → (b : Stage) × (run Start (tokens_among said) ≡ Some b)
+unfolding BeginsLegal
+led said (more, legal) =
+    let all = legal_runs (tokens_among said ++ more) legal in
+    run_prefix (tokens_among said) more Start (Within all.0 0) all.1
+
 found : (rs : List Reading) (line : ℕ) (kind : LineKind)
     → IsFirstAmong rs line kind
     → fault_by Start 1 rs ≡ Some (line, kind)
@@ -350,25 +363,36 @@ found rs line kind (unfinished s e begins never is number) =
     ap (λ l. fault_by Start 1 l) (e ∙ sym (append-nil (readings_of s))) ∙ on
     ∙ lacks (tokens_among s) b line runs never ∙ ap (λ k. Some (line, k)) (sym is)
 
+pub one_fault_among : (rs : List Reading) (i j : ℕ) (k l : LineKind)
+    → IsFirstAmong rs i k → IsFirstAmong rs j l
+    → (i ≡ j) × (k ≡ l)
+one_fault_among rs i j k l a b =
+    let first = found rs i k a in
+    let second = found rs j l b in
+    let same : ◌≡◌ {A = ℕ × LineKind} (i, k) (j, l) = cc in
+    (ap (λ (f : ℕ × LineKind). f.0) same, ap (λ (f : ℕ × LineKind). f.1) same)
+
 pub one_first_fault : (text : List ℕ) (i j : ℕ) (k l : LineKind)
     → IsFirstFault text i k → IsFirstFault text j l
     → (i ≡ j) × (k ≡ l)
 unfolding IsFirstFault
-one_first_fault text i j k l a b =
-    let first = found (readings MAX_VERTICES (lines text)) i k a in
-    let second = found (readings MAX_VERTICES (lines text)) j l b in
-    let same : ◌≡◌ {A = ℕ × LineKind} (i, k) (j, l) = cc in
-    (ap (λ (f : ℕ × LineKind). f.0) same, ap (λ (f : ℕ × LineKind). f.1) same)
+one_first_fault text i j k l a b = one_fault_among (readings MAX_VERTICES (lines text)) i j k l a b
 
--- a job's text has no fault at which the machine stops
+-- lines of a job have no fault at which the machine stops
+pub no_fault_among : (rs : List Reading) (job : Content) (line : ℕ) (kind : LineKind)
+    → IsJobAmong rs job → IsFirstAmong rs line kind
+    → ⊥
+unfolding fault_by
+no_fault_among rs job line kind (said, reads, is) fault =
+    let runs = legal_runs (tokens_among said) (subst (λ l. IsLegal (map token_in l)) (sym is) (legal_by job)) in
+    let none = passes said [] Start (Within runs.0 0) 1 runs.1 in
+    let stops = found rs line kind fault in
+    let all : fault_by Start 1 rs ≡ fault_by Start 1 (readings_of said ++ []) =
+    ap (λ l. fault_by Start 1 l) (reads ∙ sym (append-nil (readings_of said))) in
+    cc
+
 pub no_fault : (text : List ℕ) (job : Content) (line : ℕ) (kind : LineKind)
     → IsJobText text job → IsFirstFault text line kind
     → ⊥
-unfolding IsJobText IsFirstFault fault_by
-no_fault text job line kind (said, reads, is) fault =
-    let runs = legal_runs (tokens_among said) (subst (λ l. IsLegal (map token_in l)) (sym is) (legal_by job)) in
-    let none = passes said [] Start (Within runs.0 0) 1 runs.1 in
-    let stops = found (readings MAX_VERTICES (lines text)) line kind fault in
-    let all : fault_by Start 1 (readings MAX_VERTICES (lines text)) ≡ fault_by Start 1 (readings_of said ++ []) =
-    ap (λ l. fault_by Start 1 l) (reads ∙ sym (append-nil (readings_of said))) in
-    cc
+unfolding IsJobText IsFirstFault
+no_fault text job line kind is fault = no_fault_among (readings MAX_VERTICES (lines text)) job line kind is fault

@@ -1,7 +1,9 @@
 -- The first fault of a text.
-use Rattle.std.specs.Prelude.{◌≡◌, ℕ, ◌+◌, List, ◌∷◌, ◌++◌, length, map, Option, Some, Ok, Err}
+use Rattle.std.specs.Prelude.{◌≡◌, ℕ, ◌+◌, List, ◌∷◌, ◌++◌, length, map, codes, Option, Some, Ok, Err}
 use Rattle.route_walks.specs.declared.graph.TheConstants.{MAX_VERTICES}
 use Rattle.dimacs_text.specs.declared.fault.LineKind.{LineKind}
+use Rattle.dimacs_text.specs.declared.fault.LineKind.TheVariants.{Unknown, Fields, Number, Range, Misplaced}
+use Rattle.dimacs_text.specs.declared.fault.LineKind.TheVariants.{TooMany, TooFew, NoProblem}
 use Rattle.dimacs_text.specs.declared.fault.TextFault.{TextFault}
 use Rattle.dimacs_text.specs.declared.fault.TextFault.TheVariants.{Memory, Line}
 use Rattle.dimacs_text.specs.Lines.{lines}
@@ -46,3 +48,14 @@ IsFirstFault text line kind = IsFirstAmong (readings MAX_VERTICES (lines text)) 
 abbrev pub IsFaultOf : List ℕ → TextFault → Type 0
 IsFaultOf text Memory = Unit {0}
 IsFaultOf text (Line line kind) = IsFirstFault text line kind
+
+-- what is wrong with a line, in words
+abbrev pub words_of : LineKind → List ℕ
+words_of Unknown = codes "unknown line"
+words_of Fields = codes "wrong number of fields"
+words_of Number = codes "not a number"
+words_of Range = codes "out of range"
+words_of Misplaced = codes "misplaced line"
+words_of TooMany = codes "too many lines"
+words_of TooFew = codes "too few lines"
+words_of NoProblem = codes "no problem line"

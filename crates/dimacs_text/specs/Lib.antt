@@ -3,7 +3,10 @@ pub mod Forms
 pub mod Grammar
 pub mod Jobs
 pub mod Explaining
+pub mod GraphTexts
 pub mod Faults
 pub mod Laws
+pub mod AfterGraph
+pub mod RequestDrafts
 pub mod Reading
 pub mod reader

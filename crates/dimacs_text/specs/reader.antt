@@ -4,4 +4,5 @@ pub mod Entries
 pub mod Pieces
 pub mod FastArc
 pub mod Drafts
+pub mod Requests
 pub mod ArcRuns

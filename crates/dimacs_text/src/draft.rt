@@ -86,7 +86,10 @@ impl Draft {
     ghost use Rattle.dimacs_text.specs.reader.Drafts.{ExplainsEnd, ExplainsIn, ExplainsLine};
     ghost use Rattle.dimacs_text.specs.reader.FastArc.{EndsWithFeed};
     ghost use Rattle.dimacs_text.specs.Jobs.{content_of, records_of};
-    ghost use Rattle.std.specs.Prelude.{Some};
+    ghost use Rattle.dimacs_text.specs.AfterGraph.{asks};
+    ghost use Rattle.dimacs_text.specs.reader.Drafts.{arcs_progress, IsLackAt};
+    ghost use Rattle.dimacs_text.specs.reader.Requests.{is_complete_at, is_request_at};
+    ghost use Rattle.std.specs.Prelude.{Some, MatchOption};
 
     /// Nothing is read yet.
     pub fn new(alloc: Global) -> Draft
@@ -96,6 +99,26 @@ impl Draft {
         Draft {
             stage: Stage::Start,
             vertices: MAX_VERTICES,
+            arcs: Vec::new(alloc),
+            sources: Vec::new(alloc),
+            pairs: Vec::new(alloc),
+            added: Vec::new(alloc),
+            before_added: Stage::Start,
+            head: 0,
+            explanation: None,
+        }
+    }
+
+    /// The problem line of a graph of this many vertices and no arc is read.
+    pub fn after_graph(alloc: Global, vertices: u32) -> Draft
+        ensures { progress_of result ≡ arcs_progress vertices 0 [] }
+    {
+        Draft {
+            stage: Stage::Within {
+                section: Section::Problem,
+                missing: 0,
+            },
+            vertices,
             arcs: Vec::new(alloc),
             sources: Vec::new(alloc),
             pairs: Vec::new(alloc),
@@ -146,7 +169,7 @@ impl Draft {
     }
 
     /// Takes an entry that fits, and where it begins a section the number of its line.
-    fn take(&mut self, entry: Entry, line: u64) -> Result<(), AllocError>
+    pub fn take(&mut self, entry: Entry, line: u64) -> Result<(), AllocError>
         requires fits { misfit_at self.old.stage (record_of entry).form ≡ None }
         ensures takes { OnOk result
             (progress_of self.new ≡ after_line (progress_of self.old) (Some (record_of entry))) }
@@ -343,18 +366,34 @@ impl Draft {
         ensures explained { IfErr result
             (λ refused. ExplainsEnd line refused.fault refused.explanation) }
     {
-        let kind = match self.stage {
-            Stage::Start => Some(LineKind::NoProblem),
-            Stage::Within { missing: 0, .. } => None,
-            Stage::Within { .. } => Some(LineKind::TooFew),
-        };
-        if let Some(kind) = kind {
+        if let Some(kind) = self.lack() {
             let explanation = Explanation::of_end(line, kind, self.place());
             return Err(ExplainedFault {
                 fault: TextFault::Line { line, kind },
                 explanation: Some(explanation),
             });
         }
+        Ok(self.into_job())
+    }
+
+    /// What is missing, if something is.
+    fn lack(&self) -> Option<LineKind>
+        ensures { MatchOption result (is_complete_at self.now.stage ≡ true) (IsLackAt self.now.stage) }
+    {
+        match self.stage {
+            Stage::Start => Some(LineKind::NoProblem),
+            Stage::Within { missing: 0, .. } => None,
+            Stage::Within { .. } => Some(LineKind::TooFew),
+        }
+    }
+
+    /// The job, where nothing is missing.
+    pub fn into_job(self) -> Job
+        requires complete { is_complete_at self.stage ≡ true }
+        ensures job { (progress_of self).records ≡ records_of (content_of result) }
+        ensures asks { is_request_at self.stage ≡ true
+            → asks (content_of result).question (content_of result).added ≡ true }
+    {
         let Draft {
             stage,
             vertices,
@@ -372,11 +411,11 @@ impl Draft {
             } => (before_added, Some(added)),
             _ => (stage, None),
         };
-        Ok(Job {
+        Job {
             n: vertices,
             arcs,
             ask: ask_at(asked, sources, pairs),
             added,
-        })
+        }
     }
 }

@@ -28,9 +28,14 @@ pub enum LineKind {
     NoProblem,
 }
 
-impl fmt::Display for LineKind {
-    fn fmt<W: fmt::Write>(&self, f: &mut fmt::Formatter<W>) -> fmt::Result {
-        f.write_str(match self {
+impl LineKind {
+    ghost use Rattle.dimacs_text.specs.Faults.{words_of};
+
+    /// What is wrong, in words.
+    pub fn words(self) -> &'static str
+        ensures { result.now ≡ words_of self }
+    {
+        match self {
             LineKind::Unknown => "unknown line",
             LineKind::Fields => "wrong number of fields",
             LineKind::Number => "not a number",
@@ -39,7 +44,13 @@ impl fmt::Display for LineKind {
             LineKind::TooMany => "too many lines",
             LineKind::TooFew => "too few lines",
             LineKind::NoProblem => "no problem line",
-        })
+        }
+    }
+}
+
+impl fmt::Display for LineKind {
+    fn fmt<W: fmt::Write>(&self, f: &mut fmt::Formatter<W>) -> fmt::Result {
+        f.write_str(self.words())
     }
 }
 

@@ -190,7 +190,7 @@ impl Entry {
 }
 
 /// What follows the leading fields, where a line begins with them.
-fn strip_leading<'a>(line: &'a [u8], leading: &[&[u8]]) -> Option<&'a [u8]>
+pub fn strip_leading<'a>(line: &'a [u8], leading: &[&[u8]]) -> Option<&'a [u8]>
     ensures { MatchOption result
         (begins_with (fields_of leading.now) (fields line.now) ≡ false)
         (λ rest. FollowsLeading (fields_of leading.now) (fields line.now) (fields rest.now)) }
@@ -251,7 +251,7 @@ fn read_numbers<const N: usize>(args: &[u8], limits: [Limit; N]) -> Result<[u32;
 }
 
 /// What a line of the form says by what follows its leading fields.
-fn read_form(form: Form, args: &[u8], vertices: u32) -> Result<Entry, LineKind>
+pub fn read_form(form: Form, args: &[u8], vertices: u32) -> Result<Entry, LineKind>
     ensures { entry_said result
         ≡ in_form form (numbers_within (limits vertices form) (fields args.now)) }
 {

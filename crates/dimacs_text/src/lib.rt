@@ -10,6 +10,7 @@
 //! lines of an answer, can be called by this crate's name too.
 #![tactic(auto)]
 
+mod after_graph;
 mod arc_runs;
 mod draft;
 mod explanation;
@@ -20,8 +21,10 @@ mod job;
 pub mod laws;
 mod line;
 mod reader;
+mod request_draft;
 mod stage;
 
+pub use after_graph::{begins_section, begins_walks};
 pub use answer_lines::{
     put_components, put_distances, put_grown, put_label, put_labels, put_pair, put_source, put_walk,
 };
@@ -31,3 +34,4 @@ pub use fault::{LineKind, TextFault};
 pub use form::{Form, Item, Limit, MAX_ADDED, MAX_QUERIES, MAX_TEXT_ARCS, Section};
 pub use job::{Ask, Job};
 pub use reader::{JobReader, read_job};
+pub use request_draft::RequestDraft;

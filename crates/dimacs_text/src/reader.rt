@@ -4,6 +4,7 @@
 //! only those of the last line are kept until the rest of it comes.
 
 ghost use Rattle.std.specs.Prelude.{◌≡◌, ◌^◌, ◌≤◌, ◌+◌, ◌++◌, ℕ, All, List, [], length, take, ◌<◌, None, IfOk, IfErr};
+ghost use Rattle.dimacs_text.specs.Lines.{lines};
 ghost use Rattle.std.specs.Prelude.{OnOk};
 ghost use Rattle.dimacs_text.specs.Jobs.{content_of, IsJobText, IsWithinLimits};
 ghost use Rattle.dimacs_text.specs.Explaining.{Explains};
@@ -13,6 +14,7 @@ ghost use Rattle.dimacs_text.specs.reader.FastArc.{EndsWithFeed, HasNoFeed};
 ghost use Rattle.dimacs_text.specs.reader.Drafts.{AreArcLines};
 ghost use Rattle.dimacs_text.specs.Reading.{IsReadAhead, Reads};
 ghost use Rattle.dimacs_text.specs.Reading.{HasRead, HasReadLines, HasReadText};
+ghost use Rattle.dimacs_text.specs.GraphTexts.{HasGraph, IsGraphText};
 
 use crate::arc_runs::{ArcRun, ReadAhead};
 use crate::draft::Draft;
@@ -22,6 +24,9 @@ use crate::job::Job;
 use crate::line::{after_last_feed, line_end};
 use route_walks::Memory;
 use std::alloc::Global;
+
+/// Bytes of the shortest line of an arc, `a 1 1 0` and a line feed.
+const SHORTEST_ARC: usize = 8;
 
 /// The lines that were read, all of them whole.
 #[derive(Debug, Drop)]
@@ -226,6 +231,86 @@ impl JobReader {
         self.lines.draft.arcs_so_far()
     }
 
+    /// Reads the next bytes as `feed` does, up to the line with which the graph is whole, or to one that is wrong: how
+    /// many bytes it took. If there are more, the graph is whole or a line is wrong.
+    pub fn feed_graph(&mut self, bytes: &[u8]) -> Result<usize, Memory>
+        ensures place { IfOk result (λ count. count ≤ length bytes.now) }
+        ensures reads { IfOk result (λ count. Reads self.old self.new (take count bytes.now)) }
+    {
+        let mut at = 0;
+        while at < bytes.len() && !self.is_refused() && !self.has_graph() {
+            let rest = &bytes[at..];
+            let (part, _) = rest.split_at(self.graph_part(rest));
+            self.feed(part)?;
+            at += part.len();
+        }
+        Ok(at)
+    }
+
+    /// The number of the next line, or of the first that is wrong.
+    pub fn next_line(&self) -> u64 {
+        self.lines.line
+    }
+
+    /// Whether a line is wrong.
+    pub fn is_refused(&self) -> bool {
+        self.lines.fault.is_some()
+    }
+
+    /// Whether the problem line and all arcs that it counts were read, nothing after them, and no line is wrong.
+    pub fn has_graph(&self) -> bool
+        ensures { OnTrue result (HasGraph self.now) }
+    {
+        if self.lines.fault.is_some() || !self.unfinished.is_empty() {
+            return false;
+        }
+        matches!(self.lines.draft.stage.missing_arcs(), Some(0))
+    }
+
+    /// How many of the next bytes are surely of the graph: each arc that is missing has a line of its own.
+    fn graph_part(&self, bytes: &[u8]) -> usize
+        requires some { 0 < length bytes.now }
+        ensures some { 0 < result }
+        ensures place { result ≤ length bytes.now }
+    {
+        let lines = match self.arcs_so_far() {
+            Some((read, all)) => all.saturating_sub(read).max(1),
+            None => 1,
+        };
+        if bytes.len() / SHORTEST_ARC < lines - 1 {
+            bytes.len()
+        } else {
+            after_feeds(bytes, lines)
+        }
+    }
+
+    /// The graph of a text without sections, which has been read to its last line feed, and the number of the line that
+    /// comes next. A text that is no such graph's is refused with the number of its first wrong line and what is wrong
+    /// there.
+    pub fn finish_graph(self) -> Result<(Job, u64), TextFault>
+        ensures graph { (text : List ℕ) → HasRead self text
+            → IfOk result (λ graph. IsGraphText text (content_of graph.0)) }
+        ensures within { (text : List ℕ) → HasRead self text
+            → IfOk result (λ graph. IsWithinLimits (content_of graph.0)) }
+        ensures next { (text : List ℕ) → HasRead self text
+            → IfOk result (λ graph. graph.1 ≡ length (lines text) + 1) }
+        ensures joined { (text more : List ℕ) → HasRead self text
+            → IfOk result (λ graph. lines (text ++ more) ≡ lines text ++ lines more) }
+    {
+        let line = self.lines.line;
+        let is_whole = self.has_graph();
+        let graph = self.finish()?;
+        if is_whole {
+            Ok((graph, line))
+        } else {
+            // A section was read, or bytes of a line without its line feed.
+            Err(TextFault::Line {
+                line,
+                kind: LineKind::Misplaced,
+            })
+        }
+    }
+
     /// The job of the text. A text that is no job's is refused with the number of its first wrong line and
     /// what is wrong there.
     pub fn finish(self) -> Result<Job, TextFault>
@@ -255,6 +340,24 @@ impl JobReader {
         let JobReader { lines, unfinished } = self;
         lines.finish(&unfinished)
     }
+}
+
+/// The place after this many line feeds, or after all bytes if there are fewer.
+fn after_feeds(bytes: &[u8], count: usize) -> usize
+    requires some { 0 < length bytes.now }
+    ensures some { 0 < result }
+    ensures place { result ≤ length bytes.now }
+{
+    let mut left = count;
+    for (place, byte) in bytes.iter().enumerate() {
+        if *byte == b'\n' {
+            left = left.saturating_sub(1);
+            if left == 0 {
+                return place + 1;
+            }
+        }
+    }
+    bytes.len()
 }
 
 /// The job of a text: the text of a graph file (`.gr`), perhaps followed by that of a file of sources

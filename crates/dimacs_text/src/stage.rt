@@ -16,6 +16,7 @@ pub enum Stage {
 
 impl Stage {
     ghost use Rattle.dimacs_text.specs.reader.Machine.{can_come, misfit_at, one_less, phase_of};
+    ghost use Rattle.dimacs_text.specs.reader.Requests.{is_request_at, is_section_at};
 
     /// Whether a line of the form can come here with some counts.
     pub fn can_come(self, form: Form) -> bool
@@ -56,6 +57,36 @@ impl Stage {
                 missing,
             } => Some(missing),
             _ => None,
+        }
+    }
+
+    /// Whether a section after the graph has begun.
+    pub fn is_in_section(self) -> bool
+        ensures { result ≡ is_section_at self }
+    {
+        match self {
+            Stage::Start => false,
+            Stage::Within { section, .. } => match section {
+                Section::Problem => false,
+                Section::Sources => true,
+                Section::Pairs => true,
+                Section::Added => true,
+            },
+        }
+    }
+
+    /// Whether a section after the graph is complete.
+    pub fn is_request(self) -> bool
+        ensures { result ≡ is_request_at self }
+    {
+        match self {
+            Stage::Start => false,
+            Stage::Within { section, missing } => match section {
+                Section::Problem => false,
+                Section::Sources => missing == 0,
+                Section::Pairs => missing == 0,
+                Section::Added => missing == 0,
+            },
         }
     }
 

@@ -7,15 +7,17 @@ ghost use Rattle.dimacs_text.specs.Reading.{IsReadAhead};
 
 use crate::texts::readers::{NOTHING, ONE_ARC};
 use crate::texts::several::large;
-use crate::texts::{GRAPH, SHORT, assert_added, assert_job, joined};
+use crate::texts::{GRAPH, SHORT, assert_added, assert_job, assert_pairs, joined};
 use answer_lines::{
-    put_components, put_distances, put_grown, put_label, put_labels, put_pair, put_source, put_walk,
+    put_components, put_distances, put_grown, put_label, put_labels, put_pair, put_ready,
+    put_refusal, put_source, put_walk,
 };
 use dimacs_text::{
-    ExplainedFault, Job, JobReader, LineKind, Parts, ReadAhead, TextFault, read_job,
+    ExplainedFault, Job, JobReader, LineKind, Parts, ReadAhead, RequestDraft, TextFault, read_job,
     read_side_by_side,
 };
 use job_reader::{ReadFault, read_job_from};
+use request_reader::{Request, RequestReader};
 use route_walks::{ArcRec, INF, Memory, refusable};
 use std::alloc::Global;
 use std::process::Abort;
@@ -43,6 +45,8 @@ enum Line {
     Walk,
     Pair,
     Grown,
+    Ready,
+    Refusal,
 }
 
 fn put(out: &mut Vec<u8>, line: Line) -> Result<(), Memory> {
@@ -55,6 +59,8 @@ fn put(out: &mut Vec<u8>, line: Line) -> Result<(), Memory> {
         Line::Walk => put_walk(out, 15, &WALK),
         Line::Pair => put_pair(out, 0, 5, INF),
         Line::Grown => put_grown(out, 1),
+        Line::Ready => put_ready(out, 268435456, 1074790400),
+        Line::Refusal => put_refusal(out, 17, "out of range"),
     }
 }
 
@@ -271,6 +277,34 @@ fn of_job_reader_new(rt: HostRuntime) -> Result<(), Fail> {
     Ok(())
 }
 
+/// A graph, and bytes of the request after it.
+const GRAPH_FIRST: &[u8] = b"p sp 2 1\na 1 2 7\np aux";
+
+#[test]
+fn of_job_reader_feed_graph(rt: HostRuntime) -> Result<(), Fail> {
+    let alloc = rt.alloc();
+    let mut reader = JobReader::new(alloc);
+    let fed = match refusable!(alloc, reader.feed_graph(GRAPH_FIRST)) {
+        Ok(fed) => fed,
+        Err(Memory) => {
+            reader = JobReader::new(alloc);
+            reader.feed_graph(GRAPH_FIRST)?
+        }
+    };
+    assert!(rt; fed == 17 && reader.has_graph());
+    Ok(())
+}
+
+#[test]
+fn of_job_reader_finish_graph(rt: HostRuntime) -> Result<(), Fail> {
+    let alloc = rt.alloc();
+    let mut reader = JobReader::new(alloc);
+    reader.feed_graph(GRAPH_FIRST)?;
+    let (graph, line) = refusable!(alloc, reader.finish_graph())?;
+    assert!(rt; graph.n == 2 && line == 3);
+    Ok(())
+}
+
 #[test]
 fn of_read_job_from(rt: HostRuntime) -> Result<(), Fail> {
     expect_one_arc(&rt, rt.alloc(), ONE_ARC, Read::Reader)
@@ -318,4 +352,78 @@ fn of_put_pair(rt: HostRuntime) -> Result<(), Fail> {
 #[test]
 fn of_put_grown(rt: HostRuntime) -> Result<(), Fail> {
     expect_put(&rt, rt.alloc(), Line::Grown, "c\ng 1\n")
+}
+
+#[test]
+fn of_put_ready(rt: HostRuntime) -> Result<(), Fail> {
+    expect_put(&rt, rt.alloc(), Line::Ready, "c\nr 268435456 1074790400\n")
+}
+
+#[test]
+fn of_put_refusal(rt: HostRuntime) -> Result<(), Fail> {
+    expect_put(&rt, rt.alloc(), Line::Refusal, "c\ne 17 out of range\n")
+}
+
+// A section of one source, by another draft where memory was refused.
+fn drafted(alloc: Global, vertices: u32) -> Result<RequestDraft, TextFault> {
+    let mut draft = refusable!(alloc, RequestDraft::new(alloc, vertices));
+    draft.read(b"p aux sp ss 1", 10)?;
+    Ok(draft)
+}
+
+#[test]
+fn of_request_draft_new(rt: HostRuntime) -> Result<(), Fail> {
+    let draft = drafted(rt.alloc(), 6)?;
+    assert!(rt; draft.is_short() && !draft.is_whole());
+    Ok(())
+}
+
+#[test]
+fn of_request_draft_read(rt: HostRuntime) -> Result<(), Fail> {
+    let alloc = rt.alloc();
+    let mut draft = drafted(alloc, 6)?;
+    if let Err(fault) = refusable!(alloc, draft.read(b"s 3", 11)) {
+        assert!(rt; fault == TextFault::Memory);
+        draft = drafted(alloc, 6)?;
+        draft.read(b"s 3", 11)?;
+    }
+    assert!(rt; draft.is_whole());
+    let asked = format!(in alloc; "{:?}", draft.finish().ask)?;
+    assert!(rt; asked.as_str() == "Sources([2])");
+    Ok(())
+}
+
+#[test]
+fn of_request_reader_new(rt: HostRuntime) -> Result<(), Fail> {
+    let alloc = rt.alloc();
+    let requests = refusable!(alloc, RequestReader::new(alloc, 6, 10));
+    assert!(rt; requests.lacking() == None);
+    Ok(())
+}
+
+// The pairs that a request asks, or the line at which memory was refused.
+fn asked(found: Option<Request>) -> Result<Option<Job>, u64> {
+    match found {
+        Some(Request::Asked { job, .. }) => Ok(Some(job)),
+        Some(Request::NoMemory { line }) => Err(line),
+        _ => Ok(None),
+    }
+}
+
+// Where memory is refused the request is refused, and the next one is answered.
+#[test]
+fn of_request_reader_read(rt: HostRuntime) -> Result<(), Fail> {
+    let alloc = rt.alloc();
+    let mut requests = RequestReader::new(alloc, 6, 10);
+    requests.read(b"p aux sp p2p 1");
+    let job = match asked(refusable!(alloc, requests.read(b"q 1 6")).found) {
+        Ok(job) => job,
+        Err(line) => {
+            assert!(rt; line == 11);
+            requests.read(b"p aux sp p2p 1");
+            asked(requests.read(b"q 1 6").found).ok().flatten()
+        }
+    };
+    assert_pairs(&rt, &job.expect(&rt, "the pair"), &[(0, 5)]);
+    Ok(())
 }

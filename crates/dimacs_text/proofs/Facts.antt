@@ -1,0 +1,10 @@
+-- The lemmas that crates above may cite: what lines are, and what whole requests are.
+pub use Rattle.dimacs_text.proofs.TextLaws.{no_fault_among, one_fault_among, one_job_among}
+pub use Rattle.dimacs_text.proofs.RequestLimits.{request_within}
+pub use Rattle.dimacs_text.proofs.GraphTextLemmas.{lines_test}
+pub use Rattle.dimacs_text.proofs.LineLemmas.{drop_next, empty_length, filled_length, lines_whole}
+pub use Rattle.dimacs_text.proofs.ReaderLemmas.{keeps_more}
+pub use Rattle.dimacs_text.proofs.AfterGraphLemmas.{silent_begins}
+pub use Rattle.dimacs_text.proofs.RequestLemmas.{empty_unasked}
+pub use Rattle.dimacs_text.proofs.RequestLaws.{fault_inside, fault_or_end, silent_right, silent_unasked}
+pub use Rattle.dimacs_text.proofs.OneRequest.{one_request, IsOneRequest}

@@ -1,0 +1,153 @@
+-- A reader that has come to the end of a graph: what its text is, and how many lines it has.
+use Rattle.std.proofs.Common.{◌≡◌, ℕ, suc, ◌+◌, Bool, true, false, cond, eqb, List, [], ◌∷◌, ◌++◌, length, drop, map}
+use Rattle.std.proofs.Common.{Option, None, Ok, refl, sym, ap, ap₂, subst, ◌∙◌, arith}
+use Rattle.std.proofs.lemmas.List.{append-nil, length-map}
+use Rattle.std.specs.List.{onto_first}
+use Rattle.route_walks.specs.declared.graph.TheConstants.{MAX_VERTICES}
+use Rattle.dimacs_text.specs.declared.draft.Draft.{Draft}
+use Rattle.dimacs_text.specs.declared.form.Section.TheVariants.{Problem}
+use Rattle.dimacs_text.specs.declared.reader.JobReader.{JobReader}
+use Rattle.dimacs_text.specs.declared.stage.Stage.{Stage}
+use Rattle.dimacs_text.specs.declared.stage.Stage.TheVariants.{Within}
+use Rattle.dimacs_text.specs.Forms.{Reading, Record, reading, readings, vertices_after}
+use Rattle.dimacs_text.specs.GraphTexts.{HasGraph, IsGraphText}
+use Rattle.dimacs_text.specs.Jobs.{Content, absent, arc_record, problem_record, records_of, IsJobText}
+use Rattle.dimacs_text.specs.Lines.{lines}
+use Rattle.dimacs_text.specs.Reading.{HasRead, HasReadBy, Keeps}
+use Rattle.dimacs_text.specs.reader.Drafts.{IsReadTo, progress_of, records_by}
+use Rattle.dimacs_text.proofs.ReaderLemmas.{all_said, finished}
+use Rattle.dimacs_text.proofs.TextLaws.{one_job}
+
+-- the graph of the arcs that were read
+abbrev graph_of : Draft → Content
+graph_of draft = record { n = draft.vertices; arcs = draft.arcs.items; question = absent; added = None }
+
+abbrev graph_lines : Draft → List Record
+graph_lines draft = problem_record draft.vertices (length draft.arcs.items) ∷ map arc_record draft.arcs.items
+
+-- the reader has read the text to its end, whatever comes after
+read_whole : (reader : JobReader) (text more : List ℕ) → HasGraph reader → HasRead reader text
+    → IsReadTo (text ++ more) more reader.lines.line (progress_of reader.lines.draft)
+read_whole reader text more has r =
+    let reads = subst (λ o. HasReadBy o reader.lines.draft reader.lines.line r.whole) has.right r.lines in
+    let keeps = subst (λ o. Keeps o r.whole reader.unfinished.items text) has.right r.keeps in
+    let same : text ≡ r.whole = keeps.0 ∙ ap (λ kept. r.whole ++ kept) has.kept ∙ append-nil r.whole in
+    subst (λ t. IsReadTo (t ++ more) more reader.lines.line (progress_of reader.lines.draft)) (sym same) (reads.1 more)
+
+graph_records_are : (draft : Draft) → draft.stage ≡ Within Problem 0
+    → (progress_of draft).records ≡ records_of (graph_of draft)
+graph_records_are draft complete =
+    ap (λ (stage : Stage). records_by stage draft.before_added draft.vertices draft.arcs.items draft.sources.items
+    draft.pairs.items draft.added.items) complete
+    ∙ ap (λ n. problem_record draft.vertices n ∷ map arc_record draft.arcs.items) (omega arith)
+    ∙ sym (append-nil (graph_lines draft))
+    ∙ sym (append-nil (graph_lines draft ++ []))
+
+-- its job is the graph
+pub graph_text : (reader : JobReader) (text : List ℕ) (job : Content) → HasGraph reader → HasRead reader text
+    → IsJobText text job → IsGraphText text job
+graph_text reader text job has r is_job =
+    let read = subst (λ t. IsReadTo t [] reader.lines.line (progress_of reader.lines.draft)) (append-nil text)
+    (read_whole reader text [] has r) in
+    let is_graph = finished text reader.lines.line (progress_of reader.lines.draft) (graph_of reader.lines.draft) read
+    (graph_records_are reader.lines.draft has.complete) in
+    let same : job ≡ graph_of reader.lines.draft = one_job text job (graph_of reader.lines.draft) is_job is_graph in
+    record { is_job = is_job; unasked = ap (λ j. j.question) same; unadded = ap (λ j. j.added) same }
+
+-- ---- how many lines it has
+
+readings_length : (n : ℕ) (ls : List (List ℕ)) → length (readings n ls) ≡ length ls
+unfolding readings
+readings_length n [] = refl
+readings_length n (l ∷ ls) = ap (λ k. suc k) (readings_length (vertices_after n (reading n l)) ls)
+
+abbrev as_reading : Option Record → Reading
+as_reading said = Ok said
+
+-- the number of the next line
+pub next_line : (reader : JobReader) (text : List ℕ) → HasGraph reader → HasRead reader text
+    → reader.lines.line ≡ length (lines text) + 1
+next_line reader text has r =
+    let read = subst (λ t. IsReadTo t [] reader.lines.line (progress_of reader.lines.draft)) (append-nil text)
+    (read_whole reader text [] has r) in
+    let said = ap (λ rs. length rs) (all_said (lines text) reader.lines.line (progress_of reader.lines.draft) read) in
+    omega (
+      arith,
+      read.count,
+      said,
+      readings_length MAX_VERTICES (lines text),
+      length-map read.said as_reading,
+    )
+
+-- ---- the lines of what comes after it
+
+pub lines_test : (test : Bool) (b : ℕ) (bs : List ℕ) → eqb b 10 ≡ test
+    → lines (b ∷ bs) ≡ cond test ([] ∷ lines bs) (onto_first b (lines bs))
+lines_test test b bs e = rw e refl
+
+first_of : (b : ℕ) (ls : List (List ℕ)) → (l : List ℕ) × (rest : List (List ℕ)) × (onto_first b ls ≡ l ∷ rest)
+first_of b [] = (b ∷ [], [], refl)
+first_of b (l ∷ ls) = (b ∷ l, ls, refl)
+
+some_line_by : (test : Bool) (b : ℕ) (bs : List ℕ) → eqb b 10 ≡ test
+    → (l : List ℕ) × (rest : List (List ℕ)) × (lines (b ∷ bs) ≡ l ∷ rest)
+some_line_by true b bs e = ([], lines bs, lines_test true b bs e)
+some_line_by false b bs e =
+    let first = first_of b (lines bs) in
+    (first.0, first.1, lines_test false b bs e ∙ first.2)
+
+some_line : (b : ℕ) (bs : List ℕ) → (l : List ℕ) × (rest : List (List ℕ)) × (lines (b ∷ bs) ≡ l ∷ rest)
+some_line b bs = some_line_by (eqb b 10) b bs refl
+
+-- the lines of what comes after a text are those that are left without the text's own
+abbrev IsOpen : List ℕ → Type 0
+IsOpen text = (more : List ℕ) → drop (length (lines text)) (lines (text ++ more)) ≡ lines more
+
+-- an unfinished line is not open: a line feed would only end it
+one_byte_ends : (b : ℕ) → eqb b 10 ≡ false → IsOpen (b ∷ []) → ⊥
+one_byte_ends b e opened =
+    let left = opened (10 ∷ []) in
+    let alone : lines (b ∷ []) ≡ (b ∷ []) ∷ [] = lines_test false b [] e in
+    let both : lines (b ∷ 10 ∷ []) ≡ (b ∷ []) ∷ [] = lines_test false b (10 ∷ []) e in
+    let none : drop 1 ((b ∷ []) ∷ []) ≡ [] ∷ [] =
+    sym (ap₂ (λ ls all. drop (length ls) all) alone both) ∙ left in
+    cc
+
+lines_joined_by : (test : Bool) (b : ℕ) (bs : List ℕ) → eqb b 10 ≡ test
+    → (IsOpen bs → (more : List ℕ) → lines (bs ++ more) ≡ lines bs ++ lines more)
+    → IsOpen (b ∷ bs) → (more : List ℕ) → lines (b ∷ (bs ++ more)) ≡ lines (b ∷ bs) ++ lines more
+lines_joined_by true b bs e joined opened more =
+    let rest : IsOpen bs = λ next.
+    ap₂ (λ ls all. drop (length ls) all) (sym (lines_test true b bs e)) (sym (lines_test true b (bs ++ next) e))
+    ∙ opened next in
+    lines_test true b (bs ++ more) e
+    ∙ ap (λ ls. [] ∷ ls) (joined rest more)
+    ∙ ap (λ ls. ls ++ lines more) (sym (lines_test true b bs e))
+lines_joined_by false b [] e joined opened more = absurd (one_byte_ends b e opened)
+lines_joined_by false b (c ∷ bs) e joined opened more =
+    let first = some_line c bs in
+    let alone : lines (b ∷ c ∷ bs) ≡ (b ∷ first.0) ∷ first.1 =
+    lines_test false b (c ∷ bs) e ∙ ap (λ ls. onto_first b ls) first.2 in
+    let rest : IsOpen (c ∷ bs) = λ next.
+    let longer = some_line c (bs ++ next) in
+    let both : lines (b ∷ c ∷ (bs ++ next)) ≡ (b ∷ longer.0) ∷ longer.1 =
+    lines_test false b (c ∷ (bs ++ next)) e ∙ ap (λ ls. onto_first b ls) longer.2 in
+    ap₂ (λ ls all. drop (length ls) all) first.2 longer.2
+    ∙ sym (ap₂ (λ ls all. drop (length ls) all) alone both)
+    ∙ opened next in
+    lines_test false b (c ∷ (bs ++ more)) e
+    ∙ ap (λ ls. onto_first b ls) (joined rest more ∙ ap (λ ls. ls ++ lines more) first.2)
+    ∙ ap (λ ls. ls ++ lines more) (sym alone)
+
+lines_joined : (text : List ℕ) → IsOpen text → (more : List ℕ) → lines (text ++ more) ≡ lines text ++ lines more
+lines_joined [] opened more = refl
+lines_joined (b ∷ bs) opened more = lines_joined_by (eqb b 10) b bs refl (lines_joined bs) opened more
+
+-- the lines of the graph end with its last one
+pub lines_after : (reader : JobReader) (text : List ℕ) → HasGraph reader → HasRead reader text
+    → (more : List ℕ) → lines (text ++ more) ≡ lines text ++ lines more
+lines_after reader text has r =
+    lines_joined text
+    (λ more.
+    let read = read_whole reader text more has r in
+    ap (λ k. drop k (lines (text ++ more))) (omega (arith, read.count, next_line reader text has r)) ∙ read.left)

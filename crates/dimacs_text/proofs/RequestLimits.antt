@@ -1,0 +1,114 @@
+-- The records of a whole request are within their limits, and so is its job.
+use Rattle.std.proofs.Common.{◌≡◌, ◌≤◌, ℕ, List, [], ◌∷◌, ◌++◌, length, map, get_or, Option, Some, None, Ok, All}
+use Rattle.std.proofs.Common.{refl, sym, ap, subst, append-nil, ◌∙◌, arith}
+use Rattle.std.proofs.lemmas.List.Elements.{All-nil}
+use Rattle.route_walks.specs.declared.graph.ArcRec.{ArcRec}
+use Rattle.route_walks.specs.declared.graph.TheConstants.{MAX_VERTICES}
+use Rattle.dimacs_text.specs.declared.form.TheConstants.{MAX_TEXT_ARCS}
+use Rattle.dimacs_text.specs.Lines.{fields, without_cr}
+use Rattle.dimacs_text.specs.Forms.{Record, fields_reading, vertices_next}
+use Rattle.dimacs_text.specs.Jobs.{Content, Question, absent, from_sources, of_pairs, arc_record, source_record}
+use Rattle.dimacs_text.specs.Jobs.{pair_record, problem_record, records_of, records_of_question, records_of_added}
+use Rattle.dimacs_text.specs.Jobs.{records_among, IsAddedWithin, IsArcWithin, IsQuestionWithin, IsWithinLimits}
+use Rattle.dimacs_text.specs.AfterGraph.{after_graph, plain, reading_after, IsWhole}
+use Rattle.dimacs_text.proofs.Limits.{IsWithin, AreWithin, fields_within, question_within, added_within}
+use Rattle.dimacs_text.proofs.TextLaws.{graph_first, rest_of}
+
+-- each record is within its limits, where vertices count to the same number
+abbrev AllWithin : ℕ → List Record → Type 0
+AllWithin n [] = Unit {0}
+AllWithin n (r ∷ rs) = IsWithin n r × AllWithin n rs
+
+lines_within : (n : ℕ) (ls : List (List ℕ)) (said : List (Option Record))
+    → map (λ l. reading_after n l) ls ≡ map (λ s. Ok s) said
+    → AllWithin n (records_among said)
+unfolding reading_after
+lines_within n [] [] e = tt
+lines_within n [] (s ∷ said) e = absurd (cc)
+lines_within n (l ∷ ls) [] e = absurd (cc)
+lines_within n (l ∷ ls) (None ∷ said) e =
+    let rest : map (λ l. reading_after n l) ls ≡ map (λ s. Ok s) said = cc in
+    lines_within n ls said rest
+lines_within n (l ∷ ls) (Some r ∷ said) e =
+    let first : fields_reading n (plain (fields (without_cr l))) ≡ Ok (Some r) = cc in
+    let rest : map (λ l. reading_after n l) ls ≡ map (λ s. Ok s) said = cc in
+    (fields_within n (plain (fields (without_cr l))) r first, lines_within n ls said rest)
+
+-- so they are, one after the other, where none is a problem line
+items_within : {X : Type 0} (n : ℕ) (rec : X → Record) (xs : List X) (rest : List Record)
+    → ((x : X) → vertices_next n (rec x).form (get_or (rec x).numbers 0 0) ≡ n)
+    → (AllWithin n rest → AreWithin n rest) → AllWithin n (map rec xs ++ rest)
+    → AreWithin n (map rec xs ++ rest)
+items_within n rec [] rest same later all = later all
+items_within n rec (x ∷ xs) rest same later all = (
+  all.0,
+  subst (λ v. AreWithin v (map rec xs ++ rest)) (sym (same x)) (items_within n rec xs rest same later all.1),
+)
+
+added_all : (n : ℕ) (added : Option (List ArcRec))
+    → AllWithin n (records_of_added added)
+    → AreWithin n (records_of_added added)
+added_all n None all = tt
+added_all n (Some arcs) all = (
+  all.0,
+  subst (λ rs. AreWithin n rs) (append-nil (map arc_record arcs))
+      (items_within n arc_record arcs [] (λ arc. refl) (λ none. tt)
+      (subst (λ rs. AllWithin n rs) (sym (append-nil (map arc_record arcs))) all.1)),
+)
+
+question_all : (n : ℕ) (q : Question) (added : Option (List ArcRec))
+    → AllWithin n (records_of_question q ++ records_of_added added)
+    → AreWithin n (records_of_question q ++ records_of_added added)
+question_all n absent added all = added_all n added all
+question_all n (from_sources vs) added all =
+    (all.0, items_within n source_record vs (records_of_added added) (λ v. refl) (added_all n added) all.1)
+question_all n (of_pairs ps) added all =
+    (all.0, items_within n pair_record ps (records_of_added added) (λ p. refl) (added_all n added) all.1)
+
+no_items : {X : Type 0} (xs : List X) → 0 ≡ length xs → xs ≡ []
+no_items [] e = refl
+no_items (x ∷ xs) e = absurd (omega arith)
+
+-- a request's job has the vertices of the graph, and no arcs
+by_records : (job : Content) (n : ℕ) (rest : List Record)
+    → problem_record n 0 ∷ rest ≡ records_of job
+    → (job.n ≡ n) × (job.arcs ≡ []) × (rest ≡ rest_of job)
+by_records job n rest e =
+    let all : problem_record n 0 ∷ rest
+    ≡ problem_record job.n (length job.arcs) ∷ (map arc_record job.arcs ++ rest_of job) =
+    e ∙ graph_first job in
+    let first : problem_record n 0 ≡ problem_record job.n (length job.arcs) = cc in
+    let none : job.arcs ≡ [] = no_items job.arcs (ap (λ (r : Record). get_or r.numbers 1 0) first) in
+    let later : rest ≡ map arc_record job.arcs ++ rest_of job = cc in (
+      sym (ap (λ (r : Record). get_or r.numbers 0 0) first),
+      none,
+      later ∙ ap (λ arcs. map arc_record arcs ++ rest_of job) none,
+    )
+
+within_by : (n : ℕ) (ls : List (List ℕ)) (job : Content) (said : List (Option Record))
+    → n ≤ MAX_VERTICES → after_graph n ls ≡ map (λ s. Ok s) said → records_among said ≡ records_of job
+    → IsWithinLimits job × (job.n ≡ n) × (job.arcs ≡ [])
+within_by n ls job [] few split is = absurd (cc)
+within_by n ls job (None ∷ said) few split is = absurd (cc)
+within_by n ls job (Some r ∷ said) few split is =
+    let first : r ≡ problem_record n 0 = cc in
+    let rest : map (λ l. reading_after n l) ls ≡ map (λ s. Ok s) said = cc in
+    let parts =
+    by_records job n (records_among said) (ap (λ (x : Record). x ∷ records_among said) (sym first) ∙ is) in
+    let all = subst (λ rs. AllWithin n rs) parts.2 (lines_within n ls said rest) in
+    let both = question_within n job.question (records_of_added job.added) (question_all n job.question job.added all) in (
+      record {
+        vertices = subst (λ v. v ≤ MAX_VERTICES) (sym parts.0) few;
+        arc_count = subst (λ (arcs : List ArcRec). length arcs ≤ MAX_TEXT_ARCS) (sym parts.1) (omega arith);
+        arcs = subst (λ arcs. All (IsArcWithin job.n) arcs) (sym parts.1) (All-nil (IsArcWithin job.n));
+        question = subst (λ v. IsQuestionWithin v job.question) (sym parts.0) both.0;
+        added = subst (λ v. IsAddedWithin v job.added) (sym parts.0) (added_within n job.added both.1);
+      },
+      parts.0,
+      parts.1,
+    )
+
+pub request_within : (n : ℕ) (ls : List (List ℕ)) (job : Content)
+    → n ≤ MAX_VERTICES → IsWhole n ls job
+    → IsWithinLimits job × (job.n ≡ n) × (job.arcs ≡ [])
+request_within n ls job few whole = within_by n ls job whole.is_job.0 few whole.is_job.1 whole.is_job.2

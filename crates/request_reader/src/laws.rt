@@ -1,0 +1,18 @@
+//! Laws of requests: each is the contract of a function that does nothing.
+
+ghost use Rattle.request_reader.specs.Laws.{AJobIsOneRequest, LinesComeToOneList, WhatWasSaidStays};
+
+/// Where memory is not refused, lines after a graph come to at most one list of outcomes.
+pub fn lines_come_to_one_list()
+    ensures { LinesComeToOneList }
+{}
+
+/// What a reader has said of lines is the front of what all lines come to, whatever more of them come.
+pub fn what_was_said_stays()
+    ensures { WhatWasSaidStays }
+{}
+
+/// The lines of a job's text after its graph are one request, if no arcs are added and something is asked.
+pub fn a_job_is_one_request()
+    ensures { AJobIsOneRequest }
+{}

@@ -1,0 +1,22 @@
+//! What comes of the lines after a graph.
+
+use dimacs_text::{Job, LineKind};
+
+/// What a request asks for, or why it is refused.
+#[derive(Debug, Drop)]
+pub enum Request {
+    /// The sources, the pairs or the arcs that are to be added, as a job whose graph has no arcs. Are walks wanted?
+    Asked { job: Job, walks: bool },
+    /// The first line that is wrong, by its number, and what is wrong with it.
+    Wrong { line: u64, kind: LineKind },
+    /// The number of the line at which memory was refused.
+    NoMemory { line: u64 },
+}
+
+/// What comes of a line: first the request that ends before it, and then the one that it completes or that is refused
+/// at it.
+#[derive(Debug, Drop)]
+pub struct Came {
+    pub cut: Option<Request>,
+    pub found: Option<Request>,
+}

@@ -1,0 +1,175 @@
+//! From the lines after a graph to the requests in them.
+
+ghost use Rattle.std.specs.Prelude.{◌≡◌, ◌≤◌, ◌&&◌, ◌++◌, ◌∷◌, [], ℕ, List, true, false, IfNone, IfSome};
+ghost use Rattle.route_walks.specs.declared.graph.TheConstants.{MAX_VERTICES};
+ghost use Rattle.dimacs_text.specs.AfterGraph.{begins_section};
+ghost use Rattle.dimacs_text.specs.RequestDrafts.{HasReadAfter, is_whole};
+ghost use Rattle.request_reader.specs.Requests.{AreRequests, AreShort, Outcome};
+ghost use Rattle.request_reader.specs.Reading.{outcomes_in, outcomes_of, vertices_of, HasReadBefore, HasRequests};
+ghost use Rattle.request_reader.specs.Reading.{IsAskedWithin};
+
+use crate::request::{Came, Request};
+use dimacs_text::{LineKind, RequestDraft, TextFault, begins_section, begins_walks};
+use std::alloc::Global;
+use std::mem::replace;
+
+/// A reader of the requests that follow a graph, line by line.
+#[derive(Debug, Drop)]
+pub struct RequestReader {
+    draft: RequestDraft,
+    /// To what vertices count.
+    vertices: u32,
+    /// The number of the next line.
+    line: u64,
+    /// Has the section line of the request come?
+    has_section: bool,
+    /// Is it that of a section of walks?
+    walks: bool,
+    /// Was the request refused? Then its other lines are passed by.
+    is_refused: bool,
+    alloc: Global,
+}
+
+impl RequestReader {
+    /// After a graph of this many vertices. The next line has this number.
+    pub fn new(alloc: Global, vertices: u32, line: u64) -> RequestReader
+        ensures requests { HasRequests result line [] [] }
+        ensures vertices { vertices_of result ≡ vertices }
+    {
+        RequestReader {
+            draft: RequestDraft::new(alloc, vertices),
+            vertices,
+            line,
+            has_section: false,
+            walks: false,
+            is_refused: false,
+            alloc,
+        }
+    }
+
+    /// Reads the next line, without its line feed, and says what comes of it.
+    pub fn read(&mut self, line: &[u8]) -> Came
+        ensures requests { (first : ℕ) (all : List (List ℕ)) (outcomes : List Outcome)
+            → HasRequests self.old first all outcomes
+            → HasRequests self.new first (all ++ line.now ∷ []) (outcomes ++ outcomes_of result) }
+        ensures vertices { vertices_of self.new ≡ vertices_of self.old }
+        // What a request asks keeps the limits.
+        ensures within { (first : ℕ) (all : List (List ℕ)) (outcomes : List Outcome)
+            → HasRequests self.old first all outcomes → vertices_of self.old ≤ MAX_VERTICES
+            → IfSome result.found (IsAskedWithin (vertices_of self.old)) }
+        // What ends before the line asks nothing.
+        ensures within_cut { IfSome result.cut (IsAskedWithin (vertices_of self.old)) }
+    {
+        let begins = begins_section(line);
+        let cut = self.end(begins);
+        let found = self.take(line, begins);
+        Came { cut, found }
+    }
+
+    /// Ends the request if the next line is a second section line in it. What is wrong with it, if it wasn't refused
+    /// before?
+    fn end(&mut self, begins: bool) -> Option<Request>
+        ensures requests { (first : ℕ) (all : List (List ℕ)) (line : List ℕ) (outcomes : List Outcome)
+            → HasRequests self.old first all outcomes → begins ≡ begins_section line
+            → HasReadBefore self.new first all (line ∷ []) (outcomes ++ outcomes_in result) }
+        ensures first { (self.new.has_section && begins) ≡ false }
+        ensures within { IfSome result (IsAskedWithin (vertices_of self.old)) }
+        ensures vertices { vertices_of self.new ≡ vertices_of self.old }
+    {
+        if !begins {
+            return None;
+        }
+        if !self.has_section {
+            return None;
+        }
+        let was_refused = self.is_refused;
+        let lacks = self.draft.is_short();
+        self.begin();
+        if was_refused {
+            return None;
+        }
+        if !lacks {
+            return None;
+        }
+        Some(Request::Wrong {
+            line: self.line,
+            kind: LineKind::TooFew,
+        })
+    }
+
+    /// Begins the next request, and gives what was read of the one before.
+    fn begin(&mut self) -> RequestDraft
+        ensures before { result ≡ self.old.draft }
+        ensures draft { HasReadAfter self.old.vertices [] self.new.draft }
+        ensures lacking { is_whole self.new.draft ≡ false }
+        ensures section { self.new.has_section ≡ false }
+        ensures walks { self.new.walks ≡ false }
+        ensures refused { self.new.is_refused ≡ false }
+        ensures vertices { self.new.vertices ≡ self.old.vertices }
+        ensures line { self.new.line ≡ self.old.line }
+    {
+        self.has_section = false;
+        self.walks = false;
+        self.is_refused = false;
+        let next = RequestDraft::new(self.alloc, self.vertices);
+        replace(&mut self.draft, next)
+    }
+
+    /// Reads the next line, which is no second section line of the request.
+    fn take(&mut self, line: &[u8], begins: bool) -> Option<Request>
+        requires begins { begins ≡ begins_section line.now }
+        requires first { (self.old.has_section && begins) ≡ false }
+        ensures requests { (first : ℕ) (all : List (List ℕ)) (outcomes : List Outcome)
+            → HasReadBefore self.old first all (line.now ∷ []) outcomes
+            → HasRequests self.new first (all ++ line.now ∷ []) (outcomes ++ outcomes_in result) }
+        ensures vertices { vertices_of self.new ≡ vertices_of self.old }
+        ensures within { (first : ℕ) (all : List (List ℕ)) (outcomes : List Outcome)
+            → HasReadBefore self.old first all (line.now ∷ []) outcomes → vertices_of self.old ≤ MAX_VERTICES
+            → IfSome result (IsAskedWithin (vertices_of self.old)) }
+    {
+        let number = self.line;
+        self.line = number.saturating_add(1);
+        self.has_section |= begins;
+        self.walks |= begins_walks(line);
+        if self.is_refused {
+            return None;
+        }
+        match self.draft.read(line, number) {
+            Err(TextFault::Memory) => {
+                self.is_refused = true;
+                Some(Request::NoMemory { line: number })
+            }
+            Err(TextFault::Line { line, kind }) => {
+                self.is_refused = true;
+                Some(Request::Wrong { line, kind })
+            }
+            Ok(()) if self.draft.is_whole() => {
+                let walks = self.walks;
+                let draft = self.begin();
+                Some(Request::Asked {
+                    job: draft.finish(),
+                    walks,
+                })
+            }
+            Ok(()) => None,
+        }
+    }
+
+    /// The number of the line one past the last, if a request was begun that lacks lines.
+    pub fn lacking(&self) -> Option<u64>
+        ensures none { (first : ℕ) (all : List (List ℕ)) (outcomes : List Outcome)
+            → HasRequests self.now first all outcomes
+            → IfNone result (AreRequests (vertices_of self.now) first all outcomes) }
+        ensures some { (first : ℕ) (all : List (List ℕ)) (outcomes : List Outcome)
+            → HasRequests self.now first all outcomes
+            → IfSome result (AreShort (vertices_of self.now) first all outcomes) }
+    {
+        if self.is_refused {
+            return None;
+        }
+        if !self.draft.is_short() {
+            return None;
+        }
+        Some(self.line)
+    }
+}

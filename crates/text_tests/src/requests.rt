@@ -1,0 +1,158 @@
+//! Lines after a graph of 2 vertices, and what they come to.
+
+use request_reader::{Request, RequestReader};
+use std::alloc::{AllocError, Global};
+use std::process::Abort;
+use std::test::Fail;
+
+/// Lines, the first of which has the number 2; what each request comes to; and the line one past the last, where the last
+/// request lacks lines.
+type Row = (&'static [&'static str], &'static str, Option<u64>);
+
+const ROWS: [Row; 24] = [
+    // Sections of each kind, and the empty one.
+    (
+        &["p aux sp ss 2", "s 1", "s 2"],
+        "Sources([0, 1]) None false\n",
+        None,
+    ),
+    (
+        &["p aux sp p2p 1", "q 1 2"],
+        "Pairs([(0, 1)]) None false\n",
+        None,
+    ),
+    (
+        &["p aux sp walk 1", "q 1 2"],
+        "Pairs([(0, 1)]) None true\n",
+        None,
+    ),
+    (
+        &["p aux sp add 1", "a 1 2 4"],
+        "Absent Some(1) false\n",
+        None,
+    ),
+    (&["p aux sp p2p 0"], "Pairs([]) None false\n", None),
+    // Blanks, a carriage return, comments and blank lines.
+    (
+        &[" p\taux  sp walk 1\r", "c x", "", "q 1 2"],
+        "Pairs([(0, 1)]) None true\n",
+        None,
+    ),
+    // Walks are wanted of one request alone.
+    (
+        &["p aux sp walk 1", "q 1 2", "p aux sp p2p 1", "q 2 1"],
+        "Pairs([(0, 1)]) None true\nPairs([(1, 0)]) None false\n",
+        None,
+    ),
+    // Nothing more comes, or nothing that says something.
+    (&[], "", None),
+    (&["c nothing", " "], "", None),
+    // A record too many begins the next request, which is refused at it.
+    (
+        &[
+            "p aux sp p2p 1",
+            "q 1 1",
+            "q 2 2",
+            "p aux sp p2p 1",
+            "q 1 2",
+        ],
+        "Pairs([(0, 0)]) None false\ne 4 misplaced line\n",
+        None,
+    ),
+    (
+        &["a 1 1 0", "p aux sp p2p 1", "q 1 2", "p aux sp ss 1", "s 1"],
+        "e 2 too many lines\nSources([0]) None false\n",
+        None,
+    ),
+    (&["x", "p aux sp ss 1", "s 1"], "e 2 unknown line\n", None),
+    // A request that the next section line cuts off.
+    (
+        &["p aux sp ss 2", "s 1", "p aux sp p2p 1", "q 1 1"],
+        "e 4 too few lines\nPairs([(0, 0)]) None false\n",
+        None,
+    ),
+    (
+        &["p aux sp ss 2", "s 1", "p aux sp p2p x", "q 1 1"],
+        "e 4 too few lines\ne 4 not a number\n",
+        None,
+    ),
+    (
+        &["p aux sp walk 2", "q 1 1", "p aux sp walk 0"],
+        "e 4 too few lines\nPairs([]) None true\n",
+        None,
+    ),
+    // A section line that is wrong is one, and that of an unknown section is not.
+    (
+        &["p aux sp ss", "p aux sp ss 0"],
+        "e 2 wrong number of fields\nSources([]) None false\n",
+        None,
+    ),
+    (
+        &["p aux sp walk 1 2", "p aux sp ss 0"],
+        "e 2 wrong number of fields\nSources([]) None false\n",
+        None,
+    ),
+    (
+        &["p aux sp p2q 1", "q 1 1", "p aux sp ss 0"],
+        "e 2 unknown line\n",
+        None,
+    ),
+    (
+        &["p aux sp walkx 1", "q 1 1", "p aux sp ss 0"],
+        "e 2 unknown line\n",
+        None,
+    ),
+    // A vertex that the graph doesn't have; what follows is passed by.
+    (
+        &["p aux sp ss 2", "s 3", "s 1", "s 1", "p aux sp ss 1", "s 2"],
+        "e 3 out of range\nSources([1]) None false\n",
+        None,
+    ),
+    // A second graph.
+    (
+        &["p sp 3 1", "a 1 3 0", "p aux sp ss 1", "s 1"],
+        "e 2 misplaced line\n",
+        None,
+    ),
+    // The end within a request, and after one that was refused.
+    (&["p aux sp ss 2", "s 1"], "", Some(4)),
+    (&["p aux sp walk 1", "c"], "", Some(4)),
+    (&["p aux sp ss 2", "s 3"], "e 3 out of range\n", None),
+];
+
+/// Appends what a request came to, in a line.
+fn put_told(alloc: Global, told: &mut String, request: Option<Request>) -> Result<(), AllocError> {
+    let line = match request {
+        None => return Ok(()),
+        Some(Request::Asked { job, walks }) => {
+            let added = job.added.as_ref().map(|arcs| arcs.len());
+            format!(in alloc; "{:?} {added:?} {walks}\n", job.ask)?
+        }
+        Some(Request::Wrong { line, kind }) => format!(in alloc; "e {line} {kind}\n")?,
+        Some(Request::NoMemory { line }) => format!(in alloc; "e {line} out of memory\n")?,
+    };
+    told.push_str(&line)?;
+    Ok(())
+}
+
+/// Asserts what lines come to.
+fn expect(rt: &impl Abort, alloc: Global, row: &Row) -> Result<(), Fail> {
+    let mut requests = RequestReader::new(alloc, 2, 2);
+    let mut told = String::new(alloc);
+    for line in row.0 {
+        let came = requests.read(line.as_bytes());
+        put_told(alloc, &mut told, came.cut)?;
+        put_told(alloc, &mut told, came.found)?;
+    }
+    assert!(rt; told.as_str() == row.1, "{told}");
+    assert!(rt; requests.lacking() == row.2, "{told}");
+    Ok(())
+}
+
+#[test]
+fn lines_come_to_requests(rt: HostRuntime) -> Result<(), Fail> {
+    for row in &ROWS {
+        expect(&rt, rt.alloc(), row)?;
+    }
+    Ok(())
+}
