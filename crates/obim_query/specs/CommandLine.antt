@@ -67,7 +67,8 @@ operand_rule = record (new_rule (codes "operand")) {
 
 abbrev pub program_rules : List Rule
 program_rules = answer_rule ∷ walks_rule ∷ within_rule ∷ workers_rule ∷ at_once_rule ∷ shift_rule ∷ chunk_rule
-    ∷ flag (codes "progress") ∷ flag (codes "stats") ∷ flag (codes "explain") ∷ operand_rule ∷ []
+    ∷ flag (codes "session") ∷ flag (codes "progress") ∷ flag (codes "stats") ∷ flag (codes "explain") ∷ operand_rule
+    ∷ []
 
 -- a command with a version, and of an option that is given twice the last one counts
 abbrev pub bare_program : App
@@ -150,6 +151,7 @@ pub record AsksFor (rows : List Row) (options : Options) : Type 0 where
       (first_of (codes "chunk") rows) options.asked.settings
   pub at_once : AsksAtOnce (first_of (codes "at-once") rows) options.asked.at_once
   pub limit : options.asked.limit ≡ MAX_BYTES
+  pub session : IsFlag (first_of (codes "session") rows) options.session
   pub stats : IsFlag (first_of (codes "stats") rows) options.stats
   pub progress : IsFlag (first_of (codes "progress") rows) options.progress
   pub explain : IsFlag (first_of (codes "explain") rows) options.explain

@@ -1,5 +1,6 @@
 -- What the status of the program says of the bytes that it took and wrote.
-use Rattle.std.specs.Prelude.{◌≡◌, ◌⊎◌, ℕ, List, Option, Result, Ok, Err}
+use Rattle.std.specs.Prelude.{◌≡◌, ◌⊎◌, ℕ, true, false, List, Option, Result, Ok, Err}
+use Rattle.std.specs.Result.{OnOk}
 use Rattle.std.specs.Io.KnownBytes.{Keeps}
 use Rattle.clap.specs.Words.{Text}
 use Rattle.job_answer.specs.declared.asked.Asked.{Asked}
@@ -7,6 +8,7 @@ use Rattle.job_answer.specs.declared.fault.Fault.{Fault}
 use Rattle.job_answer.specs.Choices.{status_of}
 use Rattle.job_answer.specs.declared.asked.Lines.{Lines}
 use Rattle.job_answer.specs.Outcome.{IsAnsweredBy, IsBegunBy, IsReplyBy}
+use Rattle.session_answer.specs.Conversations.{IsAnsweredSession}
 use Rattle.obim_query.specs.declared.options.Options.{Options}
 use Rattle.obim_query.specs.CommandLine.{AskForText, WordsAskFor}
 
@@ -46,7 +48,24 @@ pub record HasAnswered (words : List Text) (taken_from taken_to given_from given
     : Type 0 where
   pub options : Options
   pub asked : WordsAskFor words options
+  pub one : options.session ≡ false
   pub replied : HasReplied options.asked options.lines taken_from taken_to given_from given_to status
+
+-- The replies of a session, of which the status tells whether all were given.
+pub record HasServed (asked : Asked) (lines : Lines) (taken_from taken_to given_from given_to : Option (List ℕ)) (status : ℕ)
+    : Type 0 where
+  pub result : Result (Unit {0}) Fault
+  -- all was taken, it is a graph and then requests, and exactly their replies were written
+  pub replied : OnOk result (IsAnsweredSession asked.answer lines asked.walks taken_from taken_to given_from given_to)
+  pub status_is : status ≡ status_after result
+
+-- The words ask for a session, and the status is that of its end.
+pub record HasConversed (words : List Text) (taken_from taken_to given_from given_to : Option (List ℕ)) (status : ℕ)
+    : Type 0 where
+  pub options : Options
+  pub asked : WordsAskFor words options
+  pub more : options.session ≡ true
+  pub served : HasServed options.asked options.lines taken_from taken_to given_from given_to status
 
 -- the status of a text that is asked for: 0, or 4 if it can't be printed
 abbrev pub IsTextStatus : ℕ → Type 0
@@ -70,3 +89,4 @@ abbrev pub HasRun : List Text → Option (List ℕ) → Option (List ℕ) → Op
 HasRun words taken_from taken_to given_from given_to status =
     HasNotBegun words taken_from taken_to given_from given_to status
     ⊎ HasAnswered words taken_from taken_to given_from given_to status
+    ⊎ HasConversed words taken_from taken_to given_from given_to status

@@ -3,7 +3,8 @@
 ghost use Rattle.std.specs.Prelude.{◌≡◌, codes, false, IfOk};
 ghost use Rattle.clap.specs.Words.{app_of, rule_of, with_rule};
 ghost use Rattle.obim_query.specs.CommandLine.{answer_rule, at_once_rule, chunk_rule, operand_rule, shift_rule};
-ghost use Rattle.obim_query.specs.CommandLine.{bare_program, flag, program, valued, workers_rule};
+ghost use Rattle.obim_query.specs.CommandLine.{bare_program, flag, program, valued, walks_rule, within_rule};
+ghost use Rattle.obim_query.specs.CommandLine.{workers_rule};
 
 use crate::values::{AT_ONCE, CHUNK, KINDS, SHIFT, WORKERS};
 use clap::{Arg, ArgAction, Command};
@@ -52,6 +53,13 @@ the least vertex that arcs join to V, whichever way they point.
 With added arcs the line `g K` follows the lines of each source, each pair or
 the components, and then the same lines for the graph with these arcs.
 
+With --session requests follow the graph, each a section of sources, of pairs or
+of added arcs, or `p aux sp walk K` and K pairs, whose walks are wanted. Each is
+answered as soon as its last line has come, on the graph with all arcs that were
+added before, and the answer ends with the line `r N M`: the graph has N
+vertices and M arcs. So is the graph itself. A request with a line that is wrong
+is answered by the line `e LINE WORDS` alone, and nothing of it is done.
+
 Example:
   $ printf 'p sp 2 1\\na 1 2 7\\np aux sp ss 1\\ns 1\\n' | obim_query
   s 1
@@ -86,12 +94,30 @@ impl Limits {
 pub(crate) fn command<'a>(alloc: Global, limits: &'a Limits) -> Result<Command<'a>, AllocError>
     ensures { IfOk result (λ command. app_of command ≡ program) }
 {
+    let command = with_settings(alloc, with_answers(alloc)?, limits)?;
+    with_flags(alloc, with_session(alloc, command)?)
+}
+
+/// The command with the options of what is answered.
+fn with_answers<'a>(alloc: Global) -> Result<Command<'a>, AllocError>
+    ensures { IfOk result (λ with. app_of with ≡ with_rule (with_rule (with_rule bare_program answer_rule)
+        walks_rule) within_rule) }
+{
     let help = "Print a shortest path for each cost, of fewest arcs";
     let walks = flag(alloc, "walks", help).short('W');
     let within = option(alloc, "within", "COST", "Leave out vertices that cost more");
     let command = texts(alloc).arg(answer_option(alloc))?;
     let command = command.arg(walks)?.arg(within)?;
-    with_flags(alloc, with_settings(alloc, command, limits)?)
+    Ok(command)
+}
+
+/// The flag of a session.
+fn with_session<'a>(alloc: Global, command: Command<'a>) -> Result<Command<'a>, AllocError>
+    ensures { IfOk result (λ with. app_of with ≡ with_rule (app_of command.entry) (flag (codes "session"))) }
+{
+    let help = "Answer requests after the graph, each at once";
+    let command = command.arg(flag(alloc, "session", help))?;
+    Ok(command)
 }
 
 /// The command with its texts, before it has an argument. Of an option the last one counts.

@@ -42,14 +42,23 @@ fn options_in(alloc: Global, matches: &ArgMatches) -> Result<Options, Misuse>
     if within.is_some() && matches!(answer, Answer::Components) {
         return Err(Misuse::Line(format!(in alloc; "--within needs distances or levels")?));
     }
+    let session = has_flag(matches, "session");
+    let stats = has_flag(matches, "stats");
+    let progress = has_flag(matches, "progress");
+    if session && (stats || progress) {
+        return Err(Misuse::Line(
+            format!(in alloc; "--stats and --progress are for jobs, not for --session")?,
+        ));
+    }
     let Some(asked) = Asked::new(answer, settings, walks, MAX_BYTES) else {
         return Err(Misuse::Line(format!(in alloc; "--walks needs distances or levels")?));
     };
     Ok(Options {
         asked: asked.with_at_once(at_once),
         lines: Lines::of(walks, within),
-        stats: has_flag(matches, "stats"),
-        progress: has_flag(matches, "progress"),
+        session,
+        stats,
+        progress,
         explain: has_flag(matches, "explain"),
         typed,
     })

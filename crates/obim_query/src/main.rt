@@ -13,7 +13,7 @@ ghost use Rattle.job_answer.specs.Choices.{status_of};
 ghost use Rattle.job_answer.specs.Outcome.{IsReplyBy};
 ghost use Rattle.job_answer.specs.Solves.{IsLinesAsked};
 ghost use Rattle.obim_query.specs.CommandLine.{IsText};
-ghost use Rattle.obim_query.specs.Replied.{HasReplied, HasRun, IsRefusalStatus, IsTextStatus};
+ghost use Rattle.obim_query.specs.Replied.{HasReplied, HasRun, HasServed, IsRefusalStatus, IsTextStatus};
 
 mod command;
 mod command_line;
@@ -37,6 +37,7 @@ use options::Options;
 use output::Output;
 use progress::{Progress, Shown};
 use refusals::Refusal;
+use session_answer::answer_session;
 use stats::print_stats;
 use std::convert::AsStr;
 use std::env::Env;
@@ -113,6 +114,7 @@ fn run<
 {
     match parse_options(rt.alloc(), words) {
         Ok(options) if !options.typed && terminals.input => print_error(rt, NO_JOB, USAGE),
+        Ok(options) if options.session => serve(rt, input, output, &options, terminals.error),
         Ok(options) => answer_job(rt, input, output, &options, terminals.error),
         Err(refusal) => print_refusal(rt, refusal),
     }
@@ -172,6 +174,30 @@ fn answer_job<H: AllocGlobal + Eprint + Threads + Wait + Clock + Sync, R: Read, 
             let failure = input.failure.or(output.failure);
             let explanation = progress.explanation;
             print_whole_fault(rt, fault, explanation, failure, options, is_terminal)
+        }
+    }
+}
+
+/// Replies to a graph and the requests after it, and gives the status to end with. If the reader of the replies closed
+/// the pipe, nothing is printed.
+fn serve<H: AllocGlobal + Eprint + Threads + Wait + Clock + Sync, R: Read, W: Write>(
+    rt: &H,
+    input: &mut Input<R>,
+    output: &mut Output<W>,
+    options: &Options,
+    is_terminal: bool,
+) -> u8
+    requires bound { IsLinesAsked options.now.lines }
+    ensures { HasServed options.now.asked options.now.lines (R.remaining input.old.inner) (R.remaining input.new.inner)
+        (W.contents output.old.inner) (W.contents output.new.inner) result }
+{
+    let (asked, lines, gate) = (&options.asked, options.lines, &OpenGate);
+    match answer_session(rt, rt.alloc(), input, output, asked, lines, gate) {
+        Ok(()) => 0,
+        Err(unread) if output.has_no_reader => status(&unread),
+        Err(fault) => {
+            let failure = input.failure.or(output.failure);
+            print_whole_fault(rt, fault, None, failure, options, is_terminal)
         }
     }
 }

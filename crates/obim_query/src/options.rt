@@ -11,6 +11,8 @@ pub(crate) struct Options {
     pub(crate) asked: Asked,
     /// Which lines the block of a source has.
     pub(crate) lines: Lines,
+    /// Whether requests follow the graph, each of which is answered at once.
+    pub(crate) session: bool,
     /// Whether figures are printed after the answer.
     pub(crate) stats: bool,
     /// Whether it is printed how far the answer is.

@@ -29,6 +29,9 @@ low_bound None (lines.Within walks bound) asked =
 pub answer_job-requires-clause-bound : goal.answer_job-requires-clause-bound
 answer_job-requires-clause-bound g c lives longer = low_bound _ _ c.in-Ok.ensures.asked.ask.within
 
+pub serve-requires-clause-bound : goal.serve-requires-clause-bound
+serve-requires-clause-bound g c lives longer = low_bound _ _ c.in-Ok.ensures.asked.ask.within
+
 pub returns-in-Ok : goal.returns-in-Ok
 returns-in-Ok g c =
     inl (record {
@@ -40,4 +43,18 @@ returns-in-Ok g c =
 
 pub returns-in-Ok-2 : goal.returns-in-Ok-2
 returns-in-Ok-2 g c =
-    inr (record { options = c.in-Ok.options; asked = c.in-Ok.ensures.asked; replied = c.answer_job.ensures })
+    inr (inr (record {
+      options = c.in-Ok.options;
+      asked = c.in-Ok.ensures.asked;
+      more = c.if-options.true;
+      served = c.serve.ensures;
+    }))
+
+pub returns-in-Ok-3 : goal.returns-in-Ok-3
+returns-in-Ok-3 g c =
+    inr (inl (record {
+      options = c.in-Ok.options;
+      asked = c.in-Ok.ensures.asked;
+      one = c.if-options.false;
+      replied = c.answer_job.ensures;
+    }))

@@ -32,7 +32,10 @@ returns c =
       at_once = carried AsksAtOnce _ _ _ _ (first_value-rows found (codes "at-once")) with.at_once
           c.in_ok-at_once.ensures;
       limit = with.limit ∙ made.limit;
-      stats = carried IsFlag _ _ _ _ (first_value-rows found (codes "stats")) (search rules) c.has_flag.ensures;
-      progress = carried IsFlag _ _ _ _ (first_value-rows found (codes "progress")) (search rules) c.has_flag-2.ensures;
-      explain = carried IsFlag _ _ _ _ (first_value-rows found (codes "explain")) (search rules) c.has_flag-3.ensures;
+      session = carried IsFlag _ _ _ _ (first_value-rows found (codes "session")) (search rules)
+          c.has_flag-session.ensures;
+      stats = carried IsFlag _ _ _ _ (first_value-rows found (codes "stats")) (search rules) c.has_flag-stats.ensures;
+      progress = carried IsFlag _ _ _ _ (first_value-rows found (codes "progress")) (search rules)
+          c.has_flag-progress.ensures;
+      explain = carried IsFlag _ _ _ _ (first_value-rows found (codes "explain")) (search rules) c.has_flag.ensures;
     }

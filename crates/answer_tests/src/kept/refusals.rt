@@ -1,0 +1,111 @@
+//! Each call with one allocation of it refused: `Memory` or `Spawn` then, and made once more it gives what was worked by
+//! hand. `tests/refusals` refuses each in turn; `tests/refusals.tsv` has the calls.
+
+use crate::kept::asked;
+use dimacs_text::Ask;
+use job_answer::{
+    Answer, BlockKind, Fault, Figures, Lines, answer_question, graphs_for, is_unasked, write_whole,
+};
+use obim_engine::OpenGate;
+use route_walks::{ArcRec, EXAMPLE_ARCS, Memory, refusable, tried_again};
+use session_answer::answer_session;
+use std::test::Fail;
+
+// A writer with room for more than the answer takes no memory of its own.
+const ROOM: usize = 1000;
+
+const JOINED: &[u8] = b"k 1 1\nk 2 1\nk 3 1\nk 4 1\nk 5 1\nk 6 1\n";
+
+const REQUESTS: &[u8] =
+    b"p sp 2 1\na 1 2 7\np aux sp ss 1\ns 1\np aux sp add 1\na 2 1 3\np aux sp walk 1\nq 2 1\n";
+
+const REPLIES: &[u8] =
+    b"r 2 1\ns 1\nd 1 0\nd 2 7\nr 2 1\ng 1\nr 2 2\nq 2 1 3\nw 1 3 2 1\nr 2 2\n";
+
+#[test]
+fn of_graphs_for(rt: HostRuntime) -> Result<(), Fail> {
+    let alloc = rt.alloc();
+    let (arcs, same) = (EXAMPLE_ARCS.to_vec(alloc)?, EXAMPLE_ARCS.to_vec(alloc)?);
+    let graphs = tried_again!(
+        rt,
+        alloc,
+        Memory,
+        graphs_for(&rt, alloc, Answer::Distances, 6, arcs, None, 2),
+        graphs_for(&rt, alloc, Answer::Distances, 6, same, None, 2)
+    );
+    assert!(rt; graphs.network.rows().arc_count() == EXAMPLE_ARCS.len());
+    Ok(())
+}
+
+#[test]
+fn of_answer_question(rt: HostRuntime) -> Result<(), Fail> {
+    let alloc = rt.alloc();
+    let asked = asked(&rt, Answer::Components);
+    let arcs: Vec<ArcRec> = EXAMPLE_ARCS.to_vec(alloc)?;
+    let graphs = graphs_for(&rt, alloc, asked.answer, 6, arcs, None, 2)?;
+    let lines = Lines::Each { walks: false };
+    let mut out = Vec::with_capacity(alloc, ROOM)?;
+    let mut figures = Figures::new(&rt);
+    let kind = BlockKind {
+        graphs: &graphs,
+        lines,
+    };
+    let (gate, ask) = (&OpenGate, Ask::Absent);
+    assert!(rt; !is_unasked(asked.answer, &ask));
+    if let Err(fault) = refusable!(
+        alloc,
+        answer_question(&rt, alloc, &mut out, kind, &ask, &asked, gate, &mut figures)
+    ) {
+        assert!(rt; matches!(fault, Fault::Memory | Fault::Spawn), "{fault:?}");
+        assert!(rt; JOINED.starts_with(&out));
+        out.clear();
+        let kind = BlockKind {
+            graphs: &graphs,
+            lines,
+        };
+        answer_question(&rt, alloc, &mut out, kind, &ask, &asked, gate, &mut figures)?;
+    }
+    assert!(rt; out.as_slice() == JOINED);
+    Ok(())
+}
+
+#[test]
+fn of_write_whole(rt: HostRuntime) -> Result<(), Fail> {
+    let alloc = rt.alloc();
+    let mut out = Vec::with_capacity(alloc, ROOM)?;
+    refusable!(alloc, write_whole(&mut out, JOINED))?;
+    assert!(rt; out.as_slice() == JOINED);
+    Ok(())
+}
+
+// A request may be refused memory in one line, too, and the others are answered.
+#[test]
+fn of_answer_session(rt: HostRuntime) -> Result<(), Fail> {
+    let alloc = rt.alloc();
+    let asked = asked(&rt, Answer::Distances);
+    let lines = Lines::Each { walks: false };
+    let (mut reader, mut same) = (REQUESTS, REQUESTS);
+    let mut out = Vec::with_capacity(alloc, ROOM)?;
+    let ended = refusable!(
+        alloc,
+        answer_session(&rt, alloc, &mut reader, &mut out, &asked, lines, &OpenGate)
+    );
+    if let Err(fault) = ended {
+        assert!(rt; matches!(fault, Fault::Memory | Fault::Spawn), "{fault:?}");
+        assert!(rt; REPLIES.starts_with(&out) || has_refusal(&out));
+    }
+    if out.as_slice() != REPLIES {
+        assert!(rt; ended.is_err() || has_refusal(&out));
+        out.clear();
+        answer_session(&rt, alloc, &mut same, &mut out, &asked, lines, &OpenGate)?;
+    }
+    assert!(rt; out.as_slice() == REPLIES);
+    Ok(())
+}
+
+/// Whether a request was refused for want of memory.
+fn has_refusal(replies: &[u8]) -> bool {
+    replies
+        .windows(15)
+        .any(|words| words == b" out of memory\n".as_slice())
+}

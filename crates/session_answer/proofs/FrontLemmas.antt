@@ -1,0 +1,119 @@
+-- The text of a graph that comes by single reads.
+use Rattle.std.proofs.Common.{◌≡◌, ◌∙◌, ◌+◌, ◌-◌, ◌≤◌, ◌^◌, ℕ, List, ◌++◌, Option, Result, Ok, Err, IfOk, true, false}
+use Rattle.std.proofs.Common.{length, take, drop, arith, subst, sym, ap, ap₂, take-append-drop, append_assoc, length-append}
+use Rattle.std.proofs.lemmas.List.{drop-take, length-take-le}
+use Rattle.std.proofs.KnownBytes.{Consumes-trans}
+use Rattle.std.specs.Io.KnownBytes.{Consumes, IsAtEnd}
+use Rattle.dimacs_text.specs.declared.reader.JobReader.{JobReader}
+use Rattle.dimacs_text.specs.GraphTexts.{IsGraphText}
+use Rattle.dimacs_text.specs.Jobs.{content_of, IsWithinLimits}
+use Rattle.dimacs_text.specs.Lines.{lines}
+use Rattle.dimacs_text.specs.Reading.{HasRead, Reads}
+use Rattle.job_answer.specs.declared.fault.Fault.{Fault}
+use Rattle.session_answer.specs.declared.graph_front.Front.{Front}
+use Rattle.session_answer.specs.Conversations.{HasFront}
+
+-- the reader of the graph has read all that was taken, and `left` bytes may still come
+pub record IsFed (job : JobReader) (limit left : ℕ) (before after : Option (List ℕ)) : Type 0 where
+  pub text : List ℕ
+  pub read : HasRead job text
+  pub taken : Consumes before after text
+  pub count : length text + left ≡ limit
+
+-- all of what was taken next was fed
+pub fed_all : (old new : JobReader) (limit left : ℕ) (before between after : Option (List ℕ)) (next : List ℕ)
+    → limit ≤ 2 ^ 36 → IsFed old limit left before between → Consumes between after next → Reads old new next
+    → length next ≤ left → IsFed new limit (left - length next) before after
+fed_all old new limit left before between after next low fed taken reads few = record {
+  text = fed.text ++ next;
+  read = reads fed.text fed.read (omega (arith, low, fed.count, few));
+  taken = Consumes-trans before between after fed.text next fed.taken taken;
+  count = omega (arith, fed.count, few, length-append fed.text next);
+}
+
+-- a text is followed by what was read after it
+split_last : (text buffer : List ℕ) (at count : ℕ)
+    → at ≤ count
+    → (text ++ take at (take count buffer)) ++ take (count - at) (drop at buffer) ≡ text ++ take count buffer
+split_last text buffer at count low =
+    let more : at + (count - at) ≡ count = omega (arith, low) in
+    append_assoc text (take at (take count buffer)) (take (count - at) (drop at buffer))
+    ∙ ap (λ l. text ++ (take at (take count buffer) ++ l))
+    (sym (drop-take at (count - at) buffer) ∙ ap (λ k. drop at (take k buffer)) more)
+    ∙ ap (λ l. text ++ l) (take-append-drop at (take count buffer))
+
+-- the input ends after the graph
+pub ended_has : (job : JobReader) (limit left : ℕ) (before between after : Option (List ℕ)) (buffer : List ℕ) (count : ℕ)
+    (result : Result Front Fault)
+    → IsFed job limit left before between → Consumes between after (take count buffer) → count ≡ 0 → IsAtEnd after
+    → IfOk result (λ front. (front.at ≡ 0) × (front.end ≡ 0) × (front.has_ended ≡ true))
+    → ((text : List ℕ) → HasRead job text → IfOk result (λ front. IsGraphText text (content_of front.graph)))
+    → IfOk result (λ front. HasFront front buffer before after)
+ended_has job limit left before between after buffer count (Err fault) fed takes none ended places graph = tt
+ended_has job limit left before between after buffer count (Ok front) fed takes none ended places graph =
+    let zero : front.end - front.at ≡ count = omega (arith, places.0, places.1, none) in
+    let nothing : take (front.end - front.at) (drop front.at buffer) ≡ take count buffer =
+    ap (λ k. take k (drop front.at buffer)) (zero ∙ none) ∙ sym (ap (λ k. take k buffer) none) in
+    record {
+      text = fed.text;
+      is_graph = graph fed.text fed.read;
+      number = λ other. absurd (let is = places.2 in cc);
+      joined = λ other more. absurd (let is = places.2 in cc);
+      taken =
+          subst (λ bytes. Consumes before after (fed.text ++ bytes)) (sym nothing)
+          (Consumes-trans before between after fed.text (take count buffer) fed.taken takes);
+      ended = λ is. (ended, places.1 ∙ sym places.0);
+    }
+
+-- the graph ends within what was read last, or right after it
+pub open_has : (old job : JobReader) (limit left : ℕ) (before between after : Option (List ℕ)) (buffer : List ℕ)
+    (at count : ℕ) (result : Result Front Fault)
+    → limit ≤ 2 ^ 36 → IsFed old limit left before between → Consumes between after (take count buffer)
+    → count ≤ length buffer → count ≤ left → at ≤ count → Reads old job (take at (take count buffer))
+    → IfOk result (λ front. (front.at ≡ at) × (front.end ≡ count) × (front.has_ended ≡ false))
+    → ((text : List ℕ) → HasRead job text → IfOk result (λ front. IsGraphText text (content_of front.graph)))
+    → ((text : List ℕ) → HasRead job text → IfOk result (λ front. front.line ≡ length (lines text) + 1))
+    → ((text more : List ℕ) → HasRead job text
+    → IfOk result (λ front. lines (text ++ more) ≡ lines text ++ lines more))
+    → IfOk result (λ front. HasFront front buffer before after)
+open_has old job limit left before between after buffer at count (Err fault) low fed takes room few place reads places
+    graph next joined = tt
+open_has old job limit left before between after buffer at count (Ok front) low fed takes room few place reads places
+    graph next joined =
+    let text = fed.text ++ take at (take count buffer) in
+    let came = length-take-le count buffer room in
+    let fed_now = length-take-le at (take count buffer) (omega (arith, place, came)) in
+    let short : length (take at (take count buffer)) ≤ left = omega (arith, fed_now, place, few) in
+    let read : HasRead job text = reads fed.text fed.read (omega (arith, low, fed.count, short)) in
+    let last : take (front.end - front.at) (drop front.at buffer) ≡ take (count - at) (drop at buffer) =
+    ap₂ (λ k j. take (k - j) (drop j buffer)) places.1 places.0 in
+    record {
+      text = text;
+      is_graph = graph text read;
+      number = λ other. next text read;
+      joined = λ other more. joined text more read;
+      taken =
+          subst (λ bytes. Consumes before after bytes)
+          (sym (ap (λ bytes. text ++ bytes) last ∙ split_last fed.text buffer at count place))
+          (Consumes-trans before between after fed.text (take count buffer) fed.taken takes);
+      ended = λ is. absurd (let other = places.2 in cc);
+    }
+
+-- what is so of a reader's text is so of what it gives
+pub by_text : (job : JobReader) (limit left : ℕ) (before after : Option (List ℕ)) (result : Result Front Fault)
+    → IsFed job limit left before after
+    → ((text : List ℕ) → HasRead job text → IfOk result (λ front. IsWithinLimits (content_of front.graph)))
+    → IfOk result (λ front. IsWithinLimits (content_of front.graph))
+by_text job limit left before after result fed within = within fed.text fed.read
+
+pub open_within : (old job : JobReader) (limit left : ℕ) (before between : Option (List ℕ)) (buffer : List ℕ)
+    (at count : ℕ) (result : Result Front Fault)
+    → limit ≤ 2 ^ 36 → IsFed old limit left before between → count ≤ length buffer → count ≤ left → at ≤ count
+    → Reads old job (take at (take count buffer))
+    → ((text : List ℕ) → HasRead job text → IfOk result (λ front. IsWithinLimits (content_of front.graph)))
+    → IfOk result (λ front. IsWithinLimits (content_of front.graph))
+open_within old job limit left before between buffer at count result low fed room few place reads within =
+    let came = length-take-le count buffer room in
+    let fed_now = length-take-le at (take count buffer) (omega (arith, place, came)) in
+    let short : length (take at (take count buffer)) ≤ left = omega (arith, fed_now, place, few) in
+    within (fed.text ++ take at (take count buffer)) (reads fed.text fed.read (omega (arith, low, fed.count, short)))

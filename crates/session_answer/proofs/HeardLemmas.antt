@@ -1,0 +1,166 @@
+-- The bytes that came after a graph, line by line.
+use Rattle.std.proofs.Common.{◌≡◌, ◌∙◌, ℕ, zero, suc, ◌<◌, ◌≤◌, Bool, false, List, [], ◌∷◌, ◌++◌, Option, None, length}
+use Rattle.std.proofs.Common.{◌+◌, ◌-◌, take, drop, refl, sym, ap, subst, arith, append_assoc, get_or-drop, length-drop}
+use Rattle.std.specs.Prelude.{slice_index}
+use Rattle.std.proofs.lemmas.Bool.{ne_eqb}
+use Rattle.std.proofs.lemmas.List.{append-nil}
+use Rattle.std.specs.List.{onto_first}
+use Rattle.dimacs_text.specs.Jobs.{Content}
+use Rattle.dimacs_text.specs.Lines.{lines}
+use Rattle.dimacs_text.specs.reader.FastArc.{HasNoFeed}
+use Rattle.dimacs_text.proofs.Facts.{drop_next, keeps_more, lines_test, lines_whole}
+use Rattle.request_reader.specs.Reading.{HasRequests, vertices_of}
+use Rattle.job_answer.specs.declared.asked.Answer.{Answer}
+use Rattle.job_answer.specs.declared.asked.Lines.{Lines}
+use Rattle.session_answer.specs.Conversations.{HasHeard, HasRepliedTo, Replies}
+use Rattle.session_answer.specs.declared.conversation.Conversation.{Conversation}
+
+-- ---- a line and what comes after it
+
+line_first : (line more : List ℕ) → HasNoFeed line 0 (length line) → lines (line ++ 10 ∷ more) ≡ line ∷ lines more
+line_first [] more free = refl
+line_first (b ∷ bs) more free =
+    lines_test false b (bs ++ 10 ∷ more) (ne_eqb b 10 (free 0 (omega arith) (omega arith)))
+    ∙ ap (λ ls. onto_first b ls) (line_first bs more (λ k from to. free (suc k) (omega arith) (omega arith)))
+
+-- whole lines, and one more with its line feed
+abbrev with_line : List ℕ → List ℕ → List ℕ
+with_line whole line = whole ++ (line ++ 10 ∷ [])
+
+lines_with : (whole line more : List ℕ) → ((more : List ℕ) → lines (whole ++ more) ≡ lines whole ++ lines more)
+    → HasNoFeed line 0 (length line)
+    → lines (with_line whole line ++ more) ≡ (lines whole ++ line ∷ []) ++ lines more
+lines_with whole line more ended free =
+    ap (λ (bytes : List ℕ). lines bytes)
+    (append_assoc whole (line ++ 10 ∷ []) more
+    ∙ ap (λ (bytes : List ℕ). whole ++ bytes) (append_assoc line (10 ∷ []) more))
+    ∙ ended (line ++ 10 ∷ more)
+    ∙ ap (λ (ls : List (List ℕ)). lines whole ++ ls) (line_first line more free)
+    ∙ sym (append_assoc (lines whole) (line ∷ []) (lines more))
+
+lines_so_far : (whole line : List ℕ) → ((more : List ℕ) → lines (whole ++ more) ≡ lines whole ++ lines more)
+    → HasNoFeed line 0 (length line)
+    → lines (with_line whole line) ≡ lines whole ++ line ∷ []
+lines_so_far whole line ended free =
+    ap (λ (bytes : List ℕ). lines bytes) (sym (append-nil (with_line whole line)))
+    ∙ lines_with whole line [] ended free
+    ∙ append-nil (lines whole ++ line ∷ [])
+
+-- ---- a line in the bytes that came last
+
+no_take : (count : ℕ) → take {A = ℕ} count [] ≡ []
+no_take zero = refl
+no_take (suc count) = refl
+
+take_split : (at count : ℕ) (bytes : List ℕ) → take (at + count) bytes ≡ take at bytes ++ take count (drop at bytes)
+take_split zero count bytes = ap (λ n. take n bytes) (omega arith)
+take_split (suc at) count [] = no_take (suc at + count) ∙ sym (no_take count)
+take_split (suc at) count (b ∷ bs) =
+    let on : suc at + count ≡ suc (at + count) = omega arith in
+    ap (λ n. take n (b ∷ bs)) on ∙ ap (λ (rest : List ℕ). b ∷ rest) (take_split at count bs)
+
+-- the bytes before a line, the line, and its line feed
+pub taken_line : (bytes : List ℕ) (at end : ℕ) → at ≤ end → end < length bytes → slice_index bytes end ≡ 10
+    → take at bytes ++ (take (end - at) (drop at bytes) ++ 10 ∷ []) ≡ take (end + 1) bytes
+taken_line bytes at end before inside feed =
+    let front : take end bytes ≡ take at bytes ++ take (end - at) (drop at bytes) =
+    ap (λ k. take k bytes) (omega (arith, before)) ∙ take_split at (end - at) bytes in
+    let last : take 1 (drop end bytes) ≡ 10 ∷ [] =
+    ap (λ rest. take 1 rest) (drop_next bytes end inside) ∙ ap (λ b. b ∷ []) feed in
+    sym (append_assoc (take at bytes) (take (end - at) (drop at bytes)) (10 ∷ []))
+    ∙ ap (λ (some : List ℕ). some ++ 10 ∷ []) (sym front)
+    ∙ ap (λ (some : List ℕ). take end bytes ++ some) (sym last)
+    ∙ sym (take_split end 1 bytes)
+
+-- what is left after a place has no line feed
+pub no_feed_after : (bytes : List ℕ) (at : ℕ) → HasNoFeed bytes at (length bytes)
+    → HasNoFeed (drop at bytes) 0 (length (drop at bytes))
+no_feed_after bytes at free k from to feed =
+    free (at + k) (omega arith) (omega (arith, length-drop at bytes)) (sym (get_or-drop at bytes k 0) ∙ feed)
+
+-- ---- what a session has heard
+
+-- the bytes of an unfinished line count for nothing yet
+pub same_replied : (kind : Answer) (by : Lines) (all_walks : Bool) (graph : Content) (first : ℕ)
+    (old new : Conversation) (ls : List (List ℕ)) (before after : Option (List ℕ))
+    → new.requests ≡ old.requests → new.session ≡ old.session
+    → HasRepliedTo kind by all_walks graph first old ls before after
+    → HasRepliedTo kind by all_walks graph first new ls before after
+same_replied kind by all_walks graph first old new ls before after requests session is = record {
+  outcomes = is.outcomes;
+  requests = subst (λ reader. HasRequests reader first ls is.outcomes) (sym requests) is.requests;
+  vertices = ap (λ reader. vertices_of reader) requests ∙ is.vertices;
+  replied = subst (λ kept. Replies kind by all_walks graph is.outcomes kept before after) (sym session) is.replied;
+}
+
+-- bytes without a line feed
+pub heard_rest : (kind : Answer) (by : Lines) (all_walks : Bool) (graph : Content) (first : ℕ)
+    (old new : Conversation) (heard rest : List ℕ) (before after : Option (List ℕ))
+    → HasHeard kind by all_walks graph first old heard before after
+    → HasNoFeed rest 0 (length rest)
+    → new.unfinished.items ≡ old.unfinished.items ++ rest
+    → new.requests ≡ old.requests → new.session ≡ old.session
+    → HasHeard kind by all_walks graph first new (heard ++ rest) before after
+heard_rest kind by all_walks graph first old new heard rest before after is free unfinished requests session =
+    let keeps = keeps_more None is.whole old.unfinished.items heard rest refl free (is.parts, is.no_feed) in
+    record {
+      whole = is.whole;
+      parts = keeps.0 ∙ ap (λ (kept : List ℕ). is.whole ++ kept) (sym unfinished);
+      ended = is.ended;
+      no_feed = subst (λ (kept : List ℕ). HasNoFeed kept 0 (length kept)) (sym unfinished) keeps.1;
+      replied =
+          same_replied kind by all_walks graph first old new (lines is.whole) before after requests session is.replied;
+    }
+
+-- the rest of a line, and its line feed
+pub heard_line : (kind : Answer) (by : Lines) (all_walks : Bool) (graph : Content) (first : ℕ)
+    (old new : Conversation) (heard rest : List ℕ) (before between after : Option (List ℕ))
+    → (is : HasHeard kind by all_walks graph first old heard before between)
+    → HasNoFeed rest 0 (length rest)
+    → new.unfinished.items ≡ []
+    → HasRepliedTo kind by all_walks graph first new (lines is.whole ++ (old.unfinished.items ++ rest) ∷ []) before after
+    → HasHeard kind by all_walks graph first new (heard ++ rest ++ 10 ∷ []) before after
+heard_line kind by all_walks graph first old new heard rest before between after is free none replied =
+    let keeps = keeps_more None is.whole old.unfinished.items heard rest refl free (is.parts, is.no_feed) in
+    let line = old.unfinished.items ++ rest in
+    let so_far = lines_so_far is.whole line is.ended keeps.1 in
+    record {
+      whole = with_line is.whole line;
+      parts =
+          ap (λ (bytes : List ℕ). bytes ++ 10 ∷ []) keeps.0
+          ∙ append_assoc is.whole line (10 ∷ [])
+          ∙ sym (append-nil (with_line is.whole line))
+          ∙ ap (λ (kept : List ℕ). with_line is.whole line ++ kept) (sym none);
+      ended = λ more.
+          lines_with is.whole line more is.ended keeps.1
+          ∙ ap (λ (ls : List (List ℕ)). ls ++ lines more) (sym so_far);
+      no_feed =
+          subst (λ (kept : List ℕ). HasNoFeed kept 0 (length kept)) (sym none) (λ k from to. absurd (omega arith));
+      replied =
+          subst (λ (ls : List (List ℕ)). HasRepliedTo kind by all_walks graph first new ls before after) (sym so_far)
+          replied;
+    }
+
+-- ---- at the end
+
+-- no line is unfinished
+pub lines_heard : (kind : Answer) (by : Lines) (all_walks : Bool) (graph : Content) (first : ℕ)
+    (conversation : Conversation) (heard : List ℕ) (before after : Option (List ℕ))
+    → (is : HasHeard kind by all_walks graph first conversation heard before after)
+    → conversation.unfinished.items ≡ []
+    → lines heard ≡ lines is.whole
+lines_heard kind by all_walks graph first conversation heard before after is none =
+    ap (λ (bytes : List ℕ). lines bytes)
+    (is.parts ∙ ap (λ (kept : List ℕ). is.whole ++ kept) none ∙ append-nil is.whole)
+
+-- the last line lacks its line feed
+pub lines_at_end : (kind : Answer) (by : Lines) (all_walks : Bool) (graph : Content) (first : ℕ)
+    (conversation : Conversation) (heard : List ℕ) (before after : Option (List ℕ))
+    → (is : HasHeard kind by all_walks graph first conversation heard before after)
+    → 0 < length conversation.unfinished.items
+    → lines heard ≡ lines is.whole ++ conversation.unfinished.items ∷ []
+lines_at_end kind by all_walks graph first conversation heard before after is some =
+    ap (λ (bytes : List ℕ). lines bytes) is.parts
+    ∙ is.ended conversation.unfinished.items
+    ∙ ap (λ (ls : List (List ℕ)). lines is.whole ++ ls)
+    (lines_whole conversation.unfinished.items some (λ k few. is.no_feed k (omega arith) few))

@@ -1,0 +1,4 @@
+pub mod ReplyLemmas
+pub mod HeardLemmas
+pub mod FrontLemmas
+pub mod WholeLemmas

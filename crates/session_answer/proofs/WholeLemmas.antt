@@ -1,0 +1,183 @@
+-- What a session takes from its reader, up to the end.
+use Rattle.std.proofs.Common.{◌≡◌, ◌∙◌, ◌+◌, ◌-◌, ℕ, Bool, true, false, List, [], ◌++◌, Option, Some, None, Result, Ok, Err, OnOk}
+use Rattle.std.proofs.Common.{length, take, drop, arith, refl, subst, sym, ap, append_assoc}
+use Rattle.std.proofs.lemmas.List.{append-nil}
+use Rattle.std.proofs.KnownBytes.{Consumes-trans}
+use Rattle.std.specs.Io.KnownBytes.{Consumes, IsAtEnd}
+use Rattle.dimacs_text.specs.Jobs.{Content, absent, content_of}
+use Rattle.dimacs_text.specs.Lines.{lines}
+use Rattle.dimacs_text.specs.reader.FastArc.{HasNoFeed}
+use Rattle.request_reader.specs.Reading.{HasRequests, vertices_of}
+use Rattle.request_reader.specs.Requests.{AreRequests}
+use Rattle.job_answer.specs.Graphs.{AreGraphs}
+use Rattle.job_answer.specs.Bytes.{Writes}
+use Rattle.job_answer.specs.declared.asked.Answer.{Answer}
+use Rattle.job_answer.specs.declared.asked.Lines.{Lines}
+use Rattle.job_answer.specs.declared.fault.Fault.{Fault}
+use Rattle.job_answer.proofs.Facts.{appends-then}
+use Rattle.session_answer.specs.declared.conversation.Conversation.{Conversation}
+use Rattle.session_answer.specs.declared.graph_front.Front.{Front}
+use Rattle.session_answer.specs.Conversations.{AreAnswered, HasConversed, HasFront, HasHeard, IsAnsweredSession, IsKept}
+use Rattle.session_answer.specs.Replies.{HoldsGraph, IsAnswerIn}
+use Rattle.session_answer.proofs.ReplyLemmas.{no_bytes}
+
+-- these bytes came, then more were taken, and all of them were heard
+pub record HasTaken (kind : Answer) (by : Lines) (all_walks : Bool) (graph : Content) (first : ℕ)
+    (conversation : Conversation) (heard : List ℕ) (taken_from taken_to before after : Option (List ℕ)) : Type 0 where
+  pub so_far : List ℕ
+  pub taken : Consumes taken_from taken_to so_far
+  pub all : HasHeard kind by all_walks graph first conversation (heard ++ so_far) before after
+
+pub more_taken : (kind : Answer) (by : Lines) (all_walks : Bool) (graph : Content) (first : ℕ)
+    (old new : Conversation) (heard next : List ℕ) (taken_from between taken_to before middle after : Option (List ℕ))
+    → HasTaken kind by all_walks graph first old heard taken_from between before middle
+    → Consumes between taken_to next
+    → ((bytes : List ℕ) → HasHeard kind by all_walks graph first old bytes before middle
+    → HasHeard kind by all_walks graph first new (bytes ++ next) before after)
+    → HasTaken kind by all_walks graph first new heard taken_from taken_to before after
+more_taken kind by all_walks graph first old new heard next taken_from between taken_to before middle after is takes
+    hears = record {
+      so_far = is.so_far ++ next;
+      taken = Consumes-trans taken_from between taken_to is.so_far next is.taken takes;
+      all =
+          subst (λ bytes. HasHeard kind by all_walks graph first new bytes before after) (append_assoc heard is.so_far next)
+          (hears (heard ++ is.so_far) is.all);
+    }
+
+-- at the end of what the reader gives
+pub all_taken : {T : Type 0} (kind : Answer) (by : Lines) (all_walks : Bool) (graph : Content) (first : ℕ)
+    (conversation : Conversation) (heard buffer : List ℕ) (count : ℕ)
+    (taken_from between taken_to before middle after : Option (List ℕ)) (result : Result T Fault)
+    → HasTaken kind by all_walks graph first conversation heard taken_from between before middle
+    → Consumes between taken_to (take count buffer) → count ≡ 0 → IsAtEnd taken_to
+    → ((bytes : List ℕ) → HasHeard kind by all_walks graph first conversation bytes before middle
+    → OnOk result (AreAnswered kind by all_walks graph first bytes before after))
+    → OnOk result (HasConversed kind by all_walks graph first heard taken_from taken_to before after)
+all_taken kind by all_walks graph first conversation heard buffer count taken_from between taken_to before middle after
+    (Err fault) is takes none ended answers = tt
+all_taken kind by all_walks graph first conversation heard buffer count taken_from between taken_to before middle after
+    (Ok done) is takes none ended answers = record {
+      more = is.so_far;
+      whole = record {
+        taken =
+            subst (λ bytes. Consumes taken_from taken_to bytes)
+            (ap (λ k. is.so_far ++ take k buffer) none ∙ append-nil is.so_far)
+            (Consumes-trans taken_from between taken_to is.so_far (take count buffer) is.taken takes);
+        ended = ended;
+      };
+      answered = answers (heard ++ is.so_far) is.all;
+    }
+
+-- before the first byte after the graph
+pub begins_heard : (kind : Answer) (by : Lines) (all_walks : Bool) (graph : Content) (first : ℕ)
+    (conversation : Conversation) (written : Option (List ℕ))
+    → conversation.unfinished.items ≡ [] → HasRequests conversation.requests first [] []
+    → vertices_of conversation.requests ≡ graph.n → HoldsGraph kind graph conversation.session
+    → HasHeard kind by all_walks graph first conversation [] written written
+begins_heard kind by all_walks graph first conversation written none requests vertices holds = record {
+  whole = [];
+  parts = sym none;
+  ended = λ more. refl;
+  no_feed = subst (λ kept. HasNoFeed kept 0 (length kept)) (sym none) (λ k from to. absurd (omega arith));
+  replied = record {
+    outcomes = [];
+    requests = requests;
+    vertices = vertices;
+    replied = record { text = []; replied = refl; written = no_bytes written; holds = holds };
+  };
+}
+
+-- the input ends with the graph
+pub session_ended : (kind : Answer) (by : Lines) (all_walks : Bool) (front : Front) (buffer : List ℕ)
+    (taken_from taken_to given_from given_to : Option (List ℕ))
+    → HasFront front buffer taken_from taken_to → front.has_ended ≡ true
+    → Writes (IsAnswerIn kind by false (content_of front.graph) absent) given_from given_to
+    → IsAnsweredSession kind by all_walks taken_from taken_to given_from given_to
+session_ended kind by all_walks front buffer taken_from taken_to given_from given_to has ended writes =
+    let last = has.ended ended in
+    let nothing : front.end - front.at ≡ 0 = omega (arith, last.1) in
+    record {
+      text = has.text;
+      whole = record {
+        taken =
+            subst (λ bytes. Consumes taken_from taken_to bytes)
+            (ap (λ k. has.text ++ take k (drop front.at buffer)) nothing ∙ append-nil has.text) has.taken;
+        ended = last.0;
+      };
+      replies = writes.text;
+      session = record {
+        front = has.text;
+        graph = content_of front.graph;
+        is_graph = has.is_graph;
+        rest = [];
+        parts = sym (append-nil (lines has.text));
+        outcomes = [];
+        requests = record { next = length (lines has.text) + 1; end = []; requests = (refl, refl); silent = tt };
+        greeting = writes.text;
+        greets = writes.is_text;
+        later = [];
+        replied = refl;
+        written = sym (append-nil writes.text);
+      };
+      written = writes.appended;
+    }
+
+-- requests come after it
+pub session_whole : {T : Type 0} (kind : Answer) (by : Lines) (all_walks : Bool) (front : Front) (buffer : List ℕ)
+    (taken_from between taken_to given_from middle given_to : Option (List ℕ)) (result : Result T Fault)
+    → HasFront front buffer taken_from between → front.has_ended ≡ false
+    → Writes (IsAnswerIn kind by false (content_of front.graph) absent) given_from middle
+    → OnOk result
+    (HasConversed kind by all_walks (content_of front.graph) front.line
+    (take (front.end - front.at) (drop front.at buffer)) between taken_to middle given_to)
+    → OnOk result (IsAnsweredSession kind by all_walks taken_from taken_to given_from given_to)
+session_whole kind by all_walks front buffer taken_from between taken_to given_from middle given_to (Err fault) has goes_on
+    writes conversed = tt
+session_whole kind by all_walks front buffer taken_from between taken_to given_from middle given_to (Ok done) has goes_on
+    writes conversed =
+    let heard = take (front.end - front.at) (drop front.at buffer) in
+    let more = conversed.more in
+    record {
+      text = has.text ++ (heard ++ more);
+      whole = record {
+        taken =
+            subst (λ bytes. Consumes taken_from taken_to bytes) (append_assoc has.text heard more)
+            (Consumes-trans taken_from between taken_to (has.text ++ heard) more has.taken conversed.whole.taken);
+        ended = conversed.whole.ended;
+      };
+      replies = writes.text ++ conversed.answered.replies;
+      session = record {
+        front = has.text;
+        graph = content_of front.graph;
+        is_graph = has.is_graph;
+        rest = lines (heard ++ more);
+        parts = has.joined goes_on (heard ++ more);
+        outcomes = conversed.answered.outcomes;
+        requests =
+            subst
+            (λ first. AreRequests front.graph.n first (lines (heard ++ more)) conversed.answered.outcomes)
+            (has.number goes_on) conversed.answered.requests;
+        greeting = writes.text;
+        greets = writes.is_text;
+        later = conversed.answered.replies;
+        replied = conversed.answered.replied;
+        written = refl;
+      };
+      written =
+          appends-then given_from middle given_to writes.text conversed.answered.replies writes.appended
+          conversed.answered.written;
+    }
+
+-- a graph is kept, and no line was read after it
+pub begins_kept : (kind : Answer) (graph : Content) (conversation : Conversation) (first : ℕ)
+    → HoldsGraph kind graph conversation.session → AreGraphs conversation.session.graphs
+    → HasRequests conversation.requests first [] [] → vertices_of conversation.requests ≡ graph.n
+    → IsKept conversation
+begins_kept kind graph conversation first holds graphs requests vertices = record {
+  graphs = graphs;
+  first = first;
+  ls = [];
+  outcomes = [];
+  requests = requests;
+  vertices = vertices ∙ sym holds.network.vertices;
+}

@@ -1,0 +1,47 @@
+use Rattle.std.proofs.Common.{◌≡◌, ◌∙◌, ◌-◌, ◌∷◌, ◌++◌, [], List, ℕ, length, take, drop, ap, refl, subst, sym, arith}
+use Rattle.std.proofs.Common.{append_assoc, length-drop, take-append-drop}
+use Rattle.std.proofs.lemmas.List.{take_all}
+use Rattle.session_answer.specs.Conversations.{HasHeard}
+use Rattle.session_answer.proofs.HeardLemmas.{heard_rest, no_feed_after, taken_line}
+use Rattle.session_answer.proofs.conversation.Conversation.take.Goals as goal
+
+pub loop-end-preserved : goal.loop-end-preserved
+loop-end-preserved g c =
+    let kind = c.args.terms.now.asked.now.answer in
+    let by = c.args.terms.now.lines in
+    let walks = c.args.terms.now.asked.now.walks in
+    let bytes = c.args.bytes.now in
+    let at = c.loop-end.at in
+    let end = c.in-Some.end in
+    let found = c.in-Some.ensures.some in
+    let line = take (end - at) (drop at bytes) in
+    record {
+      inside = omega (arith, found.1);
+      kept = c.in_ok-end_line.ensures.kept;
+      heard = λ graph first heard before is.
+          subst (λ (all : List ℕ). HasHeard kind by walks graph first c.end_line.new.self all before
+          (g.W.Write.contents c.end_line.new.writer))
+          (append_assoc (heard ++ take at bytes) line (10 ∷ [])
+          ∙ append_assoc heard (take at bytes) (line ++ 10 ∷ [])
+          ∙ ap (λ (more : List ℕ). heard ++ more) (taken_line bytes at end found.0 found.1 found.2))
+          (c.in_ok-end_line.ensures.heard graph first (heard ++ take at bytes) before
+          (c.loop-end.invariant.heard graph first heard before is));
+    }
+
+pub returns-clause-heard : goal.returns-clause-heard
+returns-clause-heard g c graph first heard before is =
+    let kind = c.args.terms.now.asked.now.answer in
+    let by = c.args.terms.now.lines in
+    let walks = c.args.terms.now.asked.now.walks in
+    let bytes = c.args.bytes.now in
+    let at = c.loop-end.at in
+    let all : heard ++ bytes ≡ (heard ++ take at bytes) ++ drop at bytes =
+    ap (λ (more : List ℕ). heard ++ more) (sym (take-append-drop at bytes))
+    ∙ sym (append_assoc heard (take at bytes) (drop at bytes)) in
+    rw all
+    (heard_rest kind by walks graph first c.loop-end.self _ (heard ++ take at bytes) (drop at bytes) before _
+    (c.loop-end.invariant.heard graph first heard before is)
+    (no_feed_after bytes at c.in_default.ensures.none)
+    (c.in_ok-extend_from_slice.ensures.items
+    ∙ ap (λ (rest : List ℕ). c.loop-end.self.unfinished.items ++ rest)
+    (take_all (length bytes - at) (drop at bytes) (omega (arith, length-drop at bytes)))) refl refl)

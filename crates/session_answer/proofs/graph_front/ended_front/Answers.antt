@@ -1,0 +1,4 @@
+use Rattle.session_answer.proofs.graph_front.ended_front.Goals as goal
+
+pub returns-in-Ok-clause-limits : goal.returns-in-Ok-clause-limits
+returns-in-Ok-clause-limits c text read = c.in-Ok.ensures.within text read

@@ -1,0 +1,25 @@
+use Rattle.std.proofs.Common.{◌≡◌, ◌∙◌, false, refl, subst, sym}
+use Rattle.std.proofs.lemmas.Result.{on_ok_weaker}
+use Rattle.dimacs_text.specs.Jobs.{question_of}
+use Rattle.job_answer.specs.Outcome.{is_unasked}
+use Rattle.job_answer.specs.Within.{IsAnswerTextBy}
+use Rattle.session_answer.specs.Replies.{IsBodyIf, job_of, lines_for}
+use Rattle.session_answer.proofs.ReplyLemmas.{graph_rows}
+use Rattle.session_answer.proofs.session.Session.write_body.Goals as goal
+
+pub returns : goal.returns
+returns g c graph holds =
+    let kind = c.args.terms.now.asked.now.answer in
+    let question = question_of c.args.ask.now in
+    let job = job_of graph question in
+    let by = lines_for c.args.terms.now.lines c.args.walks question in
+    let asked : is_unasked kind question ≡ false = sym c.is_unasked.ensures ∙ c.if-is_unasked.false in
+    on_ok_weaker c.answer_question.result
+    (λ written. record {
+      text = written.text;
+      is_text =
+          subst (λ unasked. IsBodyIf unasked kind by job written.text) (sym asked)
+          (subst (λ lines. IsAnswerTextBy kind lines job written.text) c.lines_for.ensures written.is_text);
+      appended = written.appended;
+    })
+    (c.answer_question.ensures.reply job (graph_rows kind graph c.args.self.now c.requires.graphs.is holds) refl)

@@ -1,0 +1,91 @@
+-- How far a session has come: which lines it has read, and what it has replied.
+use Rattle.std.specs.Prelude.{◌≡◌, ℕ, ◌+◌, ◌-◌, Bool, true, false, List, [], ◌∷◌, ◌++◌, length, take, drop, Option}
+use Rattle.std.specs.Io.KnownBytes.{Appends, Consumes, IsAtEnd}
+use Rattle.dimacs_text.specs.GraphTexts.{IsGraphText}
+use Rattle.dimacs_text.specs.Jobs.{Content, content_of}
+use Rattle.dimacs_text.specs.Lines.{lines}
+use Rattle.dimacs_text.specs.reader.FastArc.{HasNoFeed}
+use Rattle.job_reader.specs.Taken.{TakesWhole}
+use Rattle.request_reader.specs.Reading.{HasRequests, vertices_of}
+use Rattle.request_reader.specs.Requests.{Outcome, AreRequests}
+use Rattle.job_answer.specs.declared.asked.Answer.{Answer}
+use Rattle.job_answer.specs.declared.asked.Lines.{Lines}
+use Rattle.job_answer.specs.Graphs.{AreGraphs}
+use Rattle.session_answer.specs.declared.conversation.Conversation.{Conversation}
+use Rattle.session_answer.specs.declared.graph_front.Front.{Front}
+use Rattle.session_answer.specs.declared.session.Session.{Session}
+use Rattle.session_answer.specs.Replies.{AreReplies, HoldsGraph, IsSession, graph_after}
+
+-- the graph after requests
+abbrev pub graph_of : Content → List Outcome → Content
+graph_of graph [] = graph
+graph_of graph (outcome ∷ outcomes) = graph_of (graph_after graph outcome) outcomes
+
+-- exactly the replies to these outcomes were given, of a graph that had grown as far, and what they leave is kept
+pub record Replies (kind : Answer) (by : Lines) (all_walks : Bool) (graph : Content) (outcomes : List Outcome)
+    (session : Session) (before after : Option (List ℕ)) : Type 0 where
+  pub text : List ℕ
+  pub replied : AreReplies kind by all_walks graph outcomes text
+  pub written : Appends before after text
+  pub holds : HoldsGraph kind (graph_of graph outcomes) session
+
+-- these lines after the graph were read, of which the first has this number, and the requests in them replied to
+pub record HasRepliedTo (kind : Answer) (by : Lines) (all_walks : Bool) (graph : Content) (first : ℕ)
+    (conversation : Conversation) (ls : List (List ℕ)) (before after : Option (List ℕ)) : Type 0 where
+  pub outcomes : List Outcome
+  pub requests : HasRequests conversation.requests first ls outcomes
+  pub vertices : vertices_of conversation.requests ≡ graph.n
+  pub replied : Replies kind by all_walks graph outcomes conversation.session before after
+
+-- what is so of every session: the reader of requests has read some lines, and knows how many vertices there are
+pub record IsKept (conversation : Conversation) : Type 0 where
+  pub graphs : AreGraphs conversation.session.graphs
+  pub first : ℕ
+  pub ls : List (List ℕ)
+  pub outcomes : List Outcome
+  pub requests : HasRequests conversation.requests first ls outcomes
+  pub vertices : vertices_of conversation.requests ≡ conversation.session.graphs.network.n
+
+-- These bytes came after the graph: their whole lines were read, and those of an unfinished line are kept.
+pub record HasHeard (kind : Answer) (by : Lines) (all_walks : Bool) (graph : Content) (first : ℕ)
+    (conversation : Conversation) (bytes : List ℕ) (before after : Option (List ℕ)) : Type 0 where
+  pub whole : List ℕ
+  pub parts : bytes ≡ whole ++ conversation.unfinished.items
+  pub ended : (more : List ℕ) → lines (whole ++ more) ≡ lines whole ++ lines more
+  pub no_feed : HasNoFeed conversation.unfinished.items 0 (length conversation.unfinished.items)
+  pub replied : HasRepliedTo kind by all_walks graph first conversation (lines whole) before after
+
+-- these bytes after the graph are requests, and exactly their replies were given
+pub record AreAnswered (kind : Answer) (by : Lines) (all_walks : Bool) (graph : Content) (first : ℕ) (bytes : List ℕ)
+    (before after : Option (List ℕ)) : Type 0 where
+  pub outcomes : List Outcome
+  pub requests : AreRequests graph.n first (lines bytes) outcomes
+  pub replies : List ℕ
+  pub replied : AreReplies kind by all_walks graph outcomes replies
+  pub written : Appends before after replies
+
+-- These bytes came after the graph, and then all that was left of the text: they are requests, and exactly their replies
+-- were given.
+pub record HasConversed (kind : Answer) (by : Lines) (all_walks : Bool) (graph : Content) (first : ℕ) (heard : List ℕ)
+    (taken_from taken_to before after : Option (List ℕ)) : Type 0 where
+  pub more : List ℕ
+  pub whole : TakesWhole taken_from taken_to more
+  pub answered : AreAnswered kind by all_walks graph first (heard ++ more) before after
+
+-- A graph was read, and of the bytes that were taken those in the buffer come after it. Or the input has ended.
+pub record HasFront (front : Front) (buffer : List ℕ) (before after : Option (List ℕ)) : Type 0 where
+  pub text : List ℕ
+  pub is_graph : IsGraphText text (content_of front.graph)
+  pub number : front.has_ended ≡ false → front.line ≡ length (lines text) + 1
+  pub joined : front.has_ended ≡ false → (more : List ℕ) → lines (text ++ more) ≡ lines text ++ lines more
+  pub taken : Consumes before after (text ++ take (front.end - front.at) (drop front.at buffer))
+  pub ended : front.has_ended ≡ true → IsAtEnd after × (front.end ≡ front.at)
+
+-- the whole text was taken, it is that of a session, and exactly its replies were given
+pub record IsAnsweredSession (kind : Answer) (by : Lines) (all_walks : Bool)
+    (taken_from taken_to given_from given_to : Option (List ℕ)) : Type 0 where
+  pub text : List ℕ
+  pub whole : TakesWhole taken_from taken_to text
+  pub replies : List ℕ
+  pub session : IsSession kind by all_walks text replies
+  pub written : Appends given_from given_to replies

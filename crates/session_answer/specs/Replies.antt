@@ -1,0 +1,135 @@
+-- The replies to the requests that follow a graph, and to the graph.
+use Rattle.std.specs.Prelude.{◌≡◌, ℕ, ◌+◌, Bool, true, false, List, [], ◌∷◌, ◌++◌, length, Option, Some, None, codes, ⊤}
+use Rattle.route_walks.specs.declared.graph.ArcRec.{ArcRec}
+use Rattle.answer_lines.specs.Lines.{grown_text, ready_text, refusal_text}
+use Rattle.dimacs_text.specs.Faults.{words_of}
+use Rattle.dimacs_text.specs.Jobs.{Content, Question, absent, from_sources, of_pairs, content_of}
+use Rattle.dimacs_text.specs.Jobs.{IsAddedWithin, IsQuestionWithin}
+use Rattle.dimacs_text.specs.GraphTexts.{IsGraphText}
+use Rattle.dimacs_text.specs.Lines.{lines}
+use Rattle.request_reader.specs.Requests.{Outcome, whole, wrong, no_memory, AreRequests}
+use Rattle.request_reader.specs.declared.request.Request.{Request}
+use Rattle.request_reader.specs.declared.request.Request.TheVariants as request
+use Rattle.job_answer.specs.declared.asked.Answer.{Answer}
+use Rattle.job_answer.specs.declared.asked.Lines.{Lines}
+use Rattle.job_answer.specs.declared.asked.Lines.TheVariants as by
+use Rattle.job_answer.specs.Graphs.{cost_for}
+use Rattle.least_costs.specs.Network.{IsNetworkOf}
+use Rattle.job_answer.specs.Outcome.{is_unasked}
+use Rattle.job_answer.specs.Within.{IsAnswerTextBy}
+use Rattle.session_answer.specs.declared.session.Session.{Session}
+
+-- ---- the reply to a request that is whole
+
+-- the job of a graph and a question
+abbrev pub job_of : Content → Question → Content
+job_of graph question = record { n = graph.n; arcs = graph.arcs; question = question; added = None }
+
+-- The lines of an answer: those that are asked for where sources are, and of pairs the walks where they are wanted.
+abbrev pub lines_for : Lines → Bool → Question → Lines
+lines_for lines walks absent = by.Each false
+lines_for lines walks (from_sources sources) = lines
+lines_for lines walks (of_pairs pairs) = by.Each walks
+
+-- the answer of a job, and nothing if it asks for nothing
+abbrev pub IsBodyIf : Bool → Answer → Lines → Content → List ℕ → Type 0
+IsBodyIf true kind lines job text = text ≡ []
+IsBodyIf false kind lines job text = IsAnswerTextBy kind lines job text
+
+-- the answer to a question in a graph, and nothing where there is no question
+abbrev pub IsBodyIn : Answer → Lines → Bool → Content → Question → List ℕ → Type 0
+IsBodyIn kind lines walks graph question text =
+    IsBodyIf (is_unasked kind question) kind (lines_for lines walks question) (job_of graph question) text
+
+-- the same, and then how large the graph is
+pub record IsAnswerIn (kind : Answer) (lines : Lines) (walks : Bool) (graph : Content) (question : Question)
+    (text : List ℕ) : Type 0 where
+  pub body : List ℕ
+  pub is_body : IsBodyIn kind lines walks graph question body
+  pub written : text ≡ body ++ ready_text graph.n (length graph.arcs)
+
+-- the arcs of a graph, and those that are added
+abbrev pub with_added : List ArcRec → Option (List ArcRec) → List ArcRec
+with_added arcs None = arcs
+with_added arcs (Some more) = arcs ++ more
+
+-- the graph after a request: it has the arcs that the request adds
+abbrev pub grown_by : Content → Option (List ArcRec) → Content
+grown_by graph added = record graph { arcs = with_added graph.arcs added }
+
+-- 'g K', if arcs are added
+abbrev pub added_line : Option (List ArcRec) → List ℕ
+added_line None = []
+added_line (Some arcs) = grown_text (length arcs)
+
+-- The reply to a request: how many arcs it adds, and the answer to its question in the graph with them.
+pub record IsReplyTo (kind : Answer) (lines : Lines) (walks : Bool) (graph asked : Content) (text : List ℕ) : Type 0
+  where
+    pub answer : List ℕ
+    pub is_answer : IsAnswerIn kind lines walks (grown_by graph asked.added) asked.question answer
+    pub written : text ≡ added_line asked.added ++ answer
+
+-- ---- the reply to any request, and the graph after it
+
+-- what is said where memory is refused
+abbrev pub out_of_memory : List ℕ
+out_of_memory = codes "out of memory"
+
+-- Walks are written where the request asks for them, or the session does for all.
+abbrev pub walks_or : Bool → Bool → Bool
+walks_or true all_walks = true
+walks_or false all_walks = all_walks
+
+-- A request that is whole is answered. One that is wrong is refused in a line, and so is one for which memory was
+-- refused while it was read.
+abbrev pub IsReplyFor : Answer → Lines → Bool → Content → Outcome → List ℕ → Type 0
+IsReplyFor kind lines all_walks graph (whole job walks) text =
+    IsReplyTo kind lines (walks_or walks all_walks) graph job text
+IsReplyFor kind lines all_walks graph (wrong line what) text = text ≡ refusal_text line (words_of what)
+IsReplyFor kind lines all_walks graph (no_memory line) text = text ≡ refusal_text line out_of_memory
+
+-- the graph after a request
+abbrev pub graph_after : Content → Outcome → Content
+graph_after graph (whole job walks) = grown_by graph job.added
+graph_after graph (wrong line what) = graph
+graph_after graph (no_memory line) = graph
+
+-- what a request asks for and adds is within the limits of a graph of n vertices
+abbrev pub IsRequestWithin : ℕ → Request → Type 0
+IsRequestWithin n (request.Asked job walks) =
+    IsQuestionWithin n (content_of job).question × IsAddedWithin n (content_of job).added
+IsRequestWithin n (request.Wrong line what) = ⊤
+IsRequestWithin n (request.NoMemory line) = ⊤
+
+-- the network is that of the graph, and its arcs are counted
+pub record HoldsGraph (kind : Answer) (graph : Content) (session : Session) : Type 0 where
+  pub network : IsNetworkOf graph.n (cost_for kind) graph.arcs session.graphs.network
+  pub alone : session.graphs.grown ≡ None
+  pub count : session.arcs ≡ length graph.arcs
+
+-- ---- all of them
+
+-- the replies to requests in order, each in the graph that those before it leave
+abbrev pub AreReplies : Answer → Lines → Bool → Content → List Outcome → List ℕ → Type 0
+AreReplies kind lines all_walks graph [] text = text ≡ []
+AreReplies kind lines all_walks graph (outcome ∷ outcomes) text =
+    (first : List ℕ)
+    × (rest : List ℕ)
+    × (text ≡ first ++ rest)
+    × IsReplyFor kind lines all_walks graph outcome first
+    × AreReplies kind lines all_walks (graph_after graph outcome) outcomes rest
+
+-- The text is that of a graph and then of requests, and these are the replies to the graph and to each of them.
+pub record IsSession (kind : Answer) (lines_are : Lines) (all_walks : Bool) (text replies : List ℕ) : Type 0 where
+  pub front : List ℕ
+  pub graph : Content
+  pub is_graph : IsGraphText front graph
+  pub rest : List (List ℕ)
+  pub parts : lines text ≡ lines front ++ rest
+  pub outcomes : List Outcome
+  pub requests : AreRequests graph.n (length (lines front) + 1) rest outcomes
+  pub greeting : List ℕ
+  pub greets : IsAnswerIn kind lines_are false graph absent greeting
+  pub later : List ℕ
+  pub replied : AreReplies kind lines_are all_walks graph outcomes later
+  pub written : replies ≡ greeting ++ later

@@ -1,0 +1,127 @@
+//! How does a session go from its first byte to its last?
+
+ghost use Rattle.std.specs.Prelude.{◌<◌, ◌≤◌, ◌^◌, ℕ, List, [], Option, IfOk, OnOk, length};
+ghost use Rattle.dimacs_text.specs.Jobs.{content_of, Content, IsWithinLimits};
+ghost use Rattle.job_answer.specs.Solves.{IsLinesAsked};
+ghost use Rattle.session_answer.specs.Conversations.{HasConversed, HasHeard, IsAnsweredSession, IsKept};
+ghost use Rattle.session_answer.specs.Replies.{HoldsGraph};
+
+use crate::conversation::Conversation;
+use crate::graph_front::{Front, read_front, read_some};
+use crate::session::{Session, Terms};
+use dimacs_text::Ask;
+use job_answer::{Asked, Fault, Lines};
+use obim_engine::Gate;
+use request_reader::RequestReader;
+use route_walks::Memory;
+use std::alloc::Global;
+use std::io::{Read, Write};
+use std::sync::Wait;
+use std::thread::Threads;
+use std::time::Clock;
+
+/// The most bytes of a read.
+const ROOM: usize = 1 << 16;
+
+/// Reads a graph, and replies to it and to each request after it as soon as its last line has come, up to the end of
+/// what the reader gives. A fault of the graph ends it at once; one of a request is replied to in one line.
+///
+/// At most `asked.limit` bytes are read of the graph; those of requests have no limit.
+pub fn answer_session<H: Threads + Wait + Clock + Sync, R: Read, W: Write, G: Gate + Sync>(
+    rt: &H,
+    alloc: Global,
+    reader: &mut R,
+    writer: &mut W,
+    asked: &Asked,
+    lines: Lines,
+    gate: &G,
+) -> Result<(), Fault>
+    requires bound { IsLinesAsked lines }
+    ensures { OnOk result (IsAnsweredSession asked.now.answer lines asked.now.walks
+        (R.remaining reader.old) (R.remaining reader.new)
+        (W.contents writer.old) (W.contents writer.new)) }
+{
+    let terms = Terms { asked, lines, gate };
+    let mut buffer = vec![in alloc; 0; ROOM]?;
+    answer_by(rt, alloc, reader, writer, &mut buffer, &terms)
+}
+
+/// The same, with room for the bytes of a read.
+fn answer_by<H: Threads + Wait + Clock + Sync, R: Read, W: Write, G: Gate + Sync>(
+    rt: &H,
+    alloc: Global,
+    reader: &mut R,
+    writer: &mut W,
+    buffer: &mut [u8],
+    terms: &Terms<'_, G>,
+) -> Result<(), Fault>
+    requires room { 0 < length buffer.old }
+    requires bound { IsLinesAsked terms.now.lines }
+    requires limit { terms.now.asked.now.limit ≤ 2 ^ 36 }
+    ensures { OnOk result (IsAnsweredSession terms.now.asked.now.answer terms.now.lines terms.now.asked.now.walks
+        (R.remaining reader.old) (R.remaining reader.new)
+        (W.contents writer.old) (W.contents writer.new)) }
+{
+    let front = read_front(alloc, reader, buffer, terms.asked.limit)?;
+    let (at, end, has_ended) = (front.at, front.end, front.has_ended);
+    let mut conversation = open_conversation(rt, alloc, front, terms.asked)?;
+    let session = &conversation.session;
+    session.answer(rt, writer, &Ask::Absent, false, terms)?;
+    if has_ended {
+        return Ok(());
+    }
+    conversation.take(rt, writer, &buffer[at..end], terms)?;
+    converse(rt, reader, writer, buffer, &mut conversation, terms)
+}
+
+/// Keeps a graph, for the requests after it.
+fn open_conversation<H: Threads + Sync>(
+    rt: &H,
+    alloc: Global,
+    front: Front,
+    asked: &Asked,
+) -> Result<Conversation, Memory>
+    requires limits { IsWithinLimits (content_of front.graph) }
+    ensures holds { IfOk result (λ conversation.
+        HoldsGraph asked.now.answer (content_of front.graph) conversation.session) }
+    ensures kept { IfOk result IsKept }
+    ensures heard { (by : Lines) (written : Option (List ℕ)) → IfOk result (λ conversation.
+        HasHeard asked.now.answer by asked.now.walks (content_of front.graph) front.line conversation [] written written) }
+{
+    let (line, n) = (front.line, front.graph.n);
+    Ok(Conversation {
+        session: Session::open(rt, alloc, front.graph, asked)?,
+        requests: RequestReader::new(alloc, n, line),
+        unfinished: Vec::new(alloc),
+        alloc,
+    })
+}
+
+/// Takes what the reader gives, up to its end, and replies.
+fn converse<H: Threads + Wait + Clock + Sync, R: Read, W: Write, G: Gate + Sync>(
+    rt: &H,
+    reader: &mut R,
+    writer: &mut W,
+    buffer: &mut [u8],
+    conversation: &mut Conversation,
+    terms: &Terms<'_, G>,
+) -> Result<(), Fault>
+    requires kept { IsKept conversation.old }
+    requires room { 0 < length buffer.old }
+    requires bound { IsLinesAsked terms.now.lines }
+    ensures { (graph : Content) (first : ℕ) (heard : List ℕ) (before : Option (List ℕ))
+        → HasHeard terms.now.asked.now.answer terms.now.lines terms.now.asked.now.walks graph first conversation.old
+        heard before (W.contents writer.old)
+        → OnOk result (HasConversed terms.now.asked.now.answer terms.now.lines terms.now.asked.now.walks graph first
+        heard (R.remaining reader.old) (R.remaining reader.new) before (W.contents writer.new)) }
+{
+    for _ in 0..u64::MAX {
+        let count = read_some(reader, buffer)?;
+        if count == 0 {
+            return conversation.end(rt, writer, terms);
+        }
+        conversation.take(rt, writer, &buffer[..count], terms)?;
+    }
+    // No one sends that much.
+    Err(Fault::TooLong)
+}

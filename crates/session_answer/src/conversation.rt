@@ -1,0 +1,198 @@
+//! How are requests told from the bytes that come, and replied to?
+
+ghost use Rattle.std.specs.Prelude.{◌≡◌, ◌≤◌, ◌<◌, ◌++◌, ◌∷◌, [], ℕ, List, Option, length, IfNone, IfOk, IfSome, OnOk};
+ghost use Rattle.std.specs.Prelude.{slice_index};
+ghost use Rattle.dimacs_text.specs.Jobs.{Content, content_of, IsWithinLimits};
+ghost use Rattle.dimacs_text.specs.Lines.{lines};
+ghost use Rattle.dimacs_text.specs.reader.FastArc.{HasNoFeed};
+ghost use Rattle.job_answer.specs.Graphs.{AreGraphs};
+ghost use Rattle.job_answer.specs.Solves.{IsLinesAsked};
+ghost use Rattle.request_reader.specs.Reading.{outcomes_in};
+ghost use Rattle.session_answer.specs.Conversations.{AreAnswered, HasHeard, HasRepliedTo, IsKept, Replies};
+ghost use Rattle.session_answer.specs.Replies.{HoldsGraph, IsRequestWithin};
+
+use crate::session::{Session, Terms};
+use dimacs_text::LineKind;
+use job_answer::Fault;
+use obim_engine::Gate;
+use request_reader::{Request, RequestReader};
+use std::alloc::Global;
+use std::io::Write;
+use std::mem::replace;
+use std::sync::Wait;
+use std::thread::Threads;
+use std::time::Clock;
+
+/// A graph that is kept, and the requests as far as they have come.
+#[derive(Drop)]
+pub(crate) struct Conversation {
+    pub(crate) session: Session,
+    pub(crate) requests: RequestReader,
+    /// The bytes of the last line, whose line feed hasn't come.
+    pub(crate) unfinished: Vec<u8>,
+    pub(crate) alloc: Global,
+}
+
+impl Conversation {
+    /// Takes the next bytes, and replies to each request that is complete in them.
+    pub(crate) fn take<H: Threads + Wait + Clock + Sync, W: Write, G: Gate + Sync>(
+        &mut self,
+        rt: &H,
+        writer: &mut W,
+        bytes: &[u8],
+        terms: &Terms<'_, G>,
+    ) -> Result<(), Fault>
+        requires kept { IsKept self.old }
+        requires bound { IsLinesAsked terms.now.lines }
+        ensures heard { (graph : Content) (first : ℕ) (heard : List ℕ) (before : Option (List ℕ))
+            → HasHeard terms.now.asked.now.answer terms.now.lines terms.now.asked.now.walks graph first self.old heard
+            before (W.contents writer.old)
+            → OnOk result (HasHeard terms.now.asked.now.answer terms.now.lines terms.now.asked.now.walks graph first
+            self.new (heard ++ bytes.now) before (W.contents writer.new)) }
+        ensures kept { OnOk result (IsKept self.new) }
+    {
+        let mut at = 0;
+        while let Some(end) = next_feed(bytes, at) {
+            self.end_line(rt, writer, &bytes[at..end], terms)?;
+            at = end + 1;
+        }
+        self.unfinished.extend_from_slice(&bytes[at..])?;
+        Ok(())
+    }
+
+    /// Takes the rest of a line, whose line feed came after it.
+    fn end_line<H: Threads + Wait + Clock + Sync, W: Write, G: Gate + Sync>(
+        &mut self,
+        rt: &H,
+        writer: &mut W,
+        rest: &[u8],
+        terms: &Terms<'_, G>,
+    ) -> Result<(), Fault>
+        requires kept { IsKept self.old }
+        requires bound { IsLinesAsked terms.now.lines }
+        requires no_feed { HasNoFeed rest.now 0 (length rest.now) }
+        ensures heard { (graph : Content) (first : ℕ) (heard : List ℕ) (before : Option (List ℕ))
+            → HasHeard terms.now.asked.now.answer terms.now.lines terms.now.asked.now.walks graph first self.old heard
+            before (W.contents writer.old)
+            → OnOk result (HasHeard terms.now.asked.now.answer terms.now.lines terms.now.asked.now.walks graph first
+            self.new (heard ++ rest.now ++ 10 ∷ []) before (W.contents writer.new)) }
+        ensures kept { OnOk result (IsKept self.new) }
+    {
+        self.unfinished.extend_from_slice(rest)?;
+        let line = replace(&mut self.unfinished, Vec::new(self.alloc));
+        self.take_line(rt, writer, &line, terms)
+    }
+
+    /// Takes a line, and replies to the requests that end there.
+    fn take_line<H: Threads + Wait + Clock + Sync, W: Write, G: Gate + Sync>(
+        &mut self,
+        rt: &H,
+        writer: &mut W,
+        line: &[u8],
+        terms: &Terms<'_, G>,
+    ) -> Result<(), Fault>
+        requires kept { IsKept self.old }
+        requires bound { IsLinesAsked terms.now.lines }
+        ensures replied { (graph : Content) (first : ℕ) (ls : List (List ℕ)) (before : Option (List ℕ))
+            → HasRepliedTo terms.now.asked.now.answer terms.now.lines terms.now.asked.now.walks graph first self.old ls
+            before (W.contents writer.old)
+            → OnOk result (HasRepliedTo terms.now.asked.now.answer terms.now.lines terms.now.asked.now.walks graph first
+            self.new (ls ++ line.now ∷ []) before (W.contents writer.new)) }
+        ensures kept { OnOk result (IsKept self.new) }
+        ensures unfinished { self.new.unfinished ≡ self.old.unfinished }
+    {
+        let came = self.requests.read(line);
+        self.reply(rt, writer, came.cut, terms)?;
+        self.reply(rt, writer, came.found, terms)
+    }
+
+    /// Replies to a request, if there is one.
+    fn reply<H: Threads + Wait + Clock + Sync, W: Write, G: Gate + Sync>(
+        &mut self,
+        rt: &H,
+        writer: &mut W,
+        request: Option<Request>,
+        terms: &Terms<'_, G>,
+    ) -> Result<(), Fault>
+        requires graphs { AreGraphs self.old.session.graphs }
+        requires bound { IsLinesAsked terms.now.lines }
+        requires within { IfSome request (IsRequestWithin self.old.session.graphs.network.n) }
+        ensures replied { (graph : Content) → HoldsGraph terms.now.asked.now.answer graph self.old.session
+            → OnOk result (Replies terms.now.asked.now.answer terms.now.lines terms.now.asked.now.walks graph
+            (outcomes_in request) self.new.session (W.contents writer.old) (W.contents writer.new)) }
+        ensures graphs { OnOk result (AreGraphs self.new.session.graphs) }
+        ensures vertices { OnOk result
+            (self.new.session.graphs.network.n ≡ self.old.session.graphs.network.n) }
+        ensures requests { self.new.requests ≡ self.old.requests }
+        ensures unfinished { self.new.unfinished ≡ self.old.unfinished }
+    {
+        match request {
+            None => Ok(()),
+            Some(request) => self.session.reply(rt, writer, request, terms),
+        }
+    }
+
+    /// Takes the last line, if it has no line feed.
+    fn end_last_line<H: Threads + Wait + Clock + Sync, W: Write, G: Gate + Sync>(
+        &mut self,
+        rt: &H,
+        writer: &mut W,
+        terms: &Terms<'_, G>,
+    ) -> Result<(), Fault>
+        requires kept { IsKept self.old }
+        requires bound { IsLinesAsked terms.now.lines }
+        ensures { (graph : Content) (first : ℕ) (heard : List ℕ) (before : Option (List ℕ))
+            → HasHeard terms.now.asked.now.answer terms.now.lines terms.now.asked.now.walks graph first self.old heard
+            before (W.contents writer.old)
+            → OnOk result (HasRepliedTo terms.now.asked.now.answer terms.now.lines terms.now.asked.now.walks graph first
+            self.new (lines heard) before (W.contents writer.new)) }
+    {
+        if self.unfinished.is_empty() {
+            return Ok(());
+        }
+        let line = replace(&mut self.unfinished, Vec::new(self.alloc));
+        self.take_line(rt, writer, &line, terms)
+    }
+
+    /// After the last byte. In the middle of a request that is a fault.
+    pub(crate) fn end<H: Threads + Wait + Clock + Sync, W: Write, G: Gate + Sync>(
+        &mut self,
+        rt: &H,
+        writer: &mut W,
+        terms: &Terms<'_, G>,
+    ) -> Result<(), Fault>
+        requires kept { IsKept self.old }
+        requires bound { IsLinesAsked terms.now.lines }
+        ensures { (graph : Content) (first : ℕ) (heard : List ℕ) (before : Option (List ℕ))
+            → HasHeard terms.now.asked.now.answer terms.now.lines terms.now.asked.now.walks graph first self.old heard
+            before (W.contents writer.old)
+            → OnOk result (AreAnswered terms.now.asked.now.answer terms.now.lines terms.now.asked.now.walks graph first
+            heard before (W.contents writer.new)) }
+    {
+        self.end_last_line(rt, writer, terms)?;
+        match self.requests.lacking() {
+            None => Ok(()),
+            Some(line) => Err(Fault::Text {
+                line,
+                kind: LineKind::TooFew,
+            }),
+        }
+    }
+}
+
+/// The place of the first line feed from a place on.
+fn next_feed(bytes: &[u8], from: usize) -> Option<usize>
+    requires { from ≤ length bytes.now }
+    ensures some { IfSome result (λ place. (from ≤ place) × (place < length bytes.now)
+        × (slice_index bytes.now place ≡ 10) × HasNoFeed bytes.now from place) }
+    ensures none { IfNone result (HasNoFeed bytes.now from (length bytes.now)) }
+{
+    let mut place = from;
+    while place < bytes.len() {
+        if bytes[place] == b'\n' {
+            return Some(place);
+        }
+        place += 1;
+    }
+    None
+}

@@ -1,0 +1,143 @@
+//! Which graph does a session begin with?
+
+ghost use Rattle.std.specs.Prelude.{◌≡◌, ◌+◌, ◌<◌, ◌≤◌, ◌^◌, ◌++◌, None, List, ℕ, length, true, false, IfErr, IfOk};
+ghost use Rattle.std.specs.Bool.{OnTrue};
+ghost use Rattle.dimacs_text.specs.GraphTexts.{IsGraphText};
+ghost use Rattle.dimacs_text.specs.Lines.{lines};
+ghost use Rattle.dimacs_text.specs.Reading.{HasRead};
+ghost use Rattle.std.specs.Io.KnownBytes.{ReadConsumes};
+ghost use Rattle.dimacs_text.specs.Jobs.{absent, content_of, IsWithinLimits};
+ghost use Rattle.session_answer.specs.Conversations.{HasFront};
+
+use dimacs_text::{Ask, Job, JobReader, LineKind, TextFault};
+use job_answer::Fault;
+use std::alloc::Global;
+use std::io::Read;
+
+/// A graph, and what comes after it.
+#[derive(Drop)]
+pub(crate) struct Front {
+    pub(crate) graph: Job,
+    /// The number of the next line.
+    pub(crate) line: u64,
+    /// Of the bytes that were read last, those from this place on come after the graph,
+    pub(crate) at: usize,
+    /// up to this one.
+    pub(crate) end: usize,
+    /// Whether the input ended with the graph.
+    pub(crate) has_ended: bool,
+}
+
+/// Reads a graph by single reads, and no more than `limit` bytes. A fault of the graph is found as soon as its line has
+/// come.
+pub(crate) fn read_front<R: Read>(
+    alloc: Global,
+    reader: &mut R,
+    buffer: &mut [u8],
+    limit: u64,
+) -> Result<Front, Fault>
+    requires limit { limit ≤ 2 ^ 36 }
+    requires room { 0 < length buffer.old }
+    ensures places { IfOk result (λ front. (front.at ≤ front.end) × (front.end ≤ length buffer.new)) }
+    ensures front { IfOk result (λ front. HasFront front buffer.new (R.remaining reader.old) (R.remaining reader.new)) }
+    ensures limits { IfOk result (λ front. IsWithinLimits (content_of front.graph)) }
+{
+    let mut job = JobReader::new(alloc);
+    let mut left = limit as usize;
+    for _ in 0..u64::MAX {
+        let count = read_some(reader, buffer)?;
+        if count == 0 {
+            return ended_front(job);
+        }
+        if count > left {
+            return Err(Fault::TooLong);
+        }
+        left -= count;
+        let at = job.feed_graph(&buffer[..count])?;
+        if is_over(&job, at, count) {
+            return open_front(job, at, count);
+        }
+    }
+    Err(Fault::TooLong)
+}
+
+/// Whether no more bytes are to be read of the graph, of which this many were fed and this many came.
+fn is_over(job: &JobReader, fed: usize, came: usize) -> bool
+    ensures { result ≡ false → came ≤ fed }
+{
+    fed < came || job.is_refused() || job.has_graph()
+}
+
+/// The graph that was read. Of the bytes that were read last, those from one place up to another come after it.
+fn open_front(job: JobReader, at: usize, end: usize) -> Result<Front, Fault>
+    ensures places { IfOk result (λ front. (front.at ≡ at) × (front.end ≡ end) × (front.has_ended ≡ false)) }
+    ensures limits { (text : List ℕ) → HasRead job text → IfOk result (λ front. IsWithinLimits (content_of front.graph)) }
+    ensures graph { (text : List ℕ) → HasRead job text
+        → IfOk result (λ front. IsGraphText text (content_of front.graph)) }
+    ensures next { (text : List ℕ) → HasRead job text → IfOk result (λ front. front.line ≡ length (lines text) + 1) }
+    ensures joined { (text more : List ℕ) → HasRead job text
+        → IfOk result (λ front. lines (text ++ more) ≡ lines text ++ lines more) }
+{
+    match job.finish_graph() {
+        Err(fault) => Err(fault_of(fault)),
+        Ok((graph, line)) => Ok(Front {
+            graph,
+            line,
+            at,
+            end,
+            has_ended: false,
+        }),
+    }
+}
+
+/// The graph of an input that ends there.
+fn ended_front(job: JobReader) -> Result<Front, Fault>
+    ensures places { IfOk result (λ front. (front.at ≡ 0) × (front.end ≡ 0) × (front.has_ended ≡ true)) }
+    ensures limits { (text : List ℕ) → HasRead job text → IfOk result (λ front. IsWithinLimits (content_of front.graph)) }
+    ensures graph { (text : List ℕ) → HasRead job text
+        → IfOk result (λ front. IsGraphText text (content_of front.graph)) }
+{
+    let line = job.next_line();
+    match job.finish() {
+        Err(fault) => Err(fault_of(fault)),
+        Ok(graph) if is_graph(&graph) => Ok(Front {
+            graph,
+            line,
+            at: 0,
+            end: 0,
+            has_ended: true,
+        }),
+        // The reader stops before a section.
+        Ok(_) => Err(Fault::Text {
+            line,
+            kind: LineKind::Misplaced,
+        }),
+    }
+}
+
+/// Whether a job is a graph alone.
+fn is_graph(job: &Job) -> bool
+    ensures { OnTrue result (((content_of job.now).question ≡ absent) × ((content_of job.now).added ≡ None)) }
+{
+    job.added.is_none() && matches!(job.ask, Ask::Absent)
+}
+
+/// A fault of a text.
+fn fault_of(fault: TextFault) -> Fault {
+    match fault {
+        TextFault::Memory => Fault::Memory,
+        TextFault::Line { line, kind } => Fault::Text { line, kind },
+    }
+}
+
+/// One read, of which each error is `Read`.
+pub(crate) fn read_some<R: Read>(reader: &mut R, buffer: &mut [u8]) -> Result<usize, Fault>
+    ensures count { IfOk result (λ count. count ≤ length buffer.new) }
+    ensures bytes { ReadConsumes (R.remaining reader.old) (R.remaining reader.new) result buffer.new }
+    ensures only { IfErr result (λ fault. fault ≡ Fault.Read) }
+{
+    match reader.read(buffer) {
+        Ok(count) => Ok(count),
+        Err(_) => Err(Fault::Read),
+    }
+}

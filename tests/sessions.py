@@ -1,0 +1,285 @@
+#!/usr/bin/env python3
+"""Requests after a graph, each answered at once: tests/sessions.py PROGRAM COUNT.
+
+Worked rows, each written whole, byte by byte, and in random pieces, and each with the input left open until its last
+reply has come. Then COUNT random sessions, of distances, levels and components, by 1 and 3 workers, with stray lines
+and wrong ones: the reply to each request is compared with what the program writes for the job of the graph so far and
+this request, and each refusal with the fault of that job. Clients that go away, that write 2^20 pairs before they read,
+and a session of 10,000 requests, whose memory does not grow. It prints what is wrong first, and the status is 1 then.
+"""
+
+import os
+import random
+import subprocess
+import sys
+
+GRAPH = "p sp 2 0\n"
+SIX = open("examples/six.gr", encoding="ascii").read()
+READY = "r 2 0\n"
+
+# Name, input, output, what standard error says after the program's name, status. The graph's line is line 1.
+ROWS = [
+    ("graph alone", GRAPH, READY, "", 0),
+    ("graph without a line feed", "p sp 2 0", READY, "", 0),
+    ("graph that lacks an arc", "p sp 2 1\n", "", "line 2: too few lines", 2),
+    ("fault in the graph", "p sp 2 1\na 1 3 0\np aux sp ss 1\ns 1\n", "", "line 2: out of range", 2),
+    ("nothing", "", "", "line 1: no problem line", 2),
+    ("comment before and after", "c x\n" + GRAPH + "c y\np aux sp p2p 1\nc z\nq 1 1\n", READY + "q 1 1 0\n" + READY, "", 0),
+    ("source", "p sp 2 1\na 1 2 7\np aux sp ss 1\ns 1\n", "r 2 1\ns 1\nd 1 0\nd 2 7\nr 2 1\n", "", 0),
+    ("pairs", GRAPH + "p aux sp p2p 2\nq 1 1\nq 1 2\n", READY + "q 1 1 0\nq 1 2 inf\n" + READY, "", 0),
+    ("walks", "p sp 2 1\na 1 2 7\np aux sp walk 2\nq 1 2\nq 2 1\n", "r 2 1\nq 1 2 7\nw 2 7 1 2\nq 2 1 inf\nr 2 1\n", "", 0),
+    ("no queries", GRAPH + "p aux sp ss 0\np aux sp add 0\n", READY + READY + "g 0\n" + READY, "", 0),
+    (
+        "added arcs stay",
+        GRAPH + "p aux sp add 1\na 1 2 4\np aux sp p2p 1\nq 1 2\n",
+        READY + "g 1\nr 2 1\n" + "q 1 2 4\nr 2 1\n",
+        "",
+        0,
+    ),
+    (
+        "refused arcs are not added",
+        GRAPH + "p aux sp add 2\na 1 2 4\na 1 3 4\np aux sp p2p 1\nq 1 2\n",
+        READY + "e 4 out of range\n" + "q 1 2 inf\n" + READY,
+        "",
+        0,
+    ),
+    ("cut by a section", GRAPH + "p aux sp ss 2\ns 1\np aux sp p2p 1\nq 1 1\n", READY + "e 4 too few lines\nq 1 1 0\n" + READY, "", 0),
+    ("cut by a wrong section", GRAPH + "p aux sp ss 2\ns 1\np aux sp p2p x\n", READY + "e 4 too few lines\ne 4 not a number\n", "", 0),
+    (
+        "stray line after a request",
+        GRAPH + "p aux sp p2p 1\nq 1 1\nq 2 2\np aux sp p2p 1\nq 1 2\n",
+        READY + "q 1 1 0\n" + READY + "e 4 misplaced line\n",
+        "",
+        0,
+    ),
+    ("an arc too many", "p sp 2 1\na 1 2 3\na 1 2 4\np aux sp p2p 1\nq 1 2\n", "r 2 1\ne 3 too many lines\n", "", 0),
+    ("junk before a section", GRAPH + "junk\np aux sp p2p 1\nq 1 1\n", READY + "e 2 unknown line\n", "", 0),
+    ("a section that there isn't", GRAPH + "p aux sp p2q 1\nq 1 1\n", READY + "e 2 unknown line\n", "", 0),
+    ("a wrong count", GRAPH + "p aux sp ss x\ns 1\np aux sp ss 0\n", READY + "e 2 not a number\n" + READY, "", 0),
+    ("walk with a tail", GRAPH + "p aux sp walks 1\nq 1 1\n", READY + "e 2 unknown line\n", "", 0),
+    ("another graph", GRAPH + "p sp 3 0\np aux sp ss 0\n", READY + "e 2 misplaced line\n", "", 0),
+    ("end within a request", GRAPH + "p aux sp ss 2\ns 1\n", READY, "line 4: too few lines", 2),
+    ("end after a refusal", GRAPH + "p aux sp ss 2\ns 3\n", READY + "e 3 out of range\n", "", 0),
+    ("end at a stray line", GRAPH + "s 1\n", READY + "e 2 misplaced line\n", "", 0),
+    ("last line without a line feed", GRAPH + "p aux sp p2p 1\nq 1 1", READY + "q 1 1 0\n" + READY, "", 0),
+    ("carriage returns", "p sp 2 0\r\np aux sp p2p 1\r\nq 1 1\r\n", READY + "q 1 1 0\n" + READY, "", 0),
+    (
+        "six vertices",
+        SIX + "p aux sp p2p 2\nq 1 6\nq 6 1\np aux sp add 1\na 1 6 4\np aux sp ss 2\ns 1\ns 7\np aux sp p2p 1\nq 1 6\n",
+        "r 6 8\nq 1 6 15\nq 6 1 inf\nr 6 8\ng 1\nr 6 9\n" + f"e {SIX.count(chr(10)) + 8} out of range\n" + "q 1 6 4\nr 6 9\n",
+        "",
+        0,
+    ),
+]
+
+
+def wrong(text):
+    """Says what is wrong, and ends."""
+    print(text, file=sys.stderr)
+    sys.exit(1)
+
+
+def run(program, options, text):
+    """What the program writes for a whole input: output, error, status."""
+    done = subprocess.run([program, *options], input=text.encode("ascii"), capture_output=True, check=False)
+    return done.stdout.decode("ascii"), done.stderr.decode("ascii"), done.returncode
+
+
+def begin(program, *options):
+    """A session with its three pipes."""
+    pipe = subprocess.PIPE
+    return subprocess.Popen([program, "--session", *options], stdin=pipe, stdout=pipe, stderr=pipe, bufsize=0)
+
+
+def read_exactly(process, count):
+    """So many bytes of output, or fewer if it ends."""
+    found = b""
+    while len(found) < count and (piece := process.stdout.read(count - len(found))):
+        found += piece
+    return found.decode("ascii")
+
+
+def in_pieces(program, options, text, output, sizes):
+    """Writes pieces, and reads all output that is wanted with the input left open, unless the end is part of it."""
+    process = begin(program, *options)
+    try:
+        at = 0
+        for size in sizes:
+            process.stdin.write(text[at : at + size].encode("ascii"))
+            at += size
+            if at >= len(text):
+                break
+    except BrokenPipeError:
+        pass
+    open_output = read_exactly(process, len(output)) if text.endswith("\n") else ""
+    try:
+        process.stdin.close()
+    except BrokenPipeError:
+        pass
+    rest = process.stdout.read().decode("ascii")
+    error = process.stderr.read().decode("ascii")
+    return open_output + rest, error, process.wait()
+
+
+def check_rows(program):
+    """Each row whole, byte by byte and in random pieces."""
+    draw = random.Random(7)
+    for workers in ("1", "3"):
+        options = ["--workers", workers]
+        for name, text, output, fault, status in ROWS:
+            error = f"obim_query: {fault}\n" if fault else ""
+            wanted = (output, error, status)
+            sizes = {
+                "whole": [len(text)],
+                "byte by byte": [1] * len(text),
+                "in pieces": [draw.randrange(1, 9) for _ in text],
+            }
+            for how, pieces in sizes.items():
+                found = in_pieces(program, options, text, output, pieces)
+                if found != wanted:
+                    wrong(f"{name}, {how}, {workers} workers: {found} and not {wanted}")
+
+
+# ---- random sessions beside jobs
+
+
+def records(letter, rows):
+    """Lines of a letter and numbers."""
+    return "".join(f"{letter} {' '.join(map(str, row))}\n" for row in rows)
+
+
+def draw_request(draw, n):
+    """The kind of a section, its records, and whether a line of it is wrong."""
+    kind = draw.choice(["ss", "p2p", "walk", "add"])
+    vertex = lambda: draw.randrange(1, n + 1)
+    count = draw.randrange(4)
+    rows = {
+        "ss": lambda: ("s", [(vertex(),) for _ in range(count)]),
+        "p2p": lambda: ("q", [(vertex(), vertex()) for _ in range(count)]),
+        "walk": lambda: ("q", [(vertex(), vertex()) for _ in range(count)]),
+        "add": lambda: ("a", [(vertex(), vertex(), draw.randrange(9)) for _ in range(count)]),
+    }[kind]()
+    return kind, *rows
+
+
+def job_reply(program, options, n, arcs, request):
+    """What a session replies to a whole request, by jobs alone; and the arcs from then on."""
+    kind, letter, rows = request
+    graph = lambda of: f"p sp {n} {len(of)}\n" + records("a", of)
+    if kind == "add":
+        arcs = arcs + rows
+        body = run(program, options, graph(arcs))[0] if "components" in options else ""
+        return f"g {len(rows)}\n{body}r {n} {len(arcs)}\n", arcs
+    walks = ["--walks"] if kind == "walk" and "components" not in options else []
+    section = {"walk": "p2p"}.get(kind, kind)
+    text = graph(arcs) + f"p aux sp {section} {len(rows)}\n" + records(letter, rows)
+    output, error, status = run(program, [*options, *walks], text)
+    if status:
+        wrong(f"job ended with {status}: {error}")
+    return f"{output}r {n} {len(arcs)}\n", arcs
+
+
+def check_random(program, count):
+    """Random sessions: each reply is that of a job."""
+    for seed in range(count):
+        draw = random.Random(seed)
+        n = draw.randrange(1, 9)
+        arcs = [(draw.randrange(1, n + 1), draw.randrange(1, n + 1), draw.randrange(9)) for _ in range(draw.randrange(12))]
+        answer = draw.choice(["distances", "levels", "components"])
+        options = ["--workers", draw.choice("13"), "--answer", answer]
+        text = f"p sp {n} {len(arcs)}\n" + records("a", arcs)
+        blocks = run(program, options, text)[0] if answer == "components" else ""
+        wanted = f"{blocks}r {n} {len(arcs)}\n"
+        for _ in range(draw.randrange(6)):
+            request = draw_request(draw, n)
+            kind, letter, rows = request
+            section = f"p aux sp {kind} {len(rows)}\n" + records(letter, rows)
+            line = text.count("\n") + 1
+            fault = draw.randrange(8)
+            if fault == 0:
+                text += f"p aux sp {kind} {len(rows) + 1}\n" + records(letter, rows) + records(letter, [(n + 1,) * len(letter_fields(letter))])
+                wanted += f"e {line + len(rows) + 1} out of range\n"
+                continue
+            if fault == 1:
+                text += f"p aux sp {kind} {len(rows)} 1\n"
+                wanted += f"e {line} wrong number of fields\n"
+                continue
+            text += section
+            reply, arcs = job_reply(program, options, n, arcs, request)
+            wanted += reply
+        found = run(program, ["--session", *options], text)
+        if found != (wanted, "", 0):
+            wrong(f"seed {seed}: {found} and not {wanted!r} for {text!r} by {options}")
+
+
+def letter_fields(letter):
+    """Fields after a letter."""
+    return {"s": "v", "q": "vv", "a": "vvw"}[letter]
+
+
+# ---- clients
+
+
+def check_many_pairs(program):
+    """A request is written whole before its reply is read, however long both are."""
+    count = 1 << 20
+    process = begin(program)
+    process.stdin.write(b"p sp 2 1\na 1 2 7\n")
+    if read_exactly(process, 6) != "r 2 1\n":
+        wrong("many pairs: no ready line")
+    rest = memoryview(b"p aux sp p2p %d\n" % count + b"q 1 2\n" * count)
+    while rest:
+        rest = rest[process.stdin.write(rest) :]
+    process.stdin.close()
+    reply = process.stdout.read()
+    if reply != b"q 1 2 7\n" * count + b"r 2 1\n" or process.wait():
+        wrong(f"many pairs: {len(reply)} bytes")
+
+
+def check_gone(program):
+    """A client that goes away ends the session, without a word; so does one that closes its input."""
+    process = begin(program)
+    process.stdin.write(GRAPH.encode("ascii"))
+    read_exactly(process, len(READY))
+    process.stdout.close()
+    process.stdin.write(b"p aux sp p2p 1\nq 1 1\n")
+    process.stdin.close()
+    error, status = process.stderr.read(), process.wait()
+    if (error, status) != (b"", 4):
+        wrong(f"gone client: {error} {status}")
+
+
+def check_memory(program):
+    """Memory after 10,000 requests is that after the first hundred."""
+    process = begin(program, "--workers", "2")
+    process.stdin.write(SIX.encode("ascii"))
+    read_exactly(process, 6)
+    sizes = []
+    for place in range(10_000):
+        request = b"p aux sp ss 1\ns 1\n" if place % 10 == 0 else b"p aux sp walk 1\nq 1 6\n"
+        process.stdin.write(request)
+        reply = b""
+        while not reply.endswith(b"r 6 8\n"):
+            reply += process.stdout.read(4096)
+        if place in (99, 9_999):
+            with open(f"/proc/{process.pid}/statm", encoding="ascii") as file:
+                sizes.append(int(file.read().split()[1]) * os.sysconf("SC_PAGE_SIZE"))
+    process.stdin.close()
+    if process.wait() or sizes[1] > sizes[0] + (1 << 20):
+        wrong(f"memory: {sizes}")
+
+
+def main():
+    """All of it."""
+    if len(sys.argv) != 3 or not sys.argv[2].isdigit():
+        sys.exit("usage: tests/sessions.py PROGRAM COUNT")
+    program = sys.argv[1]
+    check_rows(program)
+    check_random(program, int(sys.argv[2]))
+    check_many_pairs(program)
+    check_gone(program)
+    check_memory(program)
+
+
+if __name__ == "__main__":
+    main()
