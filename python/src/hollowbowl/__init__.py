@@ -1,0 +1,11 @@
+"""Least costs, hop levels and weak components of directed graphs, by a program whose answers are proved.
+
+`Graph` hands its arcs to the program `obim_query`, which keeps them and answers one question after another.
+"""
+
+from ._errors import Ended, Error, NoPath, Refused
+from ._graph import Graph
+from ._numbers import INF
+
+__all__ = ["INF", "Ended", "Error", "Graph", "NoPath", "Refused"]
+__version__ = "0.1.0"

@@ -1,0 +1,110 @@
+"""Numbers as the program takes them, and its text made and read without a Python loop over arcs where numpy is there."""
+
+from array import array
+from operator import index
+
+try:
+    import numpy
+except ImportError:
+    numpy = None
+
+#: The label of a vertex to which no walk leads.
+INF = 2**64 - 1
+
+MOST_VERTICES = 2**28
+MOST_WEIGHT = 2**32 - 1
+
+# Arcs whose text is made at a time.
+_CHUNK = 1 << 18
+
+
+def as_whole(name, values, most):
+    """The values as whole numbers from 0 to `most`, in an array; ValueError names the first that is none."""
+    if numpy is not None:
+        return _as_numpy(name, values, most)
+    found = array("Q")
+    for place, value in enumerate(values):
+        number = _whole(value)
+        if number is None or not 0 <= number <= most:
+            raise ValueError(f"{name}[{place}] is {value!r}, which is no whole number from 0 to {most}")
+        found.append(number)
+    return found
+
+
+def _whole(value):
+    try:
+        return index(value)
+    except TypeError:
+        if isinstance(value, float) and value.is_integer():
+            return int(value)
+        return None
+
+
+def _as_numpy(name, values, most):
+    if not hasattr(values, "__len__"):
+        values = list(values)
+    given = numpy.asarray(values)
+    if given.ndim != 1:
+        raise ValueError(f"{name} has {given.ndim} dimensions and not 1")
+    if given.size and not numpy.issubdtype(given.dtype, numpy.number):
+        given = numpy.array(list(values), dtype=object)
+    if given.dtype == object:
+        whole = [_whole(value) for value in given]
+        good = numpy.array([number is not None and 0 <= number <= most for number in whole], dtype=bool)
+        given_back = numpy.array([number if is_good else 0 for number, is_good in zip(whole, good)], dtype=numpy.uint64)
+    else:
+        good = (given >= 0) & (given <= most) & (given == numpy.floor(given))
+        with numpy.errstate(invalid="ignore"):
+            given_back = given.astype(numpy.uint64)
+    if not good.all():
+        place = int(numpy.argmin(good))
+        raise ValueError(f"{name}[{place}] is {values[place]!r}, which is no whole number from 0 to {most}")
+    return given_back
+
+
+def rows_text(letter, columns):
+    """The text of lines that begin with a letter and have the numbers of the columns, in pieces."""
+    count = len(columns[0])
+    for first in range(0, count, _CHUNK):
+        part = [column[first : first + _CHUNK] for column in columns]
+        if numpy is not None:
+            yield _numpy_text(letter, part)
+        else:
+            form = letter + " %d" * len(columns) + "\n"
+            yield "".join(map(form.__mod__, zip(*part))).encode("ascii")
+
+
+def _numpy_text(letter, columns):
+    """Each line in a row of bytes of one width, and from that the bytes that belong to it."""
+    count = len(columns[0])
+    widths = [len(str(int(column.max()))) if count else 1 for column in columns]
+    width = 2 + sum(widths) + len(columns)
+    text = numpy.full((count, width), ord(" "), dtype=numpy.uint8)
+    shown = numpy.ones((count, width), dtype=bool)
+    text[:, 0] = ord(letter)
+    at = 2
+    for column, digits in zip(columns, widths):
+        rest = column.copy()
+        for place in range(at + digits - 1, at - 1, -1):
+            text[:, place] = ord("0") + (rest % 10).astype(numpy.uint8)
+            if place < at + digits - 1:
+                shown[:, place] = rest > 0
+            rest //= 10
+        at += digits + 1
+    text[:, width - 1] = ord("\n")
+    return text[shown].tobytes()
+
+
+def labels_in(body, n):
+    """The labels in the text of blocks of n vertices: for each source a row, 2**64 - 1 where no walk leads."""
+    text = body.replace(b"inf", b"18446744073709551615")
+    if numpy is not None:
+        if n == 0:
+            return numpy.empty((0, 0), dtype=numpy.uint64)
+        numbers = numpy.fromstring(text.translate(None, b"sdk"), dtype=numpy.uint64, sep=" ")
+        return numbers.reshape(-1, 2 * n + 1)[:, 2::2]
+    words = text.split()
+    rows = []
+    for first in range(0, len(words), 3 * n + 2):
+        rows.append(array("Q", map(int, words[first + 4 : first + 3 * n + 2 : 3])))
+    return rows
