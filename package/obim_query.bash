@@ -12,8 +12,8 @@ _obim_query() {
         --at-once | --shift | -s) choices=auto ;;
         --workers | -w | --chunk | -c | --within) compopt +o bashdefault +o default; return ;;
         *[\<\>]) return ;;
-        *) choices="-a --answer -W --walks --within -w --workers --at-once -s --shift -c --chunk --progress --stats
-            --explain -h --help -V --version" ;;
+        *) choices="-a --answer -W --walks --within -w --workers --at-once -s --shift -c --chunk --session --progress
+            --stats --explain -h --help -V --version" ;;
     esac
     mapfile -t COMPREPLY < <(compgen -W "$choices" -- "$word")
 }

@@ -8,6 +8,7 @@ _arguments -s -S \
     '--at-once=[sources solved at the same time, 1 to 64]:count:(auto)' \
     '(-s --shift)'{-s+,--shift=}'[bucket width 2^BITS, 0 to 63]:bits:(auto)' \
     '(-c --chunk)'{-c+,--chunk=}'[vertices in a chunk, the unit of shared work, 1 to 256]:size:' \
+    '--session[answer requests after the graph, each at once]' \
     '--progress[print on standard error how far the answer is]' \
     '--stats[print figures on standard error after the answer]' \
     '--explain[explain a fault: the line, the field, what was expected]' \

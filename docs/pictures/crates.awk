@@ -19,6 +19,7 @@ function y(crate) { return 30 + (highest - layer[crate]) * 74 }
 BEGIN {
     # The text, the worklist, the labels and the walks beside one another; above them what joins them.
     column["job_reader"] = column["dimacs_text"] = column["answer_lines"] = 0
+    column["request_reader"] = 1.05
     column["obim_bags"] = column["obim_pool"] = 1.1
     column["csr_graph"] = column["relax_core"] = column["label_words"] = 2.9
     column["obim_engine"] = 2.1

@@ -1,0 +1,133 @@
+"""Times requests: bench/sessions.py PROGRAM GRAPH ROUNDS SOURCE NEAR FAR. The best of the rounds, in milliseconds."""
+
+import os
+import random
+import subprocess
+import sys
+import time
+
+
+class Session:
+    """The program with its two pipes."""
+
+    def __init__(self, program, workers, graph):
+        self.process = subprocess.Popen(
+            [program, "--session", "--workers", str(workers)], stdin=subprocess.PIPE, stdout=subprocess.PIPE, bufsize=0
+        )
+        self.ask(graph)
+
+    def ask(self, request):
+        """Writes a request whole and reads its reply whole: its bytes."""
+        rest = memoryview(request)
+        while rest:
+            rest = rest[self.process.stdin.write(rest) :]
+        pieces, last = [], b""
+        while True:
+            piece = self.process.stdout.read(1 << 20)
+            if not piece:
+                raise SystemExit("the session ended")
+            pieces.append(piece)
+            last = (last + piece)[-256:]
+            if last.endswith(b"\n") and last[last.rfind(b"\n", 0, -1) + 1 :][:1] in b"re":
+                return b"".join(pieces)
+
+    def resident(self):
+        """Bytes of memory."""
+        with open(f"/proc/{self.process.pid}/statm", encoding="ascii") as file:
+            return int(file.read().split()[1]) * os.sysconf("SC_PAGE_SIZE")
+
+    def close(self):
+        """Ends it."""
+        self.process.stdin.close()
+        self.process.wait()
+
+
+def best(rounds, call):
+    """The least milliseconds of some calls."""
+    least = float("inf")
+    for _ in range(rounds):
+        before = time.perf_counter()
+        call()
+        least = min(least, time.perf_counter() - before)
+    return 1000 * least
+
+
+def job(program, workers, text):
+    """A whole job."""
+    subprocess.run([program, "--workers", str(workers)], input=text, stdout=subprocess.PIPE, check=True)
+
+
+def large(program, graph, rounds, source, near, far):
+    """Requests to a large map."""
+    n = int(graph[: graph.index(b"\n")].split()[2])
+    draw = random.Random(1)
+    some = [draw.randrange(1, n + 1) for _ in range(100)]
+    requests = {
+        "one source": b"p aux sp ss 1\ns %d\n" % source,
+        "a pair next door": b"p aux sp p2p 1\nq %d %d\n" % (source, near),
+        "the same, with its walk": b"p aux sp walk 1\nq %d %d\n" % (source, near),
+        "a pair far away": b"p aux sp p2p 1\nq %d %d\n" % (source, far),
+        "100 pairs of one source": b"p aux sp p2p 100\n" + b"".join(b"q %d %d\n" % (source, v) for v in some),
+        "ten sources": b"p aux sp ss 10\n" + b"".join(b"s %d\n" % v for v in some[:10]),
+        "an arc added": b"p aux sp add 1\na %d %d 100000000\n" % (source, far),
+    }
+    for workers in (1, 4):
+        before = time.perf_counter()
+        session = Session(program, workers, graph)
+        print(f"{workers} workers: load {1000 * (time.perf_counter() - before):.0f} ms")
+        for name, request in requests.items():
+            whole = request.replace(b"walk", b"p2p") if b"walk" in request else request
+            asked = best(rounds, lambda: session.ask(request))
+            alone = best(rounds, lambda: job(program, workers, graph + whole)) if b" add " not in request else None
+            beside = f", as a job {alone:.0f} ms, ratio {asked / alone:.2f}" if alone else ""
+            print(f"{workers} workers: {name} {asked:.1f} ms{beside}")
+        session.close()
+
+
+def small(program, rounds):
+    """Requests a second on small graphs, and memory."""
+    for n in (4, 1024, 10_000):
+        draw = random.Random(n)
+        arcs = b"".join(b"a %d %d %d\n" % (draw.randrange(1, n + 1), draw.randrange(1, n + 1), draw.randrange(100)) for _ in range(3 * n))
+        for workers in (1, 2, 4):
+            session = Session(program, workers, b"p sp %d %d\n" % (n, 3 * n) + arcs)
+            request = b"p aux sp p2p 1\nq 1 %d\n" % n
+            session.ask(request)
+            count = 1000
+            took = best(rounds, lambda: [session.ask(request) for _ in range(count)])
+            print(f"{n} vertices, {workers} workers: {1000 * count / took:.0f} pairs a second")
+            if (n, workers) == (1024, 2):
+                first = session.resident()
+                for _ in range(10_000):
+                    session.ask(request)
+                print(f"memory after {count * rounds} requests {first >> 10} KiB, after 10,000 more {session.resident() >> 10} KiB")
+            session.close()
+
+
+def from_python(program, graph, rounds, source, near):
+    """The same from the package, as arrays."""
+    os.environ["HOLLOWBOWL"] = program
+    from hollowbowl import Graph
+
+    with open("/dev/shm/sessions.gr", "wb") as file:
+        file.write(graph)
+    for workers in (1, 4):
+        with Graph.from_gr("/dev/shm/sessions.gr", workers=workers) as kept:
+            print(f"Python, {workers} workers: a row of distances {best(rounds, lambda: kept.distances(source - 1)):.0f} ms")
+            print(f"Python, {workers} workers: a path next door {best(rounds, lambda: kept.path(source - 1, near - 1)):.1f} ms")
+    os.remove("/dev/shm/sessions.gr")
+
+
+def main():
+    """All of it."""
+    program, path, rounds, *vertices = sys.argv[1:]
+    with open(path, "rb") as file:
+        graph = file.read()
+    source, near, far = map(int, vertices)
+    large(program, graph, int(rounds), source, near, far)
+    small(program, int(rounds))
+    from_python(program, graph, int(rounds), source, near)
+
+
+if __name__ == "__main__":
+    main()
