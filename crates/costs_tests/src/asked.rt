@@ -28,7 +28,7 @@ fn network_of<H: Threads + Abort + Sync>(
 }
 
 /// The network of the six vertices.
-fn six<H: Threads + Abort + Sync>(rt: &H, alloc: Global) -> Result<Network, Fail>
+pub(crate) fn six<H: Threads + Abort + Sync>(rt: &H, alloc: Global) -> Result<Network, Fail>
     ensures { IfOk result (λ network. network.n ≡ 6) }
 {
     network_of(rt, alloc, 6, &EXAMPLE_ARCS, Cost::Weight)

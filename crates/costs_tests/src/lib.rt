@@ -9,3 +9,5 @@
 mod asked;
 #[cfg(test)]
 mod rounds;
+#[cfg(test)]
+mod walks;

@@ -3,6 +3,7 @@
 ghost use Rattle.std.specs.Prelude.{◌≡◌, ◌+◌, ◌≤◌, ◌<◌, ◌^◌, ◌↔◌, ◌++◌, length, All};
 ghost use Rattle.std.specs.Prelude.{IfErr, IfNone, IfOk, IfSome, IsTrue};
 ghost use Rattle.csr_graph.specs.Graph.{IsInRows};
+ghost use Rattle.route_walks.specs.Operators.{unit_weights};
 ghost use Rattle.route_walks.specs.Walk.{IsArcBelow, IsGraph, HaveSameArcs};
 ghost use Rattle.least_costs.specs.Faults.{IsFirstOutside, IsNetworkFault, IsGrowthFault};
 ghost use Rattle.least_costs.specs.Network.{AreLight, GrowsTo, IsNetwork, IsNetworkOf, arcs_of, graph_of};
@@ -138,7 +139,7 @@ fn rows_of<H: Threads + Sync>(
     rt: &H,
     alloc: Global,
     n: u32,
-    arcs: Vec<ArcRec>,
+    mut arcs: Vec<ArcRec>,
     cost: Cost,
     threads: usize,
 ) -> Result<Csr, Memory>
@@ -152,11 +153,19 @@ fn rows_of<H: Threads + Sync>(
     match cost {
         Cost::Weight => Csr::build_from(rt, alloc, n, arcs, threads),
         Cost::One => {
-            let units = unit_weights(alloc, &arcs)?;
-            drop(arcs);
-            Csr::build_from(rt, alloc, n, units, threads)
+            set_unit_weights(&mut arcs);
+            Csr::build_from(rt, alloc, n, arcs, threads)
         }
         Cost::FreeBothWays => Csr::build_both_ways(rt, alloc, n, arcs, threads),
+    }
+}
+
+/// Sets the weight of each arc to 1. A list of all arcs is too long to be copied.
+fn set_unit_weights(arcs: &mut [ArcRec])
+    ensures { arcs.new ≡ unit_weights arcs.old }
+{
+    for arc in arcs.iter_mut() {
+        *arc = ArcRec { weight: 1, ..*arc };
     }
 }
 

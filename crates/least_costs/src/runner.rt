@@ -1,13 +1,12 @@
 //! Which pool serves one source after another?
 
 ghost use Rattle.std.specs.Prelude.{◌≡◌, All, IfOk, IfSome, length};
-ghost use Rattle.route_walks.specs.Walk.{AreSeeds, IsGraph};
+ghost use Rattle.route_walks.specs.Walk.{AreSeeds};
 ghost use Rattle.csr_graph.specs.Graph.{Graph};
 ghost use Rattle.label_words.specs.Closed.{IsEnd};
 ghost use Rattle.label_words.specs.Paused.{IsPause};
 ghost use Rattle.obim_pool.specs.Sides.{IsSideOf};
 ghost use Rattle.obim_engine.specs.Goal.{HasReached, IsGoalWithin};
-ghost use Rattle.obim_engine.specs.Grown.{IsGrown};
 ghost use Rattle.least_costs.specs.Network.{GrowsTo, IsStartWithin, graph_of, seeds_at};
 
 use crate::costs::Costs;
@@ -19,7 +18,7 @@ use obim_engine::{
     grow, resume_until, run_until, widths_of,
 };
 use obim_pool::{ObimPool, ObimSide, WideningPool, WorkPool};
-use route_walks::{ArcRec, Memory, Seed, seeds_all, seeds_from};
+use route_walks::{Memory, Seed, seeds_all, seeds_from};
 use std::alloc::Global;
 use std::sync::Wait;
 use std::thread::Threads;
@@ -123,27 +122,24 @@ impl Runner {
         }
     }
 
-    /// The same in a network that another one grew to, from what a run from this start left there. Only what the added
-    /// arcs change is visited.
-    pub(crate) fn reach_after<H: Threads + Wait + Clock + Sync, G: Gate + Sync>(
+    /// The same in a network that another one grew to, from a pause of a run from this start. Only what the arcs change
+    /// that leave its marked vertices is visited.
+    pub(crate) fn resume<H: Threads + Wait + Clock + Sync, G: Gate + Sync>(
         &mut self,
         rt: &H,
         alloc: Global,
-        network: &Network,
         grown: &Network,
         start: Start,
-        closed: Closed,
+        rest: Paused,
         goal: Goal<'_>,
         gate: &G,
     ) -> Result<Reached, Memory>
-        requires start { IsStartWithin network.now.n start }
-        requires grown { GrowsTo network.now grown.now }
-        requires closed { IsEnd (graph_of network.now) (seeds_at network.now.n start) closed }
+        requires start { IsStartWithin grown.now.n start }
+        requires rest { IsPause (graph_of grown.now) (seeds_at grown.now.n start) rest }
         requires goal { IsGoalWithin grown.now.n goal }
         ensures { IfOk result (HasReached goal.entry (graph_of grown.now) (seeds_at grown.now.n start)) }
     {
         let seeds = seeds_of(alloc, grown, start)?;
-        let rest = pause_of(alloc, &network.rows, &seeds, &grown.added, closed)?;
         match run_over(
             rt,
             alloc,
@@ -160,28 +156,26 @@ impl Runner {
     }
 }
 
-/// What a run from these seeds left, as a pause of the rows with more arcs.
-fn pause_of(
+/// What a run from this start left in a network, as a pause of one that it grew to. The tails of the added arcs are
+/// marked there.
+pub(crate) fn pause_after(
     alloc: Global,
-    rows: &Csr,
-    seeds: &[Seed],
-    added: &[ArcRec],
+    network: &Network,
+    grown: &Network,
+    start: Start,
     closed: Closed,
 ) -> Result<Paused, Memory>
-    requires seeds { AreSeeds rows.now.n seeds.now }
-    requires closed { IsEnd rows.now seeds.now closed }
-    requires ends { IsGraph rows.now.n added.now }
-    ensures pause { IfOk result (λ rest. (grown : Graph)
-        → IsGrown rows.now added.now grown
-        → IsPause grown seeds.now rest) }
+    requires start { IsStartWithin network.now.n start }
+    requires grown { GrowsTo network.now grown.now }
+    requires closed { IsEnd (graph_of network.now) (seeds_at network.now.n start) closed }
+    ensures { IfOk result (IsPause (graph_of grown.now) (seeds_at grown.now.n start)) }
 {
-    // The rows are by tail, so that labels which are least along them are a pause of their graph. The seeds are for
-    // the contract alone.
-    let _ = rows.n();
-    let _ = seeds;
+    // The rows are by tail, so that labels which are least along them are a pause of their graph. The start is for the
+    // contract alone.
+    let _ = (network.rows.n(), start);
     match closed {
-        Closed::Settled(labels) => Ok(grow(Paused::settled(alloc, labels)?, added)),
-        Closed::Paused(rest) => Ok(grow(rest, added)),
+        Closed::Settled(labels) => Ok(grow(Paused::settled(alloc, labels)?, &grown.added)),
+        Closed::Paused(rest) => Ok(grow(rest, &grown.added)),
     }
 }
 

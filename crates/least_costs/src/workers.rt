@@ -8,7 +8,7 @@ ghost use Rattle.least_costs.specs.Network.{GrowsTo, IsStartWithin, graph_of, se
 use crate::below::CostsBelow;
 use crate::costs::Costs;
 use crate::network::Network;
-use crate::runner::Runner;
+use crate::runner::{Runner, pause_after};
 use crate::start::Start;
 use obim_engine::{Closed, Gate, Goal, Reached, Settings};
 use route_walks::Memory;
@@ -165,9 +165,9 @@ impl<'a, G: Gate + Sync> Workers<'a, G> {
         requires goal { IsGoalWithin grown.now.n goal }
         ensures { IfOk result (HasReached goal.entry (graph_of grown.now) (seeds_at grown.now.n start)) }
     {
-        let mut runner = self.runner(alloc, network)?;
-        let gate = self.gate;
-        let reached = runner.reach_after(rt, alloc, network, grown, start, closed, goal, gate)?;
+        let mut runner = self.runner(alloc, grown)?;
+        let rest = pause_after(alloc, network, grown, start, closed)?;
+        let reached = runner.resume(rt, alloc, grown, start, rest, goal, self.gate)?;
         self.kept = Some(runner);
         Ok(reached)
     }
