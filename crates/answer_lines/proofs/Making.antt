@@ -7,13 +7,17 @@ use Rattle.std.specs.Fmt.{decimal}
 use Rattle.std.proofs.lemmas.Bool.{cases_lt}
 use Rattle.std.proofs.lemmas.Bool.Decides.{nat_tests}
 use Rattle.std.proofs.lemmas.Fmt.{decimal_digit}
-use Rattle.std.proofs.lemmas.List.{drop-append-le, length-take-le, take-append-le}
+use Rattle.std.proofs.lemmas.List.{drop-append-le, length-take-le, take-append-le, take_more}
+use borrow.Rule.Slice.PartMut.{put_mid}
+use Rattle.std.proofs.lemmas.Slice.{take-put_mid}
 use Rattle.std.proofs.Math.Seq.{drop-append-add, drop-drop}
 use Rattle.std.specs.Simd.Lanes.{put_chunk}
 use Rattle.std.proofs.lemmas.Simd.{put_chunk_is}
 use Rattle.itoa.proofs.Decimal.{decimal_two, decimal_pair, PAIRS_at}
 use Rattle.answer_lines.specs.declared.groups.TheConstants.{PAIRS}
 use Rattle.answer_lines.specs.Lines.{front_digits, last_digits}
+use Rattle.answer_lines.specs.Raw.{raw_label, raw_labels}
+use Rattle.answer_lines.proofs.Facts.{raw_labels-append}
 
 pub refused : {T E : Type 0} {P : Type 0} (r : Result T E) → is_err r ≡ true → OnErr r P → P
 refused (Ok x) e p = absurd (cc)
@@ -90,3 +94,14 @@ group_put lines append {after} {all} {whole} v before group rest put parts left 
     ∙ ap (λ (text : List ℕ). before ++ text) (sym (append v group rest))
     ∙ ap (λ (xs : List ℕ). before ++ lines v xs) (sym parts)
     ∙ left
+
+-- the bytes of one label more are put after those of the labels before it
+pub raw_more : (bytes labels word : List ℕ) (i end room : ℕ)
+    → take end bytes ≡ raw_labels (take i labels) → end ≤ length bytes → i < length labels
+    → word ≡ raw_label (get_or labels i 0)
+    → take (end + 8) (put_mid end room bytes word) ≡ raw_labels (take (i + 1) labels)
+raw_more bytes labels word i end room made within below is =
+    let long : length word ≡ 8 = ap length is in
+    take-put_mid end room bytes word (end + 8) (omega arith) within
+    ∙ ap₂ (λ (xs ys : List ℕ). xs ++ ys) made is
+    ∙ sym (ap raw_labels (take_more labels i 0 below) ∙ raw_labels-append (take i labels) (get_or labels i 0 ∷ []))

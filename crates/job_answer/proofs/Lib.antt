@@ -13,3 +13,4 @@ pub mod Growing
 pub mod WalksBelow
 pub mod Within
 pub mod Told
+pub mod Short

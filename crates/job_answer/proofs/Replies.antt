@@ -23,8 +23,8 @@ use Rattle.job_answer.specs.AnswerText.{Growth, IsComponentsBlock, IsGrownBlock,
 use Rattle.job_answer.specs.AnswerText.{IsTextFor, arcs_for, growth_for}
 use Rattle.job_answer.specs.declared.asked.Lines.{Lines}
 use Rattle.job_answer.specs.declared.asked.Lines.TheVariants as lines
-use Rattle.job_answer.specs.Within.{AreBlocksWithin, AreLinesBlocks, HasNoSources, IsAnswerTextBy, IsGrownLines, IsLinesBlock}
-use Rattle.job_answer.specs.Within.{IsTextBy}
+use Rattle.job_answer.specs.Within.{AreBlocksInShort, AreBlocksWithin, AreLinesBlocks, HasNoSources, IsAnswerTextBy}
+use Rattle.job_answer.specs.Within.{IsGrownLines, IsLinesBlock, IsTextBy, IsTextInShort}
 
 module _ (law : LeastLabelsFollowTheArcs) (walked : HopsAndParentsFollowTheArcs) (n : ℕ) (one other : List ArcRec)
     (same : HaveSameArcs one other) where
@@ -64,6 +64,16 @@ module _ (law : LeastLabelsFollowTheArcs) (walked : HopsAndParentsFollowTheArcs)
     hops = block.hops;
     parents = block.parents;
     walked = walks-over source block.labels block.hops block.parents block.walked;
+    written = block.written;
+  }
+  lines-over lines.Raw source text block = record {
+    labels = block.labels;
+    least = law n one other (seeds_from source) block.labels same block.least;
+    written = block.written;
+  }
+  lines-over lines.Totals source text block = record {
+    labels = block.labels;
+    least = law n one other (seeds_from source) block.labels same block.least;
     written = block.written;
   }
 
@@ -147,27 +157,44 @@ module _ (law : LeastLabelsFollowTheArcs) (walked : HopsAndParentsFollowTheArcs)
   text-over Components question text is =
       grown-over (IsComponentsBlock n) (components-over law n) one other first second same alike text is
 
--- so is a text within a bound
+-- so is a text by other lines
 module _ (law : LeastLabelsFollowTheArcs) (walked : HopsAndParentsFollowTheArcs) (n : ℕ) (one other : List ArcRec)
     (first second : Option Growth) (same : HaveSameArcs one other) (alike : GrowAlike first second) where
+  sources-over : (by : Lines) (sources text : List ℕ) → AreLinesBlocks by n one first sources text
+      → AreLinesBlocks by n other second sources text
+  sources-over by =
+      blocks-over (IsGrownLines by n one first) (IsGrownLines by n other second)
+      (λ source.
+      grown-over (λ along. IsLinesBlock by n along source)
+      (λ these those are. lines-over law walked n these those are by source) one other first second same alike)
+
   within-over : (walks : Bool) (bound : ℕ) (question : Question) (text : List ℕ)
       → AreBlocksWithin walks bound n one first question text
       → AreBlocksWithin walks bound n other second question text
   within-over walks bound absent text blocks = blocks
   within-over walks bound (of_pairs pairs) text blocks = blocks
-  within-over walks bound (from_sources sources) text blocks =
-      blocks-over (IsGrownLines (lines.Within walks bound) n one first)
-      (IsGrownLines (lines.Within walks bound) n other second)
-      (λ source.
-      grown-over (λ along. IsLinesBlock (lines.Within walks bound) n along source)
-      (λ these those are. lines-over law walked n these those are (lines.Within walks bound) source)
-      one other first second same alike)
-      sources text blocks
+  within-over walks bound (from_sources sources) text blocks = sources-over (lines.Within walks bound) sources text blocks
+
+  short-over : (by : Lines) (question : Question) (text : List ℕ) → AreBlocksInShort by n one first question text
+      → AreBlocksInShort by n other second question text
+  short-over by absent text blocks = blocks
+  short-over by (from_sources sources) text blocks = sources-over by sources text blocks
+  short-over by (of_pairs pairs) text blocks =
+      asked-over law walked false n one other first second same alike (of_pairs pairs) text blocks
+
+  text-in-short-over : (kind : Answer) (by : Lines) (question : Question) (text : List ℕ)
+      → IsTextInShort kind by n one first question text → IsTextInShort kind by n other second question text
+  text-in-short-over Distances by question text is = short-over by question text is
+  text-in-short-over Levels by question text is = short-over by question text is
+  text-in-short-over Components by question text is =
+      grown-over (IsComponentsBlock n) (components-over law n) one other first second same alike text is
 
   text-over-by : (kind : Answer) (by : Lines) (question : Question) (text : List ℕ)
       → IsTextBy kind by n one first question text → IsTextBy kind by n other second question text
   text-over-by kind (lines.Each walks) question text is =
       text-over law walked walks n one other first second same alike kind question text is
+  text-over-by kind lines.Raw question text is = text-in-short-over kind lines.Raw question text is
+  text-over-by kind lines.Totals question text is = text-in-short-over kind lines.Totals question text is
   text-over-by Distances (lines.Within walks bound) question text is = within-over walks bound question text is
   text-over-by Levels (lines.Within walks bound) question text is = within-over walks bound question text is
   text-over-by Components (lines.Within walks bound) question text is =
@@ -211,8 +238,12 @@ pub sources-text : (kind : Answer) (by : Lines) (n : ℕ) (arcs : List ArcRec) (
     → AreLinesBlocks by n arcs growth sources text ↔ IsTextBy kind by n arcs growth (from_sources sources) text
 sources-text Distances (lines.Each walks) n arcs growth sources text other = (λ is. is, λ is. is)
 sources-text Distances (lines.Within walks bound) n arcs growth sources text other = (λ is. is, λ is. is)
+sources-text Distances lines.Raw n arcs growth sources text other = (λ is. is, λ is. is)
+sources-text Distances lines.Totals n arcs growth sources text other = (λ is. is, λ is. is)
 sources-text Levels (lines.Each walks) n arcs growth sources text other = (λ is. is, λ is. is)
 sources-text Levels (lines.Within walks bound) n arcs growth sources text other = (λ is. is, λ is. is)
+sources-text Levels lines.Raw n arcs growth sources text other = (λ is. is, λ is. is)
+sources-text Levels lines.Totals n arcs growth sources text other = (λ is. is, λ is. is)
 sources-text Components by n arcs growth sources text other = absurd (other refl)
 
 -- the test says whether a job is asked

@@ -23,11 +23,14 @@ use Rattle.walk_report.specs.declared.hop.TheConstants.{NONE}
 use Rattle.walk_report.specs.Existence.{HopsAndParentsExist}
 use Rattle.walk_report.specs.Printed.{WalksBelowAgree}
 use Rattle.answer_lines.specs.Lines.{label_lines, label_text, source_text, walk_text}
+use Rattle.answer_lines.specs.Raw.{raw_text}
+use Rattle.answer_lines.specs.Totals.{totals_text}
 use Rattle.job_answer.specs.declared.asked.Lines.{Lines}
 use Rattle.job_answer.specs.declared.asked.Lines.TheVariants as lines
 use Rattle.job_answer.specs.declared.line_walks.LineWalks.{LineWalks}
 use Rattle.job_answer.specs.AnswerText.{AreWalksFrom, vertex_lines, vertex_text}
-use Rattle.job_answer.specs.LineWalks.{AreReachedWithin, AreWalksBelow, AreWalksFor, bound_of, has_walks, text_by}
+use Rattle.job_answer.specs.LineWalks.{AreReachedWithin, AreWalksBelow, AreWalksFor, HasVertexLines, bound_of, has_walks}
+use Rattle.job_answer.specs.LineWalks.{text_by}
 use Rattle.job_answer.proofs.Starts.{whole-costs}
 use Rattle.job_answer.specs.Solves.{AreCostsFor, IsLinesAsked, IsStartLines, goal_of}
 use Rattle.job_answer.specs.Within.{IsLinesBlock, line_within, lines_within, text_within}
@@ -169,6 +172,8 @@ pub bound-served : (lines : Lines) (labels : List ℕ) (limit : ℕ) → IsServe
     → min (bound_of lines + 1) INF ≤ limit
 bound-served (lines.Each walks) labels limit served = omega (arith, served)
 bound-served (lines.Within walks bound) labels limit served = served
+bound-served lines.Raw labels limit served = omega (arith, served)
+bound-served lines.Totals labels limit served = omega (arith, served)
 
 module _ (exist : LeastLabelsExist) (led : HopsAndParentsExist) (agree : WalksBelowAgree) (n : ℕ) (arcs : List ArcRec)
     (source limit : ℕ) (labels : List ℕ) (few : n ≤ MAX_VERTICES) (graph : IsGraph n arcs) (within : source < n)
@@ -187,12 +192,12 @@ module _ (exist : LeastLabelsExist) (led : HopsAndParentsExist) (agree : WalksBe
   capped k below = (some-least.1.least k (omega (arith, below, some-least.1.count))).capped
 
   -- what is written of them is the block of the source
-  pub told : (lines : Lines) (walks : Option LineWalks) → IsLinesAsked lines
+  pub told : (lines : Lines) (walks : Option LineWalks) → HasVertexLines lines → IsLinesAsked lines
       → IsServedBy (goal_of lines) labels limit
       → AreWalksFor (has_walks lines) n arcs source limit labels walks
       → IsLinesBlock lines n arcs source
       (text_within source (bound_of lines) (text_by walks) labels)
-  told (lines.Each false) None asked served found =
+  told (lines.Each false) None lined asked served found =
       let least = some-least.0 in
       let alike = labels-alike INF limit n arcs source labels least (bound-served (lines.Each false) labels limit served)
       low (omega arith) up some-least.1 in
@@ -201,9 +206,9 @@ module _ (exist : LeastLabelsExist) (led : HopsAndParentsExist) (agree : WalksBe
         least = some-least.1;
         written = ap (λ (text : List ℕ). source_text source ++ text) (alike ∙ all-labels 0 least capped);
       }
-  told (lines.Each false) (Some walks) asked served found = absurd found
-  told (lines.Each true) None asked served found = absurd found
-  told (lines.Each true) (Some walks) asked served found =
+  told (lines.Each false) (Some walks) lined asked served found = absurd found
+  told (lines.Each true) None lined asked served found = absurd found
+  told (lines.Each true) (Some walks) lined asked served found =
       let least = some-least.0 in
       let (hops, parents, are) = some-walks in
       let alike = walks-alike INF limit n arcs source labels least (bound-served (lines.Each true) labels limit served) low
@@ -217,16 +222,16 @@ module _ (exist : LeastLabelsExist) (led : HopsAndParentsExist) (agree : WalksBe
             ap (λ (text : List ℕ). source_text source ++ text)
             (alike ∙ all-walks (slice_index hops) (slice_index parents) 0 least capped);
       }
-  told (lines.Within false bound) None asked served found = record {
+  told (lines.Within false bound) None lined asked served found = record {
     labels = some-least.0;
     least = some-least.1;
     written =
         ap (λ (text : List ℕ). source_text source ++ text)
         (labels-alike bound limit n arcs source labels some-least.0 served low (omega (arith, asked)) up some-least.1);
   }
-  told (lines.Within false bound) (Some walks) asked served found = absurd found
-  told (lines.Within true bound) None asked served found = absurd found
-  told (lines.Within true bound) (Some walks) asked served found =
+  told (lines.Within false bound) (Some walks) lined asked served found = absurd found
+  told (lines.Within true bound) None lined asked served found = absurd found
+  told (lines.Within true bound) (Some walks) lined asked served found =
       let (hops, parents, are) = some-walks in
       record {
         labels = some-least.0;
@@ -238,6 +243,8 @@ module _ (exist : LeastLabelsExist) (led : HopsAndParentsExist) (agree : WalksBe
             (walks-alike bound limit n arcs source labels some-least.0 served low (omega (arith, asked)) up some-least.1
             agree graph walks hops parents are found);
       }
+  told lines.Raw walks lined asked served found = absurd lined
+  told lines.Totals walks lined asked served found = absurd lined
 
 -- each label within the bound of lines that have walks has one, unless it is INF
 pub reached-within : (n : ℕ) (arcs : List ArcRec) (source limit bound : ℕ) (labels : List ℕ) (walks : LineWalks)
@@ -267,12 +274,37 @@ pub everywhere-least : (net : NetworkSeen) (lines : Lines) (costs : BelowSeen) �
     → AreLeastLabels net.n net.arcs (seeds_at net.n Everywhere) costs.labels
 everywhere-least net (lines.Each walks) costs asked are = (whole-costs net Everywhere costs are).least
 everywhere-least net (lines.Within walks bound) costs asked are = absurd asked
+everywhere-least net lines.Raw costs asked are = absurd asked
+everywhere-least net lines.Totals costs asked are = absurd asked
 
 -- and so are those from a source, where each vertex has a line
 pub each-least : (net : NetworkSeen) (from : Start) (walks : Bool) (costs : BelowSeen)
     → AreCostsFor net from (goal_of (lines.Each walks)) costs
     → AreLeastLabels net.n net.arcs (seeds_at net.n from) costs.labels
 each-least net from walks costs are = (whole-costs net from costs are).least
+
+-- these are the labels of a block in short
+pub raw-told : (net : NetworkSeen) (source : ℕ) (by : Lines) (costs : BelowSeen) (labels : List ℕ) → by ≡ lines.Raw
+    → AreCostsFor net (At source) (goal_of by) costs → labels ≡ costs.labels
+    → IsLinesBlock by net.n net.arcs source (raw_text source labels)
+raw-told net source by costs labels is are same =
+    rw (is, same)
+    (record {
+      labels = costs.labels;
+      least = each-least net (At source) false costs (rw is at are);
+      written = refl;
+    })
+
+pub totals-told : (net : NetworkSeen) (source : ℕ) (by : Lines) (costs : BelowSeen) (labels : List ℕ) → by ≡ lines.Totals
+    → AreCostsFor net (At source) (goal_of by) costs → labels ≡ costs.labels
+    → IsLinesBlock by net.n net.arcs source (totals_text source labels)
+totals-told net source by costs labels is are same =
+    rw (is, same)
+    (record {
+      labels = costs.labels;
+      least = each-least net (At source) false costs (rw is at are);
+      written = refl;
+    })
 
 pub reached-for : (has : Bool) (n : ℕ) (arcs : List ArcRec) (source limit bound : ℕ) (labels : List ℕ)
     (walks : Option LineWalks)

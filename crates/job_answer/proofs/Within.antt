@@ -1,6 +1,7 @@
 -- Blocks by lines: there is one of each, along whichever arcs, and within a bound it says what costs no more.
 use Rattle.std.proofs.Common.{◌≡◌, ◌≢◌, ◌∙◌, Bool, true, false, ℕ, ◌+◌, ◌<◌, ◌≤◌, List, [], ◌∷◌, ◌++◌, Option, None}
 use Rattle.std.proofs.Common.{length, get_or, slice_index, suc, refl, subst, sym, ap, arith, inl, inr, nat_le, if◌then◌else◌}
+use Rattle.std.specs.List.{All}
 use Rattle.std.proofs.lemmas.Bool.{cases_lt}
 use Rattle.std.proofs.lemmas.Bool.Decides.{nat_tests}
 use Rattle.std.proofs.lemmas.List.{append-nil}
@@ -15,18 +16,22 @@ use Rattle.walk_report.specs.Existence.{HopsAndParentsExist}
 use Rattle.walk_report.specs.Parent.{HopsAndParentsAreUnique}
 use Rattle.walk_report.specs.Printed.{PrintedWalksAreWalks}
 use Rattle.answer_lines.specs.Lines.{cost_text, label_text, source_text}
+use Rattle.answer_lines.specs.Raw.{raw_text}
+use Rattle.answer_lines.specs.Totals.{totals_text}
 use Rattle.dimacs_text.specs.Jobs.{Content, Question, absent, from_sources, of_pairs}
 use Rattle.dimacs_text.specs.Jobs.{IsQuestionWithin, IsWithinLimits}
 use Rattle.job_answer.specs.declared.asked.Answer.{Answer}
 use Rattle.job_answer.specs.declared.asked.Answer.TheVariants.{Distances, Levels, Components}
 use Rattle.job_answer.specs.declared.asked.Lines.{Lines}
 use Rattle.job_answer.specs.declared.asked.Lines.TheVariants as lines
-use Rattle.job_answer.specs.AnswerText.{AreBlocks, BlocksAreUnique, Growth, IsOneBlock, IsOneText}
-use Rattle.job_answer.specs.AnswerText.{IsGrownText, arcs_for, growth_for, vertex_text, walk_line}
+use Rattle.job_answer.specs.AnswerText.{AreAskedBlocks, AreBlocks, BlocksAreUnique, Growth, IsGrownPair, IsOneBlock}
+use Rattle.job_answer.specs.AnswerText.{IsGrownText, IsOneText, arcs_for, growth_for, vertex_text, walk_line}
 use Rattle.job_answer.specs.Costs.{IsCostText, IsWalkLine, unasked}
 use Rattle.job_answer.specs.Existence.{AskedJobsHaveAnswers, AskedJobsHaveAnswersByLines}
 use Rattle.job_answer.specs.Within.{AnswerTextsByLinesAreUnique, AnswersSayCostsWithin, AreLinesFrom, AreLinesOf}
-use Rattle.job_answer.specs.Within.{AreBlocksWithin, IsGrownLines, IsLinesBlock, IsOfPairs, IsTextBy}
+use Rattle.job_answer.specs.Outcome.{IsUnasked}
+use Rattle.job_answer.specs.Within.{AreBlocksInShort, AreBlocksWithin, AreLinesBlocks, IsGrownLines, IsLinesBlock}
+use Rattle.job_answer.specs.Within.{IsOfPairs, IsTextBy, IsTextInShort}
 use Rattle.job_answer.specs.Within.{LinesAreUnique, SaysCostsWithin, beyond, line_within, lines_within, near}
 use Rattle.job_answer.proofs.Costs.{AreLight, blocks_say, grown_says, label_is_cost, light_all, light_arcs, light_kind}
 use Rattle.job_answer.proofs.Costs.{line_is_walk}
@@ -54,6 +59,14 @@ module _ (law : LeastLabelsAreUnique) (walked : HopsAndParentsAreUnique) (blocks
       ∙ ap (λ (hops : List ℕ). text two.labels hops one.parents) same.1
       ∙ ap (λ (parents : List ℕ). text two.labels two.hops parents) same.2
       ∙ sym two.written
+  lines-same lines.Raw source first second one two =
+      one.written
+      ∙ ap (raw_text source) (labels-same law n arcs (seeds_from source) one.labels two.labels one.least two.least)
+      ∙ sym two.written
+  lines-same lines.Totals source first second one two =
+      one.written
+      ∙ ap (totals_text source) (labels-same law n arcs (seeds_from source) one.labels two.labels one.least two.least)
+      ∙ sym two.written
 
 pub lines_are_unique : LeastLabelsAreUnique → HopsAndParentsAreUnique → BlocksAreUnique → LinesAreUnique
 lines_are_unique law walked blocks lines n arcs growth source =
@@ -68,6 +81,20 @@ within-same law walks bound n arcs growth (from_sources sources) first second on
     sources first second one two
 within-same law walks bound n arcs growth (of_pairs pairs) first second one two = absurd one
 
+module _ (blocks : BlocksAreUnique) (law : LinesAreUnique) (by : Lines) (n : ℕ) (arcs : List ArcRec)
+    (growth : Option Growth) where
+  short-same : (question : Question) → IsOneText (AreBlocksInShort by n arcs growth question)
+  short-same absent first second one two = absurd one
+  short-same (from_sources sources) first second one two =
+      blocks-same (IsGrownLines by n arcs growth) (law by n arcs growth) sources first second one two
+  short-same (of_pairs pairs) first second one two =
+      blocks-same (IsGrownPair false n arcs growth) (blocks false n arcs growth).1 pairs first second one two
+
+  text-in-short-same : (kind : Answer) (question : Question) → IsOneText (IsTextInShort kind by n arcs growth question)
+  text-in-short-same Distances question = short-same question
+  text-in-short-same Levels question = short-same question
+  text-in-short-same Components question = (blocks false n arcs growth).2
+
 -- there is only one text by some lines
 pub text-same : BlocksAreUnique → LinesAreUnique → (kind : Answer) (by : Lines) (n : ℕ) (arcs : List ArcRec)
     (growth : Option Growth) (question : Question)
@@ -80,6 +107,10 @@ text-same blocks law Distances (lines.Within walks bound) n arcs growth question
 text-same blocks law Levels (lines.Within walks bound) n arcs growth question =
     within-same law walks bound n arcs growth question
 text-same blocks law Components (lines.Within walks bound) n arcs growth question = (blocks walks n arcs growth).2
+text-same blocks law kind lines.Raw n arcs growth question =
+    text-in-short-same blocks law lines.Raw n arcs growth kind question
+text-same blocks law kind lines.Totals n arcs growth question =
+    text-in-short-same blocks law lines.Totals n arcs growth kind question
 
 pub answer_texts_by_lines_are_unique : BlocksAreUnique → LinesAreUnique → AnswerTextsByLinesAreUnique
 answer_texts_by_lines_are_unique blocks law kind by job =
@@ -101,8 +132,49 @@ module _ (labelled : LeastLabelsExist) (walked : HopsAndParentsExist) (n : ℕ) 
         record { labels = labels; hops = hops; parents = parents; walked = are; written = refl },
       )
 
+  raw-exists : (arcs : List ArcRec) → IsGraph n arcs → (source : ℕ) → source < n
+      → (text : List ℕ) × IsLinesBlock lines.Raw n arcs source text
+  raw-exists arcs graph source within =
+      let found = labels-exist labelled walked n arcs few graph source within in
+      (raw_text source found.0, record { labels = found.0; least = found.1; written = refl })
+
+  totals-exist : (arcs : List ArcRec) → IsGraph n arcs → (source : ℕ) → source < n
+      → (text : List ℕ) × IsLinesBlock lines.Totals n arcs source text
+  totals-exist arcs graph source within =
+      let found = labels-exist labelled walked n arcs few graph source within in
+      (totals_text source found.0, record { labels = found.0; least = found.1; written = refl })
+
+-- along each list of arcs each source has a block by some lines
+abbrev HaveBlocks : Lines → ℕ → Type 0
+HaveBlocks by n =
+    (arcs : List ArcRec)
+    → IsGraph n arcs
+    → (source : ℕ)
+    → source < n
+    → (text : List ℕ) × IsLinesBlock by n arcs source text
+
 module _ (labelled : LeastLabelsExist) (walked : HopsAndParentsExist) (kind : Answer) (job : Content)
     (limits : IsWithinLimits job) where
+  all-exist : (by : Lines) → HaveBlocks by job.n → (sources : List ℕ) → All (λ v. v < job.n) sources
+      → (text : List ℕ) × AreLinesBlocks by job.n (arcs_for kind job.arcs) (growth_for kind job) sources text
+  all-exist by have sources within =
+      blocks-exist (λ v. v < job.n) (IsGrownLines by job.n (arcs_for kind job.arcs) (growth_for kind job))
+      (λ source below.
+      grown-exists job.n (λ along. IsLinesBlock by job.n along source)
+      (λ along ends. have along ends source below)
+      (arcs_for kind job.arcs) (growth_for kind job) (job-graph labelled walked kind job limits)
+      (job-grows labelled walked kind job limits))
+      sources within
+
+  short-exist : (by : Lines) → HaveBlocks by job.n → (question : Question) → IsQuestionWithin job.n question
+      → question ≢ absent
+      → ((text : List ℕ)
+      × AreAskedBlocks false job.n (arcs_for kind job.arcs) (growth_for kind job) question text)
+      → (text : List ℕ) × AreBlocksInShort by job.n (arcs_for kind job.arcs) (growth_for kind job) question text
+  short-exist by have absent within asked plain = absurd (asked refl)
+  short-exist by have (of_pairs pairs) within asked plain = plain
+  short-exist by have (from_sources sources) within asked plain = all-exist by have sources within.1
+
   sources-exist : (walks : Bool) (bound : ℕ) (question : Question) → IsQuestionWithin job.n question
       → question ≢ absent → ¬ (IsOfPairs question)
       → (text : List ℕ)
@@ -110,19 +182,28 @@ module _ (labelled : LeastLabelsExist) (walked : HopsAndParentsExist) (kind : An
   sources-exist walks bound absent within asked sources = absurd (asked refl)
   sources-exist walks bound (of_pairs pairs) within asked sources = absurd (sources tt)
   sources-exist walks bound (from_sources all) within asked sources =
-      blocks-exist (λ v. v < job.n) (IsGrownLines (lines.Within walks bound) job.n (arcs_for kind job.arcs)
-      (growth_for kind job))
-      (λ source below.
-      grown-exists job.n (λ along. IsLinesBlock (lines.Within walks bound) job.n along source)
-      (λ along ends. within-exists labelled walked job.n limits.vertices walks bound along ends source below)
-      (arcs_for kind job.arcs) (growth_for kind job) (job-graph labelled walked kind job limits)
-      (job-grows labelled walked kind job limits))
-      all within.1
+      all-exist (lines.Within walks bound) (within-exists labelled walked job.n limits.vertices walks bound) all within.1
+
+module _ (answers : AskedJobsHaveAnswers) (labelled : LeastLabelsExist) (walked : HopsAndParentsExist) (by : Lines)
+    (have : (n : ℕ) → n ≤ MAX_VERTICES → HaveBlocks by n) (job : Content) (limits : IsWithinLimits job) where
+  text-in-short-exists : (kind : Answer) → ¬ (IsUnasked kind job)
+      → (text : List ℕ) × IsTextInShort kind by job.n (arcs_for kind job.arcs) (growth_for kind job) job.question text
+  text-in-short-exists Distances asked =
+      short-exist labelled walked Distances job limits by (have job.n limits.vertices) job.question limits.question
+      (λ none. asked (record { unasked = none; needed = λ same. cc })) (answers Distances false job limits asked)
+  text-in-short-exists Levels asked =
+      short-exist labelled walked Levels job limits by (have job.n limits.vertices) job.question limits.question
+      (λ none. asked (record { unasked = none; needed = λ same. cc })) (answers Levels false job limits asked)
+  text-in-short-exists Components asked = answers Components false job limits asked
 
 pub asked_jobs_have_answers_by_lines : AskedJobsHaveAnswers → LeastLabelsExist → HopsAndParentsExist
     → AskedJobsHaveAnswersByLines
 asked_jobs_have_answers_by_lines answers labelled walked kind (lines.Each walks) job limits asked sources =
     answers kind walks job limits asked
+asked_jobs_have_answers_by_lines answers labelled walked kind lines.Raw job limits asked sources =
+    text-in-short-exists answers labelled walked lines.Raw (raw-exists labelled walked) job limits kind asked
+asked_jobs_have_answers_by_lines answers labelled walked kind lines.Totals job limits asked sources =
+    text-in-short-exists answers labelled walked lines.Totals (totals-exist labelled walked) job limits kind asked
 asked_jobs_have_answers_by_lines answers labelled walked Components (lines.Within walks bound) job limits asked sources =
     answers Components walks job limits asked
 asked_jobs_have_answers_by_lines answers labelled walked Distances (lines.Within walks bound) job limits asked sources =

@@ -4,6 +4,7 @@ pub mod Bytes
 pub mod AnswerText
 pub mod Graphs
 pub mod Costs
+pub mod Short
 pub mod Within
 pub mod LineWalks
 pub mod Outcome

@@ -38,17 +38,23 @@ IsStartBlock lines start.Everywhere n arcs text = IsComponentsBlock n arcs text
 abbrev pub goal_of : Lines → Goal
 goal_of (lines.Each walks) = goal.EachVertex
 goal_of (lines.Within walks bound) = goal.Within bound
+goal_of lines.Raw = goal.EachVertex
+goal_of lines.Totals = goal.EachVertex
 
 -- a bound is a cost
 abbrev pub IsLinesAsked : Lines → Type 0
 IsLinesAsked (lines.Each walks) = ⊤
 IsLinesAsked (lines.Within walks bound) = bound < INF
+IsLinesAsked lines.Raw = ⊤
+IsLinesAsked lines.Totals = ⊤
 
 -- lines that may be asked for from a start: from everywhere a line of each vertex, since components have no costs
 abbrev pub IsStartLines : Start → Lines → Type 0
 IsStartLines (start.At source) lines = IsLinesAsked lines
 IsStartLines start.Everywhere (lines.Each walks) = ⊤
 IsStartLines start.Everywhere (lines.Within walks bound) = ⊥
+IsStartLines start.Everywhere lines.Raw = ⊥
+IsStartLines start.Everywhere lines.Totals = ⊥
 
 -- the same in the graph and after it grows
 abbrev pub IsGrownStart : Lines → ℕ → List ArcRec → Option Growth → Start → List ℕ → Type 0

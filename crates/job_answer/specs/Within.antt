@@ -1,4 +1,4 @@
--- Answers within a bound: of each source the vertices that cost no more, and no others.
+-- Answers by lines: of each source the vertices that cost no more than a bound, and no others; or its block in short.
 use Rattle.std.specs.Prelude.{◌≡◌, ◌≢◌, ℕ, zero, suc, ◌+◌, ◌<◌, ◌≤◌, Bool, true, false, List, [], ◌∷◌, ◌++◌}
 use Rattle.std.specs.Prelude.{Option}
 use Rattle.std.specs.Prelude.{if◌then◌else◌, nat_le, slice_index, ⊤}
@@ -13,9 +13,10 @@ use Rattle.job_answer.specs.declared.asked.Answer.{Answer}
 use Rattle.job_answer.specs.declared.asked.Answer.TheVariants.{Distances, Levels, Components}
 use Rattle.job_answer.specs.declared.asked.Lines.{Lines}
 use Rattle.job_answer.specs.declared.asked.Lines.TheVariants as lines
-use Rattle.job_answer.specs.AnswerText.{AreBlocks, AreWalksFrom, Growth, IsBlock, IsComponentsBlock}
+use Rattle.job_answer.specs.AnswerText.{AreBlocks, ArePairBlocks, AreWalksFrom, Growth, IsBlock, IsComponentsBlock}
 use Rattle.job_answer.specs.AnswerText.{IsGrownText, IsTextFor, IsOneBlock, IsOneText, arcs_for, growth_for, vertex_text}
 use Rattle.job_answer.specs.Costs.{IsCostText, IsWalkLine}
+use Rattle.job_answer.specs.Short.{IsRawBlock, IsTotalsBlock}
 
 -- ---- the text
 
@@ -46,11 +47,13 @@ pub record IsWalksWithin (bound n : ℕ) (arcs : List ArcRec) (source : ℕ) (te
   pub walked : AreWalksFrom n arcs source labels hops parents
   pub written : text ≡ text_within source bound (vertex_text (slice_index hops) (slice_index parents)) labels
 
--- the lines of one source, of each vertex or within a bound, with walks or without
+-- the block of one source: the lines of each vertex or within a bound, with walks or without, or in short
 abbrev pub IsLinesBlock : Lines → ℕ → List ArcRec → ℕ → List ℕ → Type 0
 IsLinesBlock (lines.Each walks) n arcs source text = IsBlock walks n arcs source text
 IsLinesBlock (lines.Within true bound) n arcs source text = IsWalksWithin bound n arcs source text
 IsLinesBlock (lines.Within false bound) n arcs source text = IsBlockWithin bound n arcs source text
+IsLinesBlock lines.Raw n arcs source text = IsRawBlock n arcs source text
+IsLinesBlock lines.Totals n arcs source text = IsTotalsBlock n arcs source text
 
 -- the same in the graph and after it grows
 abbrev pub IsGrownLines : Lines → ℕ → List ArcRec → Option Growth → ℕ → List ℕ → Type 0
@@ -79,11 +82,25 @@ IsTextWithin Distances walks bound n arcs growth question text = AreBlocksWithin
 IsTextWithin Levels walks bound n arcs growth question text = AreBlocksWithin walks bound n arcs growth question text
 IsTextWithin Components walks bound n arcs growth question text = IsGrownText (IsComponentsBlock n) arcs growth text
 
+-- the text has the blocks in short of the sources that are asked for, or the lines of the pairs, which are short
+abbrev pub AreBlocksInShort : Lines → ℕ → List ArcRec → Option Growth → Question → List ℕ → Type 0
+AreBlocksInShort lines n arcs growth absent text = ⊥
+AreBlocksInShort lines n arcs growth (from_sources sources) text = AreLinesBlocks lines n arcs growth sources text
+AreBlocksInShort lines n arcs growth (of_pairs pairs) text = ArePairBlocks false n arcs growth pairs text
+
+-- the text is one of an answer kind in short. That of components is the same
+abbrev pub IsTextInShort : Answer → Lines → ℕ → List ArcRec → Option Growth → Question → List ℕ → Type 0
+IsTextInShort Distances lines n arcs growth question text = AreBlocksInShort lines n arcs growth question text
+IsTextInShort Levels lines n arcs growth question text = AreBlocksInShort lines n arcs growth question text
+IsTextInShort Components lines n arcs growth question text = IsGrownText (IsComponentsBlock n) arcs growth text
+
 -- the text of an answer kind, by the lines that blocks of sources have
 abbrev pub IsTextBy : Answer → Lines → ℕ → List ArcRec → Option Growth → Question → List ℕ → Type 0
 IsTextBy kind (lines.Each walks) n arcs growth question text = IsTextFor kind walks n arcs growth question text
 IsTextBy kind (lines.Within walks bound) n arcs growth question text =
     IsTextWithin kind walks bound n arcs growth question text
+IsTextBy kind lines.Raw n arcs growth question text = IsTextInShort kind lines.Raw n arcs growth question text
+IsTextBy kind lines.Totals n arcs growth question text = IsTextInShort kind lines.Totals n arcs growth question text
 
 -- the text answers the job
 abbrev pub IsAnswerTextBy : Answer → Lines → Content → List ℕ → Type 0
@@ -93,6 +110,8 @@ IsAnswerTextBy kind lines job text =
 -- the job has pairs, and a bound asks for sources
 abbrev pub HasNoSources : Answer → Lines → Question → Type 0
 HasNoSources kind (lines.Each walks) question = ⊥
+HasNoSources kind lines.Raw question = ⊥
+HasNoSources kind lines.Totals question = ⊥
 HasNoSources Components (lines.Within walks bound) question = ⊥
 HasNoSources Distances (lines.Within walks bound) question = IsOfPairs question
 HasNoSources Levels (lines.Within walks bound) question = IsOfPairs question

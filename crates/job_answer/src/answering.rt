@@ -72,7 +72,8 @@ pub fn answer_watched<H: Threads + Wait + Clock + Sync, R: Read, W: Write, G: Ga
 }
 
 /// The same by other lines: within a bound the block of a source has the lines of those vertices alone that cost at
-/// most the bound, in rising order, and the source is solved no further. A job with pairs has no answer then; that of
+/// most the bound, in rising order, and the source is solved no further. A job with pairs has no answer then. In short
+/// the labels from a source stand as bytes, or one line says what they come to; a pair has its line. The answer of
 /// components, which have no costs, is the same by all lines.
 pub fn answer_by<H: Threads + Wait + Clock + Sync, R: Read, W: Write, G: Gate + Sync>(
     rt: &H,
@@ -214,7 +215,7 @@ fn has_no_sources(answer: Answer, lines: Lines, ask: &Ask) -> bool
     ensures { IsTrue result ↔ HasNoSources answer lines (question_of ask.now) }
 {
     match (answer, lines) {
-        (Answer::Components, _) | (_, Lines::Each { .. }) => false,
+        (Answer::Components, _) | (_, Lines::Each { .. } | Lines::Raw | Lines::Totals) => false,
         (_, Lines::Within { .. }) => matches!(ask, Ask::Pairs(_)),
     }
 }

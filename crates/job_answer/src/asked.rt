@@ -3,7 +3,7 @@
 ghost use Rattle.std.specs.Prelude.{◌≡◌, ◌↔◌, false, IsSome, IsTrue, IfSome};
 ghost use Rattle.job_answer.specs.Choices.{IsAsked};
 ghost use Rattle.job_answer.specs.declared.asked.Lines.TheVariants as lines;
-ghost use Rattle.job_answer.specs.LineWalks.{bound_in, bound_of, has_walks};
+ghost use Rattle.job_answer.specs.LineWalks.{bound_in, bound_of, has_walks, is_raw, is_totals};
 ghost use Rattle.job_answer.specs.Solves.{goal_of};
 
 use least_costs::AtOnce;
@@ -28,6 +28,11 @@ pub enum Lines {
     Each { walks: bool },
     /// Those of the vertices that cost at most the bound, which is less than `INF`.
     Within { walks: bool, bound: u64 },
+    /// The least label of each vertex as 8 bytes, its little end first, after the line of the source.
+    Raw,
+    /// In place of a block one line: how many vertices a walk reaches, the sum of their costs, the greatest, and the
+    /// least vertex that has it.
+    Totals,
 }
 
 impl Lines {
@@ -35,6 +40,8 @@ impl Lines {
     pub fn of(walks: bool, within: Option<u64>) -> Lines
         ensures walks { has_walks result ≡ walks }
         ensures within { bound_in result ≡ within }
+        ensures raw { is_raw result ≡ false }
+        ensures totals { is_totals result ≡ false }
     {
         match within {
             None => Lines::Each { walks },
@@ -48,6 +55,7 @@ impl Lines {
     {
         match self {
             Lines::Each { walks } | Lines::Within { walks, .. } => walks,
+            Lines::Raw | Lines::Totals => false,
         }
     }
 
@@ -63,7 +71,7 @@ impl Lines {
         ensures { result ≡ bound_of self }
     {
         match self {
-            Lines::Each { .. } => INF,
+            Lines::Each { .. } | Lines::Raw | Lines::Totals => INF,
             Lines::Within { bound, .. } => bound,
         }
     }
@@ -73,7 +81,7 @@ impl Lines {
         ensures { result ≡ goal_of self }
     {
         match self {
-            Lines::Each { .. } => Goal::EachVertex,
+            Lines::Each { .. } | Lines::Raw | Lines::Totals => Goal::EachVertex,
             Lines::Within { bound, .. } => Goal::Within(bound),
         }
     }

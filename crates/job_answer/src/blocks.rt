@@ -10,7 +10,7 @@ ghost use Rattle.job_answer.specs.Sinks.{Cuts, IsSame, Puts};
 ghost use Rattle.job_answer.specs.Solves.{AreCostsFor, IsGrownStart, IsLinesAsked, IsRest};
 ghost use Rattle.job_answer.specs.Solves.{IsStartBlock, IsStartLines, goal_of};
 ghost use Rattle.job_answer.specs.Tasks.{AreSourceTasks, IsBlockText};
-ghost use Rattle.job_answer.specs.LineWalks.{AreWalksFor, has_walks};
+ghost use Rattle.job_answer.specs.LineWalks.{AreWalksFor, HasVertexLines, has_walks};
 ghost use Rattle.job_answer.specs.Within.{AreLinesBlocks, IsGrownLines, IsLinesBlock};
 ghost use Rattle.least_costs.specs.declared.start.Start.TheVariants.{At};
 
@@ -19,7 +19,7 @@ use crate::fault::Fault;
 use crate::graphs::{Graphs, Grown, teams_for};
 use crate::laws::{blocks_are_unique, lines_are_unique};
 use crate::line_walks::{LineWalks, walks_below};
-use crate::lines::{put_components, put_labels, put_within};
+use crate::lines::{put_components, put_labels, put_raw, put_totals, put_within};
 use crate::sink::{NoWriter, Sink, most_bytes};
 use crate::solves::{costs_after, costs_from};
 use crate::team_watch::{SolveCount, TeamWatch};
@@ -299,6 +299,38 @@ fn put_source_block<W: Write>(
     requires vertices { network.now.n ≤ MAX_VERTICES }
     requires source { source < network.now.n }
     requires lines { IsLinesAsked lines }
+    requires costs { AreCostsFor network.now (At source) (goal_of lines) costs.now }
+    ensures same { IsSame sink.old sink.new }
+    ensures block { OnOk result (Puts W.contents (IsLinesBlock lines network.now.n network.now.arcs source)
+        sink.old sink.new) }
+    ensures prefix { OnErr result (Cuts W.contents (IsLinesBlock lines network.now.n network.now.arcs source)
+        sink.old sink.new) }
+    ensures kinds { IfErr result IsWritingFault }
+{
+    lines_are_unique();
+    let labels = costs.labels();
+    match lines {
+        Lines::Raw => put_raw(sink, source, labels),
+        Lines::Totals => put_totals(sink, source, labels),
+        Lines::Each { .. } | Lines::Within { .. } => {
+            put_vertices(alloc, sink, network, source, lines, costs)
+        }
+    }
+}
+
+/// Puts the block of a source by lines of its vertices.
+fn put_vertices<W: Write>(
+    alloc: Global,
+    sink: &mut Sink<'_, W>,
+    network: &Network,
+    source: u32,
+    lines: Lines,
+    costs: &CostsBelow,
+) -> Result<(), Fault>
+    requires vertices { network.now.n ≤ MAX_VERTICES }
+    requires source { source < network.now.n }
+    requires lines { IsLinesAsked lines }
+    requires lined { HasVertexLines lines }
     requires costs { AreCostsFor network.now (At source) (goal_of lines) costs.now }
     ensures same { IsSame sink.old sink.new }
     ensures block { OnOk result (Puts W.contents (IsLinesBlock lines network.now.n network.now.arcs source)

@@ -4,6 +4,7 @@ ghost use Rattle.job_answer.specs.AnswerText.{AnswerTextsAreUnique, BlocksAreUni
 ghost use Rattle.job_answer.specs.Costs.{AnswersSayCosts, AnswersSayPairCosts, AnswersSayComponents};
 ghost use Rattle.job_answer.specs.Existence.{AskedJobsHaveAnswers, AskedJobsHaveAnswersByLines};
 ghost use Rattle.job_answer.specs.Parts.{AnswersOfPartsJoin};
+ghost use Rattle.job_answer.specs.Short.{RawLabelsSayTheSame, TotalsAddUp};
 ghost use Rattle.job_answer.specs.Within.{AnswerTextsByLinesAreUnique, AnswersSayCostsWithin, LinesAreUnique};
 
 use route_walks::laws::{
@@ -21,7 +22,7 @@ pub fn blocks_are_unique()
     hops_and_parents_are_unique();
 }
 
-/// A source has only one block, of each vertex or within a bound.
+/// A source has only one block, of each vertex, within a bound or in short.
 pub fn lines_are_unique()
     ensures { LinesAreUnique }
 {
@@ -97,6 +98,20 @@ pub fn answers_say_components()
     ensures { AnswersSayComponents }
 {
     least_labels_are_components();
+}
+
+/// As bytes the labels from a source are those of its lines.
+pub fn raw_labels_say_the_same()
+    ensures { RawLabelsSayTheSame }
+{
+    least_labels_are_unique();
+}
+
+/// Its line of totals says what the labels of its lines come to.
+pub fn totals_add_up()
+    ensures { TotalsAddUp }
+{
+    least_labels_are_unique();
 }
 
 /// Where the sources or the pairs of a job are cut in two, the answers of the two parts by some lines, one after the

@@ -3,6 +3,8 @@
 ghost use Rattle.std.specs.Prelude.{◌≡◌, ◌≢◌, ◌<◌, ◌≤◌, ◌++◌, [], length, max};
 ghost use Rattle.std.specs.Prelude.{All, IfErr, IfSome, OnErr, OnOk};
 ghost use Rattle.answer_lines.specs.Lines.{components_text, distances_text};
+ghost use Rattle.answer_lines.specs.Raw.{raw_text};
+ghost use Rattle.answer_lines.specs.Totals.{totals_text};
 ghost use Rattle.job_answer.specs.LineWalks.{AreReachedWithin, HasWalkAt, text_by};
 ghost use Rattle.job_answer.specs.Outcome.{IsWritingFault};
 ghost use Rattle.job_answer.specs.Sinks.{Cuts, Is, IsSame, Puts};
@@ -11,7 +13,7 @@ ghost use Rattle.job_answer.specs.Within.{line_within, text_within};
 use crate::fault::Fault;
 use crate::line_walks::{LineWalks, put_walk_line};
 use crate::sink::Sink;
-use answer_lines::{put_label, put_source};
+use answer_lines::{Totals, put_label, put_source};
 use route_walks::{INF, MAX_VERTICES, Memory};
 use std::alloc::Global;
 use std::io::Write;
@@ -60,6 +62,41 @@ pub fn put_labels<W: Write>(
         v += group.len() as u32;
     }
     Ok(())
+}
+
+/// Puts the line of a source and the labels from it as bytes.
+pub fn put_raw<W: Write>(sink: &mut Sink<'_, W>, source: u32, labels: &[u64]) -> Result<(), Fault>
+    requires source { source < MAX_VERTICES }
+    ensures same { IsSame sink.old sink.new }
+    ensures put { OnOk result (Puts W.contents (Is (raw_text source labels.now)) sink.old sink.new) }
+    ensures prefix { OnErr result (Cuts W.contents (Is (raw_text source labels.now)) sink.old sink.new) }
+    ensures few { labels.now ≢ [] → OnOk result (length sink.new.waiting.now.items < max 1 sink.new.piece) }
+    ensures kinds { IfErr result IsWritingFault }
+{
+    put_source(sink.waiting, source)?;
+    for group in labels.chunks(LINES) {
+        answer_lines::put_raw(sink.waiting, group)?;
+        sink.send_if_full()?;
+    }
+    Ok(())
+}
+
+/// Puts the line of what the labels from a source come to.
+pub fn put_totals<W: Write>(
+    sink: &mut Sink<'_, W>,
+    source: u32,
+    labels: &[u64],
+) -> Result<(), Fault>
+    requires vertices { length labels.now ≤ MAX_VERTICES }
+    ensures same { IsSame sink.old sink.new }
+    ensures put { OnOk result (Puts W.contents (Is (totals_text source labels.now)) sink.old sink.new) }
+    ensures prefix { OnErr result (Cuts W.contents (Is (totals_text source labels.now)) sink.old sink.new) }
+    ensures few { OnOk result (length sink.new.waiting.now.items < max 1 sink.new.piece) }
+    ensures kinds { IfErr result IsWritingFault }
+{
+    let totals = Totals::of(labels);
+    answer_lines::put_totals(sink.waiting, source, &totals)?;
+    sink.send_if_full()
 }
 
 /// Puts the line of a source and those of the labels from it that are at most the bound, each with its walk where

@@ -155,6 +155,13 @@ said_to true reader first all outcomes p more =
           (p.refused cut.0 cut.1 cut.3) refl),
     )
 
+-- lines begin with what was said of the first of them, whatever the others are
+pub begins_with : (reader : RequestReader) (first : ℕ) (all : List (List ℕ)) (outcomes : List Outcome)
+    → HasRequests reader first all outcomes
+    → (more : List (List ℕ))
+    → (next : ℕ) × (end : List (List ℕ)) × AreRequestsTo (vertices_of reader) next end first (all ++ more) outcomes
+begins_with reader first all outcomes h more = said_to reader.is_refused reader first all outcomes h more
+
 at_last : (n first : ℕ) (all : List (List ℕ)) (b : List Outcome)
     → ComeToAtLast n first all b
     → (last : ℕ) × (finish : List (List ℕ)) × AreRequestsTo n last finish first all b × NoneFollow n finish

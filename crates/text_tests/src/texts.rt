@@ -1,6 +1,7 @@
 //! Texts with the job or the fault that they must give, and the lines of answers.
 
 mod explanations;
+mod in_short;
 mod readers;
 mod refusals;
 mod several;

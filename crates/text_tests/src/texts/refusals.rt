@@ -9,8 +9,8 @@ use crate::texts::readers::{NOTHING, ONE_ARC};
 use crate::texts::several::large;
 use crate::texts::{GRAPH, SHORT, assert_added, assert_job, assert_pairs, joined};
 use answer_lines::{
-    put_components, put_distances, put_grown, put_label, put_labels, put_pair, put_ready,
-    put_refusal, put_source, put_walk,
+    Totals, put_components, put_distances, put_grown, put_label, put_labels, put_pair, put_raw,
+    put_ready, put_refusal, put_source, put_totals, put_walk,
 };
 use dimacs_text::{
     ExplainedFault, Job, JobReader, LineKind, Parts, ReadAhead, RequestDraft, TextFault, read_job,
@@ -47,7 +47,17 @@ enum Line {
     Grown,
     Ready,
     Refusal,
+    Raw,
+    Totals,
 }
+
+// What a line of totals says.
+const TOTALS: Totals = Totals {
+    reached: 6,
+    sum: 57,
+    greatest: 15,
+    farthest: 5,
+};
 
 fn put(out: &mut Vec<u8>, line: Line) -> Result<(), Memory> {
     match line {
@@ -61,6 +71,8 @@ fn put(out: &mut Vec<u8>, line: Line) -> Result<(), Memory> {
         Line::Grown => put_grown(out, 1),
         Line::Ready => put_ready(out, 268435456, 1074790400),
         Line::Refusal => put_refusal(out, 17, "out of range"),
+        Line::Raw => put_raw(out, &[0, 258]),
+        Line::Totals => put_totals(out, 0, &TOTALS),
     }
 }
 
@@ -362,6 +374,17 @@ fn of_put_ready(rt: HostRuntime) -> Result<(), Fail> {
 #[test]
 fn of_put_refusal(rt: HostRuntime) -> Result<(), Fail> {
     expect_put(&rt, rt.alloc(), Line::Refusal, "c\ne 17 out of range\n")
+}
+
+#[test]
+fn of_put_raw(rt: HostRuntime) -> Result<(), Fail> {
+    let bytes = "c\n\0\0\0\0\0\0\0\0\u{2}\u{1}\0\0\0\0\0\0";
+    expect_put(&rt, rt.alloc(), Line::Raw, bytes)
+}
+
+#[test]
+fn of_put_totals(rt: HostRuntime) -> Result<(), Fail> {
+    expect_put(&rt, rt.alloc(), Line::Totals, "c\nt 1 6 57 15 6\n")
 }
 
 // A section of one source, by another draft where memory was refused.

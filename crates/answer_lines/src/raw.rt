@@ -1,0 +1,53 @@
+//! Labels as bytes.
+//!
+//! A group of them is made at once in an array, and goes out at once.
+
+ghost use Rattle.std.specs.Prelude.{◌≡◌, ◌≤◌, ◌++◌, length, OnOk, OnErr};
+ghost use Rattle.answer_lines.specs.Raw.{raw_labels};
+
+use route_walks::Memory;
+
+/// Labels of a group.
+const GROUP: usize = 64;
+
+/// Bytes of a label.
+const WORD: usize = 8;
+
+/// The labels of a group have no more bytes.
+const GROUP_ROOM: usize = GROUP * WORD;
+
+/// Appends labels of at most one group. Their bytes are made in an array of which nothing else is known.
+fn put_raw_group(out: &mut Vec<u8>, bytes: &mut [u8], labels: &[u64]) -> Result<(), Memory>
+    requires room { length bytes.old ≡ GROUP_ROOM }
+    requires group { length labels.now ≤ GROUP }
+    ensures room { length bytes.new ≡ GROUP_ROOM }
+    ensures ok { OnOk result (out.new.items ≡ out.old.items ++ raw_labels labels.now) }
+    ensures err { OnErr result (out.new.items ≡ out.old.items) }
+{
+    let mut end = 0;
+    for label in labels {
+        bytes[end..end + WORD].copy_from_slice(&label.to_le_bytes());
+        end += WORD;
+    }
+    out.extend_from_slice(&bytes[..end])?;
+    Ok(())
+}
+
+/// Appends each label as 8 bytes, its little end first.
+pub fn put_raw(out: &mut Vec<u8>, labels: &[u64]) -> Result<(), Memory>
+    ensures ok { OnOk result (out.new.items ≡ out.old.items ++ raw_labels labels.now) }
+    ensures err { OnErr result (out.new.items ≡ out.old.items) }
+{
+    let before = out.len();
+    let mut bytes = [0u8; GROUP_ROOM];
+    let mut rest = labels;
+    while !rest.is_empty() {
+        let (group, more) = rest.split_at(rest.len().min(GROUP));
+        if put_raw_group(out, &mut bytes, group).is_err() {
+            out.truncate(before);
+            return Err(Memory);
+        }
+        rest = more;
+    }
+    Ok(())
+}

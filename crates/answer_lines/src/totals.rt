@@ -1,0 +1,122 @@
+//! What the labels from a source come to.
+
+ghost use Rattle.std.specs.Prelude.{◌≡◌, ◌+◌, ◌^◌, ◌<◌, ◌≤◌, ◌==◌, ◌++◌, max, length, drop, codes, decimal};
+ghost use Rattle.std.specs.Prelude.{if◌then◌else◌, OnOk, OnErr};
+ghost use Rattle.answer_lines.specs.Totals.{cost_or_0, farthest, greatest, reached, sum_of, totals_line};
+
+use crate::digits::{put_byte, put_number, put_start};
+use itoa::write_digits;
+use route_walks::{INF, MAX_VERTICES, Memory};
+
+/// No line of totals has more bytes: a letter, four numbers of at most 20 digits, one of at most 39, five spaces and a
+/// line feed.
+const ROOM: usize = 126;
+
+/// What the labels from a source come to, where vertices are counted from 0.
+#[derive(Clone, Copy, Debug, PartialEq, Eq)]
+pub struct Totals {
+    /// How many vertices a walk reaches: their labels are not `INF`.
+    pub reached: u32,
+    /// The sum of their labels.
+    pub sum: u128,
+    /// The greatest of their labels, or 0 where there is none.
+    pub greatest: u64,
+    /// The first vertex that has it, or how many labels there are where none is a cost.
+    pub farthest: u32,
+}
+
+impl Totals {
+    /// What these labels come to.
+    pub fn of(labels: &[u64]) -> Totals
+        requires vertices { length labels.now ≤ MAX_VERTICES }
+        ensures reached { result.reached ≡ reached labels.now }
+        ensures sum { result.sum ≡ sum_of labels.now }
+        ensures greatest { result.greatest ≡ greatest labels.now }
+        ensures farthest { result.farthest ≡ farthest labels.now }
+    {
+        let mut totals = Totals {
+            reached: 0,
+            sum: 0,
+            greatest: 0,
+            farthest: labels.len() as u32,
+        };
+        for v in (0..labels.len()).rev() {
+            totals = totals.with_label(v as u32, labels[v]);
+        }
+        totals
+    }
+
+    /// The same with the label of a vertex before those whose labels came to this.
+    fn with_label(self, v: u32, label: u64) -> Totals
+        requires reached { self.reached < MAX_VERTICES }
+        requires sum { self.sum < 2 ^ 127 }
+        requires greatest { self.greatest < INF }
+        ensures reached { result.reached ≡ (if label == INF then 0 else 1) + self.reached }
+        ensures sum { result.sum ≡ cost_or_0 label + self.sum }
+        ensures greatest { result.greatest ≡ max (cost_or_0 label) self.greatest }
+        ensures farthest { result.farthest
+            ≡ (if label == max (cost_or_0 label) self.greatest then v else self.farthest) }
+    {
+        if label == INF {
+            return self;
+        }
+        let (reached, sum) = (self.reached + 1, self.sum + u128::from(label));
+        if label < self.greatest {
+            return Totals {
+                reached,
+                sum,
+                greatest: self.greatest,
+                farthest: self.farthest,
+            };
+        }
+        Totals {
+            reached,
+            sum,
+            greatest: label,
+            farthest: v,
+        }
+    }
+}
+
+/// Appends the line `t S REACHED SUM GREATEST FARTHEST` of a source and of what the labels from it come to.
+pub fn put_totals(out: &mut Vec<u8>, s: u32, totals: &Totals) -> Result<(), Memory>
+    ensures ok { OnOk result (out.new.items ≡ out.old.items ++ totals_line s totals.now.reached totals.now.sum
+        totals.now.greatest totals.now.farthest) }
+    ensures err { OnErr result (out.new.items ≡ out.old.items) }
+{
+    let mut line = [0u8; ROOM];
+    let end = put_byte(&mut line, ROOM, b'\n');
+    let end = put_field(&mut line, end, u64::from(totals.farthest) + 1);
+    let end = put_field(&mut line, end, totals.greatest);
+    let end = put_sum(&mut line, end, totals.sum);
+    let end = put_field(&mut line, end, u64::from(totals.reached));
+    let start = put_start(&mut line, end, b't', u64::from(s) + 1);
+    out.extend_from_slice(&line[start..])?;
+    Ok(())
+}
+
+/// Puts a space and a number in front of what stands at the end of a line.
+fn put_field(line: &mut [u8], end: usize, number: u64) -> usize
+    requires { (21 ≤ end) × (end ≤ length line.old) }
+    ensures place { (end ≤ result + 21) × (result ≤ end) }
+    ensures put { drop result line.new ≡ codes " " ++ decimal number ++ drop end line.old }
+{
+    let end = put_number(line, end, number);
+    put_byte(line, end, b' ')
+}
+
+/// Puts a space and a number that may have more than 64 bits in front of what stands at the end of a line.
+fn put_sum(line: &mut [u8], end: usize, number: u128) -> usize
+    requires { (40 ≤ end) × (end ≤ length line.old) }
+    ensures place { (end ≤ result + 40) × (result ≤ end) }
+    ensures put { drop result line.new ≡ codes " " ++ decimal number ++ drop end line.old }
+{
+    let mut left = number;
+    let mut at = end;
+    while left > u128::from(u64::MAX) {
+        at = put_byte(line, at, b'0' + (left % 10) as u8);
+        left /= 10;
+    }
+    let start = write_digits(left as u64, line, at);
+    put_byte(line, start, b' ')
+}

@@ -1,0 +1,45 @@
+-- The block of a source in short: the labels from it as bytes, or what they come to.
+use Rattle.std.specs.Prelude.{◌≡◌, ℕ, List}
+use Rattle.route_walks.specs.declared.graph.ArcRec.{ArcRec}
+use Rattle.route_walks.specs.Label.{AreLeastLabels}
+use Rattle.route_walks.specs.Operators.{seeds_from}
+use Rattle.answer_lines.specs.Lines.{distances_text}
+use Rattle.answer_lines.specs.Raw.{raw_text}
+use Rattle.answer_lines.specs.Totals.{totals_text}
+use Rattle.job_answer.specs.AnswerText.{IsSourceBlock}
+
+-- the line of one source, and the least labels from it as bytes
+pub record IsRawBlock (n : ℕ) (arcs : List ArcRec) (source : ℕ) (text : List ℕ) : Type 0 where
+  pub labels : List ℕ
+  pub least : AreLeastLabels n arcs (seeds_from source) labels
+  pub written : text ≡ raw_text source labels
+
+-- the line of what the least labels from one source come to
+pub record IsTotalsBlock (n : ℕ) (arcs : List ArcRec) (source : ℕ) (text : List ℕ) : Type 0 where
+  pub labels : List ℕ
+  pub least : AreLeastLabels n arcs (seeds_from source) labels
+  pub written : text ≡ totals_text source labels
+
+-- ---- what they say
+
+-- along the same arcs a source's block of bytes has the labels that its block of lines has, and they are the least
+abbrev pub RawLabelsSayTheSame : Type 0
+RawLabelsSayTheSame =
+    (n : ℕ) (arcs : List ArcRec) (source : ℕ) (raw text : List ℕ)
+    → IsRawBlock n arcs source raw
+    → IsSourceBlock n arcs source text
+    → (labels : List ℕ)
+    × AreLeastLabels n arcs (seeds_from source) labels
+    × (raw ≡ raw_text source labels)
+    × (text ≡ distances_text source labels)
+
+-- and its line of totals says what these labels come to
+abbrev pub TotalsAddUp : Type 0
+TotalsAddUp =
+    (n : ℕ) (arcs : List ArcRec) (source : ℕ) (line text : List ℕ)
+    → IsTotalsBlock n arcs source line
+    → IsSourceBlock n arcs source text
+    → (labels : List ℕ)
+    × AreLeastLabels n arcs (seeds_from source) labels
+    × (line ≡ totals_text source labels)
+    × (text ≡ distances_text source labels)
