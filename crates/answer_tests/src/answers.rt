@@ -6,6 +6,7 @@ mod at_once;
 mod callers;
 mod cuts;
 mod gates;
+mod in_short;
 mod pairs;
 mod refusals;
 mod streams;

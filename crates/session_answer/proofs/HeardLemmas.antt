@@ -13,6 +13,7 @@ use Rattle.request_reader.specs.Reading.{HasRequests, vertices_of}
 use Rattle.job_answer.specs.declared.asked.Answer.{Answer}
 use Rattle.job_answer.specs.declared.asked.Lines.{Lines}
 use Rattle.session_answer.specs.Conversations.{HasHeard, HasRepliedTo, Replies}
+use Rattle.session_answer.specs.Cuts.{AreCutAfterBytes, AreCutAfterLines, AreRepliesCut}
 use Rattle.session_answer.specs.declared.conversation.Conversation.{Conversation}
 
 -- ---- a line and what comes after it
@@ -140,6 +141,23 @@ heard_line kind by all_walks graph first old new heard rest before between after
           subst (λ (ls : List (List ℕ)). HasRepliedTo kind by all_walks graph first new ls before after) (sym so_far)
           replied;
     }
+
+-- a fault came at the line
+pub cut_at_line : (kind : Answer) (by : Lines) (all_walks : Bool) (graph : Content) (first : ℕ)
+    (old : Conversation) (heard rest : List ℕ) (before between after : Option (List ℕ))
+    → (is : HasHeard kind by all_walks graph first old heard before between)
+    → HasNoFeed rest 0 (length rest)
+    → AreCutAfterLines kind by all_walks graph first (lines is.whole ++ (old.unfinished.items ++ rest) ∷ []) before after
+    → AreCutAfterBytes kind by all_walks graph first (heard ++ rest ++ 10 ∷ []) before after
+cut_at_line kind by all_walks graph first old heard rest before between after is free cut more =
+    let keeps = keeps_more None is.whole old.unfinished.items heard rest refl free (is.parts, is.no_feed) in
+    let line = old.unfinished.items ++ rest in
+    subst (λ (ls : List (List ℕ)). AreRepliesCut kind by all_walks graph first ls before after)
+    (sym
+    (ap (λ (bytes : List ℕ). lines (bytes ++ more))
+    (ap (λ (bytes : List ℕ). bytes ++ 10 ∷ []) keeps.0 ∙ append_assoc is.whole line (10 ∷ []))
+    ∙ lines_with is.whole line more is.ended keeps.1))
+    (cut (lines more))
 
 -- ---- at the end
 

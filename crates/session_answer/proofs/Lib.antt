@@ -2,3 +2,5 @@ pub mod ReplyLemmas
 pub mod HeardLemmas
 pub mod FrontLemmas
 pub mod WholeLemmas
+pub mod CutLemmas
+pub mod CutSessions

@@ -1,15 +1,17 @@
 //! How does a session go from its first byte to its last?
 
-ghost use Rattle.std.specs.Prelude.{◌<◌, ◌≤◌, ◌^◌, ℕ, List, [], Option, IfOk, OnOk, length};
+ghost use Rattle.std.specs.Prelude.{◌<◌, ◌≤◌, ◌^◌, ℕ, List, [], Option, IfOk, OnErr, OnOk, length};
 ghost use Rattle.dimacs_text.specs.Jobs.{content_of, Content, IsWithinLimits};
 ghost use Rattle.job_answer.specs.Solves.{IsLinesAsked};
 ghost use Rattle.session_answer.specs.Conversations.{HasConversed, HasHeard, IsAnsweredSession, IsKept};
+ghost use Rattle.session_answer.specs.Cuts.{IsCutConversation, IsCutSession};
 ghost use Rattle.session_answer.specs.Replies.{HoldsGraph};
 
 use crate::conversation::Conversation;
 use crate::graph_front::{Front, read_front, read_some};
 use crate::session::{Session, Terms};
 use dimacs_text::Ask;
+use job_answer::laws::answer_texts_by_lines_are_unique;
 use job_answer::{Asked, Fault, Lines};
 use obim_engine::Gate;
 use request_reader::RequestReader;
@@ -37,7 +39,11 @@ pub fn answer_session<H: Threads + Wait + Clock + Sync, R: Read, W: Write, G: Ga
     gate: &G,
 ) -> Result<(), Fault>
     requires bound { IsLinesAsked lines }
-    ensures { OnOk result (IsAnsweredSession asked.now.answer lines asked.now.walks
+    ensures answered { OnOk result (IsAnsweredSession asked.now.answer lines asked.now.walks
+        (R.remaining reader.old) (R.remaining reader.new)
+        (W.contents writer.old) (W.contents writer.new)) }
+    // At each fault a prefix of the replies was written.
+    ensures cut { OnErr result (IsCutSession asked.now.answer lines asked.now.walks
         (R.remaining reader.old) (R.remaining reader.new)
         (W.contents writer.old) (W.contents writer.new)) }
 {
@@ -58,10 +64,14 @@ fn answer_by<H: Threads + Wait + Clock + Sync, R: Read, W: Write, G: Gate + Sync
     requires room { 0 < length buffer.old }
     requires bound { IsLinesAsked terms.now.lines }
     requires limit { terms.now.asked.now.limit ≤ 2 ^ 36 }
-    ensures { OnOk result (IsAnsweredSession terms.now.asked.now.answer terms.now.lines terms.now.asked.now.walks
+    ensures answered { OnOk result (IsAnsweredSession terms.now.asked.now.answer terms.now.lines
+        terms.now.asked.now.walks (R.remaining reader.old) (R.remaining reader.new)
+        (W.contents writer.old) (W.contents writer.new)) }
+    ensures cut { OnErr result (IsCutSession terms.now.asked.now.answer terms.now.lines terms.now.asked.now.walks
         (R.remaining reader.old) (R.remaining reader.new)
         (W.contents writer.old) (W.contents writer.new)) }
 {
+    answer_texts_by_lines_are_unique();
     let front = read_front(alloc, reader, buffer, terms.asked.limit)?;
     let (at, end, has_ended) = (front.at, front.end, front.has_ended);
     let mut conversation = open_conversation(rt, alloc, front, terms.asked)?;
@@ -109,12 +119,18 @@ fn converse<H: Threads + Wait + Clock + Sync, R: Read, W: Write, G: Gate + Sync>
     requires kept { IsKept conversation.old }
     requires room { 0 < length buffer.old }
     requires bound { IsLinesAsked terms.now.lines }
-    ensures { (graph : Content) (first : ℕ) (heard : List ℕ) (before : Option (List ℕ))
+    ensures conversed { (graph : Content) (first : ℕ) (heard : List ℕ) (before : Option (List ℕ))
         → HasHeard terms.now.asked.now.answer terms.now.lines terms.now.asked.now.walks graph first conversation.old
         heard before (W.contents writer.old)
         → OnOk result (HasConversed terms.now.asked.now.answer terms.now.lines terms.now.asked.now.walks graph first
         heard (R.remaining reader.old) (R.remaining reader.new) before (W.contents writer.new)) }
+    ensures cut { (graph : Content) (first : ℕ) (heard : List ℕ) (before : Option (List ℕ))
+        → HasHeard terms.now.asked.now.answer terms.now.lines terms.now.asked.now.walks graph first conversation.old
+        heard before (W.contents writer.old)
+        → OnErr result (IsCutConversation terms.now.asked.now.answer terms.now.lines terms.now.asked.now.walks graph
+        first heard (R.remaining reader.old) (R.remaining reader.new) before (W.contents writer.new)) }
 {
+    answer_texts_by_lines_are_unique();
     for _ in 0..u64::MAX {
         let count = read_some(reader, buffer)?;
         if count == 0 {

@@ -1,19 +1,22 @@
 //! How are requests told from the bytes that come, and replied to?
 
-ghost use Rattle.std.specs.Prelude.{◌≡◌, ◌≤◌, ◌<◌, ◌++◌, ◌∷◌, [], ℕ, List, Option, length, IfNone, IfOk, IfSome, OnOk};
+ghost use Rattle.std.specs.Prelude.{◌≡◌, ◌≤◌, ◌<◌, ◌++◌, ◌∷◌, [], ℕ, List, Option, length, IfNone, IfOk, IfSome, OnErr, OnOk};
 ghost use Rattle.std.specs.Prelude.{slice_index};
 ghost use Rattle.dimacs_text.specs.Jobs.{Content, content_of, IsWithinLimits};
 ghost use Rattle.dimacs_text.specs.Lines.{lines};
 ghost use Rattle.dimacs_text.specs.reader.FastArc.{HasNoFeed};
+ghost use Rattle.job_answer.specs.Bytes.{WritesPrefix};
 ghost use Rattle.job_answer.specs.Graphs.{AreGraphs};
 ghost use Rattle.job_answer.specs.Solves.{IsLinesAsked};
 ghost use Rattle.request_reader.specs.Reading.{outcomes_in};
 ghost use Rattle.session_answer.specs.Conversations.{AreAnswered, HasHeard, HasRepliedTo, IsKept, Replies};
-ghost use Rattle.session_answer.specs.Replies.{HoldsGraph, IsRequestWithin};
+ghost use Rattle.session_answer.specs.Cuts.{AreCutAfterBytes, AreCutAfterLines, AreRepliesCut};
+ghost use Rattle.session_answer.specs.Replies.{AreReplies, HoldsGraph, IsRequestWithin};
 
 use crate::session::{Session, Terms};
 use dimacs_text::LineKind;
 use job_answer::Fault;
+use job_answer::laws::answer_texts_by_lines_are_unique;
 use obim_engine::Gate;
 use request_reader::{Request, RequestReader};
 use std::alloc::Global;
@@ -49,8 +52,14 @@ impl Conversation {
             before (W.contents writer.old)
             → OnOk result (HasHeard terms.now.asked.now.answer terms.now.lines terms.now.asked.now.walks graph first
             self.new (heard ++ bytes.now) before (W.contents writer.new)) }
+        ensures cut { (graph : Content) (first : ℕ) (heard : List ℕ) (before : Option (List ℕ))
+            → HasHeard terms.now.asked.now.answer terms.now.lines terms.now.asked.now.walks graph first self.old heard
+            before (W.contents writer.old)
+            → OnErr result (AreCutAfterBytes terms.now.asked.now.answer terms.now.lines terms.now.asked.now.walks graph
+            first (heard ++ bytes.now) before (W.contents writer.new)) }
         ensures kept { OnOk result (IsKept self.new) }
     {
+        answer_texts_by_lines_are_unique();
         let mut at = 0;
         while let Some(end) = next_feed(bytes, at) {
             self.end_line(rt, writer, &bytes[at..end], terms)?;
@@ -76,8 +85,44 @@ impl Conversation {
             before (W.contents writer.old)
             → OnOk result (HasHeard terms.now.asked.now.answer terms.now.lines terms.now.asked.now.walks graph first
             self.new (heard ++ rest.now ++ 10 ∷ []) before (W.contents writer.new)) }
+        ensures cut { (graph : Content) (first : ℕ) (heard : List ℕ) (before : Option (List ℕ))
+            → HasHeard terms.now.asked.now.answer terms.now.lines terms.now.asked.now.walks graph first self.old heard
+            before (W.contents writer.old)
+            → OnErr result (AreCutAfterBytes terms.now.asked.now.answer terms.now.lines terms.now.asked.now.walks graph
+            first (heard ++ rest.now ++ 10 ∷ []) before (W.contents writer.new)) }
         ensures kept { OnOk result (IsKept self.new) }
     {
+        if self.unfinished.is_empty() {
+            // The whole line is there, and is read where it stands.
+            return self.take_line(rt, writer, rest, terms);
+        }
+        self.end_unfinished(rt, writer, rest, terms)
+    }
+
+    /// Takes the rest of a line that came in pieces, whose line feed came after it.
+    fn end_unfinished<H: Threads + Wait + Clock + Sync, W: Write, G: Gate + Sync>(
+        &mut self,
+        rt: &H,
+        writer: &mut W,
+        rest: &[u8],
+        terms: &Terms<'_, G>,
+    ) -> Result<(), Fault>
+        requires kept { IsKept self.old }
+        requires bound { IsLinesAsked terms.now.lines }
+        requires no_feed { HasNoFeed rest.now 0 (length rest.now) }
+        ensures heard { (graph : Content) (first : ℕ) (heard : List ℕ) (before : Option (List ℕ))
+            → HasHeard terms.now.asked.now.answer terms.now.lines terms.now.asked.now.walks graph first self.old heard
+            before (W.contents writer.old)
+            → OnOk result (HasHeard terms.now.asked.now.answer terms.now.lines terms.now.asked.now.walks graph first
+            self.new (heard ++ rest.now ++ 10 ∷ []) before (W.contents writer.new)) }
+        ensures cut { (graph : Content) (first : ℕ) (heard : List ℕ) (before : Option (List ℕ))
+            → HasHeard terms.now.asked.now.answer terms.now.lines terms.now.asked.now.walks graph first self.old heard
+            before (W.contents writer.old)
+            → OnErr result (AreCutAfterBytes terms.now.asked.now.answer terms.now.lines terms.now.asked.now.walks graph
+            first (heard ++ rest.now ++ 10 ∷ []) before (W.contents writer.new)) }
+        ensures kept { OnOk result (IsKept self.new) }
+    {
+        answer_texts_by_lines_are_unique();
         self.unfinished.extend_from_slice(rest)?;
         let line = replace(&mut self.unfinished, Vec::new(self.alloc));
         self.take_line(rt, writer, &line, terms)
@@ -98,9 +143,15 @@ impl Conversation {
             before (W.contents writer.old)
             → OnOk result (HasRepliedTo terms.now.asked.now.answer terms.now.lines terms.now.asked.now.walks graph first
             self.new (ls ++ line.now ∷ []) before (W.contents writer.new)) }
+        ensures cut { (graph : Content) (first : ℕ) (ls : List (List ℕ)) (before : Option (List ℕ))
+            → HasRepliedTo terms.now.asked.now.answer terms.now.lines terms.now.asked.now.walks graph first self.old ls
+            before (W.contents writer.old)
+            → OnErr result (AreCutAfterLines terms.now.asked.now.answer terms.now.lines terms.now.asked.now.walks graph
+            first (ls ++ line.now ∷ []) before (W.contents writer.new)) }
         ensures kept { OnOk result (IsKept self.new) }
         ensures unfinished { self.new.unfinished ≡ self.old.unfinished }
     {
+        answer_texts_by_lines_are_unique();
         let came = self.requests.read(line);
         self.reply(rt, writer, came.cut, terms)?;
         self.reply(rt, writer, came.found, terms)
@@ -120,6 +171,9 @@ impl Conversation {
         ensures replied { (graph : Content) → HoldsGraph terms.now.asked.now.answer graph self.old.session
             → OnOk result (Replies terms.now.asked.now.answer terms.now.lines terms.now.asked.now.walks graph
             (outcomes_in request) self.new.session (W.contents writer.old) (W.contents writer.new)) }
+        ensures cut { (graph : Content) → HoldsGraph terms.now.asked.now.answer graph self.old.session
+            → OnErr result (WritesPrefix (AreReplies terms.now.asked.now.answer terms.now.lines terms.now.asked.now.walks
+            graph (outcomes_in request)) (W.contents writer.old) (W.contents writer.new)) }
         ensures graphs { OnOk result (AreGraphs self.new.session.graphs) }
         ensures vertices { OnOk result
             (self.new.session.graphs.network.n ≡ self.old.session.graphs.network.n) }
@@ -141,11 +195,16 @@ impl Conversation {
     ) -> Result<(), Fault>
         requires kept { IsKept self.old }
         requires bound { IsLinesAsked terms.now.lines }
-        ensures { (graph : Content) (first : ℕ) (heard : List ℕ) (before : Option (List ℕ))
+        ensures replied { (graph : Content) (first : ℕ) (heard : List ℕ) (before : Option (List ℕ))
             → HasHeard terms.now.asked.now.answer terms.now.lines terms.now.asked.now.walks graph first self.old heard
             before (W.contents writer.old)
             → OnOk result (HasRepliedTo terms.now.asked.now.answer terms.now.lines terms.now.asked.now.walks graph first
             self.new (lines heard) before (W.contents writer.new)) }
+        ensures cut { (graph : Content) (first : ℕ) (heard : List ℕ) (before : Option (List ℕ))
+            → HasHeard terms.now.asked.now.answer terms.now.lines terms.now.asked.now.walks graph first self.old heard
+            before (W.contents writer.old)
+            → OnErr result (AreRepliesCut terms.now.asked.now.answer terms.now.lines terms.now.asked.now.walks graph
+            first (lines heard) before (W.contents writer.new)) }
     {
         if self.unfinished.is_empty() {
             return Ok(());
@@ -163,12 +222,18 @@ impl Conversation {
     ) -> Result<(), Fault>
         requires kept { IsKept self.old }
         requires bound { IsLinesAsked terms.now.lines }
-        ensures { (graph : Content) (first : ℕ) (heard : List ℕ) (before : Option (List ℕ))
+        ensures answered { (graph : Content) (first : ℕ) (heard : List ℕ) (before : Option (List ℕ))
             → HasHeard terms.now.asked.now.answer terms.now.lines terms.now.asked.now.walks graph first self.old heard
             before (W.contents writer.old)
             → OnOk result (AreAnswered terms.now.asked.now.answer terms.now.lines terms.now.asked.now.walks graph first
             heard before (W.contents writer.new)) }
+        ensures cut { (graph : Content) (first : ℕ) (heard : List ℕ) (before : Option (List ℕ))
+            → HasHeard terms.now.asked.now.answer terms.now.lines terms.now.asked.now.walks graph first self.old heard
+            before (W.contents writer.old)
+            → OnErr result (AreRepliesCut terms.now.asked.now.answer terms.now.lines terms.now.asked.now.walks graph
+            first (lines heard) before (W.contents writer.new)) }
     {
+        answer_texts_by_lines_are_unique();
         self.end_last_line(rt, writer, terms)?;
         match self.requests.lacking() {
             None => Ok(()),

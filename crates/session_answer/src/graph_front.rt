@@ -1,6 +1,6 @@
 //! Which graph does a session begin with?
 
-ghost use Rattle.std.specs.Prelude.{◌≡◌, ◌+◌, ◌<◌, ◌≤◌, ◌^◌, ◌++◌, None, List, ℕ, length, true, false, IfErr, IfOk};
+ghost use Rattle.std.specs.Prelude.{◌≡◌, ◌+◌, ◌<◌, ◌≤◌, ◌^◌, ◌++◌, None, List, ℕ, length, true, false, IfErr, IfOk, OnErr};
 ghost use Rattle.std.specs.Bool.{OnTrue};
 ghost use Rattle.dimacs_text.specs.GraphTexts.{IsGraphText};
 ghost use Rattle.dimacs_text.specs.Lines.{lines};
@@ -8,6 +8,7 @@ ghost use Rattle.dimacs_text.specs.Reading.{HasRead};
 ghost use Rattle.std.specs.Io.KnownBytes.{ReadConsumes};
 ghost use Rattle.dimacs_text.specs.Jobs.{absent, content_of, IsWithinLimits};
 ghost use Rattle.session_answer.specs.Conversations.{HasFront};
+ghost use Rattle.session_answer.specs.Cuts.{TakesSome};
 
 use dimacs_text::{Ask, Job, JobReader, LineKind, TextFault};
 use job_answer::Fault;
@@ -41,6 +42,7 @@ pub(crate) fn read_front<R: Read>(
     ensures places { IfOk result (λ front. (front.at ≤ front.end) × (front.end ≤ length buffer.new)) }
     ensures front { IfOk result (λ front. HasFront front buffer.new (R.remaining reader.old) (R.remaining reader.new)) }
     ensures limits { IfOk result (λ front. IsWithinLimits (content_of front.graph)) }
+    ensures cut { OnErr result (TakesSome (R.remaining reader.old) (R.remaining reader.new)) }
 {
     let mut job = JobReader::new(alloc);
     let mut left = limit as usize;

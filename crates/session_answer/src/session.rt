@@ -1,11 +1,11 @@
 //! The graph of a session, and the reply to one request.
 
-ghost use Rattle.std.specs.Prelude.{◌≡◌, ◌≤◌, ◌<◌, ◌++◌, true, false, IfOk, OnOk, length};
+ghost use Rattle.std.specs.Prelude.{◌≡◌, ◌≤◌, ◌<◌, ◌++◌, true, false, IfOk, OnErr, OnOk, length};
 ghost use Rattle.std.specs.Io.KnownBytes.{Appends};
 ghost use Rattle.answer_lines.specs.Lines.{grown_text, refusal_text};
 ghost use Rattle.dimacs_text.specs.Jobs.{Content, added_of, content_of, question_of};
 ghost use Rattle.dimacs_text.specs.Jobs.{IsAddedWithin, IsQuestionWithin, IsWithinLimits};
-ghost use Rattle.job_answer.specs.Bytes.{Writes};
+ghost use Rattle.job_answer.specs.Bytes.{GivesPrefix, Writes, WritesPrefix};
 ghost use Rattle.job_answer.specs.Graphs.{AreGraphs};
 ghost use Rattle.job_answer.specs.Solves.{IsLinesAsked};
 ghost use Rattle.request_reader.specs.Reading.{outcome_of};
@@ -14,12 +14,13 @@ ghost use Rattle.session_answer.specs.Replies.{added_line, graph_after, grown_by
 
 use answer_lines::{put_grown, put_ready, put_refusal};
 use dimacs_text::{Ask, Job};
+use job_answer::laws::answer_texts_by_lines_are_unique;
 use job_answer::{
     Asked, BlockKind, Fault, Figures, Graphs, Lines, answer_question, graphs_for, is_unasked,
     write_whole,
 };
 use least_costs::laws::networks_grow;
-use obim_engine::Gate;
+use obim_engine::{Gate, MAX_CHUNK, Settings};
 use request_reader::Request;
 use route_walks::{ArcRec, Memory};
 use std::alloc::Global;
@@ -30,6 +31,10 @@ use std::time::Clock;
 
 /// What is written where memory is refused.
 const NO_MEMORY: &str = "out of memory";
+
+/// How many vertices and arcs one worker goes over, those of each source or pair, before another one would gain what its
+/// start costs: some 100 microseconds a request.
+const FEW: usize = 1 << 14;
 
 /// What all answers of a session have in common.
 #[derive(Drop)]
@@ -86,6 +91,9 @@ impl Session {
         ensures reply { (graph : Content) → HoldsGraph terms.now.asked.now.answer graph self.old
             → OnOk result (Writes (IsReplyFor terms.now.asked.now.answer terms.now.lines terms.now.asked.now.walks graph
             (outcome_of request)) (W.contents writer.old) (W.contents writer.new)) }
+        ensures cut { (graph : Content) → HoldsGraph terms.now.asked.now.answer graph self.old
+            → OnErr result (WritesPrefix (IsReplyFor terms.now.asked.now.answer terms.now.lines terms.now.asked.now.walks
+            graph (outcome_of request)) (W.contents writer.old) (W.contents writer.new)) }
         // The graph has the arcs that were added from then on.
         ensures graph { (graph : Content) → HoldsGraph terms.now.asked.now.answer graph self.old
             → OnOk result (HoldsGraph terms.now.asked.now.answer (graph_after graph (outcome_of request)) self.new) }
@@ -116,10 +124,14 @@ impl Session {
         requires graphs { AreGraphs self.now.graphs }
         requires bound { IsLinesAsked terms.now.lines }
         requires within { IsQuestionWithin self.now.graphs.network.n (question_of ask.now) }
-        ensures { (graph : Content) → HoldsGraph terms.now.asked.now.answer graph self.now
+        ensures answered { (graph : Content) → HoldsGraph terms.now.asked.now.answer graph self.now
             → OnOk result (Writes (IsAnswerIn terms.now.asked.now.answer terms.now.lines walks graph
             (question_of ask.now)) (W.contents writer.old) (W.contents writer.new)) }
+        ensures cut { (graph : Content) → HoldsGraph terms.now.asked.now.answer graph self.now
+            → OnErr result (WritesPrefix (IsAnswerIn terms.now.asked.now.answer terms.now.lines walks graph
+            (question_of ask.now)) (W.contents writer.old) (W.contents writer.new)) }
     {
+        answer_texts_by_lines_are_unique();
         self.write_body(rt, writer, ask, walks, terms)?;
         let mut ready = Vec::new(self.alloc);
         put_ready(&mut ready, self.graphs.network.n(), self.arcs as u64)?;
@@ -138,14 +150,17 @@ impl Session {
         requires graphs { AreGraphs self.now.graphs }
         requires bound { IsLinesAsked terms.now.lines }
         requires within { IsQuestionWithin self.now.graphs.network.n (question_of ask.now) }
-        ensures { (graph : Content) → HoldsGraph terms.now.asked.now.answer graph self.now
+        ensures body { (graph : Content) → HoldsGraph terms.now.asked.now.answer graph self.now
             → OnOk result (Writes (IsBodyIn terms.now.asked.now.answer terms.now.lines walks graph (question_of ask.now))
             (W.contents writer.old) (W.contents writer.new)) }
+        ensures cut { (graph : Content) → HoldsGraph terms.now.asked.now.answer graph self.now
+            → OnErr result (WritesPrefix (IsBodyIn terms.now.asked.now.answer terms.now.lines walks graph
+            (question_of ask.now)) (W.contents writer.old) (W.contents writer.new)) }
     {
-        let asked = terms.asked;
-        if is_unasked(asked.answer, ask) {
+        if is_unasked(terms.asked.answer, ask) {
             return Ok(());
         }
+        let asked = self.asked_for(terms.asked, ask);
         let kind = BlockKind {
             graphs: &self.graphs,
             lines: lines_for(terms.lines, walks, ask),
@@ -157,10 +172,22 @@ impl Session {
             writer,
             kind,
             ask,
-            asked,
+            &asked,
             terms.gate,
             &mut figures,
         )
+    }
+
+    /// What is asked, by one worker where there is so little to do that no other gains what its start costs. No reply
+    /// depends on it.
+    fn asked_for(&self, asked: &Asked, ask: &Ask) -> Asked
+        ensures answer { result.answer ≡ asked.now.answer }
+    {
+        let size = self.arcs.saturating_add(self.graphs.network.n() as usize);
+        if size.saturating_mul(count_of(ask)) > FEW {
+            return *asked;
+        }
+        asked.with_settings(alone(asked.settings))
     }
 
     /// Adds arcs to the graph, if there are some to add, and writes how many they are.
@@ -178,6 +205,8 @@ impl Session {
         ensures graphs { OnOk result (AreGraphs self.new.graphs) }
         ensures vertices { OnOk result (self.new.graphs.network.n ≡ self.old.graphs.network.n) }
         ensures told { OnOk result (Appends (W.contents writer.old) (W.contents writer.new)
+            (added_line (added_of added.now))) }
+        ensures cut { OnErr result (GivesPrefix (W.contents writer.old) (W.contents writer.new)
             (added_line (added_of added.now))) }
     {
         networks_grow();
@@ -204,6 +233,24 @@ impl Session {
     }
 }
 
+/// For how many sources a graph is solved at most.
+fn count_of(ask: &Ask) -> usize {
+    match ask {
+        Ask::Absent => 1,
+        Ask::Sources(sources) => sources.len(),
+        Ask::Pairs(pairs) => pairs.len(),
+    }
+}
+
+/// The settings with one worker. It shares nothing, and its chunks take the same room whatever their size is.
+fn alone(settings: Settings) -> Settings {
+    Settings {
+        workers: 1,
+        buckets: settings.buckets,
+        chunk: MAX_CHUNK,
+    }
+}
+
 /// Whether walks are written: where the request asks for them, or the session does for all.
 fn walks_or(walks: bool, all_walks: bool) -> bool
     ensures { result ≡ walks_or walks all_walks }
@@ -227,7 +274,9 @@ fn lines_for(lines: Lines, walks: bool, ask: &Ask) -> Lines
 
 /// Writes the line that refuses a request.
 fn refuse<W: Write>(alloc: Global, writer: &mut W, line: u64, words: &str) -> Result<(), Fault>
-    ensures { OnOk result (Appends (W.contents writer.old) (W.contents writer.new) (refusal_text line words.now)) }
+    ensures told { OnOk result (Appends (W.contents writer.old) (W.contents writer.new) (refusal_text line words.now)) }
+    ensures cut { OnErr result (GivesPrefix (W.contents writer.old) (W.contents writer.new)
+        (refusal_text line words.now)) }
 {
     let mut text = Vec::new(alloc);
     put_refusal(&mut text, line, words)?;

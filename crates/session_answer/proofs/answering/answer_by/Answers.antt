@@ -1,19 +1,22 @@
 use Rattle.std.proofs.Common.{[], take, drop, ◌-◌}
 use Rattle.dimacs_text.specs.Jobs.{content_of}
+use Rattle.std.proofs.lemmas.Result.{on_err_weaker}
+use Rattle.session_answer.proofs.CutLemmas.{on_err}
+use Rattle.session_answer.proofs.CutSessions.{first_heard_cut, greeting_cut, nothing_cut, session_cut}
 use Rattle.session_answer.proofs.WholeLemmas.{session_ended, session_whole}
 use Rattle.session_answer.proofs.answering.answer_by.Goals as goal
 
-pub returns-then-has_ended : goal.returns-then-has_ended
-returns-then-has_ended g c =
+pub returns-then-has_ended-clause-answered : goal.returns-then-has_ended-clause-answered
+returns-then-has_ended-clause-answered g c =
     let terms = c.args.terms.now in
     let front = c.in_ok-front.front in
     session_ended terms.asked.now.answer terms.lines terms.asked.now.walks front c.read_front.new.buffer
     (g.R.Read.remaining c.args.reader.now) (g.R.Read.remaining c.read_front.new.reader)
     (g.W.Write.contents c.args.writer.now) (g.W.Write.contents c.answer.new.writer) c.in_ok-front.ensures.front
-    c.if-has_ended.true (c.in_ok-answer.ensures (content_of front.graph) c.in_ok-conversation.ensures.holds)
+    c.if-has_ended.true (c.in_ok-answer.ensures.answered (content_of front.graph) c.in_ok-conversation.ensures.holds)
 
-pub returns : goal.returns
-returns g c =
+pub returns-clause-answered : goal.returns-clause-answered
+returns-clause-answered g c =
     let terms = c.args.terms.now in
     let front = c.in_ok-front.front in
     let written = g.W.Write.contents c.answer.new.writer in
@@ -21,8 +24,71 @@ returns g c =
     (g.R.Read.remaining c.args.reader.now) (g.R.Read.remaining c.read_front.new.reader)
     (g.R.Read.remaining c.converse.new.reader) (g.W.Write.contents c.args.writer.now) written
     (g.W.Write.contents c.converse.new.writer) c.converse.result c.in_ok-front.ensures.front c.if-has_ended.false
-    (c.in_ok-answer.ensures (content_of front.graph) c.in_ok-conversation.ensures.holds)
-    (c.converse.ensures (content_of front.graph) front.line (take (front.end - front.at) (drop front.at c.read_front.new.buffer))
+    (c.in_ok-answer.ensures.answered (content_of front.graph) c.in_ok-conversation.ensures.holds)
+    (c.converse.ensures.conversed (content_of front.graph) front.line (take (front.end - front.at) (drop front.at c.read_front.new.buffer))
     written
     (c.in_ok-take.ensures.heard (content_of front.graph) front.line [] written
     (c.in_ok-conversation.ensures.heard terms.lines written)))
+
+pub returns-in_err-front-clause-cut : goal.returns-in_err-front-clause-cut
+returns-in_err-front-clause-cut g c =
+    let terms = c.args.terms.now in
+    on_err
+    (nothing_cut terms.asked.now.answer terms.lines terms.asked.now.walks (g.R.Read.remaining c.args.reader.now)
+    (g.R.Read.remaining c.read_front.new.reader) (g.W.Write.contents c.args.writer.now) c.in_err-front.ensures.cut)
+    c.from_residual.result
+
+pub returns-in_err-conversation-clause-cut : goal.returns-in_err-conversation-clause-cut
+returns-in_err-conversation-clause-cut g c =
+    let terms = c.args.terms.now in
+    on_err
+    (nothing_cut terms.asked.now.answer terms.lines terms.asked.now.walks (g.R.Read.remaining c.args.reader.now)
+    (g.R.Read.remaining c.read_front.new.reader) (g.W.Write.contents c.args.writer.now)
+    (record { bytes = _; taken = c.in_ok-front.ensures.front.taken }))
+    c.from_residual-in_err-conversation.result
+
+pub returns-in_err-answer-clause-cut : goal.returns-in_err-answer-clause-cut
+returns-in_err-answer-clause-cut g c =
+    let terms = c.args.terms.now in
+    let front = c.in_ok-front.front in
+    on_err
+    (greeting_cut terms.asked.now.answer terms.lines terms.asked.now.walks front c.read_front.new.buffer
+    (g.R.Read.remaining c.args.reader.now) (g.R.Read.remaining c.read_front.new.reader)
+    (g.W.Write.contents c.args.writer.now) (g.W.Write.contents c.answer.new.writer) c.in_ok-front.ensures.front
+    (c.in_err-answer.ensures.cut (content_of front.graph) c.in_ok-conversation.ensures.holds))
+    c.from_residual-in_err-answer.result
+
+pub returns-in_err-take-clause-cut : goal.returns-in_err-take-clause-cut
+returns-in_err-take-clause-cut g c =
+    let terms = c.args.terms.now in
+    let front = c.in_ok-front.front in
+    let graph = content_of front.graph in
+    let heard = take (front.end - front.at) (drop front.at c.read_front.new.buffer) in
+    let written = g.W.Write.contents c.answer.new.writer in
+    let taken = g.R.Read.remaining c.read_front.new.reader in
+    on_err
+    (session_cut c.answer_texts_by_lines_are_unique.ensures terms.asked.now.answer terms.lines terms.asked.now.walks
+    front c.read_front.new.buffer (g.R.Read.remaining c.args.reader.now) taken taken
+    (g.W.Write.contents c.args.writer.now) written (g.W.Write.contents c.take.new.writer) c.in_ok-front.ensures.front
+    c.if-has_ended.false (c.in_ok-answer.ensures.answered graph c.in_ok-conversation.ensures.holds)
+    (first_heard_cut terms.asked.now.answer terms.lines terms.asked.now.walks graph front.line heard taken written
+    (g.W.Write.contents c.take.new.writer)
+    (c.in_err-take.ensures.cut graph front.line [] written (c.in_ok-conversation.ensures.heard terms.lines written))))
+    c.from_residual-in_err-take.result
+
+pub returns-clause-cut : goal.returns-clause-cut
+returns-clause-cut g c =
+    let terms = c.args.terms.now in
+    let front = c.in_ok-front.front in
+    let graph = content_of front.graph in
+    let heard = take (front.end - front.at) (drop front.at c.read_front.new.buffer) in
+    let written = g.W.Write.contents c.answer.new.writer in
+    on_err_weaker c.converse.result
+    (λ cut.
+    session_cut c.answer_texts_by_lines_are_unique.ensures terms.asked.now.answer terms.lines terms.asked.now.walks
+    front c.read_front.new.buffer (g.R.Read.remaining c.args.reader.now) (g.R.Read.remaining c.read_front.new.reader)
+    (g.R.Read.remaining c.converse.new.reader) (g.W.Write.contents c.args.writer.now) written
+    (g.W.Write.contents c.converse.new.writer) c.in_ok-front.ensures.front c.if-has_ended.false
+    (c.in_ok-answer.ensures.answered graph c.in_ok-conversation.ensures.holds) cut)
+    (c.converse.ensures.cut graph front.line heard written
+    (c.in_ok-take.ensures.heard graph front.line [] written (c.in_ok-conversation.ensures.heard terms.lines written)))

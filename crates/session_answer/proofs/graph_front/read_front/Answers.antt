@@ -1,6 +1,9 @@
 use Rattle.std.proofs.Common.{◌≡◌, ◌-◌, take, arith, subst}
 use Rattle.std.proofs.lemmas.List.{length-take-le, take_all}
 use Rattle.dimacs_text.specs.Reading.{Reads}
+use Rattle.std.proofs.KnownBytes.{Keeps-refl}
+use Rattle.session_answer.proofs.CutLemmas.{on_err}
+use Rattle.session_answer.proofs.CutSessions.{fed_more, fed_some}
 use Rattle.session_answer.proofs.FrontLemmas.{by_text, ended_has, fed_all, open_has, open_within, IsFed}
 use Rattle.session_answer.proofs.graph_front.read_front.Goals as goal
 
@@ -58,3 +61,46 @@ loop-preserved g c =
           (omega (arith, came, c.if-count-left.false)));
       room = grind (arith, c.loop.invariant.room, c.read_some.auto.buffer);
     }
+
+pub returns-in_err-count-clause-cut : goal.returns-in_err-count-clause-cut
+returns-in_err-count-clause-cut g c =
+    on_err
+    (fed_some c.loop.job c.args.limit c.loop.left (g.R.Read.remaining c.args.reader.now)
+    (g.R.Read.remaining c.loop.reader) (g.R.Read.remaining c.read_some.new.reader) c.loop.invariant.fed
+    c.in_err-count.ensures.bytes)
+    c.from_residual.result
+
+pub returns-then-count-eq0-clause-cut : goal.returns-then-count-eq0-clause-cut
+returns-then-count-eq0-clause-cut g c =
+    on_err
+    (fed_more c.loop.job c.args.limit c.loop.left (g.R.Read.remaining c.args.reader.now)
+    (g.R.Read.remaining c.loop.reader) (g.R.Read.remaining c.read_some.new.reader)
+    (take c.in_ok-count.count c.read_some.new.buffer) c.loop.invariant.fed c.in_ok-count.ensures.bytes.0)
+    c.ended_front.result
+
+pub returns-then-count-left-clause-cut : goal.returns-then-count-left-clause-cut
+returns-then-count-left-clause-cut g c =
+    (fed_more c.loop.job c.args.limit c.loop.left (g.R.Read.remaining c.args.reader.now)
+    (g.R.Read.remaining c.loop.reader) (g.R.Read.remaining c.read_some.new.reader)
+    (take c.in_ok-count.count c.read_some.new.buffer) c.loop.invariant.fed c.in_ok-count.ensures.bytes.0)
+
+pub returns-in_err-at-clause-cut : goal.returns-in_err-at-clause-cut
+returns-in_err-at-clause-cut g c =
+    on_err
+    (fed_more c.loop.job c.args.limit c.loop.left (g.R.Read.remaining c.args.reader.now)
+    (g.R.Read.remaining c.loop.reader) (g.R.Read.remaining c.read_some.new.reader)
+    (take c.in_ok-count.count c.read_some.new.buffer) c.loop.invariant.fed c.in_ok-count.ensures.bytes.0)
+    c.from_residual-in_err-at.result
+
+pub returns-then-is_over-clause-cut : goal.returns-then-is_over-clause-cut
+returns-then-is_over-clause-cut g c =
+    on_err
+    (fed_more c.loop.job c.args.limit c.loop.left (g.R.Read.remaining c.args.reader.now)
+    (g.R.Read.remaining c.loop.reader) (g.R.Read.remaining c.read_some.new.reader)
+    (take c.in_ok-count.count c.read_some.new.buffer) c.loop.invariant.fed c.in_ok-count.ensures.bytes.0)
+    c.open_front.result
+
+pub returns-clause-cut : goal.returns-clause-cut
+returns-clause-cut g c =
+    fed_some c.loop.job c.args.limit c.loop.left (g.R.Read.remaining c.args.reader.now)
+    (g.R.Read.remaining c.loop.reader) (g.R.Read.remaining c.loop.reader) c.loop.invariant.fed (Keeps-refl _)

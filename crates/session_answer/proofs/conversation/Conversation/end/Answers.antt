@@ -1,11 +1,12 @@
-use Rattle.std.proofs.Common.{subst}
+use Rattle.std.proofs.Common.{refl, subst}
 use Rattle.dimacs_text.specs.Lines.{lines}
 use Rattle.request_reader.specs.Requests.{AreRequests}
+use Rattle.session_answer.proofs.CutLemmas.{cut_here, replied_cut}
 use Rattle.session_answer.proofs.conversation.Conversation.end.Goals as goal
 
-pub returns-in-None : goal.returns-in-None
-returns-in-None g c graph first heard before is =
-    let replied = c.in_ok-end_last_line.ensures graph first heard before is in
+pub returns-in-None-clause-answered : goal.returns-in-None-clause-answered
+returns-in-None-clause-answered g c graph first heard before is =
+    let replied = c.in_ok-end_last_line.ensures.replied graph first heard before is in
     record {
       outcomes = replied.outcomes;
       requests =
@@ -15,3 +16,12 @@ returns-in-None g c graph first heard before is =
       replied = replied.replied.replied;
       written = replied.replied.written;
     }
+
+pub returns-in-Some-clause-cut : goal.returns-in-Some-clause-cut
+returns-in-Some-clause-cut g c graph first heard before is =
+    let kind = c.args.terms.now.asked.now.answer in
+    let by = c.args.terms.now.lines in
+    let walks = c.args.terms.now.asked.now.walks in
+    cut_here kind by walks graph first (lines heard) (lines heard) before _ refl
+    (replied_cut c.answer_texts_by_lines_are_unique.ensures kind by walks graph first c.end_last_line.new.self
+    (lines heard) before _ (c.in_ok-end_last_line.ensures.replied graph first heard before is))

@@ -1,13 +1,14 @@
 use Rattle.std.proofs.Common.{◌≡◌, ◌∙◌, ◌<◌, ◌∷◌, ◌++◌, [], List, ℕ, length, ap, refl, rules, subst, sym}
 use Rattle.std.proofs.lemmas.List.{nil_from_length}
-use Rattle.std.proofs.lemmas.Result.{on_ok_weaker}
+use Rattle.std.proofs.lemmas.Result.{on_err_weaker, on_ok_weaker}
 use Rattle.dimacs_text.specs.Lines.{lines}
 use Rattle.session_answer.specs.Conversations.{HasRepliedTo}
+use Rattle.session_answer.proofs.CutLemmas.{cut_here}
 use Rattle.session_answer.proofs.HeardLemmas.{lines_at_end, lines_heard, same_replied}
 use Rattle.session_answer.proofs.conversation.Conversation.end_last_line.Goals as goal
 
-pub returns-then-is_empty : goal.returns-then-is_empty
-returns-then-is_empty g c graph first heard before is =
+pub returns-then-is_empty-clause-replied : goal.returns-then-is_empty-clause-replied
+returns-then-is_empty-clause-replied g c graph first heard before is =
     let kind = c.args.terms.now.asked.now.answer in
     let by = c.args.terms.now.lines in
     let walks = c.args.terms.now.asked.now.walks in
@@ -16,8 +17,8 @@ returns-then-is_empty g c graph first heard before is =
     rw (lines_heard kind by walks graph first c.args.self.now heard before _ is none)
     (same_replied kind by walks graph first c.args.self.now _ (lines is.whole) before _ refl refl is.replied)
 
-pub returns : goal.returns
-returns g c graph first heard before is =
+pub returns-clause-replied : goal.returns-clause-replied
+returns-clause-replied g c graph first heard before is =
     let kind = c.args.terms.now.asked.now.answer in
     let by = c.args.terms.now.lines in
     let walks = c.args.terms.now.asked.now.walks in
@@ -33,4 +34,23 @@ returns g c graph first heard before is =
     (ap (λ (last : List ℕ). whole ++ last ∷ []) line
     ∙ sym (lines_at_end kind by walks graph first self heard before _ is some)) replied)
     (c.take_line.ensures.replied graph first whole before
+    (same_replied kind by walks graph first self _ whole before _ refl refl is.replied))
+
+pub returns-clause-cut : goal.returns-clause-cut
+returns-clause-cut g c graph first heard before is =
+    let kind = c.args.terms.now.asked.now.answer in
+    let by = c.args.terms.now.lines in
+    let walks = c.args.terms.now.asked.now.walks in
+    let self = c.args.self.now in
+    let whole = lines is.whole in
+    let some : 0 < length self.unfinished.items = search rules in
+    let line : c.deref.result.now ≡ self.unfinished.items =
+    c.deref.ensures.value ∙ ap (λ list. list.items) c.replace-line.ensures.value in
+    on_err_weaker c.take_line.result
+    (λ cut.
+    cut_here kind by walks graph first (whole ++ c.deref.result.now ∷ []) (lines heard) before _
+    (ap (λ (last : List ℕ). whole ++ last ∷ []) line
+    ∙ sym (lines_at_end kind by walks graph first self heard before _ is some))
+    cut)
+    (c.take_line.ensures.cut graph first whole before
     (same_replied kind by walks graph first self _ whole before _ refl refl is.replied))

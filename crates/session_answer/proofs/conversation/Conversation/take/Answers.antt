@@ -1,7 +1,9 @@
-use Rattle.std.proofs.Common.{◌≡◌, ◌∙◌, ◌-◌, ◌∷◌, ◌++◌, [], List, ℕ, length, take, drop, ap, refl, subst, sym, arith}
+use Rattle.std.proofs.Common.{◌≡◌, ◌∙◌, ◌+◌, ◌-◌, ◌∷◌, ◌++◌, [], List, ℕ, length, take, drop, ap, refl, subst, sym, arith}
 use Rattle.std.proofs.Common.{append_assoc, length-drop, take-append-drop}
 use Rattle.std.proofs.lemmas.List.{take_all}
 use Rattle.session_answer.specs.Conversations.{HasHeard}
+use Rattle.session_answer.specs.Cuts.{AreCutAfterBytes}
+use Rattle.session_answer.proofs.CutLemmas.{cut_in_all, heard_cut, on_err}
 use Rattle.session_answer.proofs.HeardLemmas.{heard_rest, no_feed_after, taken_line}
 use Rattle.session_answer.proofs.conversation.Conversation.take.Goals as goal
 
@@ -45,3 +47,38 @@ returns-clause-heard g c graph first heard before is =
     (c.in_ok-extend_from_slice.ensures.items
     ∙ ap (λ (rest : List ℕ). c.loop-end.self.unfinished.items ++ rest)
     (take_all (length bytes - at) (drop at bytes) (omega (arith, length-drop at bytes)))) refl refl)
+
+pub returns-in_err-end_line-clause-cut : goal.returns-in_err-end_line-clause-cut
+returns-in_err-end_line-clause-cut g c graph first heard before is =
+    let kind = c.args.terms.now.asked.now.answer in
+    let by = c.args.terms.now.lines in
+    let walks = c.args.terms.now.asked.now.walks in
+    let bytes = c.args.bytes.now in
+    let at = c.loop-end.at in
+    let end = c.in-Some.end in
+    let found = c.in-Some.ensures.some in
+    let line = take (end - at) (drop at bytes) in
+    on_err
+    (cut_in_all kind by walks graph first heard bytes (end + 1) before _
+    (subst (λ (all : List ℕ). AreCutAfterBytes kind by walks graph first all before
+    (g.W.Write.contents c.end_line.new.writer))
+    (append_assoc (heard ++ take at bytes) line (10 ∷ [])
+    ∙ append_assoc heard (take at bytes) (line ++ 10 ∷ [])
+    ∙ ap (λ (more : List ℕ). heard ++ more) (taken_line bytes at end found.0 found.1 found.2))
+    (c.in_err-end_line.ensures.cut graph first (heard ++ take at bytes) before
+    (c.loop-end.invariant.heard graph first heard before is))))
+    c.from_residual.result
+
+pub returns-in_err-extend_from_slice-clause-cut : goal.returns-in_err-extend_from_slice-clause-cut
+returns-in_err-extend_from_slice-clause-cut g c graph first heard before is =
+    let kind = c.args.terms.now.asked.now.answer in
+    let by = c.args.terms.now.lines in
+    let walks = c.args.terms.now.asked.now.walks in
+    let law = c.answer_texts_by_lines_are_unique.ensures in
+    let bytes = c.args.bytes.now in
+    let at = c.loop-end.at in
+    on_err
+    (cut_in_all kind by walks graph first heard bytes at before _
+    (heard_cut law kind by walks graph first c.loop-end.self (heard ++ take at bytes) before _
+    (c.loop-end.invariant.heard graph first heard before is)))
+    c.from_residual-in_err-extend_from_slice.result

@@ -1,25 +1,52 @@
 use Rattle.std.proofs.Common.{◌≡◌, ◌∙◌, false, refl, subst, sym}
-use Rattle.std.proofs.lemmas.Result.{on_ok_weaker}
+use Rattle.std.proofs.lemmas.Result.{on_err_weaker, on_ok_weaker}
 use Rattle.dimacs_text.specs.Jobs.{question_of}
 use Rattle.job_answer.specs.Outcome.{is_unasked}
 use Rattle.job_answer.specs.Within.{IsAnswerTextBy}
-use Rattle.session_answer.specs.Replies.{IsBodyIf, job_of, lines_for}
+use Rattle.job_answer.specs.declared.asked.Answer.{Answer}
+use Rattle.session_answer.specs.Replies.{HoldsGraph, IsBodyIf, job_of, lines_for}
 use Rattle.session_answer.proofs.ReplyLemmas.{graph_rows}
 use Rattle.session_answer.proofs.session.Session.write_body.Goals as goal
 
-pub returns : goal.returns
-returns g c graph holds =
+pub returns-clause-body : goal.returns-clause-body
+returns-clause-body g c graph holds =
     let kind = c.args.terms.now.asked.now.answer in
     let question = question_of c.args.ask.now in
     let job = job_of graph question in
     let by = lines_for c.args.terms.now.lines c.args.walks question in
     let asked : is_unasked kind question ≡ false = sym c.is_unasked.ensures ∙ c.if-is_unasked.false in
+    let same : c.asked_for-asked.result.answer ≡ kind = c.asked_for-asked.ensures.answer in
+    let held = subst (λ (k : Answer). HoldsGraph k graph c.args.self.now) (sym same) holds in
     on_ok_weaker c.answer_question.result
     (λ written. record {
       text = written.text;
       is_text =
           subst (λ unasked. IsBodyIf unasked kind by job written.text) (sym asked)
-          (subst (λ lines. IsAnswerTextBy kind lines job written.text) c.lines_for.ensures written.is_text);
+          (subst (λ lines. IsAnswerTextBy kind lines job written.text) c.lines_for.ensures
+          (subst (λ (k : Answer). IsAnswerTextBy k c.lines_for.result job written.text) same written.is_text));
       appended = written.appended;
     })
-    (c.answer_question.ensures.reply job (graph_rows kind graph c.args.self.now c.requires.graphs.is holds) refl)
+    (c.answer_question.ensures.reply job (graph_rows c.asked_for-asked.result.answer graph c.args.self.now c.requires.graphs.is held)
+    refl)
+
+pub returns-clause-cut : goal.returns-clause-cut
+returns-clause-cut g c graph holds =
+    let kind = c.args.terms.now.asked.now.answer in
+    let question = question_of c.args.ask.now in
+    let job = job_of graph question in
+    let by = lines_for c.args.terms.now.lines c.args.walks question in
+    let asked : is_unasked kind question ≡ false = sym c.is_unasked.ensures ∙ c.if-is_unasked.false in
+    let same : c.asked_for-asked.result.answer ≡ kind = c.asked_for-asked.ensures.answer in
+    let held = subst (λ (k : Answer). HoldsGraph k graph c.args.self.now) (sym same) holds in
+    on_err_weaker c.answer_question.result
+    (λ cut. record {
+      given = cut.given;
+      is_prefix = λ text is.
+          cut.is_prefix text
+          (subst (λ (k : Answer). IsAnswerTextBy k c.lines_for.result job text) (sym same)
+          (subst (λ lines. IsAnswerTextBy kind lines job text) (sym c.lines_for.ensures)
+          (subst (λ unasked. IsBodyIf unasked kind by job text) asked is)));
+      appended = cut.appended;
+    })
+    (c.answer_question.ensures.prefix job (graph_rows c.asked_for-asked.result.answer graph c.args.self.now c.requires.graphs.is held)
+    refl)

@@ -1,0 +1,117 @@
+//! Blocks in short: labels as bytes, and lines of what they come to.
+
+ghost use Rattle.std.specs.Prelude.{◌≡◌, false};
+ghost use Rattle.job_answer.specs.LineWalks.{has_walks};
+ghost use Rattle.job_answer.specs.Solves.{IsLinesAsked};
+
+use crate::answers::added::{asked, six_with};
+use crate::answers::pairs::SIX_PAIRS_ANSWER;
+use job_answer::{Answer, Asked, Figures, Lines, answer_by};
+use obim_engine::OpenGate;
+use std::alloc::Global;
+use std::sync::Wait;
+use std::test::Fail;
+use std::thread::Threads;
+use std::time::Clock;
+
+/// Labels 0, 10, 10, 12, 10 and 15.
+pub const SIX_RAW: &[u8] = b"s 1\n\0\0\0\0\0\0\0\0\x0a\0\0\0\0\0\0\0\x0a\0\0\0\0\0\0\0\
+    \x0c\0\0\0\0\0\0\0\x0a\0\0\0\0\0\0\0\x0f\0\0\0\0\0\0\0";
+
+const ONE: &[u8] = b"p aux sp ss 1\ns 1\n";
+
+const TWO: &[u8] = b"p aux sp ss 2\ns 6\ns 4\n";
+
+const NO_SOURCE: &[u8] = b"p aux sp ss 0\n";
+
+const GROWN: &[u8] = b"p aux sp ss 1\ns 1\np aux sp add 1\na 1 6 4\n";
+
+const PAIRS: &[u8] = b"p aux sp p2p 4\nq 1 6\nq 6 1\nq 1 6\nq 1 1\n";
+
+const SIX_RAW_GROWN: &[u8] = b"s 1\n\0\0\0\0\0\0\0\0\x0a\0\0\0\0\0\0\0\x0a\0\0\0\0\0\0\0\
+    \x0c\0\0\0\0\0\0\0\x0a\0\0\0\0\0\0\0\x0f\0\0\0\0\0\0\0\
+    g 1\ns 1\n\0\0\0\0\0\0\0\0\x0a\0\0\0\0\0\0\0\x0a\0\0\0\0\0\0\0\
+    \x0c\0\0\0\0\0\0\0\x0a\0\0\0\0\0\0\0\x04\0\0\0\0\0\0\0";
+
+const SIX_RAW_LEVELS: &[u8] = b"s 1\n\0\0\0\0\0\0\0\0\x01\0\0\0\0\0\0\0\x01\0\0\0\0\0\0\0\
+    \x02\0\0\0\0\0\0\0\x02\0\0\0\0\0\0\0\x03\0\0\0\0\0\0\0";
+
+/// The labels from vertex 6, which reaches itself alone, and from 4.
+const SIX_RAW_TWO: &[u8] = b"s 6\n\xff\xff\xff\xff\xff\xff\xff\xff\xff\xff\xff\xff\xff\xff\xff\xff\
+    \xff\xff\xff\xff\xff\xff\xff\xff\xff\xff\xff\xff\xff\xff\xff\xff\
+    \xff\xff\xff\xff\xff\xff\xff\xff\0\0\0\0\0\0\0\0\
+    s 4\n\xff\xff\xff\xff\xff\xff\xff\xff\0\0\0\0\0\0\0\0\
+    \0\0\0\0\0\0\0\0\0\0\0\0\0\0\0\0\0\0\0\0\0\0\0\0\x03\0\0\0\0\0\0\0";
+
+const SIX_COMPONENTS: &[u8] = b"k 1 1\nk 2 1\nk 3 1\nk 4 1\nk 5 1\nk 6 1\n";
+
+// Of each row the answer, as bytes or what they come to, what follows the graph, and what is written.
+const ANSWERS: [(Answer, bool, &[u8], &[u8]); 14] = [
+    (Answer::Distances, true, ONE, SIX_RAW),
+    (Answer::Distances, true, TWO, SIX_RAW_TWO),
+    (Answer::Distances, true, GROWN, SIX_RAW_GROWN),
+    (Answer::Distances, true, PAIRS, SIX_PAIRS_ANSWER),
+    (Answer::Distances, true, NO_SOURCE, b""),
+    (Answer::Levels, true, ONE, SIX_RAW_LEVELS),
+    (Answer::Components, true, b"", SIX_COMPONENTS),
+    (Answer::Distances, false, ONE, b"t 1 6 57 15 6\n"),
+    (Answer::Distances, false, TWO, b"t 6 1 0 0 6\nt 4 5 3 3 6\n"),
+    (
+        Answer::Distances,
+        false,
+        GROWN,
+        b"t 1 6 57 15 6\ng 1\nt 1 6 46 12 4\n",
+    ),
+    (Answer::Distances, false, PAIRS, SIX_PAIRS_ANSWER),
+    (Answer::Distances, false, NO_SOURCE, b""),
+    (Answer::Levels, false, ONE, b"t 1 6 9 3 6\n"),
+    (Answer::Components, false, b"", SIX_COMPONENTS),
+];
+
+/// Lines in short: labels as bytes, or what they come to.
+fn in_short(raw: bool) -> Lines
+    ensures walks { has_walks result ≡ false }
+    ensures bound { IsLinesAsked result }
+{
+    if raw { Lines::Raw } else { Lines::Totals }
+}
+
+/// The answer to a text in short.
+fn answer_in_short<H: Threads + Wait + Clock + Sync>(
+    rt: &H,
+    alloc: Global,
+    text: &[u8],
+    asked: &Asked,
+    raw: bool,
+) -> Result<Vec<u8>, Fail>
+    requires { asked.now.walks ≡ false }
+{
+    let mut figures = Figures::new(rt);
+    let (mut reader, mut bytes) = (text, Vec::new(alloc));
+    let lines = in_short(raw);
+    answer_by(
+        rt,
+        alloc,
+        &mut reader,
+        &mut bytes,
+        asked,
+        lines,
+        &OpenGate,
+        &mut figures,
+    )?;
+    Ok(bytes)
+}
+
+#[test]
+fn answers_in_short(rt: HostRuntime) -> Result<(), Fail> {
+    for (kind, raw, sections, want) in ANSWERS {
+        let text = six_with(rt.alloc(), sections)?;
+        for workers in [1, 3] {
+            let asked = asked(&rt, kind, false, (workers, 4, 16));
+            assert!(rt; !asked.walks);
+            let bytes = answer_in_short(&rt, rt.alloc(), &text, &asked, raw)?;
+            assert!(rt; bytes.as_slice() == want);
+        }
+    }
+    Ok(())
+}

@@ -1,0 +1,287 @@
+-- What was given when a fault cuts a session short: a prefix of its replies.
+use Rattle.std.proofs.Common.{◌≡◌, ◌∙◌, ℕ, Bool, true, false, List, [], ◌∷◌, ◌++◌, Option, refl, sym, ap, subst, append_assoc}
+use Rattle.std.proofs.Common.{length, take, drop, take-append-drop}
+use Rattle.std.proofs.lemmas.List.{append-nil}
+use Rattle.std.specs.Prelude.{Result, Ok, Err, OnErr}
+use Rattle.std.specs.Io.KnownBytes.{Appends}
+use Rattle.answer_lines.specs.Lines.{ready_text}
+use Rattle.dimacs_text.specs.Jobs.{Content, Question}
+use Rattle.dimacs_text.specs.Lines.{lines}
+use Rattle.request_reader.proofs.Facts.{begins_with}
+use Rattle.request_reader.specs.Reading.{HasRequests, vertices_of}
+use Rattle.request_reader.specs.Requests.{Outcome, whole, wrong, no_memory, AreRequestsTo}
+use Rattle.request_reader.specs.declared.request_reader.RequestReader.{RequestReader}
+use Rattle.job_answer.proofs.Facts.{appends-then}
+use Rattle.job_answer.specs.AnswerText.{IsOneText}
+use Rattle.job_answer.specs.Bytes.{GivesPrefix, IsPrefix, WritesPrefix}
+use Rattle.job_answer.specs.Outcome.{is_unasked}
+use Rattle.job_answer.specs.Within.{AnswerTextsByLinesAreUnique}
+use Rattle.job_answer.specs.declared.asked.Answer.{Answer}
+use Rattle.job_answer.specs.declared.asked.Lines.{Lines}
+use Rattle.session_answer.specs.Conversations.{HasHeard, HasRepliedTo, Replies, graph_of}
+use Rattle.session_answer.specs.Cuts.{AreCutAfterBytes, AreCutAfterLines, AreRepliesCut}
+use Rattle.session_answer.specs.Replies.{AreReplies, IsAnswerIn, IsBodyIf, IsBodyIn, IsReplyFor, IsReplyTo}
+use Rattle.session_answer.specs.Replies.{added_line, graph_after, grown_by, job_of, lines_for, walks_or}
+use Rattle.session_answer.specs.declared.conversation.Conversation.{Conversation}
+use Rattle.session_answer.specs.declared.session.Session.{Session}
+use Rattle.session_answer.proofs.ReplyLemmas.{no_bytes}
+
+pub on_err : {T E P : Type 0} → P → (r : Result T E) → OnErr r P
+on_err p (Ok x) = tt
+on_err p (Err y) = p
+
+-- ---- prefixes of what is written
+
+pub none_given : (IsText : List ℕ → Type 0) (same : Option (List ℕ)) → WritesPrefix IsText same same
+none_given IsText same = record { given = []; is_prefix = λ text is. (text, refl); appended = no_bytes same }
+
+pub no_prefix : (bytes : List ℕ) (same : Option (List ℕ)) → GivesPrefix same same bytes
+no_prefix bytes same = record { given = []; is_prefix = (bytes, refl); appended = no_bytes same }
+
+-- a prefix of these bytes, which are the only text
+pub only_cut : (bytes only : List ℕ) (before after : Option (List ℕ)) → bytes ≡ only → GivesPrefix before after bytes
+    → WritesPrefix (λ text. text ≡ only) before after
+only_cut bytes only before after same cut = record {
+  given = cut.given;
+  is_prefix = λ text is. subst (λ (all : List ℕ). IsPrefix cut.given all) (same ∙ sym is) cut.is_prefix;
+  appended = cut.appended;
+}
+
+-- a prefix of the first part of a text is one of the text
+pub first_cut : (IsFirst IsWhole : List ℕ → Type 0) (before after : Option (List ℕ))
+    → ((text : List ℕ) → IsWhole text
+    → (first : List ℕ) × (rest : List ℕ) × IsFirst first × (text ≡ first ++ rest))
+    → WritesPrefix IsFirst before after
+    → WritesPrefix IsWhole before after
+first_cut IsFirst IsWhole before after split cut = record {
+  given = cut.given;
+  is_prefix = λ text is.
+      let parts = split text is in
+      let prefix = cut.is_prefix parts.0 parts.2 in (
+        prefix.0 ++ parts.1,
+        parts.3
+            ∙ ap (λ (front : List ℕ). front ++ parts.1) prefix.1
+            ∙ append_assoc cut.given prefix.0 parts.1,
+      );
+  appended = cut.appended;
+}
+
+-- the first part of a text was given whole, and then a prefix of the second
+pub second_cut : (IsSecond IsWhole : List ℕ → Type 0) (first : List ℕ) (before middle after : Option (List ℕ))
+    → ((text : List ℕ) → IsWhole text → (second : List ℕ) × IsSecond second × (text ≡ first ++ second))
+    → Appends before middle first
+    → WritesPrefix IsSecond middle after
+    → WritesPrefix IsWhole before after
+second_cut IsSecond IsWhole first before middle after split one cut = record {
+  given = first ++ cut.given;
+  is_prefix = λ text is.
+      let parts = split text is in
+      let prefix = cut.is_prefix parts.0 parts.1 in (
+        prefix.0,
+        parts.2
+            ∙ ap (λ (rest : List ℕ). first ++ rest) prefix.1
+            ∙ sym (append_assoc first cut.given prefix.0),
+      );
+  appended = appends-then before middle after first cut.given one cut.appended;
+}
+
+-- ---- there is one text of each reply
+
+module _ (law : AnswerTextsByLinesAreUnique) (kind : Answer) (by : Lines) where
+  one_body : (walks : Bool) (graph : Content) (question : Question) → IsOneText (IsBodyIn kind by walks graph question)
+  one_body walks graph question = by_asked (is_unasked kind question)
+    where
+      by_asked : (unasked : Bool) → IsOneText (IsBodyIf unasked kind (lines_for by walks question) (job_of graph question))
+      by_asked true first second one two = one ∙ sym two
+      by_asked false first second one two =
+          law kind (lines_for by walks question) (job_of graph question) first second one two
+
+  pub one_answer : (walks : Bool) (graph : Content) (question : Question)
+      → IsOneText (IsAnswerIn kind by walks graph question)
+  one_answer walks graph question first second one two =
+      one.written
+      ∙ ap (λ (body : List ℕ). body ++ ready_text graph.n (length graph.arcs))
+      (one_body walks graph question one.body two.body one.is_body two.is_body)
+      ∙ sym two.written
+
+  one_reply : (walks : Bool) (graph asked : Content) → IsOneText (IsReplyTo kind by walks graph asked)
+  one_reply walks graph asked first second one two =
+      one.written
+      ∙ ap (λ (answer : List ℕ). added_line asked.added ++ answer)
+      (one_answer walks (grown_by graph asked.added) asked.question one.answer two.answer one.is_answer two.is_answer)
+      ∙ sym two.written
+
+  one_reply_for : (all_walks : Bool) (graph : Content) (outcome : Outcome)
+      → IsOneText (IsReplyFor kind by all_walks graph outcome)
+  one_reply_for all_walks graph (whole job walks) first second one two =
+      one_reply (walks_or walks all_walks) graph job first second one two
+  one_reply_for all_walks graph (wrong line what) first second one two = one ∙ sym two
+  one_reply_for all_walks graph (no_memory line) first second one two = one ∙ sym two
+
+  one_of_all : (all_walks : Bool) (graph : Content) (outcomes : List Outcome)
+      → IsOneText (AreReplies kind by all_walks graph outcomes)
+  one_of_all all_walks graph [] first second one two = one ∙ sym two
+  one_of_all all_walks graph (outcome ∷ outcomes) first second one two =
+      one.2
+      ∙ ap (λ (reply : List ℕ). reply ++ one.1)
+      (one_reply_for all_walks graph outcome one.0 two.0 one.3 two.3)
+      ∙ ap (λ (rest : List ℕ). two.0 ++ rest)
+      (one_of_all all_walks (graph_after graph outcome) outcomes one.1 two.1 one.4 two.4)
+      ∙ sym two.2
+
+  -- ---- an answer
+
+  -- the answer was given whole, and then a prefix of how large the graph is
+  pub ready_cut : (walks : Bool) (graph : Content) (question : Question) (body : List ℕ)
+      (before middle after : Option (List ℕ))
+      → IsBodyIn kind by walks graph question body
+      → Appends before middle body
+      → WritesPrefix (λ text. text ≡ ready_text graph.n (length graph.arcs)) middle after
+      → WritesPrefix (IsAnswerIn kind by walks graph question) before after
+  ready_cut walks graph question body before middle after is_body one cut =
+      second_cut (λ text. text ≡ ready_text graph.n (length graph.arcs)) (IsAnswerIn kind by walks graph question) body
+      before middle after
+      (λ text is. (
+        ready_text graph.n (length graph.arcs),
+        refl,
+        is.written
+            ∙ ap (λ (some : List ℕ). some ++ ready_text graph.n (length graph.arcs))
+            (one_body walks graph question is.body body is.is_body is_body),
+      ))
+      one cut
+
+  -- ---- replies
+
+  split_replies : (all_walks : Bool) (graph : Content) (some more : List Outcome) (text : List ℕ)
+      → AreReplies kind by all_walks graph (some ++ more) text
+      → (first : List ℕ)
+      × (rest : List ℕ)
+      × AreReplies kind by all_walks graph some first
+      × AreReplies kind by all_walks (graph_of graph some) more rest
+      × (text ≡ first ++ rest)
+  split_replies all_walks graph [] more text is = ([], text, refl, is, refl)
+  split_replies all_walks graph (outcome ∷ some) more text is =
+      let parts = split_replies all_walks (graph_after graph outcome) some more is.1 is.4 in (
+        is.0 ++ parts.0,
+        parts.1,
+        (is.0, parts.0, refl, is.3, parts.2),
+        parts.3,
+        is.2
+            ∙ ap (λ (later : List ℕ). is.0 ++ later) parts.4
+            ∙ sym (append_assoc is.0 parts.0 parts.1),
+      )
+
+  -- a prefix of the first replies is one of all
+  pub front_cut : (all_walks : Bool) (graph : Content) (some more : List Outcome) (before after : Option (List ℕ))
+      → WritesPrefix (AreReplies kind by all_walks graph some) before after
+      → WritesPrefix (AreReplies kind by all_walks graph (some ++ more)) before after
+  front_cut all_walks graph some more before after cut =
+      first_cut (AreReplies kind by all_walks graph some) (AreReplies kind by all_walks graph (some ++ more)) before after
+      (λ text is.
+      let parts = split_replies all_walks graph some more text is in
+      (parts.0, parts.1, parts.2, parts.4))
+      cut
+
+  -- the first replies were given whole, and then a prefix of the next ones
+  pub after_cut : (all_walks : Bool) (graph : Content) (some more : List Outcome) (session : Session)
+      (before middle after : Option (List ℕ))
+      → Replies kind by all_walks graph some session before middle
+      → WritesPrefix (AreReplies kind by all_walks (graph_of graph some) more) middle after
+      → WritesPrefix (AreReplies kind by all_walks graph (some ++ more)) before after
+  after_cut all_walks graph some more session before middle after one cut =
+      second_cut (AreReplies kind by all_walks (graph_of graph some) more)
+      (AreReplies kind by all_walks graph (some ++ more)) one.text before middle after
+      (λ text is.
+      let parts = split_replies all_walks graph some more text is in (
+        parts.1,
+        parts.3,
+        parts.4
+            ∙ ap (λ (front : List ℕ). front ++ parts.1)
+            (one_of_all all_walks graph some parts.0 one.text parts.2 one.replied),
+      ))
+      one.written cut
+
+  -- whole replies are a prefix of themselves
+  whole_cut : (all_walks : Bool) (graph : Content) (outcomes : List Outcome) (session : Session)
+      (before after : Option (List ℕ))
+      → Replies kind by all_walks graph outcomes session before after
+      → WritesPrefix (AreReplies kind by all_walks graph outcomes) before after
+  whole_cut all_walks graph outcomes session before after is = record {
+    given = is.text;
+    is_prefix = λ text other.
+        ([], one_of_all all_walks graph outcomes text is.text other is.replied ∙ sym (append-nil is.text));
+    appended = is.written;
+  }
+
+  -- ---- lines and bytes
+
+  -- the requests that a reader tells of are those that all lines begin with
+  pub cut_after_lines : (all_walks : Bool) (graph : Content) (first : ℕ) (reader : RequestReader) (ls : List (List ℕ))
+      (outcomes : List Outcome) (before after : Option (List ℕ))
+      → HasRequests reader first ls outcomes
+      → vertices_of reader ≡ graph.n
+      → WritesPrefix (AreReplies kind by all_walks graph outcomes) before after
+      → AreCutAfterLines kind by all_walks graph first ls before after
+  cut_after_lines all_walks graph first reader ls outcomes before after requests vertices cut more =
+      let begins = begins_with reader first ls outcomes requests more in
+      record {
+        outcomes = outcomes;
+        next = begins.0;
+        end = begins.1;
+        requests =
+            subst (λ n. AreRequestsTo n begins.0 begins.1 first (ls ++ more) outcomes) vertices begins.2;
+        replied = cut;
+      }
+
+  pub replied_cut : (all_walks : Bool) (graph : Content) (first : ℕ) (conversation : Conversation) (ls : List (List ℕ))
+      (before after : Option (List ℕ))
+      → HasRepliedTo kind by all_walks graph first conversation ls before after
+      → AreCutAfterLines kind by all_walks graph first ls before after
+  replied_cut all_walks graph first conversation ls before after is =
+      cut_after_lines all_walks graph first conversation.requests ls is.outcomes before after is.requests is.vertices
+      (whole_cut all_walks graph is.outcomes conversation.session before after is.replied)
+
+  pub heard_cut : (all_walks : Bool) (graph : Content) (first : ℕ) (conversation : Conversation) (heard : List ℕ)
+      (before after : Option (List ℕ))
+      → HasHeard kind by all_walks graph first conversation heard before after
+      → AreCutAfterBytes kind by all_walks graph first heard before after
+  heard_cut all_walks graph first conversation heard before after is more =
+      let kept = conversation.unfinished.items in
+      subst (λ (ls : List (List ℕ)). AreRepliesCut kind by all_walks graph first ls before after)
+      (sym
+      (ap (λ (bytes : List ℕ). lines (bytes ++ more)) is.parts
+      ∙ ap (λ (bytes : List ℕ). lines bytes) (append_assoc is.whole kept more)
+      ∙ is.ended (kept ++ more)))
+      (replied_cut all_walks graph first conversation (lines is.whole) before after is.replied (lines (kept ++ more)))
+
+-- ---- more lines and bytes
+
+-- no line follows
+pub cut_here : (kind : Answer) (by : Lines) (all_walks : Bool) (graph : Content) (first : ℕ) (ls all : List (List ℕ))
+    (before after : Option (List ℕ))
+    → ls ≡ all
+    → AreCutAfterLines kind by all_walks graph first ls before after
+    → AreRepliesCut kind by all_walks graph first all before after
+cut_here kind by all_walks graph first ls all before after same cut =
+    subst (λ (some : List (List ℕ)). AreRepliesCut kind by all_walks graph first some before after)
+    (append-nil ls ∙ same) (cut [])
+
+-- more bytes came
+pub cut_longer : (kind : Answer) (by : Lines) (all_walks : Bool) (graph : Content) (first : ℕ) (bytes next : List ℕ)
+    (before after : Option (List ℕ))
+    → AreCutAfterBytes kind by all_walks graph first bytes before after
+    → AreCutAfterBytes kind by all_walks graph first (bytes ++ next) before after
+cut_longer kind by all_walks graph first bytes next before after cut more =
+    subst (λ (all : List ℕ). AreRepliesCut kind by all_walks graph first (lines all) before after)
+    (sym (append_assoc bytes next more)) (cut (next ++ more))
+
+-- more of the bytes that came last
+pub cut_in_all : (kind : Answer) (by : Lines) (all_walks : Bool) (graph : Content) (first : ℕ) (heard bytes : List ℕ)
+    (count : ℕ) (before after : Option (List ℕ))
+    → AreCutAfterBytes kind by all_walks graph first (heard ++ take count bytes) before after
+    → AreCutAfterBytes kind by all_walks graph first (heard ++ bytes) before after
+cut_in_all kind by all_walks graph first heard bytes count before after cut =
+    subst (λ (all : List ℕ). AreCutAfterBytes kind by all_walks graph first all before after)
+    (append_assoc heard (take count bytes) (drop count bytes)
+    ∙ ap (λ (all : List ℕ). heard ++ all) (take-append-drop count bytes))
+    (cut_longer kind by all_walks graph first (heard ++ take count bytes) (drop count bytes) before after cut)

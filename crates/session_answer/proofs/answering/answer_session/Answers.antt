@@ -1,0 +1,12 @@
+use Rattle.std.proofs.Common.{[]}
+use Rattle.std.proofs.KnownBytes.{Consumes-nil}
+use Rattle.session_answer.proofs.CutLemmas.{on_err}
+use Rattle.session_answer.proofs.CutSessions.{nothing_cut}
+use Rattle.session_answer.proofs.answering.answer_session.Goals as goal
+
+pub returns-in_err-buffer-clause-cut : goal.returns-in_err-buffer-clause-cut
+returns-in_err-buffer-clause-cut g c =
+    on_err
+    (nothing_cut c.args.asked.now.answer c.args.lines c.args.asked.now.walks _ _ _
+    (record { bytes = []; taken = Consumes-nil _ }))
+    c.from_residual.result

@@ -1,0 +1,19 @@
+use Rattle.std.proofs.Common.{[], ◌∷◌}
+use Rattle.std.proofs.lemmas.Result.{on_err_weaker}
+use Rattle.request_reader.specs.Reading.{outcome_of}
+use Rattle.session_answer.specs.Replies.{AreReplies, IsReplyFor}
+use Rattle.session_answer.proofs.CutLemmas.{first_cut}
+use Rattle.session_answer.proofs.conversation.Conversation.reply.Goals as goal
+
+pub returns-in-Some-clause-cut : goal.returns-in-Some-clause-cut
+returns-in-Some-clause-cut g c graph holds =
+    let kind = c.args.terms.now.asked.now.answer in
+    let by = c.args.terms.now.lines in
+    let walks = c.args.terms.now.asked.now.walks in
+    let outcome = outcome_of c.in-Some.request in
+    rw c.in-Some.is
+    (on_err_weaker c.reply.result
+    (λ cut.
+    first_cut (IsReplyFor kind by walks graph outcome) (AreReplies kind by walks graph (outcome ∷ [])) _ _
+    (λ text is. (is.0, is.1, is.3, is.2)) cut)
+    (c.reply.ensures.cut graph holds))
