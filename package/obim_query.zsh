@@ -4,6 +4,8 @@ _arguments -s -S \
     '(-a --answer)'{-a+,--answer=}'[what is answered]:kind:(distances levels components)' \
     '(-W --walks)'{-W,--walks}'[print a shortest path for each cost, of fewest arcs]' \
     '--within=[leave out vertices that cost more]:cost:' \
+    '--labels=[how labels are written]:form:(text raw)' \
+    '--totals[print one line a source: how many, sum, greatest]' \
     '(-w --workers)'{-w+,--workers=}'[how many workers, 1 to 64]:count:' \
     '--at-once=[sources solved at the same time, 1 to 64]:count:(auto)' \
     '(-s --shift)'{-s+,--shift=}'[bucket width 2^BITS, 0 to 63]:bits:(auto)' \

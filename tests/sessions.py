@@ -80,9 +80,9 @@ def wrong(text):
 
 
 def run(program, options, text):
-    """What the program writes for a whole input: output, error, status."""
+    """What the program writes for a whole input: output, a character a byte, error, status."""
     done = subprocess.run([program, *options], input=text.encode("ascii"), capture_output=True, check=False)
-    return done.stdout.decode("ascii"), done.stderr.decode("ascii"), done.returncode
+    return done.stdout.decode("latin-1"), done.stderr.decode("ascii"), done.returncode
 
 
 def begin(program, *options):
@@ -162,6 +162,10 @@ def draw_request(draw, n):
     return kind, *rows
 
 
+# How a session may write labels, but for those of components.
+FORMS = ["--labels=text", "--labels=raw", "--totals"]
+
+
 def job_reply(program, options, n, arcs, request):
     """What a session replies to a whole request, by jobs alone; and the arcs from then on."""
     kind, letter, rows = request
@@ -170,10 +174,12 @@ def job_reply(program, options, n, arcs, request):
         arcs = arcs + rows
         body = run(program, options, graph(arcs))[0] if "components" in options else ""
         return f"g {len(rows)}\n{body}r {n} {len(arcs)}\n", arcs
-    walks = ["--walks"] if kind == "walk" and "components" not in options else []
+    if kind == "walk" and "components" not in options:
+        # Walks of pairs have one form.
+        options = [*(word for word in options if word not in FORMS), "--walks"]
     section = {"walk": "p2p"}.get(kind, kind)
     text = graph(arcs) + f"p aux sp {section} {len(rows)}\n" + records(letter, rows)
-    output, error, status = run(program, [*options, *walks], text)
+    output, error, status = run(program, options, text)
     if status:
         wrong(f"job ended with {status}: {error}")
     return f"{output}r {n} {len(arcs)}\n", arcs
@@ -187,6 +193,7 @@ def check_random(program, count):
         arcs = [(draw.randrange(1, n + 1), draw.randrange(1, n + 1), draw.randrange(9)) for _ in range(draw.randrange(12))]
         answer = draw.choice(["distances", "levels", "components"])
         options = ["--workers", draw.choice("13"), "--answer", answer]
+        options += [] if answer == "components" else [draw.choice(FORMS)]
         text = f"p sp {n} {len(arcs)}\n" + records("a", arcs)
         blocks = run(program, options, text)[0] if answer == "components" else ""
         wanted = f"{blocks}r {n} {len(arcs)}\n"

@@ -17,7 +17,7 @@ use Rattle.obim_engine.specs.declared.settings.TheConstants.{MAX_CHUNK}
 use Rattle.obim_engine.specs.declared.settings.Settings.{Settings}
 use Rattle.job_answer.specs.declared.asked.TheConstants.{MAX_BYTES}
 use Rattle.route_walks.specs.declared.graph.TheConstants.{INF}
-use Rattle.job_answer.specs.LineWalks.{bound_in, has_walks}
+use Rattle.job_answer.specs.LineWalks.{bound_in, has_walks, is_raw, is_totals}
 use Rattle.job_answer.specs.declared.asked.Answer.{Answer}
 use Rattle.job_answer.specs.declared.asked.Answer.TheVariants.{Distances, Levels, Components}
 use Rattle.least_costs.specs.declared.plan.AtOnce.{AtOnce}
@@ -46,6 +46,9 @@ walks_rule = record (flag (codes "walks")) { short = Some 87 }
 abbrev pub within_rule : Rule
 within_rule = valued (codes "within")
 
+abbrev pub labels_rule : Rule
+labels_rule = record (valued (codes "labels")) { defaults = codes "text" ∷ [] }
+
 abbrev pub workers_rule : Rule
 workers_rule = record (valued (codes "workers")) { short = Some 119; defaults = codes "2" ∷ [] }
 
@@ -66,8 +69,8 @@ operand_rule = record (new_rule (codes "operand")) {
 }
 
 abbrev pub program_rules : List Rule
-program_rules = answer_rule ∷ walks_rule ∷ within_rule ∷ workers_rule ∷ at_once_rule ∷ shift_rule ∷ chunk_rule
-    ∷ flag (codes "session") ∷ flag (codes "progress") ∷ flag (codes "stats") ∷ flag (codes "explain") ∷ operand_rule
+program_rules = answer_rule ∷ walks_rule ∷ within_rule ∷ labels_rule ∷ flag (codes "totals") ∷ workers_rule
+    ∷ at_once_rule ∷ shift_rule ∷ chunk_rule ∷ flag (codes "session") ∷ flag (codes "progress") ∷ flag (codes "stats") ∷ flag (codes "explain") ∷ operand_rule
     ∷ []
 
 -- a command with a version, and of an option that is given twice the last one counts
@@ -92,6 +95,12 @@ name_of Components = codes "components"
 abbrev pub NamesKind : Option Text → Answer → Type 0
 NamesKind None kind = kind ≡ Distances
 NamesKind (Some text) kind = text ≡ name_of kind
+
+-- labels are written as text, which is so without a value, or as bytes
+abbrev pub NamesLabels : Option Text → Bool → Type 0
+NamesLabels None is_raw = is_raw ≡ false
+NamesLabels (Some text) true = text ≡ codes "raw"
+NamesLabels (Some text) false = text ≡ codes "text"
 
 -- decimal digits, perhaps after a plus sign, that write this number
 abbrev pub IsNumeralOf : Text → ℕ → Type 0
@@ -147,6 +156,8 @@ pub record AsksFor (rows : List Row) (options : Options) : Type 0 where
   pub walks : IsFlag (first_of (codes "walks") rows) options.asked.walks
   pub lines : has_walks options.lines ≡ options.asked.walks
   pub within : AsksCost (first_of (codes "within") rows) (bound_in options.lines)
+  pub labels : NamesLabels (first_of (codes "labels") rows) (is_raw options.lines)
+  pub totals : IsFlag (first_of (codes "totals") rows) (is_totals options.lines)
   pub settings : AsksSettings (first_of (codes "workers") rows) (first_of (codes "shift") rows)
       (first_of (codes "chunk") rows) options.asked.settings
   pub at_once : AsksAtOnce (first_of (codes "at-once") rows) options.asked.at_once

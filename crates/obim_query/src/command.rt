@@ -3,10 +3,10 @@
 ghost use Rattle.std.specs.Prelude.{◌≡◌, codes, false, IfOk};
 ghost use Rattle.clap.specs.Words.{app_of, rule_of, with_rule};
 ghost use Rattle.obim_query.specs.CommandLine.{answer_rule, at_once_rule, chunk_rule, operand_rule, shift_rule};
-ghost use Rattle.obim_query.specs.CommandLine.{bare_program, flag, program, valued, walks_rule, within_rule};
-ghost use Rattle.obim_query.specs.CommandLine.{workers_rule};
+ghost use Rattle.obim_query.specs.CommandLine.{bare_program, flag, labels_rule, program, valued, walks_rule};
+ghost use Rattle.obim_query.specs.CommandLine.{within_rule, workers_rule};
 
-use crate::values::{AT_ONCE, CHUNK, KINDS, SHIFT, WORKERS};
+use crate::values::{AT_ONCE, CHUNK, KINDS, LABELS, SHIFT, WORKERS};
 use clap::{Arg, ArgAction, Command};
 use std::alloc::{AllocError, Global};
 
@@ -50,6 +50,11 @@ For each pair the answer has the line `q S T COST`. With --walks a line
 `w V COST U .. V` follows if there is a walk: its vertices in order. For
 components, which are the weak ones, the answer has for each vertex `k V LABEL`:
 the least vertex that arcs join to V, whichever way they point.
+With --labels raw 8 bytes for each vertex follow the line `s V`, little end
+first, 2^64 - 1 if there is no walk. With --totals a source has the one line
+`t V REACHED SUM GREATEST FARTHEST`: how many vertices a walk reaches, the sum
+of their costs, the greatest, and the least vertex that has it. Pairs stay as
+they are with both.
 With added arcs the line `g K` follows the lines of each source, each pair or
 the components, and then the same lines for the graph with these arcs.
 
@@ -94,7 +99,8 @@ impl Limits {
 pub(crate) fn command<'a>(alloc: Global, limits: &'a Limits) -> Result<Command<'a>, AllocError>
     ensures { IfOk result (λ command. app_of command ≡ program) }
 {
-    let command = with_settings(alloc, with_answers(alloc)?, limits)?;
+    let answers = with_forms(alloc, with_answers(alloc)?)?;
+    let command = with_settings(alloc, answers, limits)?;
     with_flags(alloc, with_session(alloc, command)?)
 }
 
@@ -108,6 +114,20 @@ fn with_answers<'a>(alloc: Global) -> Result<Command<'a>, AllocError>
     let within = option(alloc, "within", "COST", "Leave out vertices that cost more");
     let command = texts(alloc).arg(answer_option(alloc))?;
     let command = command.arg(walks)?.arg(within)?;
+    Ok(command)
+}
+
+/// The options of how labels are told.
+fn with_forms<'a>(alloc: Global, command: Command<'a>) -> Result<Command<'a>, AllocError>
+    ensures { IfOk result (λ with. app_of with ≡ with_rule (with_rule (app_of command.entry) labels_rule)
+        (flag (codes "totals"))) }
+{
+    let totals = flag(
+        alloc,
+        "totals",
+        "Print one line a source: how many, sum, greatest",
+    );
+    let command = command.arg(labels_option(alloc))?.arg(totals)?;
     Ok(command)
 }
 
@@ -181,6 +201,13 @@ fn answer_option<'a>(alloc: Global) -> Arg<'a>
     option(alloc, "answer", "KIND", KINDS)
         .short('a')
         .default_value("distances")
+}
+
+fn labels_option<'a>(alloc: Global) -> Arg<'a>
+    ensures rule { rule_of result ≡ labels_rule }
+    ensures local { result.global ≡ false }
+{
+    option(alloc, "labels", "FORM", LABELS).default_value("text")
 }
 
 fn workers_option<'a>(alloc: Global, help: &'a str) -> Arg<'a>

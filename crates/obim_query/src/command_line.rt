@@ -5,11 +5,12 @@ ghost use Rattle.clap.specs.Words.{found_of, rows_of};
 ghost use Rattle.obim_query.specs.CommandLine.{AskForText, AsksFor, IsText, WordsAskFor};
 
 use crate::command::{Limits, command};
+use crate::lines::lines_in;
 use crate::options::Options;
 use crate::refusals::{Refusal, refused_by};
-use crate::values::{Misuse, answer_in, at_once_in, has_flag, has_hyphen, settings_in, within_in};
+use crate::values::{Misuse, answer_in, at_once_in, has_flag, has_hyphen, settings_in};
 use clap::ArgMatches;
-use job_answer::{Answer, Asked, Lines, MAX_BYTES};
+use job_answer::{Asked, MAX_BYTES};
 use std::alloc::Global;
 use std::convert::AsStr;
 
@@ -38,24 +39,21 @@ fn options_in(alloc: Global, matches: &ArgMatches) -> Result<Options, Misuse>
     let settings = settings_in(alloc, matches)?;
     let at_once = at_once_in(alloc, matches)?;
     let walks = has_flag(matches, "walks");
-    let within = within_in(alloc, matches)?;
-    if within.is_some() && matches!(answer, Answer::Components) {
-        return Err(Misuse::Line(format!(in alloc; "--within needs distances or levels")?));
-    }
+    let lines = lines_in(alloc, matches, answer, walks)?;
     let session = has_flag(matches, "session");
     let stats = has_flag(matches, "stats");
     let progress = has_flag(matches, "progress");
     if session && (stats || progress) {
-        return Err(Misuse::Line(
-            format!(in alloc; "--stats and --progress are for jobs, not for --session")?,
-        ));
+        return Err(Misuse::Line(format!(in alloc;
+            "--stats and --progress are for jobs, not for --session"
+        )?));
     }
     let Some(asked) = Asked::new(answer, settings, walks, MAX_BYTES) else {
         return Err(Misuse::Line(format!(in alloc; "--walks needs distances or levels")?));
     };
     Ok(Options {
         asked: asked.with_at_once(at_once),
-        lines: Lines::of(walks, within),
+        lines,
         session,
         stats,
         progress,

@@ -20,6 +20,7 @@ mod command_line;
 mod explain;
 mod guess;
 mod input;
+mod lines;
 mod options;
 mod output;
 mod progress;

@@ -3,7 +3,7 @@
 ghost use Rattle.std.specs.Prelude.{◌≡◌, codes, IfOk};
 ghost use Rattle.clap.specs.Words.{first_value, found_of};
 ghost use Rattle.obim_query.specs.CommandLine.{AsksAtOnce, AsksCost, AsksNumber, AsksSettings, IsFlag, NamesKind};
-ghost use Rattle.obim_query.specs.CommandLine.{usual_chunk};
+ghost use Rattle.obim_query.specs.CommandLine.{NamesLabels, usual_chunk};
 
 use clap::ArgMatches;
 use job_answer::{Answer, AtOnce, MAX_AT_ONCE};
@@ -14,6 +14,9 @@ use std::fmt;
 
 /// The values of `--answer`.
 pub(crate) const KINDS: &str = "distances, levels or components";
+
+/// The values of `--labels`.
+pub(crate) const LABELS: &str = "text, or raw: 8 bytes each";
 
 pub(crate) const WORKERS: Numbers = Numbers {
     option: "workers",
@@ -189,6 +192,19 @@ pub(crate) fn answer_in(alloc: Global, matches: &ArgMatches) -> Result<Answer, M
         Some("components") => Ok(Answer::Components),
         Some(text) => Err(Misuse::Line(format!(in alloc;
             "invalid value '{text}' for '--answer': {KINDS}"
+        )?)),
+    }
+}
+
+/// Whether labels are written as bytes, and not as text.
+pub(crate) fn has_raw_labels(alloc: Global, matches: &ArgMatches) -> Result<bool, Misuse>
+    ensures { IfOk result (NamesLabels (first_value (found_of matches.now) (codes "labels"))) }
+{
+    match matches.get_str("labels") {
+        None | Some("text") => Ok(false),
+        Some("raw") => Ok(true),
+        Some(text) => Err(Misuse::Line(format!(in alloc;
+            "invalid value '{text}' for '--labels': text or raw"
         )?)),
     }
 }

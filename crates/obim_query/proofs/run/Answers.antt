@@ -22,6 +22,8 @@ no_text status is (inr same) = omega (arith, is, same)
 -- a bound that words ask for is a cost
 low_bound : (text : Option Text) (by : Lines) → AsksCost text (bound_in by) → IsLinesAsked by
 low_bound text (lines.Each walks) asked = tt
+low_bound text lines.Raw asked = tt
+low_bound text lines.Totals asked = tt
 low_bound (Some text) (lines.Within walks bound) asked = asked.1
 low_bound None (lines.Within walks bound) asked =
     let clash : Some bound ≡ None = asked in absurd (cc)

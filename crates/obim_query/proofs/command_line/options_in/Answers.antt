@@ -1,7 +1,7 @@
 use Rattle.std.proofs.Common.{◌≡◌, ◌∙◌, Option, codes, rules, subst, sym}
 use Rattle.clap.proofs.WalkLemmas.{first_value-rows}
 use Rattle.clap.specs.Words.{Text, first_of, found_of, rows_of}
-use Rattle.obim_query.specs.CommandLine.{AsksAtOnce, AsksCost, AsksSettings, IsFlag, NamesKind}
+use Rattle.obim_query.specs.CommandLine.{AsksAtOnce, AsksCost, AsksSettings, IsFlag, NamesKind, NamesLabels}
 use Rattle.obim_query.proofs.command_line.options_in.Goals as goal
 
 -- what is said of the value that was found, and of what it asks for
@@ -23,9 +23,13 @@ returns c =
           c.in_ok-answer.ensures;
       walks = carried IsFlag _ _ _ _ (first_value-rows found (codes "walks")) (with.walks ∙ made.walks)
           c.has_flag-walks.ensures;
-      lines = c.of.ensures.walks ∙ sym (with.walks ∙ made.walks);
-      within = carried AsksCost _ _ _ _ (first_value-rows found (codes "within")) c.of.ensures.within
-          c.in_ok-within.ensures;
+      lines = c.in_ok-lines.ensures.walks ∙ sym (with.walks ∙ made.walks);
+      within = carried AsksCost _ _ _ _ (first_value-rows found (codes "within")) (search rules)
+          c.in_ok-lines.ensures.within;
+      labels = carried NamesLabels _ _ _ _ (first_value-rows found (codes "labels")) (search rules)
+          c.in_ok-lines.ensures.labels;
+      totals = carried IsFlag _ _ _ _ (first_value-rows found (codes "totals")) (search rules)
+          c.in_ok-lines.ensures.totals;
       settings = subst (AsksSettings (first_of (codes "workers") rows) (first_of (codes "shift") rows)
           (first_of (codes "chunk") rows)) (sym (with.settings ∙ made.settings))
           (rw (← workers, ← shift, ← chunk) c.in_ok-settings.ensures);
