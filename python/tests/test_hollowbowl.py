@@ -9,9 +9,11 @@ import random
 import tempfile
 import threading
 import unittest
+from unittest import mock
 
 import hollowbowl
 from hollowbowl import INF, Ended, Graph, NoPath, Refused
+from hollowbowl._program import Program
 
 
 def optional(name):
@@ -54,6 +56,12 @@ def columns(arcs):
     return [list(column) for column in zip(*arcs)] if arcs else [[], [], []]
 
 
+def totals_of(costs):
+    """How many are reached, the sum of their costs, the greatest, and the first vertex that has it."""
+    reached = [cost for cost in costs if cost != INF]
+    return len(reached), sum(reached), max(reached), costs.index(max(reached))
+
+
 def whole(rows):
     """Rows of labels as lists of numbers."""
     return [[int(label) for label in row] for row in rows]
@@ -72,6 +80,7 @@ class Costs(unittest.TestCase):
                 self.assertEqual(whole(graph.distances(range(n))), wanted)
                 self.assertEqual(whole([graph.distances(n - 1)]), wanted[-1:])
                 self.assertEqual(whole(graph.levels(range(n))), fewest)
+                self.assertEqual(graph.totals(range(n)), [totals_of(row) for row in wanted])
                 self.assertEqual(whole(graph.matrix(range(n), range(n))), wanted)
                 self.check_paths(graph, n, arcs, wanted)
 
@@ -168,6 +177,15 @@ class Faults(unittest.TestCase):
                 graph.add([0], [2], [1])
             self.assertEqual((graph.m, graph.distance(0, 1)), (1, 3))
 
+    def test_interrupted(self):
+        with Graph([0, 1], [1, 2], [7, 6]) as graph:
+            graph.add([0], [2], [9])
+            with mock.patch.object(Program, "_read", side_effect=KeyboardInterrupt):
+                with self.assertRaises(KeyboardInterrupt):
+                    graph.distance(1, 2)
+            # What was left of that reply is taken for no other one.
+            self.assertEqual((graph.distance(0, 2), graph.m), (9, 3))
+
     def test_closed(self):
         graph = Graph([0], [1], [3])
         graph.close()
@@ -208,6 +226,7 @@ class Names(unittest.TestCase):
     def test_edges(self):
         with Graph.from_edges(self.EDGES) as graph:
             self.assertEqual((graph.distance("a", "c"), graph.path("a", "c")), (13, ["a", "b", "c"]))
+            self.assertEqual(graph.totals("a"), (3, 20, 13, "c"))
             self.assertEqual(graph.path((1, 2), "b"), [(1, 2), "a", "b"])
             with self.assertRaises(NoPath):
                 graph.path("c", "a")

@@ -4,8 +4,8 @@
 """
 
 from ._errors import Ended, Error, NoPath, Refused
-from ._graph import Graph
+from ._graph import Graph, Totals
 from ._numbers import INF
 
-__all__ = ["INF", "Ended", "Error", "Graph", "NoPath", "Refused"]
+__all__ = ["INF", "Ended", "Error", "Graph", "NoPath", "Refused", "Totals"]
 __version__ = "0.1.0"

@@ -1,12 +1,34 @@
 """A directed graph that the program keeps, and what can be asked of it."""
 
 import threading
+from typing import Hashable, NamedTuple
 
-from ._errors import NoPath, Refused
-from ._numbers import INF, MOST_VERTICES, MOST_WEIGHT, as_whole, labels_in, numpy, rows_text
+from ._errors import Ended, NoPath, Refused
+from ._numbers import INF, MOST_VERTICES, MOST_WEIGHT, as_whole, labels_in, numpy, rows_for, rows_text
 from ._program import Program
 
 _HEADS = {"sources": "ss", "pairs": "p2p", "walks": "walk", "arcs": "add"}
+
+# The options of the program that answers a kind.
+_KINDS = {
+    "distances": ["--labels", "raw"],
+    "levels": ["--answer", "levels", "--labels", "raw"],
+    "components": ["--answer", "components"],
+    "totals": ["--totals"],
+}
+
+
+class Totals(NamedTuple):
+    """What the least costs from a source come to."""
+
+    #: How many vertices a walk reaches, the source among them.
+    reached: int
+    #: The sum of their costs.
+    sum: int
+    #: The greatest of their costs.
+    greatest: int
+    #: The vertex that has it; of several the one that comes first.
+    farthest: Hashable
 
 
 class Graph:
@@ -54,8 +76,7 @@ class Graph:
         graph = cls.__new__(cls)
         graph._begin(workers, None)
         graph._arcs = path
-        graph._open("distances")
-        graph._size = graph._programs["distances"].n
+        graph._size = graph._open("distances").n
         return graph
 
     @classmethod
@@ -84,9 +105,8 @@ class Graph:
     def _open(self, kind):
         """The program that answers a kind, begun if there is none yet."""
         with self._lock:
-            if kind not in self._programs:
-                options = [*self._options, "--answer", kind]
-                program = Program(options, self._text())
+            if kind not in self._programs or self._programs[kind].was_cut:
+                program = Program([*self._options, *_KINDS[kind]], self._text())
                 for request in self._added:
                     program.ask(request)
                 self._programs[kind] = program
@@ -111,12 +131,12 @@ class Graph:
     @property
     def n(self):
         """How many vertices there are."""
-        return self._programs["distances"].n
+        return self._open("distances").n
 
     @property
     def m(self):
         """How many arcs there are, those that were added among them."""
-        return self._programs["distances"].m
+        return self._open("distances").m
 
     def __enter__(self):
         return self
@@ -145,10 +165,20 @@ class Graph:
     def components(self):
         """For each vertex the least vertex that arcs join to it, whichever way they point: a row."""
         program = self._open("components")
-        body = program.ask(b"p aux sp ss 0\n")
-        rows = labels_in(b"s 0\n" + body, program.n)
-        row = rows[0] if len(rows) else rows
-        return row - 1 if numpy is not None else type(row)("Q", (label - 1 for label in row))
+        return labels_in(program.ask(b"p aux sp ss 0\n"))
+
+    def totals(self, sources):
+        """For each of the sources what the costs from it come to; a single source gives a single one.
+
+        Of n vertices that are all reached the closeness of a source is (n - 1) / sum, and its eccentricity is greatest.
+        """
+        is_one = self._is_vertex(sources)
+        places = [self._place(source) for source in ([sources] if is_one else sources)]
+        found = []
+        for line in self._open("totals").ask(_section("sources", places, 1)).splitlines():
+            reached, total, greatest, farthest = map(int, line.split()[2:])
+            found.append(Totals(reached, total, greatest, self._name(farthest - 1)))
+        return found[0] if is_one else found
 
     def distance(self, source, target):
         """The least cost of a walk from the source to the target; NoPath if there is none."""
@@ -187,11 +217,12 @@ class Graph:
         head = f"p aux sp add {len(columns[0])}\n".encode("ascii")
         places = [columns[0] + 1, columns[1] + 1, columns[2]] if numpy is not None else _from_1(*columns)
         request = head + b"".join(rows_text("a", places))
+        self._open("distances")
         with self._lock:
             for kind, program in list(self._programs.items()):
                 try:
                     program.ask(request)
-                except Refused:
+                except (Refused, Ended):
                     if kind == "distances":
                         raise
                     # It lags behind from now on: the next question begins another.
@@ -205,7 +236,8 @@ class Graph:
         is_one = self._is_vertex(sources)
         places = [self._place(source) for source in ([sources] if is_one else sources)]
         program = self._open(kind)
-        rows = labels_in(program.ask(_section("sources", places, 1)), program.n)
+        rows = rows_for(len(places), program.n)
+        program.ask_labels(_section("sources", places, 1), rows)
         return rows[0] if is_one else rows
 
     def _costs(self, pairs):

@@ -95,16 +95,16 @@ def _numpy_text(letter, columns):
     return text[shown].tobytes()
 
 
-def labels_in(body, n):
-    """The labels in the text of blocks of n vertices: for each source a row, 2**64 - 1 where no walk leads."""
-    text = body.replace(b"inf", b"18446744073709551615")
+def rows_for(count, n):
+    """Room for so many rows of n labels. The program runs on this machine, so its bytes are in its order."""
     if numpy is not None:
-        if n == 0:
-            return numpy.empty((0, 0), dtype=numpy.uint64)
-        numbers = numpy.fromstring(text.translate(None, b"sdk"), dtype=numpy.uint64, sep=" ")
-        return numbers.reshape(-1, 2 * n + 1)[:, 2::2]
-    words = text.split()
-    rows = []
-    for first in range(0, len(words), 3 * n + 2):
-        rows.append(array("Q", map(int, words[first + 4 : first + 3 * n + 2 : 3])))
-    return rows
+        return numpy.empty((count, n), dtype=numpy.uint64)
+    return [array("Q", bytes(8 * n)) for _ in range(count)]
+
+
+def labels_in(body):
+    """The labels in the text of the components, whose vertices and labels count from 1."""
+    if numpy is not None:
+        numbers = numpy.fromstring(body.translate(None, b"k"), dtype=numpy.uint64, sep=" ")
+        return numbers[1::2] - numpy.uint64(1)
+    return array("Q", (int(word) - 1 for word in body.split()[2::3]))

@@ -1,5 +1,6 @@
 """The program as a co-process: a request is written whole, and then its reply is read whole."""
 
+import io
 import os
 import shutil
 import subprocess
@@ -37,17 +38,19 @@ class Program:
             stderr=self._faults,
             bufsize=0,
         )
+        self._replies = io.BufferedReader(self._process.stdout, _READ)
         self._lines = 0
-        with self._lock:
-            self.body, self.n, self.m = self._exchange(graph, b"")
+        #: Whether an exchange was interrupted. The program was stopped then.
+        self.was_cut = False
+        self._exchange(graph, b"", self._read)
 
     def ask(self, request):
         """The bytes of the reply to a request, without its last line."""
-        with self._lock:
-            if self._process is None:
-                raise Ended(None, "the graph is closed")
-            body, self.n, self.m = self._exchange([request], request)
-            return body
+        return self._exchange([request], request, self._read)
+
+    def ask_labels(self, request, rows):
+        """Fills the rows with the labels of each source of a request: 8 bytes a vertex, little end first."""
+        self._exchange([request], request, lambda: self._read_labels(rows))
 
     def close(self):
         """Ends the program. Nothing can be asked from then on."""
@@ -55,26 +58,35 @@ class Program:
             process, self._process = self._process, None
             if process is not None:
                 process.stdin.close()
-                process.stdout.close()
+                self._replies.close()
                 process.wait()
                 self._faults.close()
 
-    def _exchange(self, pieces, request):
-        first = self._lines + 1
-        try:
-            for piece in pieces:
-                self._lines += piece.count(b"\n")
-                self._write(piece)
-            reply = self._read()
-        except (BrokenPipeError, EOFError):
-            raise self._ended() from None
-        # The last line begins after the line feed before it, if there is one.
-        start = reply.rfind(b"\n", 0, len(reply) - 1) + 1
-        words = reply[start:].decode("ascii").split()
-        if words[0] == "e":
-            record = request.split(b"\n")[int(words[1]) - first] if request else b""
-            raise Refused(" ".join(words[2:]), record.decode("ascii"))
-        return reply[:start], int(words[1]), int(words[2])
+    def _exchange(self, pieces, request, read):
+        """Writes a request, and reads its reply by a function that gives the body and the last line."""
+        with self._lock:
+            if self._process is None:
+                raise Ended(None, "the graph is closed")
+            first = self._lines + 1
+            try:
+                for piece in pieces:
+                    self._lines += piece.count(b"\n")
+                    self._write(piece)
+                body, last = read()
+            except (BrokenPipeError, EOFError):
+                raise self._ended() from None
+            except BaseException:
+                # What is left of this exchange would be taken for the next reply.
+                self.was_cut = True
+                self._process.kill()
+                self._ended()
+                raise
+            words = last.decode("ascii").split()
+            if words[0] == "e":
+                record = request.split(b"\n")[int(words[1]) - first] if request else b""
+                raise Refused(" ".join(words[2:]), record.decode("ascii"))
+            self.n, self.m = int(words[1]), int(words[2])
+            return body
 
     def _write(self, piece):
         rest = memoryview(piece)
@@ -82,25 +94,45 @@ class Program:
             rest = rest[self._process.stdin.write(rest) :]
 
     def _read(self):
-        """The bytes up to a last line that begins with `r` or `e`: no other line of a reply does."""
+        """The reply up to a last line that begins with `r` or `e`: no other line of a text does."""
         pieces = []
-        start = b""
+        end = b""
         while True:
-            piece = self._process.stdout.read(_READ)
+            piece = self._replies.read1(_READ)
             if not piece:
                 raise EOFError
             pieces.append(piece)
             # The last line may have come in several pieces; it is short.
-            start = (start + piece)[-256:]
-            if start.endswith(b"\n"):
-                last = start[start.rfind(b"\n", 0, len(start) - 1) + 1 :]
+            end = (end + piece)[-256:]
+            if end.endswith(b"\n"):
+                last = end[end.rfind(b"\n", 0, len(end) - 1) + 1 :]
                 if last[:1] in b"re":
-                    return b"".join(pieces)
+                    return b"".join(pieces)[: -len(last)], last
+
+    def _read_labels(self, rows):
+        """The reply line by line, since bytes of labels may look like any line."""
+        for row in rows:
+            line = self._line()
+            if line.startswith(b"e"):
+                return None, line
+            rest = memoryview(row).cast("B") if len(row) else b""
+            while rest:
+                count = self._replies.readinto(rest)
+                if not count:
+                    raise EOFError
+                rest = rest[count:]
+        return None, self._line()
+
+    def _line(self):
+        line = self._replies.readline()
+        if not line.endswith(b"\n"):
+            raise EOFError
+        return line
 
     def _ended(self):
         process, self._process = self._process, None
         process.stdin.close()
-        process.stdout.close()
+        self._replies.close()
         status = process.wait()
         self._faults.seek(0)
         text = self._faults.read().decode("utf-8", "replace").strip()
