@@ -118,6 +118,75 @@ def from_python(program, graph, rounds, source, near):
     os.remove("/dev/shm/sessions.gr")
 
 
+def crossings(side, seed):
+    """Tails, heads and weights of streets both ways between crossings in a square."""
+    import numpy
+
+    here = numpy.arange(side * side).reshape(side, side)
+    along = numpy.concatenate([here[:, :-1].ravel(), here[:-1].ravel()])
+    across = numpy.concatenate([here[:, 1:].ravel(), here[1:].ravel()])
+    tails, heads = numpy.concatenate([along, across]), numpy.concatenate([across, along])
+    return tails, heads, numpy.random.default_rng(seed).integers(200, 3200, len(tails))
+
+
+def others(n, tails, heads, weights):
+    """For each library that is there a call that gives the costs from a source, with the graph in memory."""
+    try:
+        from graph_tool import Graph
+        from graph_tool.topology import shortest_distance
+
+        kept = Graph(directed=True)
+        kept.add_vertex(n)
+        sizes = kept.new_edge_property("int64_t")
+        kept.add_edge_list(zip(tails, heads, weights), eprops=[sizes])
+        yield "graph-tool", lambda s: shortest_distance(kept, source=kept.vertex(s), weights=sizes).a
+    except ImportError:
+        pass
+    try:
+        from scipy.sparse import csr_matrix
+        from scipy.sparse.csgraph import dijkstra
+
+        matrix = csr_matrix((weights, (tails, heads)), shape=(n, n))
+        yield "scipy", lambda s: dijkstra(matrix, indices=s)
+    except ImportError:
+        pass
+    try:
+        import igraph
+
+        roads = igraph.Graph(n=n, edges=list(zip(tails.tolist(), heads.tolist())), directed=True)
+        roads.es["weight"] = weights.tolist()
+        yield "igraph", lambda s: roads.distances(s, weights="weight")[0]
+    except ImportError:
+        pass
+    try:
+        import networkx
+
+        names = networkx.DiGraph()
+        names.add_weighted_edges_from(zip(tails.tolist(), heads.tolist(), weights.tolist()))
+        yield "networkx", lambda s: networkx.single_source_dijkstra_path_length(names, s)
+    except ImportError:
+        pass
+
+
+def beside(program, rounds):
+    """Rows of one source, and what 1,000 sources come to, beside libraries."""
+    os.environ["HOLLOWBOWL"] = program
+    from hollowbowl import Graph
+
+    side, count = 200, 1000
+    columns = crossings(side, 1)
+    n = side * side
+    sources = [random.Random(2).randrange(n) for _ in range(count)]
+    for workers in (1, 4):
+        with Graph(*columns, n, workers=workers) as kept:
+            row, sums = best(rounds, lambda: kept.distances(7)), best(1, lambda: kept.totals(sources))
+            print(f"{n} vertices, {workers} workers: a row {row:.1f} ms, totals of {count} sources {sums:.0f} ms")
+    for name, costs in others(n, *columns):
+        some = sources[: 10 if name == "networkx" else 100]
+        took = best(1, lambda: [costs(s) for s in some]) * count / len(some)
+        print(f"{n} vertices, {name}: a row {best(rounds, lambda: costs(7)):.1f} ms, rows of {count} sources {took:.0f} ms (of {len(some)})")
+
+
 def main():
     """All of it."""
     program, path, rounds, *vertices = sys.argv[1:]
@@ -127,6 +196,7 @@ def main():
     large(program, graph, int(rounds), source, near, far)
     small(program, int(rounds))
     from_python(program, graph, int(rounds), source, near)
+    beside(program, int(rounds))
 
 
 if __name__ == "__main__":
