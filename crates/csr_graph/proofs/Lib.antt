@@ -10,3 +10,5 @@ mod Raising
 mod Halves
 mod InOrder
 mod Rows
+mod Bands
+mod Windows

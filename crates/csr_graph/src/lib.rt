@@ -16,6 +16,8 @@ mod binning;
 mod csr;
 mod free;
 pub mod laws;
+mod lists;
+mod near_sort;
 mod part_sort;
 mod sort;
 mod target;

@@ -11,6 +11,7 @@ use route_walks::{ArcRec, EXAMPLE_ARCS, Memory, arcs, both_ways, is_graph};
 use std::alloc::Global;
 use std::process::Abort;
 use std::test::Fail;
+use std::thread::Threads;
 
 // The arcs of the example, not by tail: two leave 3 and come last here.
 const GIVEN: [ArcRec; 8] = arcs![
@@ -161,6 +162,53 @@ fn rows_of_arcs_by_rising_tail(rt: HostRuntime) -> Result<(), Fail> {
     let csr = Csr::build(alloc, n, &graph_of(&rt, alloc, n, 70_000)?)?;
     let again = Csr::build_from(&rt, alloc, n, csr.arcs(alloc)?, 2)?;
     expect_rows(&rt, alloc, &again, n, &csr.arcs(alloc)?)
+}
+
+/// Streets both ways, each from a vertex to the next and to the hundredth after it, as they come: the arcs stand
+/// nearly by rising tail.
+fn streets(alloc: Global) -> Result<Vec<ArcRec>, Memory> {
+    let mut arcs = Vec::with_capacity(alloc, 40_000)?;
+    for u in 0..10_000_u32 {
+        arcs.extend_from_slice(&[
+            ArcRec::new(u, u + 1, u),
+            ArcRec::new(u + 1, u, u),
+            ArcRec::new(u, u + 100, u),
+            ArcRec::new(u + 100, u, u),
+        ])?;
+    }
+    Ok(arcs)
+}
+
+/// Looks whether several threads make of arcs the rows that one makes.
+fn expect_same_rows<H: Abort + Threads + Sync>(
+    rt: &H,
+    alloc: Global,
+    n: u32,
+    arcs: Vec<ArcRec>,
+) -> Result<(), Fail>
+    requires { n ≤ MAX_VERTICES }
+{
+    assert!(rt; is_graph(n, &arcs) && arcs.len() <= 1 << 30);
+    let csr = Csr::build(alloc, n, &arcs)?;
+    let again = Csr::build_from(rt, alloc, n, arcs, 4)?;
+    expect_rows(rt, alloc, &again, n, &csr.arcs(alloc)?)
+}
+
+// Each of two threads finds the arcs of its rows near one another.
+#[test]
+fn rows_of_arcs_nearly_in_order(rt: HostRuntime) -> Result<(), Fail> {
+    let alloc = rt.alloc();
+    expect_same_rows(&rt, alloc, 10_100, streets(alloc)?)
+}
+
+// Arcs of the first vertex stand where none of the threads looks for them: one thread sorts all.
+#[test]
+fn rows_of_arcs_far_out_of_place(rt: HostRuntime) -> Result<(), Fail> {
+    let alloc = rt.alloc();
+    let mut arcs = streets(alloc)?;
+    arcs.push(ArcRec::new(0, 7, 1))?;
+    arcs.push(ArcRec::new(0, 5, 2))?;
+    expect_same_rows(&rt, alloc, 10_100, arcs)
 }
 
 /// The rows of the list of arcs both ways.
