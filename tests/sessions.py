@@ -2,10 +2,11 @@
 """Requests after a graph, each answered at once: tests/sessions.py PROGRAM COUNT.
 
 Worked rows, each written whole, byte by byte, and in random pieces, and each with the input left open until its last
-reply has come. Then COUNT random sessions, of distances, levels and components, by 1 and 3 workers, with stray lines
-and wrong ones: the reply to each request is compared with what the program writes for the job of the graph so far and
-this request, and each refusal with the fault of that job. Clients that go away, that write 2^20 pairs before they read,
-and a session of 10,000 requests, whose memory does not grow. It prints what is wrong first, and the status is 1 then.
+reply has come. Graphs that several threads read, in the same ways, and with wrong lines. Then COUNT random sessions, of
+distances, levels and components, by 1 and 3 workers, with stray lines and wrong ones: the reply to each request is
+compared with what the program writes for the job of the graph so far and this request, and each refusal with the fault
+of that job. Clients that go away, that write 2^20 pairs before they read, and a session of 10,000 requests, whose memory
+does not grow. It prints what is wrong first, and the status is 1 then.
 """
 
 import os
@@ -28,6 +29,31 @@ ROWS = [
     ("source", "p sp 2 1\na 1 2 7\np aux sp ss 1\ns 1\n", "r 2 1\ns 1\nd 1 0\nd 2 7\nr 2 1\n", "", 0),
     ("pairs", GRAPH + "p aux sp p2p 2\nq 1 1\nq 1 2\n", READY + "q 1 1 0\nq 1 2 inf\n" + READY, "", 0),
     ("walks", "p sp 2 1\na 1 2 7\np aux sp walk 2\nq 1 2\nq 2 1\n", "r 2 1\nq 1 2 7\nw 2 7 1 2\nq 2 1 inf\nr 2 1\n", "", 0),
+    (
+        "within a bound, of this request alone",
+        "p sp 3 2\na 1 2 7\na 2 3 2\np aux sp within 7 2\ns 1\ns 3\np aux sp ss 1\ns 2\n",
+        "r 3 2\ns 1\nd 1 0\nd 2 7\ns 3\nd 3 0\nr 3 2\n" + "s 2\nd 1 inf\nd 2 0\nd 3 2\nr 3 2\n",
+        "",
+        0,
+    ),
+    (
+        "the greatest bound, and the least",
+        "p sp 3 1\na 1 2 7\np aux sp within 18446744073709551614 1\ns 1\np aux sp within 0 1\ns 1\np aux sp within 5 0\n",
+        "r 3 1\ns 1\nd 1 0\nd 2 7\nr 3 1\n" + "s 1\nd 1 0\nr 3 1\n" + "r 3 1\n",
+        "",
+        0,
+    ),
+    (
+        "within a bound after arcs",
+        GRAPH + "p aux sp within 9 1\ns 1\np aux sp add 1\na 1 2 9\np aux sp within 9 1\ns 1\n",
+        READY + "s 1\nd 1 0\n" + READY + "g 1\nr 2 1\n" + "s 1\nd 1 0\nd 2 9\nr 2 1\n",
+        "",
+        0,
+    ),
+    ("cut by a bound", GRAPH + "p aux sp ss 1\np aux sp within 0 0\n", READY + "e 3 too few lines\n" + READY, "", 0),
+    ("too few within a bound", GRAPH + "p aux sp within 3 2\ns 1\np aux sp ss 0\n", READY + "e 4 too few lines\n" + READY, "", 0),
+    ("pairs within a bound", GRAPH + "p aux sp within 3 1\nq 1 1\np aux sp ss 0\n", READY + "e 3 misplaced line\n" + READY, "", 0),
+    ("bound with a tail", GRAPH + "p aux sp withins 3 0\n", READY + "e 2 unknown line\n", "", 0),
     ("no queries", GRAPH + "p aux sp ss 0\np aux sp add 0\n", READY + READY + "g 0\n" + READY, "", 0),
     (
         "added arcs stay",
@@ -70,6 +96,31 @@ ROWS = [
         "",
         0,
     ),
+]
+
+# The heads of sections within a bound that are wrong, and how: the number of fields, then what is no number, and then
+# what is out of range, wherever it stands.
+HEADS = [
+    ("within", "wrong number of fields"),
+    ("within 7", "wrong number of fields"),
+    ("within 7 1 1", "wrong number of fields"),
+    ("within x 1 y", "wrong number of fields"),
+    ("within x 1", "not a number"),
+    ("within 7 x", "not a number"),
+    ("within -1 1", "not a number"),
+    ("within 1.5 1", "not a number"),
+    ("within inf 1", "not a number"),
+    ("within 18446744073709551615 x", "not a number"),
+    ("within x 1048577", "not a number"),
+    ("within 18446744073709551615 1", "out of range"),
+    ("within 18446744073709551616 1", "out of range"),
+    ("within 99999999999999999999999999 1", "out of range"),
+    ("within 7 1048577", "out of range"),
+    ("within 7 18446744073709551616", "out of range"),
+]
+ROWS += [
+    (f"{head}: {words}", f"{GRAPH}p aux sp {head}\ns 1\np aux sp ss 0\n", f"{READY}e 2 {words}\n{READY}", "", 0)
+    for head, words in HEADS
 ]
 
 
@@ -140,6 +191,62 @@ def check_rows(program):
                     wrong(f"{name}, {how}, {workers} workers: {found} and not {wanted}")
 
 
+# ---- a graph that several threads read
+
+# Enough arcs for that, and an odd number of them.
+MANY = (1 << 18) + 1
+
+
+def large_lines(shortest):
+    """Lines of a graph of MANY arcs: of the shortest, or of others and a comment now and then."""
+    if shortest:
+        return [f"p sp 2 {MANY}\n", *["a 1 2 7\n"] * MANY]
+    draw = random.Random(11)
+    lines = [f"p sp 1000 {MANY}\n"]
+    for place in range(MANY):
+        lines.append(f"a {draw.randrange(1, 1001)} {draw.randrange(1, 1001)} {draw.randrange(10_000)}\n")
+        if place % 5000 == 17:
+            lines.append("c " + "x" * draw.randrange(200) + "\n")
+    return lines
+
+
+def check_large(program):
+    """A large graph and a request after it: both are replied to with the input left open, by however many workers."""
+    draw = random.Random(12)
+    for shortest in (True, False):
+        lines = large_lines(shortest)
+        section = "p aux sp p2p 2\nq 1 2\nq 2 1\n"
+        text = "".join(lines) + section
+        ready = f"r {2 if shortest else 1000} {MANY}\n"
+        output = ready + run(program, ["--workers", "1"], text)[0] + ready
+        for workers in ("1", "2", "4"):
+            options = ["--workers", workers]
+            for size in (1 << 30, 4000, 65536, 300_000):
+                # Pieces of twice the text, or all of it at once.
+                sizes = [draw.randrange(1, size + 1) for _ in range(4 * len(text) // size)] + [len(text)]
+                found = in_pieces(program, options, text, output, sizes)
+                if found != (output, "", 0):
+                    wrong(f"large graph, {workers} workers, pieces of {size}: {len(found[0])} bytes, {found[1:]}")
+            check_large_faults(program, options, lines)
+
+
+def check_large_faults(program, options, lines):
+    """A wrong line of a large graph ends the session with the input left open; so does the end of too few lines."""
+    for place in (1, 40_000, len(lines) // 2, len(lines) - 1):
+        process = begin(program, *options)
+        try:
+            process.stdin.write("".join([*lines[:place], "x\n", *lines[place + 1 :]]).encode("ascii"))
+        except BrokenPipeError:
+            pass
+        error = process.stderr.read().decode("ascii")
+        if (process.wait(), error) != (2, f"obim_query: line {place + 1}: unknown line\n"):
+            wrong(f"fault on line {place + 1} of a large graph, {options}: {error}")
+        found = run(program, ["--session", *options], "".join(lines[: place + 1]))
+        fault = "" if place == len(lines) - 1 else f"obim_query: line {place + 2}: too few lines\n"
+        if found[1] != fault:
+            wrong(f"large graph up to line {place + 1}, {options}: {found}")
+
+
 # ---- random sessions beside jobs
 
 
@@ -149,21 +256,38 @@ def records(letter, rows):
 
 
 def draw_request(draw, n):
-    """The kind of a section, its records, and whether a line of it is wrong."""
-    kind = draw.choice(["ss", "p2p", "walk", "add"])
+    """What follows `p aux sp` up to the count of a section, and its records."""
+    kind = draw.choice(["ss", "within", "p2p", "walk", "add"])
     vertex = lambda: draw.randrange(1, n + 1)
     count = draw.randrange(4)
     rows = {
         "ss": lambda: ("s", [(vertex(),) for _ in range(count)]),
+        "within": lambda: ("s", [(vertex(),) for _ in range(count)]),
         "p2p": lambda: ("q", [(vertex(), vertex()) for _ in range(count)]),
         "walk": lambda: ("q", [(vertex(), vertex()) for _ in range(count)]),
         "add": lambda: ("a", [(vertex(), vertex(), draw.randrange(9)) for _ in range(count)]),
     }[kind]()
-    return kind, *rows
+    return f"within {draw.randrange(20)}" if kind == "within" else kind, *rows
 
 
-# How a session may write labels, but for those of components.
-FORMS = ["--labels=text", "--labels=raw", "--totals"]
+# The lines that a session may have, but for those of components.
+FORMS = [[], ["--labels=raw"], ["--totals"], ["--walks"], ["--within=6"], ["--walks", "--within=6"]]
+
+
+def job_options(options, head):
+    """The options of the job that is answered as a request of this head is."""
+    plain = [word for word in options if word not in ("--labels=raw", "--totals", "--walks", "--within=6")]
+    if "components" in options or head == "ss":
+        return options
+    if head == "p2p":
+        # Pairs have no bound.
+        return [word for word in options if word != "--within=6"]
+    if head == "walk":
+        # Walks of pairs have one form.
+        return [*plain, "--walks"]
+    # The request's bound counts, and lines have walks if those of the session do.
+    bound = head.split()[1]
+    return [*plain, *(word for word in options if word == "--walks"), f"--within={bound}"]
 
 
 def job_reply(program, options, n, arcs, request):
@@ -174,12 +298,9 @@ def job_reply(program, options, n, arcs, request):
         arcs = arcs + rows
         body = run(program, options, graph(arcs))[0] if "components" in options else ""
         return f"g {len(rows)}\n{body}r {n} {len(arcs)}\n", arcs
-    if kind == "walk" and "components" not in options:
-        # Walks of pairs have one form.
-        options = [*(word for word in options if word not in FORMS), "--walks"]
-    section = {"walk": "p2p"}.get(kind, kind)
+    section = {"walk": "p2p", "within": "ss"}.get(kind.split()[0], kind)
     text = graph(arcs) + f"p aux sp {section} {len(rows)}\n" + records(letter, rows)
-    output, error, status = run(program, options, text)
+    output, error, status = run(program, job_options(options, kind), text)
     if status:
         wrong(f"job ended with {status}: {error}")
     return f"{output}r {n} {len(arcs)}\n", arcs
@@ -193,7 +314,7 @@ def check_random(program, count):
         arcs = [(draw.randrange(1, n + 1), draw.randrange(1, n + 1), draw.randrange(9)) for _ in range(draw.randrange(12))]
         answer = draw.choice(["distances", "levels", "components"])
         options = ["--workers", draw.choice("13"), "--answer", answer]
-        options += [] if answer == "components" else [draw.choice(FORMS)]
+        options += [] if answer == "components" else draw.choice(FORMS)
         text = f"p sp {n} {len(arcs)}\n" + records("a", arcs)
         blocks = run(program, options, text)[0] if answer == "components" else ""
         wanted = f"{blocks}r {n} {len(arcs)}\n"
@@ -282,6 +403,7 @@ def main():
         sys.exit("usage: tests/sessions.py PROGRAM COUNT")
     program = sys.argv[1]
     check_rows(program)
+    check_large(program)
     check_random(program, int(sys.argv[2]))
     check_many_pairs(program)
     check_gone(program)

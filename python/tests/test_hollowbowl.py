@@ -82,7 +82,16 @@ class Costs(unittest.TestCase):
                 self.assertEqual(whole(graph.levels(range(n))), fewest)
                 self.assertEqual(graph.totals(range(n)), [totals_of(row) for row in wanted])
                 self.assertEqual(whole(graph.matrix(range(n), range(n))), wanted)
+                self.check_within(graph, wanted)
                 self.check_paths(graph, n, arcs, wanted)
+
+    def check_within(self, graph, wanted):
+        """Within a bound the vertices are those whose costs are, in order."""
+        for source, costs in enumerate(wanted):
+            for bound in (0, sorted(costs)[len(costs) // 2], INF):
+                bound = min(bound, INF - 1)
+                near = [vertex for vertex, cost in enumerate(costs) if cost <= bound]
+                self.assertEqual(whole(graph.within(source, bound)), [near, [costs[vertex] for vertex in near]])
 
     def check_paths(self, graph, n, arcs, wanted):
         """Each path has the cost, by arcs that are there."""
@@ -120,7 +129,10 @@ class Costs(unittest.TestCase):
                 graph.levels(0)
                 graph.add(*columns(more))
                 self.assertEqual(graph.m, len(arcs) + len(more))
-                self.assertEqual(whole([graph.distances(0)])[0], costs_from(n, arcs + more, 0))
+                costs = costs_from(n, arcs + more, 0)
+                self.assertEqual(whole([graph.distances(0)])[0], costs)
+                near = [vertex for vertex, cost in enumerate(costs) if cost <= 9]
+                self.assertEqual(whole(graph.within(0, 9)), [near, [costs[vertex] for vertex in near]])
                 ones = [(u, v, 1) for u, v, _ in arcs + more]
                 self.assertEqual(whole([graph.levels(0)])[0], costs_from(n, ones, 0))
 
@@ -167,6 +179,16 @@ class Faults(unittest.TestCase):
             Graph([0], [1, 2], [1])
         with Graph([0.0], [1], [2.0]) as graph:
             self.assertEqual(graph.distance(0, 1), 2)
+
+    def test_bounds(self):
+        with Graph([0, 1], [1, 2], [3, 4]) as graph:
+            for bound in (-1, INF, 1.5, "x", None, float("nan")):
+                with self.assertRaisesRegex(ValueError, r"^the cost is "):
+                    graph.within(0, bound)
+            with self.assertRaises(IndexError):
+                graph.within(3, 1)
+            self.assertEqual(whole(graph.within(0, 3.0)), [[0, 1], [0, 3]])
+            self.assertEqual(whole(graph.within(0, INF - 1)), [[0, 1, 2], [0, 3, 7]])
 
     def test_vertices(self):
         with Graph([0], [1], [3]) as graph:
@@ -227,6 +249,8 @@ class Names(unittest.TestCase):
         with Graph.from_edges(self.EDGES) as graph:
             self.assertEqual((graph.distance("a", "c"), graph.path("a", "c")), (13, ["a", "b", "c"]))
             self.assertEqual(graph.totals("a"), (3, 20, 13, "c"))
+            names, costs = graph.within((1, 2), 8)
+            self.assertEqual((names, [int(cost) for cost in costs]), (["a", "b", (1, 2)], [1, 8, 0]))
             self.assertEqual(graph.path((1, 2), "b"), [(1, 2), "a", "b"])
             with self.assertRaises(NoPath):
                 graph.path("c", "a")
@@ -253,6 +277,10 @@ class Names(unittest.TestCase):
                 with Graph.from_networkx(other) as graph:
                     found = {name: int(cost) for name, cost in zip(other, graph.distances("v0")) if cost != INF}
                     self.assertEqual(found, wanted)
+                    cutoff = sorted(wanted.values())[len(wanted) // 2]
+                    near, _ = networkx.single_source_dijkstra(other, "v0", cutoff=cutoff)
+                    names, costs = graph.within("v0", cutoff)
+                    self.assertEqual(dict(zip(names, map(int, costs))), near)
 
 
 @unittest.skipIf(numpy is None, "no numpy")
@@ -265,6 +293,8 @@ class Arrays(unittest.TestCase):
             self.assertEqual(graph.distances([0, 1]).tolist(), [[0, 2, 5], [INF, 0, 3]])
             self.assertEqual((graph.distances(0).dtype, graph.matrix([0], [2]).shape), (numpy.uint64, (1, 1)))
             self.assertEqual(graph.distances(numpy.int64(0)).tolist(), [0, 2, 5])
+            vertices, costs = graph.within(numpy.int64(0), numpy.uint64(4))
+            self.assertEqual((vertices.tolist(), costs.tolist(), costs.dtype), ([0, 1], [0, 2], numpy.uint64))
 
     @unittest.skipIf(scipy is None, "no scipy")
     def test_scipy(self):

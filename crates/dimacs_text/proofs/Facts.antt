@@ -5,6 +5,7 @@ pub use Rattle.dimacs_text.proofs.GraphTextLemmas.{lines_test}
 pub use Rattle.dimacs_text.proofs.LineLemmas.{drop_next, empty_length, filled_length, lines_whole}
 pub use Rattle.dimacs_text.proofs.ReaderLemmas.{keeps_more}
 pub use Rattle.dimacs_text.proofs.AfterGraphLemmas.{silent_begins}
+pub use Rattle.dimacs_text.proofs.ExtentLemmas.{extent-more, extents_within, plain_unless_begins}
 pub use Rattle.dimacs_text.proofs.RequestLemmas.{empty_unasked}
 pub use Rattle.dimacs_text.proofs.RequestLaws.{fault_inside, fault_or_end, silent_right, silent_unasked}
 pub use Rattle.dimacs_text.proofs.OneRequest.{one_request, IsOneRequest}

@@ -10,6 +10,7 @@ pub mod Existence
 pub mod Limits
 pub mod GraphTextLemmas
 pub mod AfterGraphLemmas
+pub mod ExtentLemmas
 pub mod RequestLemmas
 pub mod RequestLimits
 pub mod Facts

@@ -1,14 +1,14 @@
 -- The lines of a job after its graph are one request, where no arcs are added.
-use Rattle.std.proofs.Common.{◌≡◌, ℕ, Bool, true, false, ◌||◌, List, [], ◌∷◌, ◌++◌, length, map}
+use Rattle.std.proofs.Common.{◌≡◌, ℕ, Bool, true, false, List, [], ◌∷◌, ◌++◌, length, map}
 use Rattle.std.proofs.Common.{Option, Some, None, Ok, Err, get_or, bytes_eq, cond, refl, sym, ap, ap₂, subst, ◌∙◌, append_assoc, append-nil}
-use Rattle.std.specs.List.{AllByRecursion, list_any}
+use Rattle.std.specs.List.{AllByRecursion}
 use Rattle.std.proofs.lemmas.Bool.{and_parts}
 use Rattle.std.proofs.lemmas.Slice.Eq.{bytes_eq-Decides}
 use Rattle.std.proofs.lemmas.List.{map-append}
-use Rattle.std.proofs.lemmas.List.Folds.{list_any-append}
 use Rattle.std.proofs.lemmas.List.Elements.{filter_map-append}
 use Rattle.route_walks.specs.declared.graph.ArcRec.{ArcRec}
 use Rattle.route_walks.specs.declared.graph.TheConstants.{MAX_VERTICES}
+use Rattle.dimacs_text.specs.declared.after_graph.Extent.TheVariants.{Plain}
 use Rattle.dimacs_text.specs.declared.fault.LineKind.{LineKind}
 use Rattle.dimacs_text.specs.declared.fault.LineKind.TheVariants.{Misplaced, TooMany, Unknown}
 use Rattle.dimacs_text.specs.declared.form.Form.{Form}
@@ -21,12 +21,13 @@ use Rattle.dimacs_text.specs.Forms.{Record, begins_with, fields_reading, reading
 use Rattle.dimacs_text.specs.Grammar.{Token, adds, IsLegal, item_of}
 use Rattle.dimacs_text.specs.Jobs.{Content, Question, absent, from_sources, of_pairs, arc_record, pair_record, problem_record}
 use Rattle.dimacs_text.specs.Jobs.{source_record, records_among, records_of, records_of_added, records_of_question, IsJobText}
-use Rattle.dimacs_text.specs.AfterGraph.{asks, asked_of, begins_walks, graph_of, has_question, reading_after}
-use Rattle.dimacs_text.specs.AfterGraph.{walks_leading}
+use Rattle.dimacs_text.specs.AfterGraph.{asks, asked_of, begins_walks, begins_within, extent_among, first_extent, graph_of}
+use Rattle.dimacs_text.specs.AfterGraph.{has_question, reading_after, walks_leading, within_leading}
 use Rattle.dimacs_text.specs.AfterGraph.{AreSilent, IsJobAmong, IsWhole}
 use Rattle.dimacs_text.specs.reader.Machine.{run, misfit_at, same_item, unless_wrong}
 use Rattle.dimacs_text.specs.reader.Drafts.{token_in}
 use Rattle.dimacs_text.proofs.AfterGraphLemmas.{others_say}
+use Rattle.dimacs_text.proofs.ExtentLemmas.{plain_front, plain_line}
 use Rattle.dimacs_text.proofs.Machine.{legal_runs, run-append}
 use Rattle.dimacs_text.proofs.ReaderLemmas.{records-push}
 use Rattle.dimacs_text.proofs.RequestLemmas.{all_silent, rest_filled, said_back, said_by_reading}
@@ -50,12 +51,25 @@ walks_unknown n line e =
     let known = begins_known walks_leading (fields (without_cr line)) e in
     ap (λ fs. fields_reading n fs) known.1
 
-right_plain : (n : ℕ) (line : List ℕ) (said : Option Record) → reading n line ≡ Ok said → begins_walks line ≡ false
-right_plain n line said right = by_line (begins_walks line) refl
+-- and so is that of a section within a bound
+within_unknown : (n : ℕ) (line : List ℕ) → begins_within line ≡ true → reading n line ≡ Err Unknown
+unfolding reading begins_within fields_reading
+within_unknown n line e =
+    let known = begins_known within_leading (fields (without_cr line)) e in
+    ap (λ fs. fields_reading n fs) known.1
+
+right_plain : (n : ℕ) (line : List ℕ) (said : Option Record)
+    → reading n line ≡ Ok said
+    → (begins_within line ≡ false) × (begins_walks line ≡ false)
+right_plain n line said right = (no_bound (begins_within line) refl, no_walks (begins_walks line) refl)
   where
-    by_line : (b : Bool) → begins_walks line ≡ b → begins_walks line ≡ false
-    by_line false e = e
-    by_line true e = absurd (let wrong = walks_unknown n line e in cc)
+    no_bound : (b : Bool) → begins_within line ≡ b → begins_within line ≡ false
+    no_bound false e = e
+    no_bound true e = absurd (let wrong = within_unknown n line e in cc)
+
+    no_walks : (b : Bool) → begins_walks line ≡ b → begins_walks line ≡ false
+    no_walks false e = e
+    no_walks true e = absurd (let wrong = walks_unknown n line e in cc)
 
 -- what lines say, and their records, part alike
 split_said : (said : List (Option Record)) (us vs : List Record)
@@ -143,7 +157,7 @@ question_steady (of_pairs ps) = (λ v. refl, items_steady pair_record ps (λ x v
 lines_after : (n : ℕ) (ls : List (List ℕ)) (t : List (Option Record))
     → AllByRecursion IsSteady (records_among t) → readings n ls ≡ map (λ x. Ok x) t
     → (map (λ l. reading_after n l) ls ≡ map (λ x. Ok x) t)
-    × (list_any begins_walks ls ≡ false)
+    × (extent_among ls ≡ Plain)
 unfolding readings
 lines_after n [] [] steady e = (refl, refl)
 lines_after n [] (x ∷ t) steady e = absurd (cc)
@@ -154,8 +168,8 @@ lines_after n (l ∷ ls) (None ∷ t) steady e =
     let later =
     lines_after n ls t steady (subst (λ r. readings (vertices_after n r) ls ≡ map (λ x. Ok x) t) first rest) in
     let plain = right_plain n l None first in (
-      ap₂ (λ r rs. r ∷ rs) (others_say n l plain ∙ first) later.0,
-      ap₂ (λ a b. a || b) plain later.1,
+      ap₂ (λ r rs. r ∷ rs) (others_say n l plain.0 plain.1 ∙ first) later.0,
+      ap₂ (λ a b. first_extent a b) (plain_line l plain.0 plain.1) later.1,
     )
 lines_after n (l ∷ ls) (Some r ∷ t) steady e =
     let first : reading n l ≡ Ok (Some r) = cc in
@@ -165,8 +179,8 @@ lines_after n (l ∷ ls) (Some r ∷ t) steady e =
     (subst (λ v. readings v ls ≡ map (λ x. Ok x) t) (steady.0 n)
     (subst (λ r. readings (vertices_after n r) ls ≡ map (λ x. Ok x) t) first rest)) in
     let plain = right_plain n l (Some r) first in (
-      ap₂ (λ r rs. r ∷ rs) (others_say n l plain ∙ first) later.0,
-      ap₂ (λ a b. a || b) plain later.1,
+      ap₂ (λ r rs. r ∷ rs) (others_say n l plain.0 plain.1 ∙ first) later.0,
+      ap₂ (λ a b. first_extent a b) (plain_line l plain.0 plain.1) later.1,
     )
 
 -- the last record, and what says nothing after it
@@ -342,7 +356,7 @@ pub record IsOneRequest (n : ℕ) (ls : List (List ℕ)) (job : Content) : Type 
   pub parts : ls ≡ body ++ last ∷ silent
   pub is_whole : IsWhole n (body ++ last ∷ []) job
   pub first : (part rest : List (List ℕ)) (other : Content) → body ≡ part ++ rest → IsWhole n part other → ⊥
-  pub walks : list_any begins_walks (body ++ last ∷ []) ≡ false
+  pub extent : extent_among (body ++ last ∷ []) ≡ Plain
   pub says_nothing : AreSilent n silent
 
 whole_by : (job : Content) (body : List (List ℕ)) (line : List ℕ) (said : List (Option Record)) (x : Record)
@@ -362,16 +376,8 @@ whole_by job body line said x reads last all asked = record {
   asked = asked;
 }
 
-none_of : (a b : Bool) → (a || b) ≡ false → a ≡ false
-none_of true b e = absurd (cc)
-none_of false b e = refl
-
-any_front : (us vs : List (List ℕ)) → list_any begins_walks (us ++ vs) ≡ false → list_any begins_walks us ≡ false
-any_front us vs e =
-    none_of (list_any begins_walks us) (list_any begins_walks vs) (sym (list_any-append begins_walks us vs) ∙ e)
-
 one_by : (job : Content) (ls : List (List ℕ)) (t : List (Option Record))
-    → map (λ l. reading_after job.n l) ls ≡ map (λ x. Ok x) t → list_any begins_walks ls ≡ false
+    → map (λ l. reading_after job.n l) ls ≡ map (λ x. Ok x) t → extent_among ls ≡ Plain
     → records_among t ≡ records_of_question job.question → has_question job.question ≡ true
     → IsOneRequest job.n ls (asked_of job)
 one_by job ls t reads plain records asked =
@@ -400,9 +406,9 @@ one_by job ls t reads plain records asked =
           parts = parts;
           is_whole = whole_by job body line s x front last all asked;
           first = no_front job.n job.question body s x front all;
-          walks =
-              any_front (body ++ line ∷ []) silent
-              (ap (λ l. list_any begins_walks l) (append_assoc body (line ∷ []) silent ∙ sym parts) ∙ plain);
+          extent =
+              plain_front (body ++ line ∷ []) silent
+              (ap (λ l. extent_among l) (append_assoc body (line ∷ []) silent ∙ sym parts) ∙ plain);
           says_nothing = all_silent job.n silent u after none;
         }
 

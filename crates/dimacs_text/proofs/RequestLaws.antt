@@ -1,5 +1,5 @@
 -- What lines after a graph can be: their faults where more lines follow, and lines that say nothing.
-use Rattle.std.proofs.Common.{◌≡◌, ◌⊎◌, inl, inr, ℕ, zero, suc, ◌+◌, Bool, true, false, cond, eqb, List, [], ◌∷◌, ◌++◌, length, map}
+use Rattle.std.proofs.Common.{◌≡◌, ◌⊎◌, inl, inr, ℕ, zero, suc, ◌+◌, Bool, true, false, cond, eqb, ◌||◌, List, [], ◌∷◌, ◌++◌, length, map}
 use Rattle.std.proofs.Common.{Option, Some, None, Result, Ok, Err, get_or, drop, refl, ap, ◌∙◌, append_assoc, arith, length-append, ◌≤◌}
 use Rattle.std.proofs.lemmas.Bool.{eqb-true, ne_eqb}
 use Rattle.std.proofs.lemmas.List.{length-map, map-append}
@@ -15,8 +15,9 @@ use Rattle.dimacs_text.specs.Forms.{Record, Reading, fields_reading, form_of, in
 use Rattle.dimacs_text.specs.Forms.{record_reading}
 use Rattle.dimacs_text.specs.Grammar.{BeginsLegal, IsLegal, may_follow}
 use Rattle.dimacs_text.specs.Faults.{tokens_among, unread, misfit, unfinished, IsFirstAmong}
-use Rattle.dimacs_text.specs.Jobs.{Content, absent, problem_record, records_among}
-use Rattle.dimacs_text.specs.AfterGraph.{after_graph, asks, begins_section, is_later, plain, reading_after}
+use Rattle.dimacs_text.specs.Jobs.{Content, absent, problem_record, records_among, sources_record}
+use Rattle.dimacs_text.specs.AfterGraph.{after_graph, asks, begins_section, begins_within, is_later, plain, reading_after}
+use Rattle.dimacs_text.specs.AfterGraph.{sources_reading, within_numbers}
 use Rattle.dimacs_text.specs.AfterGraph.{AreSilent, IsJobAmong, IsWhole}
 use Rattle.dimacs_text.specs.reader.Machine.{run, misfit_at}
 use Rattle.dimacs_text.specs.reader.Drafts.{token_in}
@@ -56,7 +57,17 @@ section_fields n (f ∷ fs) is = section_field n f fs (eqb (get_or f 0 0) 99) re
 
 section_says : (n : ℕ) (line : List ℕ) → begins_section line ≡ true → SaysSection (reading_after n line)
 unfolding reading_after begins_section
-section_says n line is = section_fields n (plain (fields (without_cr line))) is
+section_says n line is = by_line (begins_within line) is
+  where
+    by_numbers : (r : Result (List ℕ) LineKind) → SaysSection (sources_reading r)
+    by_numbers (Ok vs) = inr (sources_record (get_or vs 1 0), refl, refl)
+    by_numbers (Err kind) = inl (kind, refl)
+
+    by_line : (b : Bool) → (b || is_later (form_of (plain (fields (without_cr line))))) ≡ true
+        → SaysSection
+        (cond b (sources_reading (within_numbers line)) (fields_reading n (plain (fields (without_cr line)))))
+    by_line true any = by_numbers (within_numbers line)
+    by_line false one = section_fields n (plain (fields (without_cr line))) one
 
 -- no head of a later section fits where records are missing
 either : (may : Bool) → (kind : LineKind) × (cond may (Some TooFew) (Some Misplaced) ≡ Some kind)

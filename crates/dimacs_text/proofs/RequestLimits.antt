@@ -1,16 +1,21 @@
 -- The records of a whole request are within their limits, and so is its job.
-use Rattle.std.proofs.Common.{◌≡◌, ◌≤◌, ℕ, List, [], ◌∷◌, ◌++◌, length, map, get_or, Option, Some, None, Ok, All}
-use Rattle.std.proofs.Common.{refl, sym, ap, subst, append-nil, ◌∙◌, arith}
+use Rattle.std.proofs.Common.{◌≡◌, ◌≤◌, ℕ, ◌-◌, Bool, true, false, ◌&&◌, leb, cond, List, [], ◌∷◌, ◌++◌, length, map, drop, get_or}
+use Rattle.std.proofs.Common.{Option, Some, None, Result, Ok, Err, All, refl, sym, ap, subst, append-nil, ◌∙◌, arith}
+use Rattle.std.proofs.lemmas.Bool.{and_parts}
 use Rattle.std.proofs.lemmas.List.Elements.{All-nil}
 use Rattle.route_walks.specs.declared.graph.ArcRec.{ArcRec}
-use Rattle.route_walks.specs.declared.graph.TheConstants.{MAX_VERTICES}
-use Rattle.dimacs_text.specs.declared.form.TheConstants.{MAX_TEXT_ARCS}
+use Rattle.route_walks.specs.declared.graph.TheConstants.{INF, MAX_VERTICES}
+use Rattle.dimacs_text.specs.declared.fault.LineKind.{LineKind}
+use Rattle.dimacs_text.specs.declared.form.TheConstants.{MAX_QUERIES, MAX_TEXT_ARCS}
 use Rattle.dimacs_text.specs.Lines.{fields, without_cr}
-use Rattle.dimacs_text.specs.Forms.{Record, fields_reading, vertices_next}
+use Rattle.dimacs_text.specs.Forms.{Record, fields_reading, in_limits, numbers_within, up_to, vertices_next}
 use Rattle.dimacs_text.specs.Jobs.{Content, Question, absent, from_sources, of_pairs, arc_record, source_record}
 use Rattle.dimacs_text.specs.Jobs.{pair_record, problem_record, records_of, records_of_question, records_of_added}
-use Rattle.dimacs_text.specs.Jobs.{records_among, IsAddedWithin, IsArcWithin, IsQuestionWithin, IsWithinLimits}
-use Rattle.dimacs_text.specs.AfterGraph.{after_graph, plain, reading_after, IsWhole}
+use Rattle.dimacs_text.specs.Jobs.{records_among, sources_record, IsAddedWithin, IsArcWithin, IsQuestionWithin}
+use Rattle.dimacs_text.specs.Jobs.{IsWithinLimits}
+use Rattle.dimacs_text.specs.AfterGraph.{after_graph, begins_within, plain, reading_after, sources_reading, within_limits}
+use Rattle.dimacs_text.specs.AfterGraph.{within_numbers, IsWhole}
+use Rattle.dimacs_text.proofs.FormLemmas.{said_within}
 use Rattle.dimacs_text.proofs.Limits.{IsWithin, AreWithin, fields_within, question_within, added_within}
 use Rattle.dimacs_text.proofs.TextLaws.{graph_first, rest_of}
 
@@ -18,6 +23,32 @@ use Rattle.dimacs_text.proofs.TextLaws.{graph_first, rest_of}
 abbrev AllWithin : ℕ → List Record → Type 0
 AllWithin n [] = Unit {0}
 AllWithin n (r ∷ rs) = IsWithin n r × AllWithin n rs
+
+-- the head of a section within a bound has as many numbers as its limits, and the second counts sources
+count_within : (vs : List ℕ) → in_limits within_limits vs ≡ true → in_limits (up_to MAX_QUERIES ∷ []) (get_or vs 1 0 ∷ []) ≡ true
+count_within [] e = absurd (cc)
+count_within (v ∷ []) e = absurd (let both = and_parts (leb 0 v && leb v (INF - 1)) false e in cc)
+count_within (v ∷ w ∷ []) e =
+    (and_parts (leb 0 v && leb v (INF - 1)) (in_limits (up_to MAX_QUERIES ∷ []) (w ∷ [])) e).1
+count_within (v ∷ w ∷ u ∷ us) e =
+    absurd
+    (let both = and_parts (leb 0 v && leb v (INF - 1)) (in_limits (up_to MAX_QUERIES ∷ []) (w ∷ u ∷ us)) e in
+    let more = and_parts (leb 0 w && leb w MAX_QUERIES) false both.1 in
+    cc)
+
+head_within : (n : ℕ) (fs : List (List ℕ)) (res : Result (List ℕ) LineKind) (r : Record)
+    → numbers_within within_limits fs ≡ res → sources_reading res ≡ Ok (Some r)
+    → IsWithin n r
+head_within n fs (Ok vs) r is e =
+    let same : sources_record (get_or vs 1 0) ≡ r = cc in
+    subst (λ x. IsWithin n x) same (count_within vs (said_within within_limits fs vs is))
+head_within n fs (Err kind) r is e = absurd (cc)
+
+line_within : (n : ℕ) (l : List ℕ) (r : Record) (b : Bool)
+    → cond b (sources_reading (within_numbers l)) (fields_reading n (plain (fields (without_cr l)))) ≡ Ok (Some r)
+    → IsWithin n r
+line_within n l r true e = head_within n (drop 4 (fields (without_cr l))) (within_numbers l) r refl e
+line_within n l r false e = fields_within n (plain (fields (without_cr l))) r e
 
 lines_within : (n : ℕ) (ls : List (List ℕ)) (said : List (Option Record))
     → map (λ l. reading_after n l) ls ≡ map (λ s. Ok s) said
@@ -30,9 +61,9 @@ lines_within n (l ∷ ls) (None ∷ said) e =
     let rest : map (λ l. reading_after n l) ls ≡ map (λ s. Ok s) said = cc in
     lines_within n ls said rest
 lines_within n (l ∷ ls) (Some r ∷ said) e =
-    let first : fields_reading n (plain (fields (without_cr l))) ≡ Ok (Some r) = cc in
+    let first : reading_after n l ≡ Ok (Some r) = cc in
     let rest : map (λ l. reading_after n l) ls ≡ map (λ s. Ok s) said = cc in
-    (fields_within n (plain (fields (without_cr l))) r first, lines_within n ls said rest)
+    (line_within n l r (begins_within l) first, lines_within n ls said rest)
 
 -- so they are, one after the other, where none is a problem line
 items_within : {X : Type 0} (n : ℕ) (rec : X → Record) (xs : List X) (rest : List Record)

@@ -24,7 +24,7 @@ mod reader;
 mod request_draft;
 mod stage;
 
-pub use after_graph::{begins_section, begins_walks};
+pub use after_graph::{Extent, begins_section};
 pub use answer_lines::{
     put_components, put_distances, put_grown, put_label, put_labels, put_pair, put_source, put_walk,
 };

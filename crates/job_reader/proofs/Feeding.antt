@@ -1,9 +1,9 @@
 -- A text that is read in pieces, and how much of its limit is left.
 use Rattle.std.proofs.Common.{◌≡◌, ℕ, ◌+◌, ◌-◌, ◌≤◌, ◌^◌, List, [], ◌++◌, length, take, Option, Bool, subst, sym, ap}
 use Rattle.std.proofs.Common.{◌∙◌, arith}
-use Rattle.std.proofs.Common.{◌⊎◌, inl, inr, append_assoc, append-nil, refl}
+use Rattle.std.proofs.Common.{◌⊎◌, inl, inr, append_assoc, append-nil, refl, Result, Ok, Err, IfErr}
 use Rattle.std.specs.Io.KnownBytes.{Consumes}
-use Rattle.std.proofs.lemmas.List.{length-append, length-take-le, take-append-le}
+use Rattle.std.proofs.lemmas.List.{nil_from_length, length-append, length-take-le, take-append-le}
 use Rattle.std.proofs.Math.Seq.{take-append-add}
 use borrow.Rule.Slice.PartMut.{post_of, put_mid}
 use Rattle.dimacs_text.specs.declared.reader.JobReader.{JobReader}
@@ -13,10 +13,10 @@ use Rattle.dimacs_text.specs.declared.fault.TextFault.{TextFault}
 use Rattle.dimacs_text.specs.declared.fault.TextFault.TheVariants.{Memory, Line}
 use Rattle.job_reader.specs.declared.fault.ReadFault.{ReadFault}
 use Rattle.job_reader.specs.declared.fault.ReadFault.TheVariants as fault
-use Rattle.job_reader.specs.Pieces.{StepsOn, StopsShort}
+use Rattle.job_reader.specs.Pieces.{Feeds, StepsOn, StopsShort}
 use Rattle.job_reader.specs.Request.{HasTaken, SaysOfText, fault_of}
 use Rattle.job_reader.specs.Taken.{TakesAtMost, TakesOneMore, TakesWhole}
-use Rattle.std.proofs.KnownBytes.{Consumes-trans}
+use Rattle.std.proofs.KnownBytes.{Consumes-nil, Consumes-trans}
 
 -- the reader of the job has read all that was taken but the pieces at hand; `left` bytes may still come
 pub record IsFed (reader : JobReader) (at_hand : List ℕ) (limit left : ℕ) (before after : Option (List ℕ))
@@ -119,3 +119,84 @@ take-filled filled room count buffer part inside few =
     ap (λ n. take (n + count) (put_mid filled room buffer part)) (sym (length-take-le filled buffer inside))
     ∙ take-append-add (take filled buffer) (part ++ post_of filled room buffer) count
     ∙ ap (λ l. take filled buffer ++ l) (take-append-le count part (post_of filled room buffer) few)
+
+-- ---- of a text that was begun before
+
+-- the reader of the job has read on all that was taken but the pieces at hand; `left` bytes may still come
+pub record IsFedOn (old new : JobReader) (at_hand : List ℕ) (limit left : ℕ) (before after : Option (List ℕ))
+    : Type 0 where
+  pub text : List ℕ
+  pub reads : Reads old new text
+  pub taken : Consumes before after (text ++ at_hand)
+  pub count : length (text ++ at_hand) + left ≡ limit
+
+-- nothing is read by reading nothing
+pub reads-none : (job : JobReader) → Reads job job []
+reads-none job text read few = subst (λ l. HasRead job l) (sym (append-nil text)) read
+
+-- nothing was taken yet
+pub fed-none : (job : JobReader) (limit : ℕ) (now : Option (List ℕ)) → IsFedOn job job [] limit limit now now
+fed-none job limit now = record {
+  text = [];
+  reads = reads-none job;
+  taken = Consumes-nil now;
+  count = omega arith;
+}
+
+-- the first piece was fed, and another was taken
+pub fed-further : (old job new : JobReader) (limit left most : ℕ) (before between after : Option (List ℕ))
+    (front back next : List ℕ) (ended : Bool)
+    → IsFedOn old job (front ++ back) limit left before between
+    → StepsOn most job new front next between after ended → length next ≤ left
+    → IsFedOn old new (back ++ next) limit (left - length next) before after
+fed-further old job new limit left most before between after front back next ended fed on few =
+    let order : (fed.text ++ (front ++ back)) ++ next ≡ (fed.text ++ front) ++ (back ++ next) =
+    simp append_assoc refl in
+    record {
+      text = fed.text ++ front;
+      reads =
+          λ text read short.
+          let all = length-append fed.text front in
+          subst (λ l. HasRead new l) (append_assoc text fed.text front)
+          (on.reads (text ++ fed.text) (fed.reads text read (omega (arith, short, all)))
+          (omega (arith, short, all, length-append text fed.text)));
+      taken = subst (λ l. Consumes before after l) order (Consumes-trans before between after _ next fed.taken on.fills.taken);
+      count =
+          omega (
+            arith,
+            few,
+            fed.count,
+            ap (λ l. length l) order,
+            length-append (fed.text ++ (front ++ back)) next,
+          );
+    }
+
+-- no piece is at hand
+pub fed-whole : (old new : JobReader) (front back : List ℕ) (limit left : ℕ) (before after : Option (List ℕ))
+    → IsFedOn old new (front ++ back) limit left before after → length front ≡ 0 → length back ≡ 0
+    → Feeds limit (limit - left) old new before after
+fed-whole old new front back limit left before after fed none nothing =
+    let all : fed.text ++ (front ++ back) ≡ fed.text =
+    rw (nil_from_length front none, nil_from_length back nothing) (append-nil fed.text) in
+    record {
+      text = fed.text;
+      taken = subst (λ l. Consumes before after l) all fed.taken;
+      reads = fed.reads;
+      size = omega (arith, fed.count, ap (λ l. length l) all);
+      few = omega arith;
+    }
+
+-- or it stopped short of what is left
+pub fed-least : (old new : JobReader) (at_hand : List ℕ) (limit left : ℕ) (before between after : Option (List ℕ))
+    → IsFedOn old new at_hand limit left before between → TakesAtMost left between after
+    → TakesAtMost limit before after
+fed-least old new at_hand limit left before between after fed short = record {
+  bytes = (fed.text ++ at_hand) ++ short.bytes;
+  taken = Consumes-trans before between after (fed.text ++ at_hand) short.bytes fed.taken short.taken;
+  few = omega (arith, length-append (fed.text ++ at_hand) short.bytes, fed.count, short.few);
+}
+
+-- what is so is so of each fault
+pub on-fault : {T E P : Type 0} → P → (r : Result T E) → IfErr r (λ _. P)
+on-fault p (Ok x) = tt
+on-fault p (Err e) = p

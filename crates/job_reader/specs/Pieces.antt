@@ -24,3 +24,11 @@ pub record StepsOn (limit : ℕ) (old new : JobReader) (fed next : List ℕ) (be
 pub record StopsShort (most : ℕ) (before after : Option (List ℕ)) (kind : ReadFault) : Type 0 where
   pub taken : TakesAtMost most before after
   pub only : (kind ≡ fault.Read) ⊎ (kind ≡ fault.Memory)
+
+-- so many bytes were taken, at most `limit`, and the reader of the job has read them
+pub record Feeds (limit count : ℕ) (old new : JobReader) (before after : Option (List ℕ)) : Type 0 where
+  pub text : List ℕ
+  pub taken : Consumes before after text
+  pub reads : Reads old new text
+  pub size : length text ≡ count
+  pub few : count ≤ limit

@@ -12,10 +12,14 @@
 //! A text comes in pieces: one is fed to a `JobReader` while the next bytes are taken, and further threads read arcs
 //! ahead in the piece between, as long as that is faster than one thread alone. No job and no fault depends on it.
 //!
+//! `read_arcs_from` reads on in a graph in the same way, of a reader that stays open: it never waits for a byte that may
+//! come after the graph.
+//!
 //! Stands on `dimacs_text`, which reads texts and arcs ahead, on `route_walks` for `Memory`, and on `thiserror` for
 //! the texts of faults.
 #![tactic(auto)]
 
+mod arcs;
 mod fault;
 mod piece;
 mod pieces;
@@ -24,6 +28,7 @@ mod readers;
 mod step;
 mod watch;
 
+pub use arcs::read_arcs_from;
 pub use fault::ReadFault;
 pub use read::read_job_from;
 pub use watch::ReadWatch;

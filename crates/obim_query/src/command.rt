@@ -25,8 +25,8 @@ for each worker, and one by one if the graph is large and vertices have many
 arcs; each source at once takes memory of its own. With --shift auto the buckets
 of vertices get wider as costs rise, up to a width that fits the graph; with
 --shift BITS each spans 2^BITS costs. Without --chunk a chunk has 256 vertices
-with one worker, and 64 with several. If an option is given twice, the last one
-counts.
+with one worker, 128 with two, and 64 with more. If an option is given twice,
+the last one counts.
 
 A job is one text on standard input (which the argument - stands for): a graph
 in the .gr format of the 9th DIMACS Implementation Challenge, and after it its
@@ -59,11 +59,13 @@ With added arcs the line `g K` follows the lines of each source, each pair or
 the components, and then the same lines for the graph with these arcs.
 
 With --session requests follow the graph, each a section of sources, of pairs or
-of added arcs, or `p aux sp walk K` and K pairs, whose walks are wanted. Each is
-answered as soon as its last line has come, on the graph with all arcs that were
-added before, and the answer ends with the line `r N M`: the graph has N
-vertices and M arcs. So is the graph itself. A request with a line that is wrong
-is answered by the line `e LINE WORDS` alone, and nothing of it is done.
+of added arcs, or `p aux sp walk K` and K pairs, whose walks are wanted, or
+`p aux sp within COST K` and K sources, of which only vertices that cost at most
+COST have a line. Each is answered as soon as its last line has come, on the
+graph with all arcs that were added before, and the answer ends with the line
+`r N M`: the graph has N vertices and M arcs. So is the graph itself. A request
+with a line that is wrong is answered by the line `e LINE WORDS` alone, and
+nothing of it is done.
 
 Example:
   $ printf 'p sp 2 1\\na 1 2 7\\np aux sp ss 1\\ns 1\\n' | obim_query

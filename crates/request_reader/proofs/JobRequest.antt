@@ -1,6 +1,7 @@
 -- The lines of a job after its graph are one request.
-use Rattle.std.proofs.Common.{◌≡◌, ℕ, ◌+◌, true, false, List, [], ◌∷◌, ◌++◌, length, None, refl, sym, ◌∙◌, append_assoc}
+use Rattle.std.proofs.Common.{◌≡◌, ℕ, ◌+◌, true, List, [], ◌∷◌, ◌++◌, length, None, refl, sym, ◌∙◌, append_assoc}
 use Rattle.route_walks.specs.declared.graph.TheConstants.{MAX_VERTICES}
+use Rattle.dimacs_text.specs.declared.after_graph.Extent.TheVariants.{Plain}
 use Rattle.dimacs_text.specs.Lines.{lines}
 use Rattle.dimacs_text.specs.Forms.{readings}
 use Rattle.dimacs_text.specs.Jobs.{Content, IsJobText}
@@ -10,7 +11,7 @@ use Rattle.request_reader.specs.Requests.{whole, AreRequests}
 
 told_once : (n first : ℕ) (ls : List (List ℕ)) (job : Content)
     → IsOneRequest n ls job
-    → AreRequests n first ls (whole job false ∷ [])
+    → AreRequests n first ls (whole job Plain ∷ [])
 told_once n first ls job p = record {
   next = first + length (p.body ++ p.last ∷ []);
   end = p.silent;
@@ -24,7 +25,7 @@ told_once n first ls job p = record {
       parts = refl;
       unanswered = p.first;
       is_whole = p.is_whole;
-      are_walks = sym p.walks;
+      extent_is = sym p.extent;
     },
     (refl, refl),
   );
@@ -37,7 +38,7 @@ pub job_request : (text : List ℕ) (job : Content)
     × (ls : List (List ℕ))
     × (lines text ≡ graph ++ ls)
     × IsJobAmong (readings MAX_VERTICES graph) (graph_of job)
-    × ((first : ℕ) → AreRequests job.n first ls (whole (asked_of job) false ∷ []))
+    × ((first : ℕ) → AreRequests job.n first ls (whole (asked_of job) Plain ∷ []))
 job_request text job is none asked =
     let one = one_request text job is none asked in
     (one.0, one.1, one.2, one.3, λ first. told_once job.n first one.1 (asked_of job) one.4)

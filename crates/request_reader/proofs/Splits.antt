@@ -7,7 +7,7 @@ use Rattle.std.proofs.lemmas.List.Folds.{list_any-append}
 use Rattle.dimacs_text.specs.declared.fault.LineKind.{LineKind}
 use Rattle.dimacs_text.specs.Faults.{IsFirstAmong}
 use Rattle.dimacs_text.specs.Jobs.{Content}
-use Rattle.dimacs_text.specs.AfterGraph.{after_graph, begins_section, begins_walks, AreSilent, IsWhole}
+use Rattle.dimacs_text.specs.AfterGraph.{after_graph, begins_section, AreSilent, IsWhole}
 use Rattle.dimacs_text.proofs.Facts.{empty_unasked, no_fault_among, silent_begins}
 use Rattle.request_reader.specs.Requests.{IsUnanswered}
 use Rattle.request_reader.specs.Reading.{section_count}
@@ -88,18 +88,6 @@ count-more ls line old new count few is =
     by_line true false c f = omega (arith, c)
     by_line false true c f = omega (arith, c)
     by_line false false c f = omega (arith, c)
-
-pub walks-more : (ls : List (List ℕ)) (line : List ℕ) (old new : Bool)
-    → old ≡ list_any begins_walks ls → new ≡ (old || begins_walks line)
-    → new ≡ list_any begins_walks (ls ++ line ∷ [])
-walks-more ls line old new any is =
-    is
-    ∙ ap₂ (λ a b. a || b) any (one (begins_walks line))
-    ∙ sym (list_any-append begins_walks ls (line ∷ []))
-  where
-    one : (b : Bool) → b ≡ (b || false)
-    one true = refl
-    one false = refl
 
 -- lines that say nothing have no section line
 pub silent_count : (n : ℕ) (ls : List (List ℕ)) → AreSilent n ls → count_by begins_section ls ≡ 0

@@ -1,17 +1,18 @@
 -- The states of a reader of requests.
-use Rattle.std.proofs.Common.{◌≡◌, ℕ, Bool, true, false, List, sym, subst}
+use Rattle.std.proofs.Common.{◌≡◌, ℕ, Bool, true, false, List, [], ◌∷◌, ◌++◌, sym, subst}
+use Rattle.dimacs_text.specs.declared.after_graph.Extent.TheVariants.{Plain}
 use Rattle.request_reader.specs.declared.request_reader.RequestReader.{RequestReader}
-use Rattle.request_reader.specs.Requests.{Outcome}
-use Rattle.request_reader.specs.Reading.{HasReadBefore, IsAmong, IsPassing, IsReading}
+use Rattle.request_reader.specs.Requests.{Outcome, no_memory}
+use Rattle.request_reader.specs.Reading.{HasReadBefore, IsAmong, IsPassing, IsReading, IsRefusedLast}
 
 pub as_reading : (b : Bool) (reader : RequestReader) (first : ℕ) (all next : List (List ℕ)) (outcomes : List Outcome)
     → b ≡ false → IsAmong b reader first all next outcomes
-    → IsReading reader.vertices reader.draft reader.has_section reader.walks reader.line first all next outcomes
+    → IsReading reader.vertices reader.draft reader.has_section reader.extent reader.line first all next outcomes
 as_reading b reader first all next outcomes is h = subst (λ x. IsAmong x reader first all next outcomes) is h
 
 pub from_reading : (b : Bool) (reader : RequestReader) (first : ℕ) (all next : List (List ℕ)) (outcomes : List Outcome)
     → b ≡ false
-    → IsReading reader.vertices reader.draft reader.has_section reader.walks reader.line first all next outcomes
+    → IsReading reader.vertices reader.draft reader.has_section reader.extent reader.line first all next outcomes
     → IsAmong b reader first all next outcomes
 from_reading b reader first all next outcomes is h = subst (λ x. IsAmong x reader first all next outcomes) (sym is) h
 
@@ -27,12 +28,25 @@ from_passing b reader first all next outcomes is h = subst (λ x. IsAmong x read
 
 -- a reader that begins a request
 pub from_fresh : (reader : RequestReader) (n number first : ℕ) (all next : List (List ℕ)) (outcomes : List Outcome)
-    → reader.is_refused ≡ false → reader.has_section ≡ false → reader.walks ≡ false → reader.vertices ≡ n
-    → reader.line ≡ number → IsReading n reader.draft false false number first all next outcomes
+    → reader.is_refused ≡ false → reader.has_section ≡ false → reader.extent ≡ Plain → reader.vertices ≡ n
+    → reader.line ≡ number → IsReading n reader.draft false Plain number first all next outcomes
     → HasReadBefore reader first all next outcomes
-from_fresh reader n number first all next outcomes refused section walks vertices line h =
+from_fresh reader n number first all next outcomes refused section extent vertices line h =
     from_reading reader.is_refused reader first all next outcomes refused
-    (subst (λ b. IsReading reader.vertices reader.draft b reader.walks reader.line first all next outcomes) (sym section)
-    (subst (λ b. IsReading reader.vertices reader.draft false b reader.line first all next outcomes) (sym walks)
-    (subst (λ v. IsReading v reader.draft false false reader.line first all next outcomes) (sym vertices)
-    (subst (λ k. IsReading n reader.draft false false k first all next outcomes) (sym line) h))))
+    (subst (λ b. IsReading reader.vertices reader.draft b reader.extent reader.line first all next outcomes) (sym section)
+    (subst (λ x. IsReading reader.vertices reader.draft false x reader.line first all next outcomes) (sym extent)
+    (subst (λ v. IsReading v reader.draft false Plain reader.line first all next outcomes) (sym vertices)
+    (subst (λ k. IsReading n reader.draft false Plain k first all next outcomes) (sym line) h))))
+
+-- a reader whose last request, which was whole, can be refused
+pub refused_last : (reader : RequestReader) (n number last first : ℕ) (section : Bool) (all : List (List ℕ))
+    (outcomes : List Outcome)
+    → reader.vertices ≡ n → reader.had_section ≡ section → reader.line ≡ number → reader.last ≡ last
+    → IsPassing n section number first all [] (outcomes ++ no_memory last ∷ [])
+    → IsRefusedLast reader first all outcomes
+refused_last reader n number last first section all outcomes vertices had line was p =
+    subst (λ v. IsPassing v reader.had_section reader.line first all [] (outcomes ++ no_memory reader.last ∷ []))
+    (sym vertices)
+    (subst (λ b. IsPassing n b reader.line first all [] (outcomes ++ no_memory reader.last ∷ [])) (sym had)
+    (subst (λ k. IsPassing n section k first all [] (outcomes ++ no_memory reader.last ∷ [])) (sym line)
+    (subst (λ k. IsPassing n section number first all [] (outcomes ++ no_memory k ∷ [])) (sym was) p)))

@@ -1,7 +1,8 @@
 -- Laws of requests.
-use Rattle.std.specs.Prelude.{◌≡◌, ◌⊎◌, ℕ, List, [], ◌∷◌, ◌++◌, None, true, false}
+use Rattle.std.specs.Prelude.{◌≡◌, ◌⊎◌, ℕ, List, [], ◌∷◌, ◌++◌, None, true}
 use Rattle.std.specs.List.{AllByRecursion}
 use Rattle.route_walks.specs.declared.graph.TheConstants.{MAX_VERTICES}
+use Rattle.dimacs_text.specs.declared.after_graph.Extent.TheVariants.{Plain}
 use Rattle.dimacs_text.specs.Lines.{lines}
 use Rattle.dimacs_text.specs.Forms.{readings}
 use Rattle.dimacs_text.specs.Jobs.{Content, IsJobText}
@@ -12,7 +13,7 @@ use Rattle.request_reader.specs.Reading.{vertices_of, HasRequests}
 
 -- memory was not refused there
 abbrev pub IsHeard : Outcome → Type 0
-IsHeard (whole job walks) = Unit {0}
+IsHeard (whole job extent) = Unit {0}
 IsHeard (wrong line kind) = Unit {0}
 IsHeard (no_memory line) = ⊥
 
@@ -54,4 +55,4 @@ AJobIsOneRequest =
     × (ls : List (List ℕ))
     × (lines text ≡ graph ++ ls)
     × IsJobAmong (readings MAX_VERTICES graph) (graph_of job)
-    × ((first : ℕ) → AreRequests job.n first ls (whole (asked_of job) false ∷ []))
+    × ((first : ℕ) → AreRequests job.n first ls (whole (asked_of job) Plain ∷ []))

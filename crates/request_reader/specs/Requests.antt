@@ -1,16 +1,16 @@
 -- The requests that follow a graph: which lines are one, and what becomes of it.
-use Rattle.std.specs.Prelude.{◌≡◌, ◌⊎◌, ◌≤◌, ◌<◌, ◌+◌, ◌-◌, ◌^◌, ℕ, Bool, true, List, [], ◌∷◌, ◌++◌, length, min, count_by}
-use Rattle.std.specs.List.{list_any}
+use Rattle.std.specs.Prelude.{◌≡◌, ◌⊎◌, ◌≤◌, ◌<◌, ◌+◌, ◌-◌, ◌^◌, ℕ, true, List, [], ◌∷◌, ◌++◌, length, min, count_by}
+use Rattle.dimacs_text.specs.declared.after_graph.Extent.{Extent}
 use Rattle.dimacs_text.specs.declared.fault.LineKind.{LineKind}
 use Rattle.dimacs_text.specs.declared.fault.LineKind.TheVariants.{TooFew}
 use Rattle.dimacs_text.specs.Faults.{IsFirstAmong}
 use Rattle.dimacs_text.specs.Jobs.{Content}
-use Rattle.dimacs_text.specs.AfterGraph.{after_graph, begins_section, begins_walks, AreSilent, IsWhole}
+use Rattle.dimacs_text.specs.AfterGraph.{after_graph, begins_section, extent_among, AreSilent, IsWhole}
 
 -- what becomes of a request
 pub data Outcome : Type 0 where
-  -- it is whole: what it asks, as a job whose graph has no arcs, and whether walks are wanted
-  whole : Content → Bool → Outcome
+  -- it is whole: what it asks, as a job whose graph has no arcs, and how much of that
+  whole : Content → Extent → Outcome
   -- the line of this number is wrong
   wrong : ℕ → LineKind → Outcome
   -- memory was refused at the line of this number
@@ -40,13 +40,13 @@ IsCut ls rest =
     ⊎ ((count_by begins_section ls ≤ 1) × (rest ≡ []))
 
 -- The lines, of which the first has the number given, are a whole request, and no shorter front of them is one.
-pub record IsAnswered (n : ℕ) (ls : List (List ℕ)) (job : Content) (walks : Bool) : Type 0 where
+pub record IsAnswered (n : ℕ) (ls : List (List ℕ)) (job : Content) (extent : Extent) : Type 0 where
   pub front : List (List ℕ)
   pub last : List ℕ
   pub parts : ls ≡ front ++ last ∷ []
   pub unanswered : IsUnanswered n front
   pub is_whole : IsWhole n ls job
-  pub are_walks : walks ≡ list_any begins_walks ls
+  pub extent_is : extent ≡ extent_among ls
 
 -- They are refused at their first wrong line, which comes after this many of them. It is one of them, or the
 -- section line that cuts them off.
@@ -70,7 +70,7 @@ pub record IsStarved (n first : ℕ) (ls rest : List (List ℕ)) (line : ℕ) : 
 
 -- the lines, of which the first has the number given, are a request that comes to this, and the rest follows
 abbrev pub IsRequest : ℕ → ℕ → List (List ℕ) → List (List ℕ) → Outcome → Type 0
-IsRequest n first ls rest (whole job walks) = IsAnswered n ls job walks
+IsRequest n first ls rest (whole job extent) = IsAnswered n ls job extent
 IsRequest n first ls rest (wrong line kind) = IsRefused n first ls rest line kind
 IsRequest n first ls rest (no_memory line) = IsStarved n first ls rest line
 

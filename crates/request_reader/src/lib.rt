@@ -1,8 +1,9 @@
 //! Which requests follow this graph, or which line of one is wrong?
 //!
-//! A request follows a graph: a section of sources (`p aux sp ss K` and K lines), of pairs (`p2p`), of pairs whose walks
-//! are wanted (`walk`), or of arcs that are to be added (`add`). `RequestReader` takes the lines after the graph one by
-//! one. Of each it says what comes of it: a request that is whole with it, or one that is refused at it.
+//! A request follows a graph: a section of sources (`p aux sp ss K` and K lines), of sources within a bound
+//! (`within COST K`), of pairs (`p2p`), of pairs whose walks are wanted (`walk`), or of arcs that are to be added (`add`).
+//! `RequestReader` takes the lines after the graph one by one. Of each it says what comes of it: a request that is whole
+//! with it, or one that is refused at it.
 //!
 //! A request is the lines after the one before, up to its own last record. One that is refused is the lines up to the
 //! second section line in it, or to the end. So each section line belongs to one request, and each request of a client

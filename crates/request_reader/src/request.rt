@@ -1,12 +1,13 @@
 //! What comes of the lines after a graph.
 
-use dimacs_text::{Job, LineKind};
+use dimacs_text::{Extent, Job, LineKind};
 
 /// What a request asks for, or why it is refused.
 #[derive(Debug, Drop)]
 pub enum Request {
-    /// The sources, the pairs or the arcs that are to be added, as a job whose graph has no arcs. Are walks wanted?
-    Asked { job: Job, walks: bool },
+    /// The sources, the pairs or the arcs that are to be added, as a job whose graph has no arcs; and how much is asked
+    /// of them.
+    Asked { job: Job, extent: Extent },
     /// The first line that is wrong, by its number, and what is wrong with it.
     Wrong { line: u64, kind: LineKind },
     /// The number of the line at which memory was refused.

@@ -2,14 +2,15 @@
 
 ghost use Rattle.std.specs.Prelude.{◌≡◌, ◌≤◌, ◌&&◌, ◌++◌, ◌∷◌, [], ℕ, List, true, false, IfNone, IfSome};
 ghost use Rattle.route_walks.specs.declared.graph.TheConstants.{MAX_VERTICES};
-ghost use Rattle.dimacs_text.specs.AfterGraph.{begins_section};
+ghost use Rattle.dimacs_text.specs.AfterGraph.{begins_section, extent_of};
+ghost use Rattle.dimacs_text.specs.declared.after_graph.Extent.TheVariants.{Plain};
 ghost use Rattle.dimacs_text.specs.RequestDrafts.{HasReadAfter, is_whole};
-ghost use Rattle.request_reader.specs.Requests.{AreRequests, AreShort, Outcome};
+ghost use Rattle.request_reader.specs.Requests.{AreRequests, AreShort, Outcome, no_memory};
 ghost use Rattle.request_reader.specs.Reading.{outcomes_in, outcomes_of, vertices_of, HasReadBefore, HasRequests};
-ghost use Rattle.request_reader.specs.Reading.{IsAskedWithin};
+ghost use Rattle.request_reader.specs.Reading.{last_of, IsAskedWithin, IsRefusable, IsRefusedLast};
 
 use crate::request::{Came, Request};
-use dimacs_text::{LineKind, RequestDraft, TextFault, begins_section, begins_walks};
+use dimacs_text::{Extent, LineKind, RequestDraft, TextFault, begins_section};
 use std::alloc::Global;
 use std::mem::replace;
 
@@ -23,11 +24,26 @@ pub struct RequestReader {
     line: u64,
     /// Has the section line of the request come?
     has_section: bool,
-    /// Is it that of a section of walks?
-    walks: bool,
+    /// How much does it ask for?
+    extent: Extent,
     /// Was the request refused? Then its other lines are passed by.
     is_refused: bool,
+    /// The number of the last line with which a request was whole, and had its section line come?
+    last: u64,
+    had_section: bool,
     alloc: Global,
+}
+
+/// How much a line asks for. One that is no section line asks for no more.
+fn extent_by(line: &[u8], begins: bool) -> Extent
+    requires begins { begins ≡ begins_section line.now }
+    ensures { result ≡ extent_of line.now }
+{
+    if begins {
+        Extent::of(line)
+    } else {
+        Extent::Plain
+    }
 }
 
 impl RequestReader {
@@ -41,8 +57,10 @@ impl RequestReader {
             vertices,
             line,
             has_section: false,
-            walks: false,
+            extent: Extent::Plain,
             is_refused: false,
+            last: line,
+            had_section: false,
             alloc,
         }
     }
@@ -57,6 +75,11 @@ impl RequestReader {
         ensures within { (first : ℕ) (all : List (List ℕ)) (outcomes : List Outcome)
             → HasRequests self.old first all outcomes → vertices_of self.old ≤ MAX_VERTICES
             → IfSome result.found (IsAskedWithin (vertices_of self.old)) }
+        // A request that is whole with the line can still be refused.
+        ensures refusable { (first : ℕ) (all : List (List ℕ)) (outcomes : List Outcome)
+            → HasRequests self.old first all outcomes
+            → IfSome result.found (IsRefusable self.new first (all ++ line.now ∷ [])
+            (outcomes ++ outcomes_in result.cut)) }
         // What ends before the line asks nothing.
         ensures within_cut { IfSome result.cut (IsAskedWithin (vertices_of self.old)) }
     {
@@ -103,13 +126,15 @@ impl RequestReader {
         ensures draft { HasReadAfter self.old.vertices [] self.new.draft }
         ensures lacking { is_whole self.new.draft ≡ false }
         ensures section { self.new.has_section ≡ false }
-        ensures walks { self.new.walks ≡ false }
+        ensures extent { self.new.extent ≡ Plain }
         ensures refused { self.new.is_refused ≡ false }
         ensures vertices { self.new.vertices ≡ self.old.vertices }
         ensures line { self.new.line ≡ self.old.line }
+        ensures last { self.new.last ≡ self.old.last }
+        ensures had_section { self.new.had_section ≡ self.old.had_section }
     {
         self.has_section = false;
-        self.walks = false;
+        self.extent = Extent::Plain;
         self.is_refused = false;
         let next = RequestDraft::new(self.alloc, self.vertices);
         replace(&mut self.draft, next)
@@ -126,11 +151,14 @@ impl RequestReader {
         ensures within { (first : ℕ) (all : List (List ℕ)) (outcomes : List Outcome)
             → HasReadBefore self.old first all (line.now ∷ []) outcomes → vertices_of self.old ≤ MAX_VERTICES
             → IfSome result (IsAskedWithin (vertices_of self.old)) }
+        ensures refusable { (first : ℕ) (all : List (List ℕ)) (outcomes : List Outcome)
+            → HasReadBefore self.old first all (line.now ∷ []) outcomes
+            → IfSome result (IsRefusable self.new first (all ++ line.now ∷ []) outcomes) }
     {
         let number = self.line;
         self.line = number.saturating_add(1);
         self.has_section |= begins;
-        self.walks |= begins_walks(line);
+        self.extent = self.extent.or(extent_by(line, begins));
         if self.is_refused {
             return None;
         }
@@ -144,15 +172,31 @@ impl RequestReader {
                 Some(Request::Wrong { line, kind })
             }
             Ok(()) if self.draft.is_whole() => {
-                let walks = self.walks;
+                let extent = self.extent;
+                self.last = number;
+                self.had_section = self.has_section;
                 let draft = self.begin();
                 Some(Request::Asked {
                     job: draft.finish(),
-                    walks,
+                    extent,
                 })
             }
             Ok(()) => None,
         }
+    }
+
+    /// Refuses the request that was whole with the last line, for want of memory, and gives the number of that line. What
+    /// follows up to the next section line is passed by.
+    pub fn refuse(&mut self) -> u64
+        ensures line { result ≡ last_of self.old }
+        ensures refused { (first : ℕ) (all : List (List ℕ)) (outcomes : List Outcome)
+            → IsRefusedLast self.old first all outcomes
+            → HasRequests self.new first all (outcomes ++ no_memory (last_of self.old) ∷ []) }
+        ensures vertices { vertices_of self.new ≡ vertices_of self.old }
+    {
+        self.has_section = self.had_section;
+        self.is_refused = true;
+        self.last
     }
 
     /// The number of the line one past the last, if a request was begun that lacks lines.

@@ -4,7 +4,7 @@ use Rattle.std.proofs.Common.{length, take, drop, take-append-drop}
 use Rattle.std.proofs.lemmas.List.{append-nil}
 use Rattle.std.specs.Prelude.{Result, Ok, Err, OnErr}
 use Rattle.std.specs.Io.KnownBytes.{Appends}
-use Rattle.answer_lines.specs.Lines.{ready_text}
+use Rattle.answer_lines.specs.Lines.{ready_text, refusal_text}
 use Rattle.dimacs_text.specs.Jobs.{Content, Question}
 use Rattle.dimacs_text.specs.Lines.{lines}
 use Rattle.request_reader.proofs.Facts.{begins_with}
@@ -21,7 +21,8 @@ use Rattle.job_answer.specs.declared.asked.Lines.{Lines}
 use Rattle.session_answer.specs.Conversations.{HasHeard, HasRepliedTo, Replies, graph_of}
 use Rattle.session_answer.specs.Cuts.{AreCutAfterBytes, AreCutAfterLines, AreRepliesCut}
 use Rattle.session_answer.specs.Replies.{AreReplies, IsAnswerIn, IsBodyIf, IsBodyIn, IsReplyFor, IsReplyTo}
-use Rattle.session_answer.specs.Replies.{added_line, graph_after, grown_by, job_of, lines_for, walks_or}
+use Rattle.session_answer.specs.Replies.{added_line, graph_after, grown_by, job_of, lines_by, lines_for, out_of_memory}
+use Rattle.session_answer.specs.Replies.{walks_or}
 use Rattle.session_answer.specs.declared.conversation.Conversation.{Conversation}
 use Rattle.session_answer.specs.declared.session.Session.{Session}
 use Rattle.session_answer.proofs.ReplyLemmas.{no_bytes}
@@ -45,6 +46,28 @@ only_cut bytes only before after same cut = record {
   given = cut.given;
   is_prefix = λ text is. subst (λ (all : List ℕ). IsPrefix cut.given all) (same ∙ sym is) cut.is_prefix;
   appended = cut.appended;
+}
+
+-- a prefix of a text of a kind of which there is one
+pub text_cut : (IsText : List ℕ → Type 0) → IsOneText IsText → (bytes : List ℕ) (before after : Option (List ℕ))
+    → IsText bytes → GivesPrefix before after bytes
+    → WritesPrefix IsText before after
+text_cut IsText unique bytes before after is_bytes cut = record {
+  given = cut.given;
+  is_prefix = λ text is.
+      subst (λ (all : List ℕ). IsPrefix cut.given all) (unique bytes text is_bytes is) cut.is_prefix;
+  appended = cut.appended;
+}
+
+-- where nothing was given, a prefix of any text was
+pub nothing_cut : (IsText : List ℕ → Type 0) (kind : Answer) (by : Lines) (all_walks : Bool) (graph : Content)
+    (session : Session) (before after : Option (List ℕ))
+    → Replies kind by all_walks graph [] session before after
+    → WritesPrefix IsText before after
+nothing_cut IsText kind by all_walks graph session before after is = record {
+  given = [];
+  is_prefix = λ text one. (text, refl);
+  appended = subst (λ (text : List ℕ). Appends before after text) is.replied is.written;
 }
 
 -- a prefix of the first part of a text is one of the text
@@ -87,34 +110,36 @@ second_cut IsSecond IsWhole first before middle after split one cut = record {
 
 -- ---- there is one text of each reply
 
-module _ (law : AnswerTextsByLinesAreUnique) (kind : Answer) (by : Lines) where
-  one_body : (walks : Bool) (graph : Content) (question : Question) → IsOneText (IsBodyIn kind by walks graph question)
-  one_body walks graph question = by_asked (is_unasked kind question)
+module _ (law : AnswerTextsByLinesAreUnique) (kind : Answer) where
+  one_body : (by : Lines) (walks : Bool) (graph : Content) (question : Question)
+      → IsOneText (IsBodyIn kind by walks graph question)
+  one_body by walks graph question = by_asked (is_unasked kind question)
     where
       by_asked : (unasked : Bool) → IsOneText (IsBodyIf unasked kind (lines_for by walks question) (job_of graph question))
       by_asked true first second one two = one ∙ sym two
       by_asked false first second one two =
           law kind (lines_for by walks question) (job_of graph question) first second one two
 
-  pub one_answer : (walks : Bool) (graph : Content) (question : Question)
+  pub one_answer : (by : Lines) (walks : Bool) (graph : Content) (question : Question)
       → IsOneText (IsAnswerIn kind by walks graph question)
-  one_answer walks graph question first second one two =
+  one_answer by walks graph question first second one two =
       one.written
       ∙ ap (λ (body : List ℕ). body ++ ready_text graph.n (length graph.arcs))
-      (one_body walks graph question one.body two.body one.is_body two.is_body)
+      (one_body by walks graph question one.body two.body one.is_body two.is_body)
       ∙ sym two.written
 
-  one_reply : (walks : Bool) (graph asked : Content) → IsOneText (IsReplyTo kind by walks graph asked)
-  one_reply walks graph asked first second one two =
+  one_reply : (by : Lines) (walks : Bool) (graph asked : Content) → IsOneText (IsReplyTo kind by walks graph asked)
+  one_reply by walks graph asked first second one two =
       one.written
       ∙ ap (λ (answer : List ℕ). added_line asked.added ++ answer)
-      (one_answer walks (grown_by graph asked.added) asked.question one.answer two.answer one.is_answer two.is_answer)
+      (one_answer by walks (grown_by graph asked.added) asked.question one.answer two.answer one.is_answer two.is_answer)
       ∙ sym two.written
 
+module _ (law : AnswerTextsByLinesAreUnique) (kind : Answer) (by : Lines) where
   one_reply_for : (all_walks : Bool) (graph : Content) (outcome : Outcome)
       → IsOneText (IsReplyFor kind by all_walks graph outcome)
-  one_reply_for all_walks graph (whole job walks) first second one two =
-      one_reply (walks_or walks all_walks) graph job first second one two
+  one_reply_for all_walks graph (whole job extent) first second one two =
+      one_reply law kind (lines_by extent by) (walks_or extent all_walks) graph job first second one two
   one_reply_for all_walks graph (wrong line what) first second one two = one ∙ sym two
   one_reply_for all_walks graph (no_memory line) first second one two = one ∙ sym two
 
@@ -146,7 +171,7 @@ module _ (law : AnswerTextsByLinesAreUnique) (kind : Answer) (by : Lines) where
         refl,
         is.written
             ∙ ap (λ (some : List ℕ). some ++ ready_text graph.n (length graph.arcs))
-            (one_body walks graph question is.body body is.is_body is_body),
+            (one_body law kind by walks graph question is.body body is.is_body is_body),
       ))
       one cut
 
@@ -170,6 +195,16 @@ module _ (law : AnswerTextsByLinesAreUnique) (kind : Answer) (by : Lines) where
             ∙ ap (λ (later : List ℕ). is.0 ++ later) parts.4
             ∙ sym (append_assoc is.0 parts.0 parts.1),
       )
+
+  -- a prefix of the line that refuses a request
+  pub refusal_cut : (all_walks : Bool) (graph : Content) (line : ℕ) (before after : Option (List ℕ))
+      → GivesPrefix before after (refusal_text line out_of_memory)
+      → WritesPrefix (AreReplies kind by all_walks graph (no_memory line ∷ [])) before after
+  refusal_cut all_walks graph line before after cut =
+      first_cut (λ text. text ≡ refusal_text line out_of_memory)
+      (AreReplies kind by all_walks graph (no_memory line ∷ [])) before after
+      (λ text is. (is.0, is.1, is.3, is.2))
+      (only_cut (refusal_text line out_of_memory) (refusal_text line out_of_memory) before after refl cut)
 
   -- a prefix of the first replies is one of all
   pub front_cut : (all_walks : Bool) (graph : Content) (some more : List Outcome) (before after : Option (List ℕ))

@@ -34,6 +34,14 @@ pub fed_more : (job : JobReader) (limit left : ℕ) (before between after : Opti
 fed_more job limit left before between after next fed takes =
     record { bytes = fed.text ++ next; taken = Consumes-trans before between after fed.text next fed.taken takes }
 
+-- more was taken after that
+pub fed_then : (job : JobReader) (limit left : ℕ) (before between then after : Option (List ℕ)) (next more : List ℕ)
+    → IsFed job limit left before between → Consumes between then next → Consumes then after more
+    → TakesSome before after
+fed_then job limit left before between then after next more fed takes last =
+    let some = fed_more job limit left before between then next fed takes in
+    record { bytes = some.bytes ++ more; taken = Consumes-trans before then after some.bytes more some.taken last }
+
 -- ---- while requests are read
 
 -- a read failed, or no more are made

@@ -1,7 +1,7 @@
 -- The text of a graph that comes by single reads.
-use Rattle.std.proofs.Common.{◌≡◌, ◌∙◌, ◌+◌, ◌-◌, ◌≤◌, ◌^◌, ℕ, List, ◌++◌, Option, Result, Ok, Err, IfOk, true, false}
-use Rattle.std.proofs.Common.{length, take, drop, arith, subst, sym, ap, ap₂, take-append-drop, append_assoc, length-append}
-use Rattle.std.proofs.lemmas.List.{drop-take, length-take-le}
+use Rattle.std.proofs.Common.{◌≡◌, ◌∙◌, ◌+◌, ◌-◌, ◌≤◌, ◌^◌, ℕ, List, [], ◌++◌, Option, Result, Ok, Err, IfOk, true, false}
+use Rattle.std.proofs.Common.{length, take, drop, arith, subst, sym, ap, ap₂, take-append-drop, append_assoc, append-nil, length-append}
+use Rattle.std.proofs.lemmas.List.{drop-take, length-take-le, take_all}
 use Rattle.std.proofs.KnownBytes.{Consumes-trans}
 use Rattle.std.specs.Io.KnownBytes.{Consumes, IsAtEnd}
 use Rattle.dimacs_text.specs.declared.reader.JobReader.{JobReader}
@@ -11,6 +11,7 @@ use Rattle.dimacs_text.specs.Lines.{lines}
 use Rattle.dimacs_text.specs.Reading.{HasRead, Reads}
 use Rattle.job_answer.specs.declared.fault.Fault.{Fault}
 use Rattle.session_answer.specs.declared.graph_front.Front.{Front}
+use Rattle.job_reader.specs.Pieces.{Feeds}
 use Rattle.session_answer.specs.Conversations.{HasFront}
 
 -- the reader of the graph has read all that was taken, and `left` bytes may still come
@@ -30,6 +31,20 @@ fed_all old new limit left before between after next low fed taken reads few = r
   taken = Consumes-trans before between after fed.text next fed.taken taken;
   count = omega (arith, fed.count, few, length-append fed.text next);
 }
+
+-- all of what came was fed
+pub fed_came : (old new : JobReader) (limit left : ℕ) (before between after : Option (List ℕ)) (buffer : List ℕ)
+    (at count : ℕ)
+    → limit ≤ 2 ^ 36 → IsFed old limit left before between → Consumes between after (take count buffer)
+    → count ≤ length buffer → count ≤ left → Reads old new (take at (take count buffer)) → count ≤ at
+    → IsFed new limit (left - count) before after
+fed_came old new limit left before between after buffer at count low fed takes room few reads over =
+    let came = length-take-le count buffer room in
+    let all : take at (take count buffer) ≡ take count buffer =
+    take_all at (take count buffer) (omega (arith, came, over)) in
+    subst (λ k. IsFed new limit (left - k) before after) came
+    (fed_all old new limit left before between after (take count buffer) low fed takes
+    (subst (λ bytes. Reads old new bytes) all reads) (omega (arith, came, few)))
 
 -- a text is followed by what was read after it
 split_last : (text buffer : List ℕ) (at count : ℕ)
@@ -117,3 +132,38 @@ open_within old job limit left before between buffer at count result low fed roo
     let fed_now = length-take-le at (take count buffer) (omega (arith, place, came)) in
     let short : length (take at (take count buffer)) ≤ left = omega (arith, fed_now, place, few) in
     within (fed.text ++ take at (take count buffer)) (reads fed.text fed.read (omega (arith, low, fed.count, short)))
+
+-- more was taken and fed by several threads
+pub fed_by_threads : (old new : JobReader) (limit left count : ℕ) (before between after : Option (List ℕ))
+    → limit ≤ 2 ^ 36 → IsFed old limit left before between → Feeds left count old new between after
+    → IsFed new limit (left - count) before after
+fed_by_threads old new limit left count before between after low fed feeds =
+    subst (λ k. IsFed new limit (left - k) before after) feeds.size
+    (fed_all old new limit left before between after feeds.text low fed feeds.taken feeds.reads
+    (omega (arith, feeds.size, feeds.few)))
+
+-- the graph ends right after what was fed
+pub whole_has : (job : JobReader) (limit left : ℕ) (before after : Option (List ℕ)) (buffer : List ℕ)
+    (result : Result Front Fault)
+    → IsFed job limit left before after
+    → IfOk result (λ front. (front.at ≡ 0) × (front.end ≡ 0) × (front.has_ended ≡ false))
+    → ((text : List ℕ) → HasRead job text → IfOk result (λ front. IsGraphText text (content_of front.graph)))
+    → ((text : List ℕ) → HasRead job text → IfOk result (λ front. front.line ≡ length (lines text) + 1))
+    → ((text more : List ℕ) → HasRead job text
+    → IfOk result (λ front. lines (text ++ more) ≡ lines text ++ lines more))
+    → IfOk result (λ front. HasFront front buffer before after)
+whole_has job limit left before after buffer (Err fault) fed places graph next joined = tt
+whole_has job limit left before after buffer (Ok front) fed places graph next joined =
+    let nothing : take (front.end - front.at) (drop front.at buffer) ≡ [] =
+    ap (λ k. take (k - front.at) (drop front.at buffer)) places.1
+    ∙ ap (λ k. take (0 - k) (drop k buffer)) places.0 in
+    record {
+      text = fed.text;
+      is_graph = graph fed.text fed.read;
+      number = λ other. next fed.text fed.read;
+      joined = λ other more. joined fed.text more fed.read;
+      taken =
+          subst (λ bytes. Consumes before after bytes)
+          (sym (ap (λ bytes. fed.text ++ bytes) nothing ∙ append-nil fed.text)) fed.taken;
+      ended = λ is. absurd (let other = places.2 in cc);
+    }

@@ -2,20 +2,28 @@
 use Rattle.std.proofs.Common.{◌≡◌, ◌∙◌, ℕ, Bool, List, [], ◌∷◌, ◌++◌, Option, Some, None, refl, sym, ap, subst, append_assoc}
 use Rattle.std.proofs.lemmas.List.{append-nil}
 use Rattle.std.specs.Io.KnownBytes.{Appends}
-use Rattle.std.specs.Prelude.{IfSome}
-use Rattle.dimacs_text.specs.Jobs.{Content, content_of, IsAddedWithin, IsQuestionWithin}
+use Rattle.std.specs.Prelude.{IfOk, IfSome, Result, Ok, Err}
+use Rattle.route_walks.specs.declared.graph.ArcRec.{ArcRec}
+use Rattle.answer_lines.specs.Lines.{refusal_text}
+use Rattle.dimacs_text.specs.Jobs.{Content, Question, content_of, IsAddedWithin, IsQuestionWithin}
 use Rattle.least_costs.specs.Network.{IsNetwork}
-use Rattle.request_reader.specs.Reading.{IsAskedWithin}
-use Rattle.request_reader.specs.Requests.{Outcome}
+use Rattle.request_reader.specs.Reading.{IsAskedWithin, IsRefusable, IsRefusedLast}
+use Rattle.request_reader.specs.Requests.{Outcome, no_memory}
+use Rattle.request_reader.specs.declared.request_reader.RequestReader.{RequestReader}
 use Rattle.request_reader.specs.declared.request.Request.{Request}
 use Rattle.request_reader.specs.declared.request.Request.TheVariants.{Asked, Wrong, NoMemory}
 use Rattle.job_answer.specs.declared.asked.Answer.{Answer}
 use Rattle.job_answer.specs.declared.asked.Lines.{Lines}
 use Rattle.job_answer.specs.Graphs.{AreGraphsFor, GrowAlike, GrowsInto, growth_of}
+use Rattle.job_answer.specs.Bytes.{Writes}
 use Rattle.job_answer.proofs.Facts.{along-kind, appends-then}
 use Rattle.session_answer.specs.Conversations.{Replies, graph_of}
-use Rattle.session_answer.specs.Replies.{AreReplies, HoldsGraph, IsRequestWithin, graph_after}
+use Rattle.session_answer.specs.Replies.{AreReplies, HoldsGraph, IsAnswerIn, IsAskedIn, IsGrownReply, IsReplyFor, IsReplyTo}
+use Rattle.session_answer.specs.Replies.{IsRequestWithin, IsTold, added_line, graph_after, grown_by}
+use Rattle.session_answer.specs.Replies.{out_of_memory}
 use Rattle.session_answer.specs.declared.session.Session.{Session}
+use Rattle.session_answer.specs.declared.session.Told.{Told}
+use Rattle.session_answer.specs.declared.session.Told.TheVariants as told
 
 -- no bytes are given
 pub no_bytes : (bytes : Option (List ℕ)) → Appends bytes bytes []
@@ -70,12 +78,107 @@ replies_then kind by all_walks graph some more between session first second thir
   holds = subst (λ left. HoldsGraph kind left session) (sym (graph_both graph some more)) two.holds;
 }
 
--- ---- what a request asks keeps the limits
+-- ---- whether a reply was given
+
+pub told_whole : (t : Told) (P Q : Type 0) → t ≡ told.Whole → IsTold t P Q → P
+told_whole t P Q is what = subst (λ x. IsTold x P Q) is what
+
+pub told_nothing : (t : Told) (P Q : Type 0) → t ≡ told.Nothing → IsTold t P Q → Q
+told_nothing t P Q is what = subst (λ x. IsTold x P Q) is what
+
+pub told_weaker : (t : Told) (P Q R S : Type 0) → (P → R) → (Q → S) → IsTold t P Q → IsTold t R S
+told_weaker told.Whole P Q R S f g what = f what
+told_weaker told.Nothing P Q R S f g what = g what
+
+pub if_ok : {T E : Type 0} (P Q : T → Type 0) (r : Result T E) → ((x : T) → P x → Q x) → IfOk r P → IfOk r Q
+if_ok P Q (Ok x) weaker is = weaker x is
+if_ok P Q (Err fault) weaker is = tt
+
+-- what a request comes to: its reply was given, or nothing
+pub reply_told : {E : Type 0} (kind : Answer) (by : Lines) (all_walks : Bool) (graph : Content) (outcome : Outcome)
+    (session : Session) (before after : Option (List ℕ)) (result : Result Told E)
+    → IfOk result
+    (λ t. IsTold t (Writes (IsReplyFor kind by all_walks graph outcome) before after) (Appends before after []))
+    → IfOk result (λ t. IsTold t (HoldsGraph kind (graph_after graph outcome) session) (HoldsGraph kind graph session))
+    → IfOk result
+    (λ t.
+    IsTold t (Replies kind by all_walks graph (outcome ∷ []) session before after)
+    (Replies kind by all_walks graph [] session before after))
+reply_told kind by all_walks graph outcome session before after (Ok told.Whole) written holds = record {
+  text = written.text;
+  replied = (written.text, [], sym (append-nil written.text), written.is_text, refl);
+  written = written.appended;
+  holds = holds;
+}
+reply_told kind by all_walks graph outcome session before after (Ok told.Nothing) none holds = record {
+  text = [];
+  replied = refl;
+  written = none;
+  holds = holds;
+}
+reply_told kind by all_walks graph outcome session before after (Err fault) written holds = tt
+
+-- the reply to a question
+pub plain_reply : (kind : Answer) (lines : Lines) (walks : Bool) (graph asked : Content) (text : List ℕ)
+    → asked.added ≡ None → IsAnswerIn kind lines walks graph asked.question text
+    → IsReplyTo kind lines walks graph asked text
+plain_reply kind lines walks graph asked text none is =
+    let here : IsAnswerIn kind lines walks (grown_by graph None) asked.question text =
+    record { body = is.body; is_body = is.is_body; written = is.written } in
+    record {
+      answer = text;
+      is_answer = subst (λ added. IsAnswerIn kind lines walks (grown_by graph added) asked.question text) (sym none) here;
+      written = ap (λ added. added_line added ++ text) (sym none);
+    }
+
+-- the reply to added arcs
+pub grown_reply : (kind : Answer) (lines : Lines) (walks : Bool) (graph asked : Content) (arcs : List ArcRec)
+    (text : List ℕ)
+    → asked.added ≡ Some arcs → IsGrownReply kind lines walks graph arcs asked.question text
+    → IsReplyTo kind lines walks graph asked text
+grown_reply kind lines walks graph asked arcs text some is = record {
+  answer = is.0;
+  is_answer = subst (λ added. IsAnswerIn kind lines walks (grown_by graph added) asked.question is.0) (sym some) is.1;
+  written = is.2 ∙ ap (λ added. added_line added ++ is.0) (sym some);
+}
+
+-- a request that is whole can be refused in place of that
+pub refusable_last : (request : Option Request) (reader : RequestReader) (first : ℕ) (all : List (List ℕ))
+    (outcomes : List Outcome)
+    → IsAskedIn request → IfSome request (IsRefusable reader first all outcomes)
+    → IsRefusedLast reader first all outcomes
+refusable_last None reader first all outcomes asked is = absurd asked
+refusable_last (Some (Asked job extent)) reader first all outcomes asked is = is
+refusable_last (Some (Wrong line kind)) reader first all outcomes asked is = absurd asked
+refusable_last (Some (NoMemory line)) reader first all outcomes asked is = absurd asked
+
+-- the reply that refuses it
+pub refused_reply : (kind : Answer) (by : Lines) (all_walks : Bool) (graph : Content) (line : ℕ) (session : Session)
+    (before after : Option (List ℕ))
+    → HoldsGraph kind graph session → Appends before after (refusal_text line out_of_memory)
+    → Replies kind by all_walks graph (no_memory line ∷ []) session before after
+refused_reply kind by all_walks graph line session before after holds told = record {
+  text = refusal_text line out_of_memory;
+  replied = (refusal_text line out_of_memory, [], sym (append-nil (refusal_text line out_of_memory)), refl, refl);
+  written = told;
+  holds = holds;
+}
+
+-- an answer of the same kind and lines
+pub same_answer : (kind other : Answer) (lines by : Lines) (walks w : Bool) (graph : Content) (question : Question)
+    (text : List ℕ)
+    → other ≡ kind → by ≡ lines → w ≡ walks → IsAnswerIn other by w graph question text
+    → IsAnswerIn kind lines walks graph question text
+same_answer kind other lines by walks w graph question text same_kind same_lines same_walks is =
+    subst (λ (k : Answer). IsAnswerIn k lines walks graph question text) same_kind
+    (subst (λ (l : Lines). IsAnswerIn other l walks graph question text) same_lines
+    (subst (λ x. IsAnswerIn other by x graph question text) same_walks is))
 
 within_of : (n : ℕ) (request : Request) → IsAskedWithin n request → IsRequestWithin n request
-within_of n (Asked job walks) (limits, vertices, none) = (
+within_of n (Asked job extent) (limits, vertices, none, bound) = (
   subst (λ k. IsQuestionWithin k (content_of job).question) vertices limits.question,
   subst (λ k. IsAddedWithin k (content_of job).added) vertices limits.added,
+  bound,
 )
 within_of n (Wrong line what) is = tt
 within_of n (NoMemory line) is = tt

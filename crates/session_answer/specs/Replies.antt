@@ -2,6 +2,9 @@
 use Rattle.std.specs.Prelude.{◌≡◌, ℕ, ◌+◌, Bool, true, false, List, [], ◌∷◌, ◌++◌, length, Option, Some, None, codes, ⊤}
 use Rattle.route_walks.specs.declared.graph.ArcRec.{ArcRec}
 use Rattle.answer_lines.specs.Lines.{grown_text, ready_text, refusal_text}
+use Rattle.dimacs_text.specs.declared.after_graph.Extent.{Extent}
+use Rattle.dimacs_text.specs.declared.after_graph.Extent.TheVariants as extent
+use Rattle.dimacs_text.specs.AfterGraph.{IsExtentWithin}
 use Rattle.dimacs_text.specs.Faults.{words_of}
 use Rattle.dimacs_text.specs.Jobs.{Content, Question, absent, from_sources, of_pairs, content_of}
 use Rattle.dimacs_text.specs.Jobs.{IsAddedWithin, IsQuestionWithin}
@@ -14,10 +17,13 @@ use Rattle.job_answer.specs.declared.asked.Answer.{Answer}
 use Rattle.job_answer.specs.declared.asked.Lines.{Lines}
 use Rattle.job_answer.specs.declared.asked.Lines.TheVariants as by
 use Rattle.job_answer.specs.Graphs.{cost_for}
+use Rattle.job_answer.specs.LineWalks.{has_walks}
 use Rattle.least_costs.specs.Network.{IsNetworkOf}
 use Rattle.job_answer.specs.Outcome.{is_unasked}
 use Rattle.job_answer.specs.Within.{IsAnswerTextBy}
 use Rattle.session_answer.specs.declared.session.Session.{Session}
+use Rattle.session_answer.specs.declared.session.Told.{Told}
+use Rattle.session_answer.specs.declared.session.Told.TheVariants as told
 
 -- ---- the reply to a request that is whole
 
@@ -69,37 +75,69 @@ pub record IsReplyTo (kind : Answer) (lines : Lines) (walks : Bool) (graph asked
     pub is_answer : IsAnswerIn kind lines walks (grown_by graph asked.added) asked.question answer
     pub written : text ≡ added_line asked.added ++ answer
 
+-- the same for arcs that are added and a question
+abbrev pub IsGrownReply : Answer → Lines → Bool → Content → List ArcRec → Question → List ℕ → Type 0
+IsGrownReply kind lines walks graph arcs question text =
+    (answer : List ℕ)
+    × IsAnswerIn kind lines walks (grown_by graph (Some arcs)) question answer
+    × (text ≡ grown_text (length arcs) ++ answer)
+
 -- ---- the reply to any request, and the graph after it
 
 -- what is said where memory is refused
 abbrev pub out_of_memory : List ℕ
 out_of_memory = codes "out of memory"
 
--- Walks are written where the request asks for them, or the session does for all.
-abbrev pub walks_or : Bool → Bool → Bool
-walks_or true all_walks = true
-walks_or false all_walks = all_walks
+-- Walks of pairs are written where the request asks for them, or the session does for all.
+abbrev pub walks_or : Extent → Bool → Bool
+walks_or extent.Plain all_walks = all_walks
+walks_or extent.Walks all_walks = true
+walks_or (extent.Within bound) all_walks = all_walks
+
+-- The lines of sources are those of the session. Where the request has a bound they are within it, whatever bound the
+-- session has, and have walks if those of the session do.
+abbrev pub lines_by : Extent → Lines → Lines
+lines_by extent.Plain lines = lines
+lines_by extent.Walks lines = lines
+lines_by (extent.Within bound) lines = by.Within (has_walks lines) bound
 
 -- A request that is whole is answered. One that is wrong is refused in a line, and so is one for which memory was
--- refused while it was read.
+-- refused, while it was read or for its reply.
 abbrev pub IsReplyFor : Answer → Lines → Bool → Content → Outcome → List ℕ → Type 0
-IsReplyFor kind lines all_walks graph (whole job walks) text =
-    IsReplyTo kind lines (walks_or walks all_walks) graph job text
+IsReplyFor kind lines all_walks graph (whole job extent) text =
+    IsReplyTo kind (lines_by extent lines) (walks_or extent all_walks) graph job text
 IsReplyFor kind lines all_walks graph (wrong line what) text = text ≡ refusal_text line (words_of what)
 IsReplyFor kind lines all_walks graph (no_memory line) text = text ≡ refusal_text line out_of_memory
 
 -- the graph after a request
 abbrev pub graph_after : Content → Outcome → Content
-graph_after graph (whole job walks) = grown_by graph job.added
+graph_after graph (whole job extent) = grown_by graph job.added
 graph_after graph (wrong line what) = graph
 graph_after graph (no_memory line) = graph
 
--- what a request asks for and adds is within the limits of a graph of n vertices
+-- what a request asks for and adds is within the limits of a graph of n vertices, and a bound is a cost
 abbrev pub IsRequestWithin : ℕ → Request → Type 0
-IsRequestWithin n (request.Asked job walks) =
-    IsQuestionWithin n (content_of job).question × IsAddedWithin n (content_of job).added
+IsRequestWithin n (request.Asked job extent) =
+    IsQuestionWithin n (content_of job).question
+    × IsAddedWithin n (content_of job).added
+    × IsExtentWithin extent
 IsRequestWithin n (request.Wrong line what) = ⊤
 IsRequestWithin n (request.NoMemory line) = ⊤
+
+-- what is so where a reply was given whole, and what where nothing was given nor done
+abbrev pub IsTold : Told → Type 0 → Type 0 → Type 0
+IsTold told.Whole p q = p
+IsTold told.Nothing p q = q
+
+-- the request is whole
+abbrev pub IsAsked : Request → Type 0
+IsAsked (request.Asked job extent) = ⊤
+IsAsked (request.Wrong line what) = ⊥
+IsAsked (request.NoMemory line) = ⊥
+
+abbrev pub IsAskedIn : Option Request → Type 0
+IsAskedIn None = ⊥
+IsAskedIn (Some request) = IsAsked request
 
 -- the network is that of the graph, and its arcs are counted
 pub record HoldsGraph (kind : Answer) (graph : Content) (session : Session) : Type 0 where

@@ -9,7 +9,8 @@ ghost use Rattle.session_answer.specs.Replies.{HoldsGraph};
 
 use crate::conversation::Conversation;
 use crate::graph_front::{Front, read_front, read_some};
-use crate::session::{Session, Terms};
+use crate::session::Session;
+use crate::terms::Terms;
 use dimacs_text::Ask;
 use job_answer::laws::answer_texts_by_lines_are_unique;
 use job_answer::{Asked, Fault, Lines};
@@ -72,7 +73,8 @@ fn answer_by<H: Threads + Wait + Clock + Sync, R: Read, W: Write, G: Gate + Sync
         (W.contents writer.old) (W.contents writer.new)) }
 {
     answer_texts_by_lines_are_unique();
-    let front = read_front(alloc, reader, buffer, terms.asked.limit)?;
+    let threads = terms.asked.settings.workers as usize;
+    let front = read_front(rt, alloc, reader, buffer, terms.asked.limit, threads)?;
     let (at, end, has_ended) = (front.at, front.end, front.has_ended);
     let mut conversation = open_conversation(rt, alloc, front, terms.asked)?;
     let session = &conversation.session;

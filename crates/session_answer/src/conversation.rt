@@ -1,19 +1,23 @@
 //! How are requests told from the bytes that come, and replied to?
 
-ghost use Rattle.std.specs.Prelude.{◌≡◌, ◌≤◌, ◌<◌, ◌++◌, ◌∷◌, [], ℕ, List, Option, length, IfNone, IfOk, IfSome, OnErr, OnOk};
+ghost use Rattle.std.specs.Prelude.{◌≡◌, ◌≤◌, ◌<◌, ◌++◌, ◌∷◌, [], ℕ, List, Option, length, ⊤, IfNone, IfOk, IfSome, OnErr, OnOk};
 ghost use Rattle.std.specs.Prelude.{slice_index};
 ghost use Rattle.dimacs_text.specs.Jobs.{Content, content_of, IsWithinLimits};
 ghost use Rattle.dimacs_text.specs.Lines.{lines};
 ghost use Rattle.dimacs_text.specs.reader.FastArc.{HasNoFeed};
-ghost use Rattle.job_answer.specs.Bytes.{WritesPrefix};
+ghost use Rattle.job_answer.specs.Bytes.{GivesPrefix, WritesPrefix};
 ghost use Rattle.job_answer.specs.Graphs.{AreGraphs};
 ghost use Rattle.job_answer.specs.Solves.{IsLinesAsked};
-ghost use Rattle.request_reader.specs.Reading.{outcomes_in};
+ghost use Rattle.answer_lines.specs.Lines.{refusal_text};
+ghost use Rattle.request_reader.specs.Reading.{outcomes_in, last_of, vertices_of, HasRequests, IsRefusedLast};
+ghost use Rattle.request_reader.specs.Requests.{Outcome, no_memory};
+ghost use Rattle.std.specs.Io.KnownBytes.{Appends};
 ghost use Rattle.session_answer.specs.Conversations.{AreAnswered, HasHeard, HasRepliedTo, IsKept, Replies};
 ghost use Rattle.session_answer.specs.Cuts.{AreCutAfterBytes, AreCutAfterLines, AreRepliesCut};
-ghost use Rattle.session_answer.specs.Replies.{AreReplies, HoldsGraph, IsRequestWithin};
+ghost use Rattle.session_answer.specs.Replies.{AreReplies, HoldsGraph, IsAskedIn, IsRequestWithin, IsTold, out_of_memory};
 
-use crate::session::{Session, Terms};
+use crate::session::{NO_MEMORY, Session, Told, refuse};
+use crate::terms::Terms;
 use dimacs_text::LineKind;
 use job_answer::Fault;
 use job_answer::laws::answer_texts_by_lines_are_unique;
@@ -153,8 +157,31 @@ impl Conversation {
     {
         answer_texts_by_lines_are_unique();
         let came = self.requests.read(line);
-        self.reply(rt, writer, came.cut, terms)?;
-        self.reply(rt, writer, came.found, terms)
+        let Told::Whole = self.reply(rt, writer, came.cut, terms)? else {
+            // What ends before the line asks nothing.
+            return Err(Fault::Memory);
+        };
+        let Told::Whole = self.reply(rt, writer, came.found, terms)? else {
+            return self.refuse_last(writer);
+        };
+        Ok(())
+    }
+
+    /// Refuses the last request, which was whole with the last line, for want of memory.
+    fn refuse_last<W: Write>(&mut self, writer: &mut W) -> Result<(), Fault>
+        ensures requests { (first : ℕ) (all : List (List ℕ)) (outcomes : List Outcome)
+            → IsRefusedLast self.old.requests first all outcomes
+            → HasRequests self.new.requests first all (outcomes ++ no_memory (last_of self.old.requests) ∷ []) }
+        ensures told { OnOk result (Appends (W.contents writer.old) (W.contents writer.new)
+            (refusal_text (last_of self.old.requests) out_of_memory)) }
+        ensures cut { OnErr result (GivesPrefix (W.contents writer.old) (W.contents writer.new)
+            (refusal_text (last_of self.old.requests) out_of_memory)) }
+        ensures vertices { vertices_of self.new.requests ≡ vertices_of self.old.requests }
+        ensures session { self.new.session ≡ self.old.session }
+        ensures unfinished { self.new.unfinished ≡ self.old.unfinished }
+    {
+        let line = self.requests.refuse();
+        refuse(self.alloc, writer, line, NO_MEMORY)
     }
 
     /// Replies to a request, if there is one.
@@ -164,13 +191,17 @@ impl Conversation {
         writer: &mut W,
         request: Option<Request>,
         terms: &Terms<'_, G>,
-    ) -> Result<(), Fault>
+    ) -> Result<Told, Fault>
         requires graphs { AreGraphs self.old.session.graphs }
         requires bound { IsLinesAsked terms.now.lines }
         requires within { IfSome request (IsRequestWithin self.old.session.graphs.network.n) }
         ensures replied { (graph : Content) → HoldsGraph terms.now.asked.now.answer graph self.old.session
-            → OnOk result (Replies terms.now.asked.now.answer terms.now.lines terms.now.asked.now.walks graph
-            (outcomes_in request) self.new.session (W.contents writer.old) (W.contents writer.new)) }
+            → IfOk result (λ told. IsTold told
+            (Replies terms.now.asked.now.answer terms.now.lines terms.now.asked.now.walks graph (outcomes_in request)
+            self.new.session (W.contents writer.old) (W.contents writer.new))
+            (Replies terms.now.asked.now.answer terms.now.lines terms.now.asked.now.walks graph [] self.new.session
+            (W.contents writer.old) (W.contents writer.new))) }
+        ensures asked { IfOk result (λ told. IsTold told ⊤ (IsAskedIn request)) }
         ensures cut { (graph : Content) → HoldsGraph terms.now.asked.now.answer graph self.old.session
             → OnErr result (WritesPrefix (AreReplies terms.now.asked.now.answer terms.now.lines terms.now.asked.now.walks
             graph (outcomes_in request)) (W.contents writer.old) (W.contents writer.new)) }
@@ -181,7 +212,7 @@ impl Conversation {
         ensures unfinished { self.new.unfinished ≡ self.old.unfinished }
     {
         match request {
-            None => Ok(()),
+            None => Ok(Told::Whole),
             Some(request) => self.session.reply(rt, writer, request, terms),
         }
     }

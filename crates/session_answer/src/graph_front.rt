@@ -12,8 +12,11 @@ ghost use Rattle.session_answer.specs.Cuts.{TakesSome};
 
 use dimacs_text::{Ask, Job, JobReader, LineKind, TextFault};
 use job_answer::Fault;
+use job_reader::read_arcs_from;
 use std::alloc::Global;
 use std::io::Read;
+use std::thread::Threads;
+use std::time::Clock;
 
 /// A graph, and what comes after it.
 #[derive(Drop)]
@@ -30,12 +33,15 @@ pub(crate) struct Front {
 }
 
 /// Reads a graph by single reads, and no more than `limit` bytes. A fault of the graph is found as soon as its line has
-/// come.
-pub(crate) fn read_front<R: Read>(
+/// come. While many arcs are missing several threads read in larger pieces, of bytes that surely are the graph's; there
+/// a fault is found a few pieces later.
+pub(crate) fn read_front<H: Threads + Clock + Sync, R: Read>(
+    rt: &H,
     alloc: Global,
     reader: &mut R,
     buffer: &mut [u8],
     limit: u64,
+    threads: usize,
 ) -> Result<Front, Fault>
     requires limit { limit ≤ 2 ^ 36 }
     requires room { 0 < length buffer.old }
@@ -58,6 +64,11 @@ pub(crate) fn read_front<R: Read>(
         let at = job.feed_graph(&buffer[..count])?;
         if is_over(&job, at, count) {
             return open_front(job, at, count);
+        }
+        let more = read_arcs_from(rt, alloc, reader, &mut job, left, threads)?;
+        left -= more;
+        if job.is_refused() {
+            return open_front(job, 0, 0);
         }
     }
     Err(Fault::TooLong)

@@ -12,6 +12,8 @@
 mod answering;
 mod conversation;
 mod graph_front;
+mod hints;
 mod session;
+mod terms;
 
 pub use answering::answer_session;

@@ -1,26 +1,30 @@
 //! The graph of a session, and the reply to one request.
 
-ghost use Rattle.std.specs.Prelude.{◌≡◌, ◌≤◌, ◌<◌, ◌++◌, true, false, IfOk, OnErr, OnOk, length};
+ghost use Rattle.std.specs.Prelude.{◌≡◌, ◌≤◌, ◌<◌, ◌++◌, true, false, [], Some, ⊤, IfOk, OnErr, OnOk, length};
 ghost use Rattle.std.specs.Io.KnownBytes.{Appends};
 ghost use Rattle.answer_lines.specs.Lines.{grown_text, refusal_text};
 ghost use Rattle.dimacs_text.specs.Jobs.{Content, added_of, content_of, question_of};
 ghost use Rattle.dimacs_text.specs.Jobs.{IsAddedWithin, IsQuestionWithin, IsWithinLimits};
 ghost use Rattle.job_answer.specs.Bytes.{GivesPrefix, Writes, WritesPrefix};
 ghost use Rattle.job_answer.specs.Graphs.{AreGraphs};
+ghost use Rattle.job_answer.specs.LineWalks.{has_walks};
 ghost use Rattle.job_answer.specs.Solves.{IsLinesAsked};
 ghost use Rattle.request_reader.specs.Reading.{outcome_of};
-ghost use Rattle.session_answer.specs.Replies.{HoldsGraph, IsAnswerIn, IsBodyIn, IsReplyFor, IsRequestWithin};
-ghost use Rattle.session_answer.specs.Replies.{added_line, graph_after, grown_by, lines_for, walks_or};
+ghost use Rattle.session_answer.specs.Replies.{HoldsGraph, IsAnswerIn, IsAsked, IsBodyIn, IsGrownReply, IsReplyFor};
+ghost use Rattle.session_answer.specs.Replies.{IsRequestWithin, IsTold};
+ghost use Rattle.session_answer.specs.Replies.{graph_after, grown_by, lines_by, lines_for, walks_or};
 
+use crate::hints::{FEW_WORDS, settings_for};
+use crate::terms::{Terms, has_walks, lines_for, walks_or};
 use answer_lines::{put_grown, put_ready, put_refusal};
 use dimacs_text::{Ask, Job};
 use job_answer::laws::answer_texts_by_lines_are_unique;
 use job_answer::{
-    Asked, BlockKind, Fault, Figures, Graphs, Lines, answer_question, graphs_for, is_unasked,
+    Answer, Asked, BlockKind, Fault, Figures, Graphs, answer_question, graphs_for, is_unasked,
     write_whole,
 };
 use least_costs::laws::networks_grow;
-use obim_engine::{Gate, MAX_CHUNK, Settings};
+use obim_engine::Gate;
 use request_reader::Request;
 use route_walks::{ArcRec, Memory};
 use std::alloc::Global;
@@ -30,19 +34,15 @@ use std::thread::Threads;
 use std::time::Clock;
 
 /// What is written where memory is refused.
-const NO_MEMORY: &str = "out of memory";
+pub(crate) const NO_MEMORY: &str = "out of memory";
 
-/// How many vertices and arcs one worker goes over, those of each source or pair, before another one would gain what its
-/// start costs: some 100 microseconds a request.
-const FEW: usize = 1 << 14;
-
-/// What all answers of a session have in common.
-#[derive(Drop)]
-pub(crate) struct Terms<'a, G> {
-    pub(crate) asked: &'a Asked,
-    /// Which lines the block of a source has.
-    pub(crate) lines: Lines,
-    pub(crate) gate: &'a G,
+/// What came of a request.
+#[derive(Clone, Copy, Debug, PartialEq, Eq)]
+pub(crate) enum Told {
+    /// Its reply was given whole.
+    Whole,
+    /// Memory was refused before the first byte of its reply: nothing was given, and nothing is done.
+    Nothing,
 }
 
 /// A graph that is kept: the network in which costs are least, grown by all arcs that were added.
@@ -77,39 +77,154 @@ impl Session {
         })
     }
 
-    /// Replies to a request: what it asks for, or in one line why it is refused.
+    /// Replies to a request: what it asks for, or in one line why it is refused. Where memory is refused for what it asks
+    /// before the first byte of the reply, nothing is done.
     pub(crate) fn reply<H: Threads + Wait + Clock + Sync, W: Write, G: Gate + Sync>(
         &mut self,
         rt: &H,
         writer: &mut W,
         request: Request,
         terms: &Terms<'_, G>,
-    ) -> Result<(), Fault>
+    ) -> Result<Told, Fault>
         requires graphs { AreGraphs self.old.graphs }
         requires bound { IsLinesAsked terms.now.lines }
         requires within { IsRequestWithin self.old.graphs.network.n request }
         ensures reply { (graph : Content) → HoldsGraph terms.now.asked.now.answer graph self.old
-            → OnOk result (Writes (IsReplyFor terms.now.asked.now.answer terms.now.lines terms.now.asked.now.walks graph
-            (outcome_of request)) (W.contents writer.old) (W.contents writer.new)) }
+            → IfOk result (λ told. IsTold told (Writes (IsReplyFor terms.now.asked.now.answer terms.now.lines
+            terms.now.asked.now.walks graph (outcome_of request)) (W.contents writer.old) (W.contents writer.new))
+            (Appends (W.contents writer.old) (W.contents writer.new) [])) }
+        ensures asked { IfOk result (λ told. IsTold told ⊤ (IsAsked request)) }
         ensures cut { (graph : Content) → HoldsGraph terms.now.asked.now.answer graph self.old
             → OnErr result (WritesPrefix (IsReplyFor terms.now.asked.now.answer terms.now.lines terms.now.asked.now.walks
             graph (outcome_of request)) (W.contents writer.old) (W.contents writer.new)) }
         // The graph has the arcs that were added from then on.
         ensures graph { (graph : Content) → HoldsGraph terms.now.asked.now.answer graph self.old
-            → OnOk result (HoldsGraph terms.now.asked.now.answer (graph_after graph (outcome_of request)) self.new) }
+            → IfOk result (λ told. IsTold told
+            (HoldsGraph terms.now.asked.now.answer (graph_after graph (outcome_of request)) self.new)
+            (HoldsGraph terms.now.asked.now.answer graph self.new)) }
         ensures graphs { OnOk result (AreGraphs self.new.graphs) }
         ensures vertices { OnOk result (self.new.graphs.network.n ≡ self.old.graphs.network.n) }
     {
         match request {
-            Request::Wrong { line, kind } => refuse(self.alloc, writer, line, kind.words()),
-            Request::NoMemory { line } => refuse(self.alloc, writer, line, NO_MEMORY),
-            Request::Asked { job, walks } => {
+            Request::Wrong { line, kind } => {
+                refuse(self.alloc, writer, line, kind.words())?;
+                Ok(Told::Whole)
+            }
+            Request::NoMemory { line } => {
+                refuse(self.alloc, writer, line, NO_MEMORY)?;
+                Ok(Told::Whole)
+            }
+            Request::Asked { job, extent } => {
                 let Job { ask, added, .. } = job;
-                self.grow(rt, writer, &added, terms)?;
-                let walks = walks_or(walks, terms.asked.walks);
-                self.answer(rt, writer, &ask, walks, terms)
+                let walks = walks_or(extent, terms.asked.walks);
+                let terms = terms.by(extent);
+                match added {
+                    None => self.reply_asked(rt, writer, &ask, walks, &terms),
+                    Some(arcs) => self.reply_grown(rt, writer, &arcs, &ask, walks, &terms),
+                }
             }
         }
+    }
+
+    /// Replies to what is asked. A short reply is made in memory first, so that nothing was given where memory is refused.
+    fn reply_asked<H: Threads + Wait + Clock + Sync, W: Write, G: Gate + Sync>(
+        &self,
+        rt: &H,
+        writer: &mut W,
+        ask: &Ask,
+        walks: bool,
+        terms: &Terms<'_, G>,
+    ) -> Result<Told, Fault>
+        requires graphs { AreGraphs self.now.graphs }
+        requires bound { IsLinesAsked terms.now.lines }
+        requires within { IsQuestionWithin self.now.graphs.network.n (question_of ask.now) }
+        ensures answered { (graph : Content) → HoldsGraph terms.now.asked.now.answer graph self.now
+            → IfOk result (λ told. IsTold told (Writes (IsAnswerIn terms.now.asked.now.answer terms.now.lines walks graph
+            (question_of ask.now)) (W.contents writer.old) (W.contents writer.new))
+            (Appends (W.contents writer.old) (W.contents writer.new) [])) }
+        ensures cut { (graph : Content) → HoldsGraph terms.now.asked.now.answer graph self.now
+            → OnErr result (WritesPrefix (IsAnswerIn terms.now.asked.now.answer terms.now.lines walks graph
+            (question_of ask.now)) (W.contents writer.old) (W.contents writer.new)) }
+    {
+        answer_texts_by_lines_are_unique();
+        if !self.is_short(ask, walks, terms) {
+            self.answer(rt, writer, ask, walks, terms)?;
+            return Ok(Told::Whole);
+        }
+        let text = match self.answer_text(rt, ask, walks, terms) {
+            Ok(text) => text,
+            Err(Fault::Spawn) => return Err(Fault::Spawn),
+            Err(_) => return Ok(Told::Nothing),
+        };
+        write_whole(writer, &text)?;
+        Ok(Told::Whole)
+    }
+
+    /// What is asked and how large the graph is, as a text.
+    fn answer_text<H: Threads + Wait + Clock + Sync, G: Gate + Sync>(
+        &self,
+        rt: &H,
+        ask: &Ask,
+        walks: bool,
+        terms: &Terms<'_, G>,
+    ) -> Result<Vec<u8>, Fault>
+        requires graphs { AreGraphs self.now.graphs }
+        requires bound { IsLinesAsked terms.now.lines }
+        requires within { IsQuestionWithin self.now.graphs.network.n (question_of ask.now) }
+        ensures { (graph : Content) → HoldsGraph terms.now.asked.now.answer graph self.now
+            → IfOk result (λ text. IsAnswerIn terms.now.asked.now.answer terms.now.lines walks graph
+            (question_of ask.now) text.items) }
+    {
+        let mut text = Vec::new(self.alloc);
+        self.answer(rt, &mut text, ask, walks, terms)?;
+        Ok(text)
+    }
+
+    /// Whether a reply is so short that it may be made in memory. No reply depends on it.
+    fn is_short<G>(&self, ask: &Ask, walks: bool, terms: &Terms<'_, G>) -> bool {
+        let n = self.graphs.network.n() as usize;
+        let (lines, has_walks) = match (terms.asked.answer, ask) {
+            (Answer::Components, _) | (_, Ask::Absent) => (n, false),
+            (_, Ask::Sources(sources)) => (sources.len().saturating_mul(n), has_walks(terms.lines)),
+            (_, Ask::Pairs(pairs)) => (pairs.len(), walks),
+        };
+        let words = if has_walks { n } else { 1 };
+        lines.saturating_mul(words) <= FEW_WORDS
+    }
+
+    /// Adds arcs to the graph, and replies how many they are and to what is asked.
+    fn reply_grown<H: Threads + Wait + Clock + Sync, W: Write, G: Gate + Sync>(
+        &mut self,
+        rt: &H,
+        writer: &mut W,
+        arcs: &[ArcRec],
+        ask: &Ask,
+        walks: bool,
+        terms: &Terms<'_, G>,
+    ) -> Result<Told, Fault>
+        requires graphs { AreGraphs self.old.graphs }
+        requires bound { IsLinesAsked terms.now.lines }
+        requires within { IsQuestionWithin self.old.graphs.network.n (question_of ask.now) }
+        requires added { IsAddedWithin self.old.graphs.network.n (Some arcs.now) }
+        ensures reply { (graph : Content) → HoldsGraph terms.now.asked.now.answer graph self.old
+            → IfOk result (λ told. IsTold told (Writes (IsGrownReply terms.now.asked.now.answer terms.now.lines walks graph
+            arcs.now (question_of ask.now)) (W.contents writer.old) (W.contents writer.new))
+            (Appends (W.contents writer.old) (W.contents writer.new) [])) }
+        ensures cut { (graph : Content) → HoldsGraph terms.now.asked.now.answer graph self.old
+            → OnErr result (WritesPrefix (IsGrownReply terms.now.asked.now.answer terms.now.lines walks graph arcs.now
+            (question_of ask.now)) (W.contents writer.old) (W.contents writer.new)) }
+        ensures graph { (graph : Content) → HoldsGraph terms.now.asked.now.answer graph self.old
+            → IfOk result (λ told. IsTold told
+            (HoldsGraph terms.now.asked.now.answer (grown_by graph (Some arcs.now)) self.new)
+            (HoldsGraph terms.now.asked.now.answer graph self.new)) }
+        ensures graphs { OnOk result (AreGraphs self.new.graphs) }
+        ensures vertices { OnOk result (self.new.graphs.network.n ≡ self.old.graphs.network.n) }
+    {
+        let Told::Whole = self.grow(rt, writer, arcs, terms)? else {
+            return Ok(Told::Nothing);
+        };
+        self.answer(rt, writer, ask, walks, terms)?;
+        Ok(Told::Whole)
     }
 
     /// Writes what is asked, and how large the graph is.
@@ -184,96 +299,61 @@ impl Session {
         ensures answer { result.answer ≡ asked.now.answer }
     {
         let size = self.arcs.saturating_add(self.graphs.network.n() as usize);
-        if size.saturating_mul(count_of(ask)) > FEW {
-            return *asked;
-        }
-        asked.with_settings(alone(asked.settings))
+        asked.with_settings(settings_for(asked.settings, size, ask))
     }
 
-    /// Adds arcs to the graph, if there are some to add, and writes how many they are.
+    /// Adds arcs to the graph, and writes how many they are. Where memory is refused, nothing is done.
     fn grow<H: Threads + Sync, W: Write, G>(
         &mut self,
         rt: &H,
         writer: &mut W,
-        added: &Option<Vec<ArcRec>>,
+        arcs: &[ArcRec],
         terms: &Terms<'_, G>,
-    ) -> Result<(), Fault>
+    ) -> Result<Told, Fault>
         requires graphs { AreGraphs self.old.graphs }
-        requires within { IsAddedWithin self.old.graphs.network.n (added_of added.now) }
+        requires within { IsAddedWithin self.old.graphs.network.n (Some arcs.now) }
         ensures graph { (graph : Content) → HoldsGraph terms.now.asked.now.answer graph self.old
-            → OnOk result (HoldsGraph terms.now.asked.now.answer (grown_by graph (added_of added.now)) self.new) }
+            → IfOk result (λ told. IsTold told
+            (HoldsGraph terms.now.asked.now.answer (grown_by graph (Some arcs.now)) self.new)
+            (HoldsGraph terms.now.asked.now.answer graph self.new)) }
         ensures graphs { OnOk result (AreGraphs self.new.graphs) }
         ensures vertices { OnOk result (self.new.graphs.network.n ≡ self.old.graphs.network.n) }
-        ensures told { OnOk result (Appends (W.contents writer.old) (W.contents writer.new)
-            (added_line (added_of added.now))) }
+        ensures told { IfOk result (λ told. IsTold told
+            (Appends (W.contents writer.old) (W.contents writer.new) (grown_text (length arcs.now)))
+            (Appends (W.contents writer.old) (W.contents writer.new) [])) }
         ensures cut { OnErr result (GivesPrefix (W.contents writer.old) (W.contents writer.new)
-            (added_line (added_of added.now))) }
+            (grown_text (length arcs.now))) }
     {
         networks_grow();
-        let Some(arcs) = added else {
-            return Ok(());
-        };
         // The line is made first: once the graph has grown no memory is asked for up to the first byte.
         let mut line = Vec::new(self.alloc);
-        put_grown(&mut line, arcs.len() as u32)?;
+        let Ok(()) = put_grown(&mut line, arcs.len() as u32) else {
+            return Ok(Told::Nothing);
+        };
         let Some(count) = self.arcs.checked_add(arcs.len()) else {
-            return Err(Fault::Memory);
+            return Ok(Told::Nothing);
         };
         let threads = terms.asked.settings.workers as usize;
-        let network = match self.graphs.network.with_arcs(rt, self.alloc, arcs, threads) {
-            Ok(network) => network,
-            Err(_) => return Err(Fault::Memory),
+        let Ok(network) = self.graphs.network.with_arcs(rt, self.alloc, arcs, threads) else {
+            return Ok(Told::Nothing);
         };
         self.graphs = Graphs {
             network,
             grown: None,
         };
         self.arcs = count;
-        write_whole(writer, &line)
-    }
-}
-
-/// For how many sources a graph is solved at most.
-fn count_of(ask: &Ask) -> usize {
-    match ask {
-        Ask::Absent => 1,
-        Ask::Sources(sources) => sources.len(),
-        Ask::Pairs(pairs) => pairs.len(),
-    }
-}
-
-/// The settings with one worker. It shares nothing, and its chunks take the same room whatever their size is.
-fn alone(settings: Settings) -> Settings {
-    Settings {
-        workers: 1,
-        buckets: settings.buckets,
-        chunk: MAX_CHUNK,
-    }
-}
-
-/// Whether walks are written: where the request asks for them, or the session does for all.
-fn walks_or(walks: bool, all_walks: bool) -> bool
-    ensures { result ≡ walks_or walks all_walks }
-{
-    match walks {
-        true => true,
-        false => all_walks,
-    }
-}
-
-/// Which lines the answer to a question has.
-fn lines_for(lines: Lines, walks: bool, ask: &Ask) -> Lines
-    ensures { result ≡ lines_for lines walks (question_of ask.now) }
-{
-    match ask {
-        Ask::Absent => Lines::Each { walks: false },
-        Ask::Sources(_) => lines,
-        Ask::Pairs(_) => Lines::Each { walks },
+        write_whole(writer, &line)?;
+        Ok(Told::Whole)
     }
 }
 
 /// Writes the line that refuses a request.
-fn refuse<W: Write>(alloc: Global, writer: &mut W, line: u64, words: &str) -> Result<(), Fault>
+pub(crate) fn refuse<W: Write>(
+    alloc: Global,
+    writer: &mut W,
+    line: u64,
+    words: &str,
+) -> Result<(), Fault>
     ensures told { OnOk result (Appends (W.contents writer.old) (W.contents writer.new) (refusal_text line words.now)) }
     ensures cut { OnErr result (GivesPrefix (W.contents writer.old) (W.contents writer.new)
         (refusal_text line words.now)) }

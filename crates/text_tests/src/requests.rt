@@ -9,39 +9,108 @@ use std::test::Fail;
 /// request lacks lines.
 type Row = (&'static [&'static str], &'static str, Option<u64>);
 
-const ROWS: [Row; 24] = [
+const ROWS: [Row; 38] = [
     // Sections of each kind, and the empty one.
     (
         &["p aux sp ss 2", "s 1", "s 2"],
-        "Sources([0, 1]) None false\n",
+        "Sources([0, 1]) None Plain\n",
         None,
     ),
     (
         &["p aux sp p2p 1", "q 1 2"],
-        "Pairs([(0, 1)]) None false\n",
+        "Pairs([(0, 1)]) None Plain\n",
         None,
     ),
     (
         &["p aux sp walk 1", "q 1 2"],
-        "Pairs([(0, 1)]) None true\n",
+        "Pairs([(0, 1)]) None Walks\n",
         None,
     ),
     (
         &["p aux sp add 1", "a 1 2 4"],
-        "Absent Some(1) false\n",
+        "Absent Some(1) Plain\n",
         None,
     ),
-    (&["p aux sp p2p 0"], "Pairs([]) None false\n", None),
+    (&["p aux sp p2p 0"], "Pairs([]) None Plain\n", None),
     // Blanks, a carriage return, comments and blank lines.
     (
         &[" p\taux  sp walk 1\r", "c x", "", "q 1 2"],
-        "Pairs([(0, 1)]) None true\n",
+        "Pairs([(0, 1)]) None Walks\n",
         None,
     ),
+    // Sources within a bound, from the least to the greatest.
+    (
+        &["p aux sp within 7 2", "s 2", "s 1"],
+        "Sources([1, 0]) None Within { bound: 7 }\n",
+        None,
+    ),
+    (
+        &[" p\taux  sp within 0 1\r", "c x", "", "s 2"],
+        "Sources([1]) None Within { bound: 0 }\n",
+        None,
+    ),
+    (
+        &["p aux sp within 18446744073709551614 0"],
+        "Sources([]) None Within { bound: 18446744073709551614 }\n",
+        None,
+    ),
+    // The bound is that of one request alone.
+    (
+        &["p aux sp within 3 1", "s 1", "p aux sp ss 1", "s 1"],
+        "Sources([0]) None Within { bound: 3 }\nSources([0]) None Plain\n",
+        None,
+    ),
+    (
+        &["p aux sp within 3 2", "s 1", "p aux sp within 4 0"],
+        "e 4 too few lines\nSources([]) None Within { bound: 4 }\n",
+        None,
+    ),
+    (
+        &["p aux sp within 3 1", "q 1 1", "p aux sp ss 0"],
+        "e 3 misplaced line\nSources([]) None Plain\n",
+        None,
+    ),
+    // A head that is wrong: the number of fields first, then what is no number, then what is out of range.
+    (
+        &["p aux sp within 7", "p aux sp ss 0"],
+        "e 2 wrong number of fields\nSources([]) None Plain\n",
+        None,
+    ),
+    (
+        &["p aux sp within x 1 1", "p aux sp ss 0"],
+        "e 2 wrong number of fields\nSources([]) None Plain\n",
+        None,
+    ),
+    (
+        &["p aux sp within -1 1", "p aux sp ss 0"],
+        "e 2 not a number\nSources([]) None Plain\n",
+        None,
+    ),
+    (
+        &["p aux sp within 18446744073709551615 x", "p aux sp ss 0"],
+        "e 2 not a number\nSources([]) None Plain\n",
+        None,
+    ),
+    (
+        &["p aux sp within 18446744073709551615 1", "p aux sp ss 0"],
+        "e 2 out of range\nSources([]) None Plain\n",
+        None,
+    ),
+    (
+        &["p aux sp within 18446744073709551616 1", "p aux sp ss 0"],
+        "e 2 out of range\nSources([]) None Plain\n",
+        None,
+    ),
+    (
+        &["p aux sp within 7 1048577", "p aux sp ss 0"],
+        "e 2 out of range\nSources([]) None Plain\n",
+        None,
+    ),
+    (&["p aux sp withins 7 0"], "e 2 unknown line\n", None),
     // Walks are wanted of one request alone.
     (
         &["p aux sp walk 1", "q 1 2", "p aux sp p2p 1", "q 2 1"],
-        "Pairs([(0, 1)]) None true\nPairs([(1, 0)]) None false\n",
+        "Pairs([(0, 1)]) None Walks\nPairs([(1, 0)]) None Plain\n",
         None,
     ),
     // Nothing more comes, or nothing that says something.
@@ -56,19 +125,19 @@ const ROWS: [Row; 24] = [
             "p aux sp p2p 1",
             "q 1 2",
         ],
-        "Pairs([(0, 0)]) None false\ne 4 misplaced line\n",
+        "Pairs([(0, 0)]) None Plain\ne 4 misplaced line\n",
         None,
     ),
     (
         &["a 1 1 0", "p aux sp p2p 1", "q 1 2", "p aux sp ss 1", "s 1"],
-        "e 2 too many lines\nSources([0]) None false\n",
+        "e 2 too many lines\nSources([0]) None Plain\n",
         None,
     ),
     (&["x", "p aux sp ss 1", "s 1"], "e 2 unknown line\n", None),
     // A request that the next section line cuts off.
     (
         &["p aux sp ss 2", "s 1", "p aux sp p2p 1", "q 1 1"],
-        "e 4 too few lines\nPairs([(0, 0)]) None false\n",
+        "e 4 too few lines\nPairs([(0, 0)]) None Plain\n",
         None,
     ),
     (
@@ -78,18 +147,18 @@ const ROWS: [Row; 24] = [
     ),
     (
         &["p aux sp walk 2", "q 1 1", "p aux sp walk 0"],
-        "e 4 too few lines\nPairs([]) None true\n",
+        "e 4 too few lines\nPairs([]) None Walks\n",
         None,
     ),
     // A section line that is wrong is one, and that of an unknown section is not.
     (
         &["p aux sp ss", "p aux sp ss 0"],
-        "e 2 wrong number of fields\nSources([]) None false\n",
+        "e 2 wrong number of fields\nSources([]) None Plain\n",
         None,
     ),
     (
         &["p aux sp walk 1 2", "p aux sp ss 0"],
-        "e 2 wrong number of fields\nSources([]) None false\n",
+        "e 2 wrong number of fields\nSources([]) None Plain\n",
         None,
     ),
     (
@@ -105,7 +174,7 @@ const ROWS: [Row; 24] = [
     // A vertex that the graph doesn't have; what follows is passed by.
     (
         &["p aux sp ss 2", "s 3", "s 1", "s 1", "p aux sp ss 1", "s 2"],
-        "e 3 out of range\nSources([1]) None false\n",
+        "e 3 out of range\nSources([1]) None Plain\n",
         None,
     ),
     // A second graph.
@@ -124,9 +193,9 @@ const ROWS: [Row; 24] = [
 fn put_told(alloc: Global, told: &mut String, request: Option<Request>) -> Result<(), AllocError> {
     let line = match request {
         None => return Ok(()),
-        Some(Request::Asked { job, walks }) => {
+        Some(Request::Asked { job, extent }) => {
             let added = job.added.as_ref().map(|arcs| arcs.len());
-            format!(in alloc; "{:?} {added:?} {walks}\n", job.ask)?
+            format!(in alloc; "{:?} {added:?} {extent:?}\n", job.ask)?
         }
         Some(Request::Wrong { line, kind }) => format!(in alloc; "e {line} {kind}\n")?,
         Some(Request::NoMemory { line }) => format!(in alloc; "e {line} out of memory\n")?,

@@ -4,10 +4,10 @@ import threading
 from typing import Hashable, NamedTuple
 
 from ._errors import Ended, NoPath, Refused
-from ._numbers import INF, MOST_VERTICES, MOST_WEIGHT, as_whole, labels_in, numpy, rows_for, rows_text
+from ._numbers import INF, MOST_VERTICES, MOST_WEIGHT, as_bound, as_whole, labels_in, lines_in, numpy, rows_for, rows_text
 from ._program import Program
 
-_HEADS = {"sources": "ss", "pairs": "p2p", "walks": "walk", "arcs": "add"}
+_HEADS = {"sources": "ss", "within": "within", "pairs": "p2p", "walks": "walk", "arcs": "add"}
 
 # The options of the program that answers a kind.
 _KINDS = {
@@ -162,6 +162,16 @@ class Graph:
         """As `distances`, the fewest arcs of a walk in place of the least cost."""
         return self._labels("levels", sources)
 
+    def within(self, source, cost):
+        """The vertices that cost at most `cost` from the source, in rising order, and the cost of each: two arrays.
+
+        The source is solved no further, so a small bound in a large graph takes little. Arrays are as in `distances`;
+        vertices with names come as a list of these.
+        """
+        request = _section("within", [self._place(source)], 1, as_bound(cost))
+        vertices, costs = lines_in(self._open("distances").ask(request))
+        return vertices if self._names is None else [self._names[place] for place in vertices], costs
+
     def components(self):
         """For each vertex the least vertex that arcs join to it, whichever way they point: a row."""
         program = self._open("components")
@@ -275,10 +285,10 @@ def _from_1(tails, heads, weights):
     return [[tail + 1 for tail in tails], [head + 1 for head in heads], weights]
 
 
-def _section(kind, places, width):
-    """A section whose lines have so many vertices each."""
+def _section(kind, places, width, *bound):
+    """A section whose lines have so many vertices each, perhaps with a bound in its head."""
     letter = "s" if width == 1 else "q"
-    lines = [f"p aux sp {_HEADS[kind]} {len(places) // width}\n"]
+    lines = [" ".join(map(str, ("p aux sp", _HEADS[kind], *bound, len(places) // width))) + "\n"]
     for first in range(0, len(places), width):
         lines.append(letter + "".join(f" {place + 1}" for place in places[first : first + width]) + "\n")
     return "".join(lines).encode("ascii")

@@ -40,6 +40,14 @@ def _whole(value):
         return None
 
 
+def as_bound(cost):
+    """A cost as a whole number; ValueError if it is none."""
+    number = _whole(cost)
+    if number is None or not 0 <= number < INF:
+        raise ValueError(f"the cost is {cost!r}, which is no whole number from 0 to {INF - 1}")
+    return number
+
+
 def _as_numpy(name, values, most):
     if not hasattr(values, "__len__"):
         values = list(values)
@@ -100,6 +108,16 @@ def rows_for(count, n):
     if numpy is not None:
         return numpy.empty((count, n), dtype=numpy.uint64)
     return [array("Q", bytes(8 * n)) for _ in range(count)]
+
+
+def lines_in(body):
+    """The vertices and costs in the block of a source, whose vertices count from 1."""
+    lines = body[body.index(b"\n") + 1 :]
+    if numpy is not None:
+        numbers = numpy.fromstring(lines.translate(None, b"d"), dtype=numpy.uint64, sep=" ")
+        return numbers[0::2] - numpy.uint64(1), numbers[1::2].copy()
+    words = lines.split()
+    return array("Q", (int(word) - 1 for word in words[1::3])), array("Q", map(int, words[2::3]))
 
 
 def labels_in(body):

@@ -1,6 +1,6 @@
 -- What the reader keeps of a line, as the record that the line is.
 use Rattle.std.specs.Prelude.{◌≡◌, slice_index, slice_index_or, true, map, drop, length, ℕ, ◌<◌, ◌≤◌}
-use Rattle.std.specs.Prelude.{List, Option, Some, None, Result, Ok, Err}
+use Rattle.std.specs.Prelude.{List, [], ◌∷◌, Option, Some, None, Result, Ok, Err}
 use Rattle.std.specs.Borrow.{Bor}
 use Rattle.dimacs_text.specs.declared.form.Entry.{Entry}
 use Rattle.dimacs_text.specs.declared.form.Limit.{Limit}
@@ -28,6 +28,11 @@ said_by (Err kind) = Err kind
 abbrev pub entry_said : Result Entry LineKind → Reading
 entry_said (Ok e) = Ok (Some (record_of e))
 entry_said (Err kind) = Err kind
+
+-- two numbers that were read, as the numbers of a line
+abbrev pub two_said : Result (ℕ × ℕ) LineKind → Result (List ℕ) LineKind
+two_said (Ok two) = Ok (two.0 ∷ two.1 ∷ [])
+two_said (Err kind) = Err kind
 
 abbrev pub IsWithin : Limit → ℕ → Type 0
 IsWithin limit n = (limit.least ≤ n) × (n ≤ limit.most)

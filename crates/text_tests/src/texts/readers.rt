@@ -1,7 +1,7 @@
 //! Jobs that come from a reader: what its text gives, what a watch is told, and what is left.
 
-use dimacs_text::{Explanation, LineKind};
-use job_reader::{ReadFault, ReadWatch, read_job_from};
+use dimacs_text::{Explanation, JobReader, LineKind};
+use job_reader::{ReadFault, ReadWatch, read_arcs_from, read_job_from};
 use route_walks::ArcRec;
 use std::alloc::Global;
 use std::process::Abort;
@@ -87,6 +87,29 @@ fn readers_without_a_job(rt: HostRuntime) {
         assert!(rt; refused.err() == Some(want));
         assert!(rt; text.len() == left && told.faults == faults);
     }
+}
+
+// Of each row a front of a graph, the limit, how many threads there are, and how many of the next 16 bytes they read.
+const READ_ON: [(&[u8], usize, usize, usize); 7] = [
+    (b"p sp 2 200000\n", 100, 4, 16),
+    (b"p sp 2 200000\n", 10, 4, 10),
+    (b"p sp 2 200000\n", 0, 4, 0),
+    (b"p sp 2 200000\n", 100, 1, 0),
+    (b"p sp 2 131073\n", 100, 2, 16),
+    (b"p sp 2 131072\n", 100, 2, 0),
+    (b"p sp 2 200000\nx\n", 100, 4, 0),
+];
+
+#[test]
+fn several_threads_read_on_where_many_arcs_are_missing(rt: HostRuntime) -> Result<(), Fail> {
+    for (front, limit, threads, want) in READ_ON {
+        let mut job = JobReader::new(rt.alloc());
+        job.feed(front)?;
+        let mut text = b"a 1 2 7\na 2 1 7\n".as_slice();
+        let count = read_arcs_from(&rt, rt.alloc(), &mut text, &mut job, limit, threads)?;
+        assert!(rt; count == want && text.len() == 16 - want.min(16));
+    }
+    Ok(())
 }
 
 const MESSAGES: [(ReadFault, &str); 4] = [

@@ -16,7 +16,7 @@ use dimacs_text::{
     ExplainedFault, Job, JobReader, LineKind, Parts, ReadAhead, RequestDraft, TextFault, read_job,
     read_side_by_side,
 };
-use job_reader::{ReadFault, read_job_from};
+use job_reader::{ReadFault, read_arcs_from, read_job_from};
 use request_reader::{Request, RequestReader};
 use route_walks::{ArcRec, INF, Memory, refusable};
 use std::alloc::Global;
@@ -320,6 +320,31 @@ fn of_job_reader_finish_graph(rt: HostRuntime) -> Result<(), Fail> {
 #[test]
 fn of_read_job_from(rt: HostRuntime) -> Result<(), Fail> {
     expect_one_arc(&rt, rt.alloc(), ONE_ARC, Read::Reader)
+}
+
+// What was read of a graph of many arcs, of which one comes, and how many bytes of it several threads read.
+fn read_on<H: Threads + Clock + Sync>(
+    rt: &H,
+    alloc: Global,
+) -> Result<(JobReader, usize), ReadFault> {
+    let (mut job, mut reader) = (JobReader::new(alloc), b"a 1 2 7\n".as_slice());
+    job.feed(b"p sp 2 200000\n")?;
+    let count = read_arcs_from(rt, alloc, &mut reader, &mut job, 1000, 2)?;
+    Ok((job, count))
+}
+
+#[test]
+fn of_read_arcs_from(rt: HostRuntime) -> Result<(), Fail> {
+    let alloc = rt.alloc();
+    let (job, count) = match refusable!(alloc, read_on(&rt, alloc)) {
+        Ok(read) => read,
+        Err(fault) => {
+            assert!(rt; fault == ReadFault::Memory);
+            read_on(&rt, alloc)?
+        }
+    };
+    assert!(rt; count == 8 && job.arcs_so_far() == Some((1, 200000)));
+    Ok(())
 }
 
 #[test]

@@ -1,10 +1,9 @@
-use Rattle.std.proofs.Common.{◌≡◌, ◌-◌, take, arith, subst}
-use Rattle.std.proofs.lemmas.List.{length-take-le, take_all}
-use Rattle.dimacs_text.specs.Reading.{Reads}
+use Rattle.std.proofs.Common.{◌-◌, take, arith}
+use Rattle.std.proofs.lemmas.List.{length-take-le}
 use Rattle.std.proofs.KnownBytes.{Keeps-refl}
 use Rattle.session_answer.proofs.CutLemmas.{on_err}
-use Rattle.session_answer.proofs.CutSessions.{fed_more, fed_some}
-use Rattle.session_answer.proofs.FrontLemmas.{by_text, ended_has, fed_all, open_has, open_within, IsFed}
+use Rattle.session_answer.proofs.CutSessions.{fed_more, fed_some, fed_then}
+use Rattle.session_answer.proofs.FrontLemmas.{by_text, ended_has, fed_by_threads, fed_came, open_has, open_within, whole_has}
 use Rattle.session_answer.proofs.graph_front.read_front.Goals as goal
 
 pub returns-then-count-eq0-clause-front : goal.returns-then-count-eq0-clause-front
@@ -43,24 +42,72 @@ returns-then-is_over-clause-limits g c =
 
 pub loop-preserved : goal.loop-preserved
 loop-preserved g c =
-    let buffer = c.read_some.new.buffer in
-    let count = c.in_ok-count.count in
-    let came = length-take-le count buffer c.in_ok-count.ensures.count in
-    let all : take c.in_ok-at.at (take count buffer) ≡ take count buffer =
-    take_all c.in_ok-at.at (take count buffer) (omega (arith, came, c.is_over.ensures c.if-is_over.false)) in
     record {
       fed =
-          subst
-          (λ k.
-          IsFed c.feed_graph.new.self c.args.limit (c.loop.left - k) (g.R.Read.remaining c.args.reader.now)
-          (g.R.Read.remaining c.read_some.new.reader)) came
-          (fed_all c.loop.job c.feed_graph.new.self c.args.limit c.loop.left (g.R.Read.remaining c.args.reader.now)
-          (g.R.Read.remaining c.loop.reader) (g.R.Read.remaining c.read_some.new.reader) (take count buffer)
-          c.requires.limit c.loop.invariant.fed c.in_ok-count.ensures.bytes.0
-          (subst (λ bytes. Reads c.loop.job c.feed_graph.new.self bytes) all c.in_ok-at.ensures.reads)
-          (omega (arith, came, c.if-count-left.false)));
+          fed_by_threads c.feed_graph.new.self c.read_arcs_from.new.job c.args.limit (c.loop.left - c.in_ok-count.count)
+          c.in_ok-more.more (g.R.Read.remaining c.args.reader.now) (g.R.Read.remaining c.read_some.new.reader)
+          (g.R.Read.remaining c.read_arcs_from.new.reader) c.requires.limit
+          (fed_came c.loop.job c.feed_graph.new.self c.args.limit c.loop.left (g.R.Read.remaining c.args.reader.now)
+          (g.R.Read.remaining c.loop.reader) (g.R.Read.remaining c.read_some.new.reader) c.read_some.new.buffer
+          c.in_ok-at.at c.in_ok-count.count c.requires.limit c.loop.invariant.fed c.in_ok-count.ensures.bytes.0
+          c.in_ok-count.ensures.count (omega (arith, c.if-count-left.false))
+          c.in_ok-at.ensures.reads (c.is_over.ensures c.if-is_over.false))
+          c.in_ok-more.ensures.feeds;
       room = grind (arith, c.loop.invariant.room, c.read_some.auto.buffer);
     }
+
+pub returns-then-is_refused-clause-front : goal.returns-then-is_refused-clause-front
+returns-then-is_refused-clause-front g c =
+    whole_has c.read_arcs_from.new.job c.args.limit (c.loop.left - c.in_ok-count.count - c.in_ok-more.more)
+    (g.R.Read.remaining c.args.reader.now)
+    (g.R.Read.remaining c.read_arcs_from.new.reader) c.read_some.new.buffer c.open_front-then-is_refused.result
+    (fed_by_threads c.feed_graph.new.self c.read_arcs_from.new.job c.args.limit (c.loop.left - c.in_ok-count.count)
+    c.in_ok-more.more (g.R.Read.remaining c.args.reader.now) (g.R.Read.remaining c.read_some.new.reader)
+    (g.R.Read.remaining c.read_arcs_from.new.reader) c.requires.limit
+    (fed_came c.loop.job c.feed_graph.new.self c.args.limit c.loop.left (g.R.Read.remaining c.args.reader.now)
+    (g.R.Read.remaining c.loop.reader) (g.R.Read.remaining c.read_some.new.reader) c.read_some.new.buffer
+    c.in_ok-at.at c.in_ok-count.count c.requires.limit c.loop.invariant.fed c.in_ok-count.ensures.bytes.0
+    c.in_ok-count.ensures.count (omega (arith, c.if-count-left.false))
+    c.in_ok-at.ensures.reads (c.is_over.ensures c.if-is_over.false))
+    c.in_ok-more.ensures.feeds)
+    c.open_front-then-is_refused.ensures.places c.open_front-then-is_refused.ensures.graph c.open_front-then-is_refused.ensures.next
+    c.open_front-then-is_refused.ensures.joined
+
+pub returns-then-is_refused-clause-limits : goal.returns-then-is_refused-clause-limits
+returns-then-is_refused-clause-limits g c =
+    by_text c.read_arcs_from.new.job c.args.limit (c.loop.left - c.in_ok-count.count - c.in_ok-more.more)
+    (g.R.Read.remaining c.args.reader.now)
+    (g.R.Read.remaining c.read_arcs_from.new.reader) c.open_front-then-is_refused.result
+    (fed_by_threads c.feed_graph.new.self c.read_arcs_from.new.job c.args.limit (c.loop.left - c.in_ok-count.count)
+    c.in_ok-more.more (g.R.Read.remaining c.args.reader.now) (g.R.Read.remaining c.read_some.new.reader)
+    (g.R.Read.remaining c.read_arcs_from.new.reader) c.requires.limit
+    (fed_came c.loop.job c.feed_graph.new.self c.args.limit c.loop.left (g.R.Read.remaining c.args.reader.now)
+    (g.R.Read.remaining c.loop.reader) (g.R.Read.remaining c.read_some.new.reader) c.read_some.new.buffer
+    c.in_ok-at.at c.in_ok-count.count c.requires.limit c.loop.invariant.fed c.in_ok-count.ensures.bytes.0
+    c.in_ok-count.ensures.count (omega (arith, c.if-count-left.false))
+    c.in_ok-at.ensures.reads (c.is_over.ensures c.if-is_over.false))
+    c.in_ok-more.ensures.feeds)
+    c.open_front-then-is_refused.ensures.limits
+
+pub returns-in_err-more-clause-cut : goal.returns-in_err-more-clause-cut
+returns-in_err-more-clause-cut g c =
+    on_err
+    (fed_then c.loop.job c.args.limit c.loop.left (g.R.Read.remaining c.args.reader.now)
+    (g.R.Read.remaining c.loop.reader) (g.R.Read.remaining c.read_some.new.reader)
+    (g.R.Read.remaining c.read_arcs_from.new.reader)
+    (take c.in_ok-count.count c.read_some.new.buffer) c.in_err-more.ensures.short.bytes c.loop.invariant.fed
+    c.in_ok-count.ensures.bytes.0 c.in_err-more.ensures.short.taken)
+    c.from_residual-in_err-more.result
+
+pub returns-then-is_refused-clause-cut : goal.returns-then-is_refused-clause-cut
+returns-then-is_refused-clause-cut g c =
+    on_err
+    (fed_then c.loop.job c.args.limit c.loop.left (g.R.Read.remaining c.args.reader.now)
+    (g.R.Read.remaining c.loop.reader) (g.R.Read.remaining c.read_some.new.reader)
+    (g.R.Read.remaining c.read_arcs_from.new.reader)
+    (take c.in_ok-count.count c.read_some.new.buffer) c.in_ok-more.ensures.feeds.text c.loop.invariant.fed
+    c.in_ok-count.ensures.bytes.0 c.in_ok-more.ensures.feeds.taken)
+    c.open_front-then-is_refused.result
 
 pub returns-in_err-count-clause-cut : goal.returns-in_err-count-clause-cut
 returns-in_err-count-clause-cut g c =

@@ -10,6 +10,11 @@ returns-clause-requests c first all outcomes h =
     (append_assoc outcomes (outcomes_in c.end-cut.result) (outcomes_in c.take-found.result))
     (c.take-found.ensures.requests first all (outcomes ++ outcomes_in c.end-cut.result) ended)
 
+pub returns-clause-refusable : goal.returns-clause-refusable
+returns-clause-refusable c first all outcomes h =
+    let ended = c.end-cut.ensures.requests first all c.args.line.now outcomes h c.begins_section-begins.ensures in
+    c.take-found.ensures.refusable first all (outcomes ++ outcomes_in c.end-cut.result) ended
+
 pub returns-clause-within : goal.returns-clause-within
 returns-clause-within c first all outcomes h few =
     let ended = c.end-cut.ensures.requests first all c.args.line.now outcomes h c.begins_section-begins.ensures in

@@ -1,11 +1,11 @@
 use Rattle.std.proofs.Common.{◌≡◌, ◌&&◌, ◌||◌, false, List, ℕ, [], ◌∷◌, ◌++◌, append-nil, ap, subst, sym, ◌∙◌}
 use Rattle.dimacs_text.specs.Jobs.{content_of}
-use Rattle.dimacs_text.specs.AfterGraph.{IsFaultAfter, IsWhole}
+use Rattle.dimacs_text.specs.AfterGraph.{first_extent, IsExtentWithin, IsFaultAfter, IsWhole}
 use Rattle.dimacs_text.specs.RequestDrafts.{HasReadAfter}
-use Rattle.dimacs_text.proofs.Facts.{request_within}
+use Rattle.dimacs_text.proofs.Facts.{extent-more, extents_within, request_within}
 use Rattle.request_reader.specs.Requests.{whole}
 use Rattle.request_reader.specs.Reading.{IsPassing, IsReading}
-use Rattle.request_reader.proofs.States.{as_passing, as_reading, from_fresh, from_passing, from_reading}
+use Rattle.request_reader.proofs.States.{as_passing, as_reading, from_fresh, from_passing, from_reading, refused_last}
 use Rattle.request_reader.proofs.Steps.{completes, goes_on, passes_by, starves, turns_wrong}
 use Rattle.request_reader.proofs.request_reader.RequestReader.take.Goals as goal
 
@@ -28,7 +28,7 @@ pub returns-in-Err-Memory-clause-requests : goal.returns-in-Err-Memory-clause-re
 returns-in-Err-Memory-clause-requests c first all outcomes h =
     let old = c.args.self.now in
     let line = c.args.line.now in
-    starves old.vertices old.draft old.has_section (old.has_section || c.args.begins) old.walks old.line
+    starves old.vertices old.draft old.has_section (old.has_section || c.args.begins) old.extent old.line
     c.saturating_add-self.result first all line outcomes
     (as_reading old.is_refused old first all (line ∷ []) outcomes c.if-self.false h)
     (subst (λ x. (old.has_section && x) ≡ false) c.requires.begins c.requires.first)
@@ -38,7 +38,7 @@ pub returns-in-Err-Line-clause-requests : goal.returns-in-Err-Line-clause-reques
 returns-in-Err-Line-clause-requests c first all outcomes h =
     let old = c.args.self.now in
     let line = c.args.line.now in
-    turns_wrong old.vertices old.draft old.has_section (old.has_section || c.args.begins) old.walks old.line
+    turns_wrong old.vertices old.draft old.has_section (old.has_section || c.args.begins) old.extent old.line
     c.saturating_add-self.result first all line outcomes c.in-Err-Line.line c.in-Err-Line.kind
     (as_reading old.is_refused old first all (line ∷ []) outcomes c.if-self.false h)
     (λ ls read.
@@ -61,22 +61,42 @@ returns-in-Ok-clause-requests c first all outcomes h =
     let line = c.args.line.now in
     let fresh = c.begin-draft.new.self in
     let b = c.begin-draft.ensures in
-    let walks = old.walks || c.begins_walks.result in
     from_fresh fresh old.vertices c.saturating_add-self.result first (all ++ line ∷ []) []
-    (outcomes ++ whole (content_of c.finish.result) walks ∷ []) b.refused b.section b.walks b.vertices b.line
-    (completes old.vertices old.draft c.read.new.self fresh.draft old.has_section old.walks walks old.line
+    (outcomes ++ whole (content_of c.finish.result) c.or-self.result ∷ []) b.refused b.section b.extent b.vertices b.line
+    (completes old.vertices old.draft c.read.new.self fresh.draft old.has_section old.extent c.or-self.result old.line
     c.saturating_add-self.result first all line outcomes (content_of c.finish.result)
     (as_reading old.is_refused old first all (line ∷ []) outcomes c.if-self.false h)
     (λ ls read. c.in-Ok.ensures.reads old.vertices ls read) (λ ls read. finished c ls read)
-    (ap (λ x. old.walks || x) c.begins_walks.ensures) c.saturating_add-self.ensures b.draft b.lacking)
+    (c.or-self.ensures ∙ ap (λ x. first_extent old.extent x) c.extent_by.ensures) c.saturating_add-self.ensures b.draft b.lacking)
 
 pub returns-in-Ok-clause-within : goal.returns-in-Ok-clause-within
 returns-in-Ok-clause-within c first all outcomes h few =
     let old = c.args.self.now in
     let line = c.args.line.now in
     let p = as_reading old.is_refused old first all (line ∷ []) outcomes c.if-self.false h in
+    let is = c.or-self.ensures ∙ ap (λ x. first_extent old.extent x) c.extent_by.ensures in
+    let job =
     request_within old.vertices (p.ls ++ line ∷ []) (content_of c.finish.result) few
-    (finished c (p.ls ++ line ∷ []) (c.in-Ok.ensures.reads old.vertices p.ls p.read))
+    (finished c (p.ls ++ line ∷ []) (c.in-Ok.ensures.reads old.vertices p.ls p.read)) in (
+      job.0,
+      job.1,
+      job.2,
+      subst IsExtentWithin (sym (extent-more p.ls line old.extent c.or-self.result p.extent_is is))
+          (extents_within (p.ls ++ line ∷ [])),
+    )
+
+pub returns-in-Ok-clause-refusable : goal.returns-in-Ok-clause-refusable
+returns-in-Ok-clause-refusable c first all outcomes h =
+    let old = c.args.self.now in
+    let line = c.args.line.now in
+    let b = c.begin-draft.ensures in
+    refused_last c.begin-draft.new.self old.vertices c.saturating_add-self.result old.line first
+    (old.has_section || c.args.begins) (all ++ line ∷ []) outcomes b.vertices b.had_section b.line b.last
+    (starves old.vertices old.draft old.has_section (old.has_section || c.args.begins) old.extent old.line
+    c.saturating_add-self.result first all line outcomes
+    (as_reading old.is_refused old first all (line ∷ []) outcomes c.if-self.false h)
+    (subst (λ x. (old.has_section && x) ≡ false) c.requires.begins c.requires.first)
+    (ap (λ x. old.has_section || x) c.requires.begins) c.saturating_add-self.ensures)
 
 pub returns-in-Ok-2-clause-requests : goal.returns-in-Ok-2-clause-requests
 returns-in-Ok-2-clause-requests c first all outcomes h =
@@ -85,11 +105,11 @@ returns-in-Ok-2-clause-requests c first all outcomes h =
     from_reading old.is_refused _ first (all ++ line ∷ []) [] (outcomes ++ []) c.if-self.false
     (subst
     (λ os.
-    IsReading old.vertices c.read.new.self (old.has_section || c.args.begins) (old.walks || c.begins_walks.result)
+    IsReading old.vertices c.read.new.self (old.has_section || c.args.begins) c.or-self.result
     c.saturating_add-self.result first (all ++ line ∷ []) [] os)
     (sym (append-nil outcomes))
-    (goes_on old.vertices old.draft c.read.new.self old.has_section (old.has_section || c.args.begins) old.walks
-    (old.walks || c.begins_walks.result) old.line c.saturating_add-self.result first all line outcomes
+    (goes_on old.vertices old.draft c.read.new.self old.has_section (old.has_section || c.args.begins) old.extent
+    c.or-self.result old.line c.saturating_add-self.result first all line outcomes
     (as_reading old.is_refused old first all (line ∷ []) outcomes c.if-self.false h)
     (λ ls read. c.in-Ok.ensures.reads old.vertices ls read) (sym c.is_whole.ensures.is ∙ c.if-is_whole.false)
     (λ ls job read w.
@@ -97,5 +117,5 @@ returns-in-Ok-2-clause-requests c first all outcomes h =
     let other = c.if-is_whole.false in
     cc)
     (subst (λ x. (old.has_section && x) ≡ false) c.requires.begins c.requires.first)
-    (ap (λ x. old.has_section || x) c.requires.begins) (ap (λ x. old.walks || x) c.begins_walks.ensures)
+    (ap (λ x. old.has_section || x) c.requires.begins) (c.or-self.ensures ∙ ap (λ x. first_extent old.extent x) c.extent_by.ensures)
     c.saturating_add-self.ensures))

@@ -3,7 +3,17 @@ use Rattle.std.proofs.lemmas.Result.{on_err_weaker}
 use Rattle.request_reader.specs.Reading.{outcome_of}
 use Rattle.session_answer.specs.Replies.{AreReplies, IsReplyFor}
 use Rattle.session_answer.proofs.CutLemmas.{first_cut}
+use Rattle.session_answer.proofs.ReplyLemmas.{reply_told}
 use Rattle.session_answer.proofs.conversation.Conversation.reply.Goals as goal
+
+pub returns-in-Some-clause-replied : goal.returns-in-Some-clause-replied
+returns-in-Some-clause-replied g c graph holds =
+    let kind = c.args.terms.now.asked.now.answer in
+    let by = c.args.terms.now.lines in
+    let walks = c.args.terms.now.asked.now.walks in
+    rw c.in-Some.is
+    (reply_told kind by walks graph (outcome_of c.in-Some.request) _ _ _ c.reply.result (c.reply.ensures.reply graph holds)
+    (c.reply.ensures.graph graph holds))
 
 pub returns-in-Some-clause-cut : goal.returns-in-Some-clause-cut
 returns-in-Some-clause-cut g c graph holds =

@@ -1,9 +1,12 @@
-use Rattle.std.proofs.Common.{◌∙◌, ◌++◌, ◌∷◌, [], ap, subst, sym}
+use Rattle.std.proofs.Common.{◌∙◌, ◌++◌, ◌∷◌, [], ap, append_assoc, subst, sym}
 use Rattle.std.proofs.lemmas.Result.{on_err_weaker, on_ok_weaker}
-use Rattle.request_reader.specs.Reading.{HasRequests, outcomes_in, outcomes_of, vertices_of}
+use Rattle.job_answer.specs.Graphs.{AreGraphs}
+use Rattle.request_reader.specs.Reading.{HasRequests, IsRefusedLast, last_of, outcomes_in, outcomes_of, vertices_of}
+use Rattle.request_reader.specs.Requests.{no_memory}
 use Rattle.session_answer.specs.Conversations.{graph_of}
-use Rattle.session_answer.proofs.CutLemmas.{after_cut, cut_after_lines, front_cut, on_err}
-use Rattle.session_answer.proofs.ReplyLemmas.{replies_then}
+use Rattle.session_answer.specs.Replies.{AreReplies, HoldsGraph}
+use Rattle.session_answer.proofs.CutLemmas.{after_cut, cut_after_lines, front_cut, nothing_cut, on_err, refusal_cut}
+use Rattle.session_answer.proofs.ReplyLemmas.{refusable_last, refused_reply, replies_then, told_nothing, told_whole}
 use Rattle.session_answer.proofs.conversation.Conversation.take_line.Goals as goal
 
 pub returns-clause-replied : goal.returns-clause-replied
@@ -13,10 +16,12 @@ returns-clause-replied g c graph first ls before is =
     let walks = c.args.terms.now.asked.now.walks in
     let came = c.read-came.result in
     let so_far = graph_of graph is.outcomes in
-    let cut = c.in_ok-reply.ensures.replied so_far is.replied.holds in
-    let same = c.reply-2.ensures.requests ∙ c.in_ok-reply.ensures.requests in
-    on_ok_weaker c.reply-2.result
-    (λ found. record {
+    let cut = told_whole _ _ _ c.in-Whole.is (c.in_ok-reply.ensures.replied so_far is.replied.holds) in
+    let same = c.in_ok-reply-2.ensures.requests ∙ c.in_ok-reply.ensures.requests in
+    let found =
+    told_whole _ _ _ c.in-Whole-2.is
+    (c.in_ok-reply-2.ensures.replied (graph_of so_far (outcomes_in came.cut)) cut.holds) in
+    record {
       outcomes = is.outcomes ++ outcomes_of came;
       requests =
           subst (λ reader. HasRequests reader first (ls ++ c.args.line.now ∷ []) (is.outcomes ++ outcomes_of came)) (sym same)
@@ -25,8 +30,7 @@ returns-clause-replied g c graph first ls before is =
       replied =
           replies_then kind by walks graph is.outcomes (outcomes_of came) _ _ _ _ _ is.replied
           (replies_then kind by walks so_far (outcomes_in came.cut) (outcomes_in came.found) _ _ _ _ _ cut found);
-    })
-    (c.reply-2.ensures.replied (graph_of so_far (outcomes_in came.cut)) cut.holds)
+    }
 
 pub returns-in_err-reply-clause-cut : goal.returns-in_err-reply-clause-cut
 returns-in_err-reply-clause-cut g c graph first ls before is =
@@ -45,22 +49,136 @@ returns-in_err-reply-clause-cut g c graph first ls before is =
     (c.in_err-reply.ensures.cut so_far is.replied.holds))))
     c.from_residual.result
 
-pub returns-clause-cut : goal.returns-clause-cut
-returns-clause-cut g c graph first ls before is =
+pub returns-in_default-clause-cut : goal.returns-in_default-clause-cut
+returns-in_default-clause-cut g c graph first ls before is =
     let kind = c.args.terms.now.asked.now.answer in
     let by = c.args.terms.now.lines in
     let walks = c.args.terms.now.asked.now.walks in
     let law = c.answer_texts_by_lines_are_unique.ensures in
     let came = c.read-came.result in
     let so_far = graph_of graph is.outcomes in
-    let cut = c.in_ok-reply.ensures.replied so_far is.replied.holds in
-    let both = outcomes_of came in
-    on_err_weaker c.reply-2.result
-    (λ found.
+    let none = told_nothing _ _ _ c.in_default.is (c.in_ok-reply.ensures.replied so_far is.replied.holds) in
     cut_after_lines law kind by walks graph first c.read-came.new.self (ls ++ c.args.line.now ∷ [])
+    (is.outcomes ++ outcomes_of came) before _ (c.read-came.ensures.requests first ls is.outcomes is.requests)
+    (c.read-came.ensures.vertices ∙ is.vertices)
+    (after_cut law kind by walks graph is.outcomes (outcomes_of came) c.args.self.now.session before _ _ is.replied
+    (nothing_cut (AreReplies kind by walks so_far (outcomes_of came)) kind by walks so_far _ _ _ none))
+
+pub returns-in_err-reply-2-clause-cut : goal.returns-in_err-reply-2-clause-cut
+returns-in_err-reply-2-clause-cut g c graph first ls before is =
+    let kind = c.args.terms.now.asked.now.answer in
+    let by = c.args.terms.now.lines in
+    let walks = c.args.terms.now.asked.now.walks in
+    let law = c.answer_texts_by_lines_are_unique.ensures in
+    let came = c.read-came.result in
+    let so_far = graph_of graph is.outcomes in
+    let cut = told_whole _ _ _ c.in-Whole.is (c.in_ok-reply.ensures.replied so_far is.replied.holds) in
+    let both = outcomes_of came in
+    on_err
+    (cut_after_lines law kind by walks graph first c.read-came.new.self (ls ++ c.args.line.now ∷ [])
     (is.outcomes ++ both) before _ (c.read-came.ensures.requests first ls is.outcomes is.requests)
     (c.read-came.ensures.vertices ∙ is.vertices)
     (after_cut law kind by walks graph is.outcomes both c.args.self.now.session before _ _ is.replied
     (after_cut law kind by walks so_far (outcomes_in came.cut) (outcomes_in came.found) c.reply.new.self.session _ _ _ cut
-    found)))
-    (c.reply-2.ensures.cut (graph_of so_far (outcomes_in came.cut)) cut.holds)
+    (c.in_err-reply-2.ensures.cut (graph_of so_far (outcomes_in came.cut)) cut.holds))))
+    c.from_residual-in_err-reply-2.result
+
+pub returns-in_default-2-clause-replied : goal.returns-in_default-2-clause-replied
+returns-in_default-2-clause-replied g c graph first ls before is =
+    let kind = c.args.terms.now.asked.now.answer in
+    let by = c.args.terms.now.lines in
+    let walks = c.args.terms.now.asked.now.walks in
+    let came = c.read-came.result in
+    let so_far = graph_of graph is.outcomes in
+    let after = graph_of so_far (outcomes_in came.cut) in
+    let all = ls ++ c.args.line.now ∷ [] in
+    let refusal = no_memory (last_of c.reply-2.new.self.requests) ∷ [] in
+    let cut = told_whole _ _ _ c.in-Whole.is (c.in_ok-reply.ensures.replied so_far is.replied.holds) in
+    let none = told_nothing _ _ _ c.in_default-2.is (c.in_ok-reply-2.ensures.replied after cut.holds) in
+    let asked = told_nothing _ _ _ c.in_default-2.is c.in_ok-reply-2.ensures.asked in
+    let same = c.in_ok-reply-2.ensures.requests ∙ c.in_ok-reply.ensures.requests in
+    let last =
+    refusable_last came.found c.read-came.new.self first all (is.outcomes ++ outcomes_in came.cut) asked
+    (c.read-came.ensures.refusable first ls is.outcomes is.requests) in
+    let told =
+    c.refuse_last.ensures.requests first all (is.outcomes ++ outcomes_in came.cut)
+    (subst (λ reader. IsRefusedLast reader first all (is.outcomes ++ outcomes_in came.cut)) (sym same) last) in
+    on_ok_weaker c.refuse_last.result
+    (λ given. record {
+      outcomes = is.outcomes ++ (outcomes_in came.cut ++ refusal);
+      requests =
+          subst (λ outcomes. HasRequests c.refuse_last.new.self.requests first all outcomes)
+          (append_assoc is.outcomes (outcomes_in came.cut) refusal) told;
+      vertices =
+          c.refuse_last.ensures.vertices ∙ ap (λ reader. vertices_of reader) same ∙ c.read-came.ensures.vertices
+          ∙ is.vertices;
+      replied =
+          replies_then kind by walks graph is.outcomes (outcomes_in came.cut ++ refusal) _ _ _ _ _ is.replied
+          (replies_then kind by walks so_far (outcomes_in came.cut) refusal _ _ _ _ _ cut
+          (replies_then kind by walks after [] refusal _ _ _ _ _ none
+          (refused_reply kind by walks after (last_of c.reply-2.new.self.requests) c.refuse_last.new.self.session _ _
+          (subst (λ session. HoldsGraph kind after session) (sym c.refuse_last.ensures.session) none.holds) given)));
+    })
+    c.refuse_last.ensures.told
+
+pub returns-in_default-2-clause-cut : goal.returns-in_default-2-clause-cut
+returns-in_default-2-clause-cut g c graph first ls before is =
+    let kind = c.args.terms.now.asked.now.answer in
+    let by = c.args.terms.now.lines in
+    let walks = c.args.terms.now.asked.now.walks in
+    let law = c.answer_texts_by_lines_are_unique.ensures in
+    let came = c.read-came.result in
+    let so_far = graph_of graph is.outcomes in
+    let after = graph_of so_far (outcomes_in came.cut) in
+    let all = ls ++ c.args.line.now ∷ [] in
+    let refusal = no_memory (last_of c.reply-2.new.self.requests) ∷ [] in
+    let cut = told_whole _ _ _ c.in-Whole.is (c.in_ok-reply.ensures.replied so_far is.replied.holds) in
+    let none = told_nothing _ _ _ c.in_default-2.is (c.in_ok-reply-2.ensures.replied after cut.holds) in
+    let asked = told_nothing _ _ _ c.in_default-2.is c.in_ok-reply-2.ensures.asked in
+    let same = c.in_ok-reply-2.ensures.requests ∙ c.in_ok-reply.ensures.requests in
+    let last =
+    refusable_last came.found c.read-came.new.self first all (is.outcomes ++ outcomes_in came.cut) asked
+    (c.read-came.ensures.refusable first ls is.outcomes is.requests) in
+    let told =
+    c.refuse_last.ensures.requests first all (is.outcomes ++ outcomes_in came.cut)
+    (subst (λ reader. IsRefusedLast reader first all (is.outcomes ++ outcomes_in came.cut)) (sym same) last) in
+    on_err_weaker c.refuse_last.result
+    (λ given.
+    cut_after_lines law kind by walks graph first c.refuse_last.new.self.requests all
+    (is.outcomes ++ (outcomes_in came.cut ++ refusal)) before _
+    (subst (λ outcomes. HasRequests c.refuse_last.new.self.requests first all outcomes)
+    (append_assoc is.outcomes (outcomes_in came.cut) refusal) told)
+    (c.refuse_last.ensures.vertices ∙ ap (λ reader. vertices_of reader) same ∙ c.read-came.ensures.vertices ∙ is.vertices)
+    (after_cut law kind by walks graph is.outcomes (outcomes_in came.cut ++ refusal) c.args.self.now.session before _ _
+    is.replied
+    (after_cut law kind by walks so_far (outcomes_in came.cut) refusal c.reply.new.self.session _ _ _ cut
+    (after_cut law kind by walks after [] refusal c.reply-2.new.self.session _ _ _ none
+    (refusal_cut law kind by walks after (last_of c.reply-2.new.self.requests) _ _ given)))))
+    c.refuse_last.ensures.cut
+
+pub returns-in_default-2-clause-kept : goal.returns-in_default-2-clause-kept
+returns-in_default-2-clause-kept g c =
+    let kept = c.requires.kept in
+    let came = c.read-came.result in
+    let all = kept.ls ++ c.args.line.now ∷ [] in
+    let asked = told_nothing _ _ _ c.in_default-2.is c.in_ok-reply-2.ensures.asked in
+    let same = c.in_ok-reply-2.ensures.requests ∙ c.in_ok-reply.ensures.requests in
+    let last =
+    refusable_last came.found c.read-came.new.self kept.first all (kept.outcomes ++ outcomes_in came.cut) asked
+    (c.read-came.ensures.refusable kept.first kept.ls kept.outcomes kept.requests) in
+    let n = c.in_ok-reply-2.ensures.vertices ∙ c.in_ok-reply.ensures.vertices in
+    on_ok_weaker c.refuse_last.result
+    (λ given. record {
+      graphs =
+          subst (λ session. AreGraphs session.graphs) (sym c.refuse_last.ensures.session) c.in_ok-reply-2.ensures.graphs;
+      first = kept.first;
+      ls = all;
+      outcomes = (kept.outcomes ++ outcomes_in came.cut) ++ no_memory (last_of c.reply-2.new.self.requests) ∷ [];
+      requests =
+          c.refuse_last.ensures.requests kept.first all (kept.outcomes ++ outcomes_in came.cut)
+          (subst (λ reader. IsRefusedLast reader kept.first all (kept.outcomes ++ outcomes_in came.cut)) (sym same) last);
+      vertices =
+          c.refuse_last.ensures.vertices ∙ ap (λ reader. vertices_of reader) same ∙ c.read-came.ensures.vertices
+          ∙ kept.vertices ∙ sym (ap (λ session. session.graphs.network.n) c.refuse_last.ensures.session ∙ n);
+    })
+    c.refuse_last.ensures.told

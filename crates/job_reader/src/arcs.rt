@@ -1,0 +1,111 @@
+//! Which arcs of a graph are sure to come, so that several threads may wait for their bytes?
+//!
+//! A reader that stays open, as one end of a conversation, may give nothing after a graph until it is answered: so no
+//! more bytes may be waited for than the graph has. Each arc that is missing has a line of its own, of which the length
+//! is at least `SHORTEST_ARC`; the first of these lines may have been begun.
+
+ghost use Rattle.std.specs.Prelude.{◌≡◌, ◌≤◌, ◌+◌, [], IfOk, IfErr, length};
+ghost use Rattle.job_reader.specs.Pieces.{Feeds};
+ghost use Rattle.job_reader.specs.Taken.{TakesAtMost};
+
+use crate::fault::ReadFault;
+use crate::pieces::Pieces;
+use crate::readers::Readers;
+use crate::step::step;
+use dimacs_text::JobReader;
+use std::alloc::Global;
+use std::io::Read;
+use std::thread::Threads;
+use std::time::Clock;
+
+/// Bytes of the shortest line of an arc, `a 1 1 0` and a line feed.
+const SHORTEST_ARC: usize = 8;
+
+/// Where fewer bytes are sure to come, threads aren't worth it.
+const LEAST: usize = 1 << 20;
+
+/// Reads on in a graph by several threads, as long as many of its arcs are missing, and no more bytes than surely are
+/// the graph's: how many it read, at most `limit`. It reads none where that isn't worth it, or by one thread. It stops
+/// at the reader's end, and soon after a line that is wrong. At most `threads` threads work at that, and no more than
+/// 16. After an `Err` nothing is known of the job.
+pub fn read_arcs_from<H: Threads + Clock + Sync, R: Read>(
+    rt: &H,
+    alloc: Global,
+    reader: &mut R,
+    job: &mut JobReader,
+    limit: usize,
+    threads: usize,
+) -> Result<usize, ReadFault>
+    ensures feeds { IfOk result (λ count. Feeds limit count job.old job.new
+        (R.remaining reader.old) (R.remaining reader.new)) }
+    ensures short { IfErr result (λ _. TakesAtMost limit (R.remaining reader.old) (R.remaining reader.new)) }
+{
+    if threads < 2 || sure_bytes(job, 0) < LEAST {
+        return Ok(0);
+    }
+    let mut pieces = Pieces::new(alloc)?;
+    read_sure(rt, reader, job, limit, Readers::new(threads), &mut pieces)
+}
+
+/// The same, through pieces that have no byte yet.
+fn read_sure<H: Threads + Clock + Sync, R: Read>(
+    rt: &H,
+    reader: &mut R,
+    job: &mut JobReader,
+    limit: usize,
+    mut readers: Readers,
+    pieces: &mut Pieces,
+) -> Result<usize, ReadFault>
+    requires front { pieces.old.front ≡ [] }
+    requires back { pieces.old.back ≡ [] }
+    ensures feeds { IfOk result (λ count. Feeds limit count job.old job.new
+        (R.remaining reader.old) (R.remaining reader.new)) }
+    ensures short { IfErr result (λ _. TakesAtMost limit (R.remaining reader.old) (R.remaining reader.new)) }
+{
+    let mut left = limit;
+    let mut ended = false;
+    for _ in 0..u64::MAX {
+        let next = next_piece(job, &readers, pieces, left, ended);
+        if next == 0 && pieces.front.len() == 0 && pieces.back.len() == 0 {
+            return Ok(limit - left);
+        }
+        // Where no more bytes are sure, those at hand are fed first: then more may be.
+        let ends = step(rt, reader, job, &mut readers, pieces, left, next)?;
+        left -= pieces.spare.len();
+        ended = ended || ends;
+        pieces.turn();
+    }
+    // No one sends that much.
+    Err(ReadFault::TooLong)
+}
+
+/// How many bytes the next piece has, of those that are left: none after the reader's end.
+fn next_piece(
+    job: &JobReader,
+    readers: &Readers,
+    pieces: &Pieces,
+    left: usize,
+    ended: bool,
+) -> usize
+    ensures { result ≤ left }
+{
+    let at_hand = pieces.front.len().saturating_add(pieces.back.len());
+    let sure = sure_bytes(job, at_hand);
+    if ended || sure < LEAST {
+        0
+    } else {
+        readers.piece().min(sure).min(left)
+    }
+}
+
+/// How many bytes are sure to come of a graph besides those at hand.
+fn sure_bytes(job: &JobReader, at_hand: usize) -> usize {
+    match job.arcs_so_far() {
+        Some((read, all)) if !job.is_refused() => all
+            .saturating_sub(read)
+            .saturating_sub(1)
+            .saturating_mul(SHORTEST_ARC)
+            .saturating_sub(at_hand),
+        _ => 0,
+    }
+}

@@ -1,0 +1,20 @@
+use Rattle.std.proofs.Common.{subst}
+use Rattle.dimacs_text.specs.Jobs.{question_of}
+use Rattle.job_answer.specs.Bytes.{GivesPrefix}
+use Rattle.session_answer.specs.Replies.{IsAnswerIn}
+use Rattle.session_answer.proofs.CutLemmas.{on_err, one_answer, text_cut}
+use Rattle.session_answer.proofs.session.Session.reply_asked.Goals as goal
+
+pub returns-in_err-write_whole-clause-cut : goal.returns-in_err-write_whole-clause-cut
+returns-in_err-write_whole-clause-cut g c graph holds =
+    let kind = c.args.terms.now.asked.now.answer in
+    let by = c.args.terms.now.lines in
+    let question = question_of c.args.ask.now in
+    on_err
+    (text_cut (IsAnswerIn kind by c.args.walks graph question)
+    (one_answer c.answer_texts_by_lines_are_unique.ensures kind by c.args.walks graph question) c.in-Ok.text.items _ _
+    (c.in-Ok.ensures graph holds)
+    (subst
+    (λ bytes. GivesPrefix (g.W.Write.contents c.args.writer.now) (g.W.Write.contents c.write_whole.new.writer) bytes)
+    c.deref.ensures.value c.in_err-write_whole.ensures.prefix))
+    c.from_residual-in_err-write_whole.result
