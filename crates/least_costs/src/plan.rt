@@ -10,7 +10,10 @@ use crate::network::Network;
 use csr_graph::Csr;
 use obim_engine::{Buckets, MAX_CHUNK, MAX_WORKERS, Settings};
 
-/// How many vertices a chunk of several workers has.
+/// How many vertices a chunk of two workers has: they gain more by sharing seldom.
+const CHUNK_OF_TWO: usize = 128;
+
+/// How many vertices a chunk of more workers has.
 const SHARED_CHUNK: usize = 64;
 
 /// In a graph with at least so many vertices, and so many arcs a vertex, workers gain more from one source than from a
@@ -66,10 +69,10 @@ impl Plan {
     {
         let workers = workers.max(1).min(MAX_WORKERS);
         // One worker shares nothing, and its chunks take the same room whatever their size is.
-        let chunk = if workers == 1 {
-            MAX_CHUNK
-        } else {
-            SHARED_CHUNK
+        let chunk = match workers {
+            1 => MAX_CHUNK,
+            2 => CHUNK_OF_TWO,
+            _ => SHARED_CHUNK,
         };
         Plan {
             settings: Settings {

@@ -26,6 +26,11 @@ impl Budget {
         self.left
     }
 
+    /// The visits that were made, where there is no limit.
+    pub(crate) fn made(&self) -> u64 {
+        u64::MAX - self.left
+    }
+
     /// Whether no visit is left.
     #[inline(always)]
     pub(crate) fn is_spent(&mut self) -> bool

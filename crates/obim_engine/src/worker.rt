@@ -6,18 +6,19 @@
 //! head, and where it has none for a mark it raises many at once. As long as it keeps some the total isn't 0,
 //! so it gives all back before it looks at the total, naps, sweeps or leaves.
 
-ghost use Rattle.std.specs.Prelude.{◌≡◌, ◌≤◌, ◌<◌, true, false, IfNone, IfSome};
+ghost use Rattle.std.specs.Prelude.{◌≡◌, ◌≢◌, ◌≤◌, ◌<◌, true, false, IfNone, IfSome};
 ghost use Rattle.relax_core.specs.declared.views.Hand.TheVariants.{Idle, Fresh};
 ghost use Rattle.csr_graph.specs.Graph.{end_place};
 ghost use Rattle.label_words.specs.Callers.{Stays, HasRowOpen};
 ghost use Rattle.label_words.specs.Known.{HasNoVertex};
 ghost use Rattle.relax_core.specs.Views.{place_of};
 ghost use Rattle.obim_engine.specs.Workers.{CanLead, AreDone, OwesMark};
+ghost use Rattle.obim_engine.specs.declared.goal.Goal.TheVariants as goal;
 
 use crate::budget::Budget;
 use crate::gate::Gate;
 use crate::goal::Goal;
-use crate::hints::aim::{Aim, Wanted, Whole, first_look, next_look};
+use crate::hints::aim::{Aim, Seeker, Wanted, Whole, first_look, next_look};
 use crate::hints::pace::Watch;
 use crate::hints::patience::Patience;
 use crate::hints::pauses::Pauses;
@@ -53,28 +54,52 @@ pub(crate) fn work<H: Wait + Clock, P: WorkPool, G: Gate>(
     ensures side { P.is_side shared.now.run.pool.now side.new }
 {
     match shared.run.goal {
-        Goal::EachVertex => work_with(rt, shared, worker, seat, side, Whole),
-        _ => work_with(
-            rt,
-            shared,
-            worker,
-            seat,
-            side,
-            Wanted::new(&shared.run.goal),
-        ),
+        Goal::EachVertex => work_with(rt, shared, worker, seat, side, &mut Whole),
+        _ => work_until(rt, shared, worker, seat, side),
     }
 }
 
+/// Works until nothing is left to do that is wanted, where that is not all: without a limit until each target has a
+/// label, and from then on with one. Where it finds them late, it goes on to the end.
+fn work_until<H: Wait + Clock, P: WorkPool, G: Gate>(
+    rt: &H,
+    shared: &Shared<'_, P, G>,
+    worker: u32,
+    seat: WorkSeat,
+    side: &mut P::Side,
+) -> WorkSeat
+    requires words { seat.words ≡ shared.now.words.now }
+    requires seat { CanLead shared.now.run.csr.now 1 seat }
+    requires goal { shared.now.run.goal ≢ goal.EachVertex }
+    requires side { P.is_side shared.now.run.pool.now side.old }
+    ensures seat { AreDone shared.now.run.budget shared.now.run.goal seat result }
+    ensures side { P.is_side shared.now.run.pool.now side.new }
+{
+    let mut seeker = Seeker::new();
+    let mut seat = seat;
+    if !seeker.has_found(&shared.run.goal) {
+        seat = work_with(rt, shared, worker, seat, side, &mut seeker);
+        if !seeker.has_found(&shared.run.goal) {
+            return seat;
+        }
+    }
+    if seeker.is_late(shared) {
+        return work_with(rt, shared, worker, seat, side, &mut Whole);
+    }
+    let mut wanted = Wanted::new(shared, &seat);
+    work_with(rt, shared, worker, seat, side, &mut wanted)
+}
+
 /// Works until the seat sees the pending total at 0, the worker has visited as many vertices as its budget
-/// lets it, or nothing is left to do that is wanted. The seat comes and goes by value, so that it lies in
-/// registers meanwhile.
-fn work_with<H: Wait + Clock, P: WorkPool, G: Gate, A: Aim + Drop>(
+/// lets it, nothing is left to do that is wanted, or it is to take another aim. The seat comes and goes by value, so
+/// that it lies in registers meanwhile.
+fn work_with<H: Wait + Clock, P: WorkPool, G: Gate, A: Aim>(
     rt: &H,
     shared: &Shared<'_, P, G>,
     worker: u32,
     mut seat: WorkSeat,
     side: &mut P::Side,
-    mut aim: A,
+    aim: &mut A,
 ) -> WorkSeat
     requires words { seat.words ≡ shared.now.words.now }
     requires seat { CanLead shared.now.run.csr.now 1 seat }
@@ -104,12 +129,16 @@ fn work_with<H: Wait + Clock, P: WorkPool, G: Gate, A: Aim + Drop>(
             show(&near, worker, &seat, popped);
         }
         match popped {
-            Some(u) if u < n && take_below(&near, &mut seat, &aim, u) => {
+            Some(u) if u < n && take_below(&near, &mut seat, aim, u) => {
                 prefetch(&near, n, &seat, side);
-                visit(rt, &near, worker, &mut seat, side, u, &aim);
+                visit(rt, &near, worker, &mut seat, side, u, aim);
                 budget.spend();
                 if watch.visited() {
-                    seat = look(rt, &near, &mut watch, &mut aim, seat);
+                    seat = look(rt, &near, &mut watch, aim, seat, budget.made());
+                    if aim.is_over(&near) {
+                        give_all_back(near.words, &mut seat);
+                        return seat;
+                    }
                 }
             }
             _ => {
@@ -130,7 +159,7 @@ fn work_with<H: Wait + Clock, P: WorkPool, G: Gate, A: Aim + Drop>(
                     return seat;
                 }
                 if ends {
-                    (seat, budget) = sweep(rt, shared, worker, seat, side, budget, &mut aim);
+                    (seat, budget) = sweep(rt, shared, worker, seat, side, budget, aim);
                     patience.renew();
                 }
                 pauses.wait(rt, near.pace.has_lost());
@@ -186,7 +215,8 @@ fn is_over(words: &Words, seat: &mut WorkSeat) -> bool
     words.see(seat)
 }
 
-/// Looks at what is wanted and at the other workers, and naps where it is far ahead of one: without credits then.
+/// Looks at what is wanted, after so many visits, and at the other workers, and naps where it is far ahead of one:
+/// without credits then.
 #[inline(never)]
 fn look<C: Clock, P, G, A: Aim>(
     clock: &C,
@@ -194,6 +224,7 @@ fn look<C: Clock, P, G, A: Aim>(
     watch: &mut Watch,
     aim: &mut A,
     mut seat: WorkSeat,
+    visits: u64,
 ) -> WorkSeat
     requires words { seat.words ≡ shared.now.words.now }
     requires graph { shared.now.run.csr.now ≡ seat.known.graph }
@@ -202,7 +233,7 @@ fn look<C: Clock, P, G, A: Aim>(
     ensures no_vertex { HasNoVertex result }
     ensures left { 0 < watch.new.left }
 {
-    aim.look(shared, &seat);
+    aim.look(shared, &seat, visits);
     let naps = watch.is_far_ahead(shared.pace);
     if naps {
         give_all_back(shared.words, &mut seat);

@@ -13,6 +13,9 @@ use obim_bags::Chunk;
 pub(crate) struct BagChunks {
     pub filling: Option<Box<Chunk>>,
     pub draining: Option<Box<Chunk>>,
+    /// How many chunks were put into the bag since it was found empty, less those that were got from it: a hint, since
+    /// other sides put and get too.
+    pub waiting: u32,
 }
 
 impl BagChunks {
@@ -22,6 +25,7 @@ impl BagChunks {
         BagChunks {
             filling: None,
             draining: None,
+            waiting: 0,
         }
     }
 
@@ -92,6 +96,35 @@ impl BagChunks {
         last
     }
 
+    /// `take_last`, or else the vertex of the filling chunk where it has only one and no chunk waits, as where vertices are
+    /// visited one after another: no chunk has to be handed over for it.
+    #[inline(always)]
+    pub(crate) fn take_near(&mut self, maker: &mut ChunkMaker) -> Option<u32>
+        ensures taken { IfSome result (λ v. AreSame (v ∷ held_of self.new) (held_of self.old)) }
+        ensures unchanged { IfNone result (held_of self.new ≡ held_of self.old) }
+    {
+        match self.take_last(maker) {
+            Some(v) => Some(v),
+            None => self.take_only(),
+        }
+    }
+
+    /// Takes the vertex of the filling chunk, if it has only one and no chunk waits in the bag.
+    #[inline(always)]
+    fn take_only(&mut self) -> Option<u32>
+        requires { vertices_in self.old.draining ≡ [] }
+        ensures taken { IfSome result (λ v. AreSame (v ∷ held_of self.new) (held_of self.old)) }
+        ensures unchanged { IfNone result (held_of self.new ≡ held_of self.old) }
+    {
+        if self.waiting > 0 {
+            return None;
+        }
+        match &mut self.filling {
+            Some(chunk) if chunk.len() == 1 => chunk.pop(),
+            _ => None,
+        }
+    }
+
     /// The vertex that the `by`th `take_last` from now on takes, if the draining chunk has one there: a hint.
     #[inline(always)]
     pub(crate) fn ahead(&self, by: usize) -> Option<u32> {
@@ -113,7 +146,7 @@ impl BagChunks {
         }
     }
 
-    /// Makes this chunk the draining one, which was empty or absent.
+    /// Makes this chunk, which was got from the bag, the draining one, which was empty or absent.
     pub(crate) fn drain(&mut self, maker: &mut ChunkMaker, chunk: Box<Chunk>)
         requires { vertices_in self.old.draining ≡ [] }
         ensures filling { self.new.filling ≡ self.old.filling }
@@ -121,9 +154,10 @@ impl BagChunks {
     {
         self.recycle(maker);
         self.draining = Some(chunk);
+        self.waiting = self.waiting.saturating_sub(1);
     }
 
-    /// Makes the filling chunk, if there is one, the draining one, which was empty or absent.
+    /// Where the bag was found empty: makes the filling chunk, if there is one, the draining one, which was empty or absent.
     pub(crate) fn drain_filling(&mut self, maker: &mut ChunkMaker)
         requires { vertices_in self.old.draining ≡ [] }
         ensures same { AreSame (held_of self.new) (held_of self.old) }
@@ -132,5 +166,6 @@ impl BagChunks {
         if let Some(chunk) = self.filling.take() {
             self.drain(maker, chunk);
         }
+        self.waiting = 0;
     }
 }

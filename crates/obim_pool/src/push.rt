@@ -88,7 +88,7 @@ fn put_filling<R: Wait>(
         return;
     }
     match log.put_boxed_at(rt, mirror, place, chunk) {
-        Ok(()) => {}
+        Ok(()) => chunks.waiting = chunks.waiting.saturating_add(1),
         Err(back) => chunks.filling = Some(back),
     }
 }

@@ -181,7 +181,8 @@ impl ObimSide {
         self.pop_far(rt, log, alloc)
     }
 
-    /// `pop` where the current bag's draining chunk has a vertex. It doesn't wait, and most pops need no more.
+    /// `pop` where the current bag's draining chunk has a vertex, or the filling one has a single vertex. It doesn't wait,
+    /// and most pops need no more.
     #[inline(always)]
     pub(crate) fn pop_near(&mut self) -> Option<u32>
         ensures keeps { Keeps self.old self.new }
@@ -190,7 +191,7 @@ impl ObimSide {
         ensures unchanged { IfNone result (self.new ≡ self.old) }
     {
         let at = self.current?;
-        let v = self.chunks[at.place].take_last(&mut self.maker)?;
+        let v = self.chunks[at.place].take_near(&mut self.maker)?;
         Some(v)
     }
 

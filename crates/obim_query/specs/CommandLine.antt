@@ -25,7 +25,7 @@ use Rattle.least_costs.specs.declared.plan.AtOnce.TheVariants as at_once
 use Rattle.obim_query.specs.declared.options.Options.{Options}
 use Rattle.obim_query.specs.declared.refusals.Refusal.{Refusal}
 use Rattle.obim_query.specs.declared.refusals.Refusal.TheVariants as refusal
-use Rattle.obim_query.specs.declared.values.TheConstants.{SHARED_CHUNK}
+use Rattle.obim_query.specs.declared.values.TheConstants.{CHUNK_OF_TWO, SHARED_CHUNK}
 
 -- ---- the arguments of the command
 
@@ -131,7 +131,8 @@ AsksAtOnce text (at_once.Most number) = AsksNumber text (Some number)
 
 -- vertices of a chunk where none are asked for: one worker shares nothing, so its chunks are as large as they can be
 abbrev pub usual_chunk : ℕ → ℕ
-usual_chunk workers = if workers == 1 then MAX_CHUNK else SHARED_CHUNK
+usual_chunk workers =
+    if workers == 1 then MAX_CHUNK else (if workers == 2 then CHUNK_OF_TWO else SHARED_CHUNK)
 
 -- even buckets where a shift is asked for, and else widening ones
 abbrev pub buckets_for : Option ℕ → Buckets

@@ -49,7 +49,10 @@ pub(crate) const CHUNK: Numbers = Numbers {
 /// The greatest value of `--within`. `INF`, which is one more, is no cost.
 pub(crate) const MAX_COST: u64 = INF - 1;
 
-/// How many vertices a chunk of several workers has, if nothing else is asked for.
+/// How many vertices a chunk of two workers has, if nothing else is asked for: they gain more by sharing seldom.
+pub(crate) const CHUNK_OF_TWO: usize = 128;
+
+/// How many vertices a chunk of more workers has, if nothing else is asked for.
 pub(crate) const SHARED_CHUNK: usize = 64;
 
 /// Why the values of the options ask for no answer.
@@ -161,10 +164,10 @@ pub(crate) fn at_once_in(alloc: Global, matches: &ArgMatches) -> Result<AtOnce, 
 fn usual_chunk(workers: u32) -> usize
     ensures { result ≡ usual_chunk workers }
 {
-    if workers == 1 {
-        MAX_CHUNK
-    } else {
-        SHARED_CHUNK
+    match workers {
+        1 => MAX_CHUNK,
+        2 => CHUNK_OF_TWO,
+        _ => SHARED_CHUNK,
     }
 }
 

@@ -4,7 +4,7 @@ use crate::runs::graphs::rows_of;
 use csr_graph::Csr;
 use obim_engine::{Widths, widths_of};
 use obim_pool::Scale;
-use route_walks::ArcRec;
+use route_walks::{ArcRec, Memory};
 use std::alloc::Global;
 use std::process::Abort;
 use std::test::Fail;
@@ -58,6 +58,36 @@ fn widths_of_graphs(rt: HostRuntime) -> Result<(), Fail> {
             None => Scale::widening(),
         };
         assert!(rt; widths_of(&csr) == Widths { shift, scale }, "row {row}");
+    }
+    Ok(())
+}
+
+/// Vertices one after another: by how many each one's arcs go on, whether there is an arc back from the next one, and the
+/// shift of 4,096 of them with weights of 7. A chain has wider buckets.
+const CHAINS: &[(u32, bool, u32)] = &[(1, false, 9), (1, true, 9), (2, false, 5), (2, true, 4)];
+
+/// Arcs from each of `n` vertices to the next `ahead` ones, and perhaps one back from the next.
+fn forward(alloc: Global, n: u32, ahead: u32, back: bool) -> Result<Vec<ArcRec>, Memory> {
+    let mut arcs = Vec::new(alloc);
+    for v in 1..n {
+        for by in 0..ahead {
+            arcs.push(ArcRec::new(v - 1, v.saturating_add(by).min(n - 1), 7))?;
+        }
+        if back {
+            arcs.push(ArcRec::new(v, v - 1, 7))?;
+        }
+    }
+    Ok(arcs)
+}
+
+#[test]
+fn widths_of_chains(rt: HostRuntime) -> Result<(), Fail> {
+    let alloc = rt.alloc();
+    for row in 0..CHAINS.len() {
+        let (ahead, back, shift) = CHAINS[row];
+        let arcs = forward(alloc, 4096, ahead, back)?;
+        let csr = rows_of(&rt, alloc, 4096, &arcs)?;
+        assert!(rt; widths_of(&csr).shift == shift, "row {row}");
     }
     Ok(())
 }

@@ -1,9 +1,9 @@
 //! From which label on is there nothing to do that is wanted?
 //!
-//! Where targets are wanted, a worker looks at their labels now and then. Once each has one, vertices with labels past
-//! the greatest are left alone: they stay marked, and a run may go on from there. A worker that draws nothing leaves, if
-//! no other one is at work below that. No label depends on it: whether those that are wanted are least is seen from the
-//! marks that are left.
+//! Where targets are wanted, a worker looks at their labels now and then. Until each has one, no label is past what is
+//! wanted, and none is compared with a limit. From then on vertices with labels past the greatest are left alone: they
+//! stay marked, and a run may go on from there. A worker that draws nothing leaves, if no other one is at work below that.
+//! No label depends on it: whether those that are wanted are least is seen from the marks that are left.
 
 ghost use Rattle.std.specs.Prelude.{◌≡◌, ◌≢◌, ◌<◌, true};
 ghost use Rattle.obim_engine.specs.declared.goal.Goal.TheVariants as goal;
@@ -22,6 +22,10 @@ const POPS: u32 = 16;
 /// After this many it leaves whatever other workers do.
 const MOST_POPS: u32 = 2048;
 
+/// A worker alone that has visited all vertices but one in so many before each target has a label goes on to the end: to
+/// stop would save less than it takes to look through what is left.
+const LAST: u32 = 32;
+
 /// What a worker leaves alone, and when it leaves.
 pub(crate) trait Aim {
     /// Whether a head whose label fell to this is left alone: it is marked, and not handed to the pool.
@@ -39,10 +43,14 @@ pub(crate) trait Aim {
     /// After a sweep, and whether it visited a vertex.
     fn swept(&mut self, has_visited: bool);
 
-    /// Looks at the labels of the targets, after a visit.
-    fn look<P, G>(&mut self, shared: &Shared<'_, P, G>, seat: &WorkSeat)
+    /// Looks at the labels of the targets, after so many visits.
+    fn look<P, G>(&mut self, shared: &Shared<'_, P, G>, seat: &WorkSeat, visits: u64)
         requires words { seat.now.words ≡ shared.now.words.now }
         requires graph { shared.now.run.csr.now ≡ seat.now.known.graph };
+
+    /// Whether a worker is to take another aim, as seen at the last look.
+    fn is_over<P, G>(&self, shared: &Shared<'_, P, G>) -> bool
+        ensures { result ≡ true → shared.now.run.goal ≢ goal.EachVertex };
 
     /// Whether a worker is to leave that drew nothing, or this vertex from a pool in which a sweep found nothing: what
     /// is wanted is done, no other worker is at a label below the limit, and no sweep is due.
@@ -80,7 +88,12 @@ impl Aim for Whole {
     fn swept(&mut self, _has_visited: bool) {}
 
     #[inline(always)]
-    fn look<P, G>(&mut self, _shared: &Shared<'_, P, G>, _seat: &WorkSeat) {}
+    fn look<P, G>(&mut self, _shared: &Shared<'_, P, G>, _seat: &WorkSeat, _visits: u64) {}
+
+    #[inline(always)]
+    fn is_over<P, G>(&self, _shared: &Shared<'_, P, G>) -> bool {
+        false
+    }
 
     #[inline(always)]
     fn is_reached<P, G>(
@@ -94,13 +107,82 @@ impl Aim for Whole {
     }
 }
 
-/// Some labels are wanted: what a worker knows of them.
+/// Some target has no label yet: no vertex is left alone.
+#[derive(Drop)]
+pub(crate) struct Seeker {
+    /// Each target before this place had a label at the last look.
+    reached: usize,
+    /// Visits up to the last look.
+    visits: u64,
+}
+
+impl Aim for Seeker {
+    #[inline(always)]
+    fn is_past(&self, _label: u64) -> bool {
+        false
+    }
+
+    #[inline(always)]
+    fn leaves<P, G>(&self, _shared: &Shared<'_, P, G>, _seat: &WorkSeat, _v: u32) -> bool {
+        false
+    }
+
+    #[inline(always)]
+    fn renew(&mut self) {}
+
+    #[inline(always)]
+    fn swept(&mut self, _has_visited: bool) {}
+
+    fn look<P, G>(&mut self, shared: &Shared<'_, P, G>, seat: &WorkSeat, visits: u64) {
+        shared.pace.begin();
+        self.visits = visits;
+        self.reached = first_unreached(shared, seat, shared.run.goal.targets(), self.reached);
+    }
+
+    fn is_over<P, G>(&self, shared: &Shared<'_, P, G>) -> bool {
+        let goal = &shared.run.goal;
+        !matches!(goal, Goal::EachVertex) && self.has_found(goal)
+    }
+
+    #[inline(never)]
+    fn is_reached<P, G>(
+        &mut self,
+        shared: &Shared<'_, P, G>,
+        seat: &WorkSeat,
+        _worker: u32,
+        _drawn: Option<u32>,
+    ) -> bool {
+        self.reached = first_unreached(shared, seat, shared.run.goal.targets(), self.reached);
+        self.is_over(shared)
+    }
+}
+
+impl Seeker {
+    /// Before the first visit.
+    pub(crate) fn new() -> Seeker {
+        Seeker {
+            reached: 0,
+            visits: 0,
+        }
+    }
+
+    /// Whether each target had a label at the last look.
+    pub(crate) fn has_found(&self, goal: &Goal<'_>) -> bool {
+        self.reached >= goal.targets().len()
+    }
+
+    /// Whether so little is left to do that the run may as well go on to its end.
+    pub(crate) fn is_late<P, G>(&self, shared: &Shared<'_, P, G>) -> bool {
+        let n = shared.run.csr.n();
+        shared.pace.is_alone() && self.visits > u64::from(n - n / LAST)
+    }
+}
+
+/// Each target has a label: what a worker knows of them.
 #[derive(Drop)]
 pub(crate) struct Wanted {
     /// Vertices with this label or a larger one are left alone. It never rises.
     limit: u64,
-    /// Each target before this place had a label at the last look.
-    reached: usize,
     /// Pops in a row that gave nothing.
     idle: u32,
     /// Whether there was a sweep since the last visit that found no marked vertex below the limit.
@@ -115,6 +197,7 @@ impl Aim for Wanted {
 
     #[inline(always)]
     fn leaves<P, G>(&self, shared: &Shared<'_, P, G>, seat: &WorkSeat, v: u32) -> bool {
+        // Without a limit a vertex that has no label may be marked, as where arcs were added: it is taken too.
         self.limit < INF && shared.words.label_hint(seat, v) >= self.limit
     }
 
@@ -130,9 +213,14 @@ impl Aim for Wanted {
         }
     }
 
-    fn look<P, G>(&mut self, shared: &Shared<'_, P, G>, seat: &WorkSeat) {
+    fn look<P, G>(&mut self, shared: &Shared<'_, P, G>, seat: &WorkSeat, _visits: u64) {
         shared.pace.begin();
         self.take_aim(shared, seat);
+    }
+
+    #[inline(always)]
+    fn is_over<P, G>(&self, _shared: &Shared<'_, P, G>) -> bool {
+        false
     }
 
     #[inline(never)]
@@ -151,33 +239,28 @@ impl Aim for Wanted {
 }
 
 impl Wanted {
-    /// Before the first visit.
-    pub(crate) fn new(goal: &Goal<'_>) -> Wanted {
-        let limit = if goal.targets().is_empty() {
-            goal.limit_past(0)
-        } else {
-            INF
-        };
-        Wanted {
-            limit,
-            reached: 0,
+    /// Once each target has a label.
+    pub(crate) fn new<P, G>(shared: &Shared<'_, P, G>, seat: &WorkSeat) -> Wanted
+        requires words { seat.now.words ≡ shared.now.words.now }
+        requires graph { shared.now.run.csr.now ≡ seat.now.known.graph }
+    {
+        let mut aim = Wanted {
+            limit: INF,
             idle: 0,
             has_swept: false,
-        }
+        };
+        aim.take_aim(shared, seat);
+        aim
     }
 
-    /// Once all targets have a label, the greatest is the limit.
+    /// The limit is the least one that serves the labels of now.
     fn take_aim<P, G>(&mut self, shared: &Shared<'_, P, G>, seat: &WorkSeat)
         requires words { seat.now.words ≡ shared.now.words.now }
         requires graph { shared.now.run.csr.now ≡ seat.now.known.graph }
     {
         let goal = &shared.run.goal;
-        let targets = goal.targets();
-        self.reached = first_unreached(shared, seat, targets, self.reached);
-        if self.reached >= targets.len() && !targets.is_empty() {
-            let farthest = farthest_now(shared, seat, targets);
-            self.limit = goal.limit_past(farthest).min(self.limit);
-        }
+        let farthest = farthest_now(shared, seat, goal.targets());
+        self.limit = goal.limit_past(farthest).min(self.limit);
     }
 
     /// Whether a worker that drew nothing is to leave.

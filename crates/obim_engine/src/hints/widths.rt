@@ -12,6 +12,9 @@ const LIGHT: u64 = 8;
 /// A bucket is at least this power of two of light weights wide, divided by the arcs of a vertex.
 const LIGHT_WEIGHTS: u32 = 3;
 
+/// A chain has some power of two of buckets, this one, if it is long.
+const CHAIN_BUCKETS: u32 = 9;
+
 /// How wide buckets are. A hint: no label depends on it.
 #[derive(Clone, Copy, Debug, PartialEq, Eq)]
 pub struct Widths {
@@ -29,7 +32,8 @@ pub struct Widths {
 /// Larger labels have wider buckets, up to two to four times the weight of a usual arc: inside one, few
 /// labels fall again. There are about as many of these as the root of the number of vertices, so that the
 /// looks into empty ones are no more than twice the vertices. In a graph whose arcs are free labels are near
-/// their seeds: there buckets only widen.
+/// their seeds: there buckets only widen. In a chain, where one vertex follows another, no label falls twice however
+/// wide buckets are, so there are few.
 pub fn widths_of(csr: &Csr) -> Widths {
     let sample = Sample::of(csr);
     let mean = sample.sum.checked_div(sample.count).unwrap_or(0);
@@ -46,8 +50,14 @@ pub fn widths_of(csr: &Csr) -> Widths {
             .saturating_add(LIGHT_WEIGHTS)
             .saturating_sub(bit_length(degree.max(1))),
     };
+    let vertices = bit_length(u64::from(csr.n()));
+    let shift = if is_chain(csr) {
+        shift.saturating_add(vertices.saturating_sub(CHAIN_BUCKETS))
+    } else {
+        shift
+    };
     let widest = bit_length(mean).saturating_add(1).saturating_sub(shift);
-    let half = bit_length(u64::from(csr.n())).saturating_add(1) / 2;
+    let half = vertices.saturating_add(1) / 2;
     Widths {
         shift,
         scale: Scale::new(widest, 1 << half.min(63)),
@@ -57,6 +67,51 @@ pub fn widths_of(csr: &Csr) -> Widths {
 /// By how many bits a number is written; 0 has none.
 fn bit_length(number: u64) -> u32 {
     64_u32.saturating_sub(number.leading_zeros())
+}
+
+/// The step from one sampled arc to the next. An odd one meets each arc of rows that are all as long.
+fn step_of(csr: &Csr) -> usize {
+    csr.arc_count() / SAMPLES | 1
+}
+
+/// Whether each head of a sampled arc is a link of a chain.
+fn is_chain(csr: &Csr) -> bool {
+    let step = step_of(csr);
+    let mut place = 0_usize;
+    for _ in 0..SAMPLES {
+        if place >= csr.arc_count() {
+            break;
+        }
+        if !is_link(csr, csr.target(place).head) {
+            return false;
+        }
+        place = place.saturating_add(step);
+    }
+    true
+}
+
+/// Whether a walk that comes to a vertex can go on in one way at most: it has one arc, or two to vertices that lead back
+/// and so are its neighbours on both sides.
+fn is_link(csr: &Csr, v: u32) -> bool {
+    if v >= csr.n() {
+        return false;
+    }
+    let row = csr.row(v);
+    match row.len() {
+        0 => true,
+        1 => true,
+        2 => leads_to(csr, row[0].head, v) && leads_to(csr, row[1].head, v),
+        _ => false,
+    }
+}
+
+/// Whether a vertex has at most two arcs, of which one leads to another vertex.
+fn leads_to(csr: &Csr, from: u32, to: u32) -> bool {
+    if from >= csr.n() {
+        return false;
+    }
+    let row = csr.row(from);
+    row.len() <= 2 && row.iter().any(|target| target.head == to)
 }
 
 /// The weights of some of the arcs.
@@ -75,8 +130,7 @@ impl Sample {
             sum: 0,
             lengths: [0; 33],
         };
-        // An odd step meets each arc of rows that are all as long.
-        let step = csr.arc_count() / SAMPLES | 1;
+        let step = step_of(csr);
         let mut place = 0_usize;
         for _ in 0..SAMPLES {
             if place >= csr.arc_count() {

@@ -12,7 +12,7 @@ returns-in_err-v-clause-unchanged c =
     let side = c.self.inside in
     let own = current_own c.in_ok-at.was c.self.invariant in
     let same =
-    held_same side.chunks.items c.in_ok-at.at.place _ c.take_last.new.self own c.index_mut.ensures.value
+    held_same side.chunks.items c.in_ok-at.at.place _ c.take_near.new.self own c.index_mut.ensures.value
     c.in_err-v.ensures.unchanged in
     at_none _
     (ap (λ (held : List (List ℕ)). record { mirror = side.mirror; held = held; current = current_of side.current })
@@ -26,4 +26,4 @@ returns-clause-popped c =
     of_sides (Pops c.in_ok-v.v) _ _ c.self.view_is refl refl
     (pops_current side.current c.in_ok-at.was c.self.invariant.current_is
     (changed_here (Gets c.in_ok-v.v) _ side.chunks.items own c.index_mut.ensures.value
-    (takes_held c.in_ok-at.at.place side.mirror _ c.take_last.new.self c.in_ok-v.v within c.in_ok-v.ensures.taken)))
+    (takes_held c.in_ok-at.at.place side.mirror _ c.take_near.new.self c.in_ok-v.v within c.in_ok-v.ensures.taken)))
