@@ -90,8 +90,15 @@ pub(crate) fn settings_of(rt: &impl Abort, workers: u32, chunk: usize) -> Settin
 }
 
 /// How many chunks of each size one worker opens on a star of 64 leaves: one for vertex 0, and those of the leaves,
-/// which share a bucket.
-const CHUNKS: &[(usize, u64)] = &[(1, 65), (3, 23), (16, 5), (64, 2), (256, 2)];
+/// which share a bucket. Where buckets widen that is the one of vertex 0 too, whose chunk they go on with if it isn't
+/// full.
+const CHUNKS: &[(usize, u64, u64)] = &[
+    (1, 65, 65),
+    (3, 23, 22),
+    (16, 5, 4),
+    (64, 2, 1),
+    (256, 2, 1),
+];
 
 /// How many chunks one worker opens.
 fn chunks_by<H: Threads + Wait + Clock + Abort + Sync>(
@@ -106,12 +113,12 @@ fn chunks_by<H: Threads + Wait + Clock + Abort + Sync>(
 #[test]
 fn chunks_are_of_the_size_asked(rt: HostRuntime) -> Result<(), Fail> {
     let csr = star(&rt, rt.alloc(), 65, 1)?;
-    for &(chunk, chunks) in CHUNKS {
+    for &(chunk, chunks, wide) in CHUNKS {
         let narrow = settings_of(&rt, 1, chunk);
         let in_narrow = chunks_by(&rt, rt.alloc(), &csr, &narrow)?;
         assert!(rt; in_narrow == chunks, "chunks of {chunk}");
         let in_wide = chunks_by(&rt, rt.alloc(), &csr, &narrow.with_widening_buckets())?;
-        assert!(rt; in_wide == chunks, "wide, chunks of {chunk}");
+        assert!(rt; in_wide == wide, "wide, chunks of {chunk}");
     }
     Ok(())
 }

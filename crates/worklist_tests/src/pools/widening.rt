@@ -118,6 +118,7 @@ fn near_metrics_share_a_bag(rt: HostRuntime) {
     expect_calls(&rt, &pool, &mut sides, 0, PUSHES);
     assert!(rt; has_figures(&sides, 0));
     expect_calls(&rt, &pool, &mut sides, 1, LOWEST_FIRST);
-    // Worked by hand: the bag of 999 was found empty 5 times, that of 1000 4 times and that of 2000 3 times.
-    assert!(rt; has_figures(&sides, 12));
+    // Worked by hand: the bags of 999 and 1000 were found empty 4 times, that of 2000 3 times. The single vertex of the
+    // first, which was current, was taken without a look.
+    assert!(rt; has_figures(&sides, 11));
 }
