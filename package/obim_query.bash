@@ -10,8 +10,8 @@ _obim_query() {
     case $before in
         --answer | -a) choices="distances levels components" ;;
         --labels) choices="text raw" ;;
-        --at-once | --shift | -s) choices=auto ;;
-        --workers | -w | --chunk | -c | --within) compopt +o bashdefault +o default; return ;;
+        --workers | -w | --at-once | --shift | -s) choices=auto ;;
+        --chunk | -c | --within) compopt +o bashdefault +o default; return ;;
         *[\<\>]) return ;;
         *) choices="-a --answer -W --walks --within --labels --totals -w --workers --at-once -s --shift -c --chunk
             --session --progress --stats --explain -h --help -V --version" ;;

@@ -5,7 +5,7 @@ complete -c obim_query -s W -l walks -d "Print a shortest path for each cost, of
 complete -c obim_query -l within -x -d "Leave out vertices that cost more"
 complete -c obim_query -l labels -x -a "text raw" -d "How labels are written"
 complete -c obim_query -l totals -d "Print one line a source: how many, sum, greatest"
-complete -c obim_query -s w -l workers -x -d "How many workers, 1 to 64"
+complete -c obim_query -s w -l workers -x -a auto -d "How many workers, 1 to 64, or auto"
 complete -c obim_query -l at-once -x -a auto -d "Sources solved at the same time, 1 to 64, or auto"
 complete -c obim_query -s s -l shift -x -a auto -d "Bucket width 2^BITS, 0 to 63, or auto"
 complete -c obim_query -s c -l chunk -x -d "Vertices in a chunk, the unit of shared work, 1 to 256"

@@ -6,7 +6,7 @@ _arguments -s -S \
     '--within=[leave out vertices that cost more]:cost:' \
     '--labels=[how labels are written]:form:(text raw)' \
     '--totals[print one line a source: how many, sum, greatest]' \
-    '(-w --workers)'{-w+,--workers=}'[how many workers, 1 to 64]:count:' \
+    '(-w --workers)'{-w+,--workers=}'[how many workers, 1 to 64]:count:(auto)' \
     '--at-once=[sources solved at the same time, 1 to 64]:count:(auto)' \
     '(-s --shift)'{-s+,--shift=}'[bucket width 2^BITS, 0 to 63]:bits:(auto)' \
     '(-c --chunk)'{-c+,--chunk=}'[vertices in a chunk, the unit of shared work, 1 to 256]:size:' \

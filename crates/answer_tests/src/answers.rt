@@ -111,6 +111,24 @@ fn visits_of_one_worker_in_one_bag(rt: HostRuntime) -> Result<(), Fail> {
     Ok(())
 }
 
+// Of each row the answer, the job, and its vertices, each of which is visited once.
+const ALONE: [(Answer, &[u8], u64); 2] = [
+    (Answer::Distances, SIX, 6),
+    (Answer::Components, b"p sp 300 0\n", 300),
+];
+
+// Of two workers one works alone in a small graph, where that is asked for.
+#[test]
+fn visits_of_one_worker_alone(rt: HostRuntime) -> Result<(), Fail> {
+    for (answer, text, visits) in ALONE {
+        let counter = Counter::open(rt.alloc(), 2)?;
+        let asked = asked_with(&rt, answer, 1000, (2, 0, 16)).with_saving(true);
+        answer_with_figures(&rt, rt.alloc(), text, &asked, &counter)?;
+        assert_eq!(rt; (counter.visits_of(0), counter.visits_of(1)), (visits, 0));
+    }
+    Ok(())
+}
+
 // Of each row the answer, the job, its vertices, arcs and runs, and the buckets of the largest run at a shift of 4.
 const FIGURES: [(Answer, &[u8], (u32, usize, usize), u64); 5] = [
     (Answer::Distances, SIX, (6, 8, 1), 2),

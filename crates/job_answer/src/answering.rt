@@ -19,6 +19,7 @@ use crate::figures::Figures;
 use crate::graphs::{Graphs, graphs_for};
 use crate::laws::{blocks_are_unique, lines_are_unique};
 use crate::pairs::put_pairs;
+use crate::saving::asked_for;
 use crate::sink::{PIECE, Sink};
 use crate::watch::{Phase, Watch};
 use dimacs_text::{Ask, Job};
@@ -194,7 +195,8 @@ pub fn answer_question<H: Threads + Wait + Clock + Sync, W: Write, G: Gate + Syn
     // What is least in the network is least for the arcs that it was made of, and so are its walks.
     least_labels_follow_the_arcs();
     hops_and_parents_follow_the_arcs();
-    write_text(rt, alloc, writer, kind, ask, asked, gate, watch)
+    let asked = asked_for(asked, kind.graphs, ask);
+    write_text(rt, alloc, writer, kind, ask, &asked, gate, watch)
 }
 
 /// Whether a job asks for nothing: it has no section of queries, and the answer needs one.

@@ -106,6 +106,9 @@ pub struct Asked {
     pub limit: u64,
     /// How many sources are solved at the same time.
     pub at_once: AtOnce,
+    /// Whether one worker works alone where the graph is so small that more of them gain less than they take. No answer
+    /// depends on it.
+    pub saves: bool,
     ghost within: { IsAsked answer walks limit },
 }
 
@@ -132,6 +135,7 @@ impl Asked {
             walks,
             limit,
             at_once: AtOnce::Auto,
+            saves: false,
         })
     }
 
@@ -149,6 +153,7 @@ impl Asked {
             walks: self.walks,
             limit: self.limit,
             at_once,
+            saves: self.saves,
         }
     }
 
@@ -166,6 +171,20 @@ impl Asked {
             walks: self.walks,
             limit: self.limit,
             at_once: self.at_once,
+            saves: self.saves,
         }
+    }
+
+    /// The same, where one worker works alone in a small graph, or all of them in every graph.
+    pub fn with_saving(self, saves: bool) -> Asked
+        ensures answer { result.answer ≡ self.answer }
+        ensures settings { result.settings ≡ self.settings }
+        ensures walks { result.walks ≡ self.walks }
+        ensures limit { result.limit ≡ self.limit }
+        ensures at_once { result.at_once ≡ self.at_once }
+    {
+        let mut asked = self;
+        asked.saves = saves;
+        asked
     }
 }

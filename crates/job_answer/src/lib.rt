@@ -34,6 +34,7 @@ pub mod laws;
 mod line_walks;
 mod lines;
 mod pairs;
+mod saving;
 mod sink;
 mod solves;
 mod team_watch;

@@ -50,7 +50,7 @@ abbrev pub labels_rule : Rule
 labels_rule = record (valued (codes "labels")) { defaults = codes "text" ∷ [] }
 
 abbrev pub workers_rule : Rule
-workers_rule = record (valued (codes "workers")) { short = Some 119; defaults = codes "2" ∷ [] }
+workers_rule = record (valued (codes "workers")) { short = Some 119; defaults = codes "auto" ∷ [] }
 
 abbrev pub at_once_rule : Rule
 at_once_rule = record (valued (codes "at-once")) { defaults = codes "auto" ∷ [] }

@@ -20,13 +20,15 @@ const ABOUT: &str = "Answers a job: a directed graph with whole-number weights, 
 const AFTER: &str = "\
 Workers, sources at once, shift and chunk change how long an answer takes, and
 no byte of it. The defaults serve every kind of graph, from paths to maps of 24
-million vertices. With --at-once auto sources are solved side by side, up to one
-for each worker, and one by one if the graph is large and vertices have many
-arcs; each source at once takes memory of its own. With --shift auto the buckets
-of vertices get wider as costs rise, up to a width that fits the graph; with
---shift BITS each spans 2^BITS costs. Without --chunk a chunk has 256 vertices
-with one worker, 128 with two, and 64 with more. If an option is given twice,
-the last one counts.
+million vertices. With --workers auto there are two, and one works alone in a
+small graph, where the other would gain less than it takes; so it does in a
+session by any --workers. With --at-once auto sources are solved side by side,
+up to one for each worker, and one by one if the graph is large and vertices
+have many arcs; each source at once takes memory of its own. With --shift auto
+the buckets of vertices get wider as costs rise, up to a width that fits the
+graph; with --shift BITS each spans 2^BITS costs. Without --chunk a chunk has
+256 vertices with one worker, 128 with two, and 64 with more. If an option is
+given twice, the last one counts.
 
 A job is one text on standard input (which the argument - stands for): a graph
 in the .gr format of the 9th DIMACS Implementation Challenge, and after it its
@@ -218,7 +220,7 @@ fn workers_option<'a>(alloc: Global, help: &'a str) -> Arg<'a>
 {
     option(alloc, "workers", "COUNT", help)
         .short('w')
-        .default_value("2")
+        .default_value("auto")
 }
 
 fn at_once_option<'a>(alloc: Global, help: &'a str) -> Arg<'a>

@@ -8,7 +8,9 @@ use crate::command::{Limits, command};
 use crate::lines::lines_in;
 use crate::options::Options;
 use crate::refusals::{Refusal, refused_by};
-use crate::values::{Misuse, answer_in, at_once_in, has_flag, has_hyphen, settings_in};
+use crate::values::{
+    Misuse, answer_in, at_once_in, has_flag, has_hyphen, saves_workers, settings_in,
+};
 use clap::ArgMatches;
 use job_answer::{Asked, MAX_BYTES};
 use std::alloc::Global;
@@ -38,6 +40,7 @@ fn options_in(alloc: Global, matches: &ArgMatches) -> Result<Options, Misuse>
     let answer = answer_in(alloc, matches)?;
     let settings = settings_in(alloc, matches)?;
     let at_once = at_once_in(alloc, matches)?;
+    let saves = saves_workers(alloc, matches)?;
     let walks = has_flag(matches, "walks");
     let lines = lines_in(alloc, matches, answer, walks)?;
     let session = has_flag(matches, "session");
@@ -52,7 +55,7 @@ fn options_in(alloc: Global, matches: &ArgMatches) -> Result<Options, Misuse>
         return Err(Misuse::Line(format!(in alloc; "--walks needs distances or levels")?));
     };
     Ok(Options {
-        asked: asked.with_at_once(at_once),
+        asked: asked.with_at_once(at_once).with_saving(saves),
         lines,
         session,
         stats,

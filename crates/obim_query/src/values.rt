@@ -22,7 +22,7 @@ pub(crate) const WORKERS: Numbers = Numbers {
     option: "workers",
     least: 1,
     most: MAX_WORKERS,
-    has_auto: false,
+    has_auto: true,
 };
 
 pub(crate) const AT_ONCE: Numbers = Numbers {
@@ -148,6 +148,11 @@ pub(crate) fn settings_in(alloc: Global, matches: &ArgMatches) -> Result<Setting
         Some(_) => Ok(settings),
         None => Ok(settings.with_widening_buckets()),
     }
+}
+
+/// Whether the number of workers is left to the program, which then has one work alone in a small graph.
+pub(crate) fn saves_workers(alloc: Global, matches: &ArgMatches) -> Result<bool, Misuse> {
+    Ok(WORKERS.asked_in(alloc, matches)?.is_none())
 }
 
 pub(crate) fn at_once_in(alloc: Global, matches: &ArgMatches) -> Result<AtOnce, Misuse>

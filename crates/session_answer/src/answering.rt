@@ -48,7 +48,13 @@ pub fn answer_session<H: Threads + Wait + Clock + Sync, R: Read, W: Write, G: Ga
         (R.remaining reader.old) (R.remaining reader.new)
         (W.contents writer.old) (W.contents writer.new)) }
 {
-    let terms = Terms { asked, lines, gate };
+    // A small request is answered by one worker, however many there are.
+    let asked = asked.with_saving(true);
+    let terms = Terms {
+        asked: &asked,
+        lines,
+        gate,
+    };
     let mut buffer = vec![in alloc; 0; ROOM]?;
     answer_by(rt, alloc, reader, writer, &mut buffer, &terms)
 }

@@ -12,7 +12,6 @@
 mod answering;
 mod conversation;
 mod graph_front;
-mod hints;
 mod session;
 mod terms;
 

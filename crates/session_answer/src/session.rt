@@ -14,7 +14,6 @@ ghost use Rattle.session_answer.specs.Replies.{HoldsGraph, IsAnswerIn, IsAsked, 
 ghost use Rattle.session_answer.specs.Replies.{IsRequestWithin, IsTold};
 ghost use Rattle.session_answer.specs.Replies.{graph_after, grown_by, lines_by, lines_for, walks_or};
 
-use crate::hints::{FEW_WORDS, settings_for};
 use crate::terms::{Terms, has_walks, lines_for, walks_or};
 use answer_lines::{put_grown, put_ready, put_refusal};
 use dimacs_text::{Ask, Job};
@@ -35,6 +34,10 @@ use std::time::Clock;
 
 /// What is written where memory is refused.
 pub(crate) const NO_MEMORY: &str = "out of memory";
+
+/// How many lines, or vertices on walks, a reply may have that is made in memory before its first byte is given: some
+/// megabytes. No reply depends on it.
+const FEW_WORDS: usize = 1 << 16;
 
 /// What came of a request.
 #[derive(Clone, Copy, Debug, PartialEq, Eq)]
@@ -275,7 +278,6 @@ impl Session {
         if is_unasked(terms.asked.answer, ask) {
             return Ok(());
         }
-        let asked = self.asked_for(terms.asked, ask);
         let kind = BlockKind {
             graphs: &self.graphs,
             lines: lines_for(terms.lines, walks, ask),
@@ -287,19 +289,10 @@ impl Session {
             writer,
             kind,
             ask,
-            &asked,
+            terms.asked,
             terms.gate,
             &mut figures,
         )
-    }
-
-    /// What is asked, by one worker where there is so little to do that no other gains what its start costs. No reply
-    /// depends on it.
-    fn asked_for(&self, asked: &Asked, ask: &Ask) -> Asked
-        ensures answer { result.answer ≡ asked.now.answer }
-    {
-        let size = self.arcs.saturating_add(self.graphs.network.n() as usize);
-        asked.with_settings(settings_for(asked.settings, size, ask))
     }
 
     /// Adds arcs to the graph, and writes how many they are. Where memory is refused, nothing is done.

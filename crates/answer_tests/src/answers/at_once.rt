@@ -75,6 +75,18 @@ fn figures_of_sources_at_once(rt: HostRuntime) -> Result<(), Fail> {
     Ok(())
 }
 
+// The same visits, all of them by one worker, where that one works alone in a small graph.
+#[test]
+fn sources_of_one_worker_alone(rt: HostRuntime) -> Result<(), Fail> {
+    let counter = Counter::open(rt.alloc(), 8)?;
+    let asked = asked_at_once(&rt, 8, AtOnce::Auto).with_saving(true);
+    let (bytes, figures) = answer_with_figures(&rt, rt.alloc(), SIX_SOURCES, &asked, &counter)?;
+    assert_eq!(rt; bytes.as_slice(), SIX_SOURCES_ANSWER);
+    assert_eq!(rt; (figures.solves, figures.at_once), (5, 1));
+    assert_eq!(rt; (counter.visits_of(0), all_visits(&counter, 8)), (23, 23));
+    Ok(())
+}
+
 /// The visits of all workers.
 fn all_visits(counter: &Counter, workers: u32) -> u64 {
     let mut visits = 0_u64;

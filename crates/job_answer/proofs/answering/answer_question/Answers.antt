@@ -14,11 +14,11 @@ returns-clause-reply g c job are asked =
           written.text).0 written.is_text;
       appended = written.appended;
     })
-    c.write_text.ensures.text
+    (rw c.asked_for-asked.ensures.answer at c.write_text.ensures.text)
 
 pub returns-clause-prefix : goal.returns-clause-prefix
 returns-clause-prefix g c job are asked =
     on_err_weaker c.write_text.result
     (text_begun c.least_labels_follow_the_arcs.ensures c.hops_and_parents_follow_the_arcs.ensures
     c.args.asked.now.answer c.args.kind.lines job c.args.kind.graphs.now (question_of c.args.ask.now) are asked _ _)
-    c.write_text.ensures.prefix
+    (rw c.asked_for-asked.ensures.answer at c.write_text.ensures.prefix)

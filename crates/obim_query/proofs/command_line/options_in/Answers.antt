@@ -15,15 +15,16 @@ returns c =
     let rows = rows_of found in
     let made = c.in-Some.ensures in
     let with = c.with_at_once.ensures in
+    let saving = c.with_saving.ensures in
     let workers = first_value-rows found (codes "workers") in
     let shift = first_value-rows found (codes "shift") in
     let chunk = first_value-rows found (codes "chunk") in
     record {
-      answer = carried NamesKind _ _ _ _ (first_value-rows found (codes "answer")) (with.answer ∙ made.answer)
+      answer = carried NamesKind _ _ _ _ (first_value-rows found (codes "answer")) (saving.answer ∙ with.answer ∙ made.answer)
           c.in_ok-answer.ensures;
-      walks = carried IsFlag _ _ _ _ (first_value-rows found (codes "walks")) (with.walks ∙ made.walks)
+      walks = carried IsFlag _ _ _ _ (first_value-rows found (codes "walks")) (saving.walks ∙ with.walks ∙ made.walks)
           c.has_flag-walks.ensures;
-      lines = c.in_ok-lines.ensures.walks ∙ sym (with.walks ∙ made.walks);
+      lines = c.in_ok-lines.ensures.walks ∙ sym (saving.walks ∙ with.walks ∙ made.walks);
       within = carried AsksCost _ _ _ _ (first_value-rows found (codes "within")) (search rules)
           c.in_ok-lines.ensures.within;
       labels = carried NamesLabels _ _ _ _ (first_value-rows found (codes "labels")) (search rules)
@@ -31,11 +32,11 @@ returns c =
       totals = carried IsFlag _ _ _ _ (first_value-rows found (codes "totals")) (search rules)
           c.in_ok-lines.ensures.totals;
       settings = subst (AsksSettings (first_of (codes "workers") rows) (first_of (codes "shift") rows)
-          (first_of (codes "chunk") rows)) (sym (with.settings ∙ made.settings))
+          (first_of (codes "chunk") rows)) (sym (saving.settings ∙ with.settings ∙ made.settings))
           (rw (← workers, ← shift, ← chunk) c.in_ok-settings.ensures);
-      at_once = carried AsksAtOnce _ _ _ _ (first_value-rows found (codes "at-once")) with.at_once
+      at_once = carried AsksAtOnce _ _ _ _ (first_value-rows found (codes "at-once")) (saving.at_once ∙ with.at_once)
           c.in_ok-at_once.ensures;
-      limit = with.limit ∙ made.limit;
+      limit = saving.limit ∙ with.limit ∙ made.limit;
       session = carried IsFlag _ _ _ _ (first_value-rows found (codes "session")) (search rules)
           c.has_flag-session.ensures;
       stats = carried IsFlag _ _ _ _ (first_value-rows found (codes "stats")) (search rules) c.has_flag-stats.ensures;

@@ -10,3 +10,11 @@ returns-in_err-buffer-clause-cut g c =
     (nothing_cut c.args.asked.now.answer c.args.lines c.args.asked.now.walks _ _ _
     (record { bytes = []; taken = Consumes-nil _ }))
     c.from_residual.result
+
+pub returns-clause-answered : goal.returns-clause-answered
+returns-clause-answered g c =
+    rw (c.with_saving-asked.ensures.answer, c.with_saving-asked.ensures.walks) at c.answer_by.ensures.answered
+
+pub returns-clause-cut : goal.returns-clause-cut
+returns-clause-cut g c =
+    rw (c.with_saving-asked.ensures.answer, c.with_saving-asked.ensures.walks) at c.answer_by.ensures.cut

@@ -3,8 +3,7 @@ use Rattle.std.proofs.lemmas.Result.{on_err_weaker, on_ok_weaker}
 use Rattle.dimacs_text.specs.Jobs.{question_of}
 use Rattle.job_answer.specs.Outcome.{is_unasked}
 use Rattle.job_answer.specs.Within.{IsAnswerTextBy}
-use Rattle.job_answer.specs.declared.asked.Answer.{Answer}
-use Rattle.session_answer.specs.Replies.{HoldsGraph, IsBodyIf, job_of, lines_for}
+use Rattle.session_answer.specs.Replies.{IsBodyIf, job_of, lines_for}
 use Rattle.session_answer.proofs.ReplyLemmas.{graph_rows}
 use Rattle.session_answer.proofs.session.Session.write_body.Goals as goal
 
@@ -15,19 +14,15 @@ returns-clause-body g c graph holds =
     let job = job_of graph question in
     let by = lines_for c.args.terms.now.lines c.args.walks question in
     let asked : is_unasked kind question ≡ false = sym c.is_unasked.ensures ∙ c.if-is_unasked.false in
-    let same : c.asked_for-asked.result.answer ≡ kind = c.asked_for-asked.ensures.answer in
-    let held = subst (λ (k : Answer). HoldsGraph k graph c.args.self.now) (sym same) holds in
     on_ok_weaker c.answer_question.result
     (λ written. record {
       text = written.text;
       is_text =
           subst (λ unasked. IsBodyIf unasked kind by job written.text) (sym asked)
-          (subst (λ lines. IsAnswerTextBy kind lines job written.text) c.lines_for.ensures
-          (subst (λ (k : Answer). IsAnswerTextBy k c.lines_for.result job written.text) same written.is_text));
+          (subst (λ lines. IsAnswerTextBy kind lines job written.text) c.lines_for.ensures written.is_text);
       appended = written.appended;
     })
-    (c.answer_question.ensures.reply job (graph_rows c.asked_for-asked.result.answer graph c.args.self.now c.requires.graphs.is held)
-    refl)
+    (c.answer_question.ensures.reply job (graph_rows kind graph c.args.self.now c.requires.graphs.is holds) refl)
 
 pub returns-clause-cut : goal.returns-clause-cut
 returns-clause-cut g c graph holds =
@@ -36,17 +31,13 @@ returns-clause-cut g c graph holds =
     let job = job_of graph question in
     let by = lines_for c.args.terms.now.lines c.args.walks question in
     let asked : is_unasked kind question ≡ false = sym c.is_unasked.ensures ∙ c.if-is_unasked.false in
-    let same : c.asked_for-asked.result.answer ≡ kind = c.asked_for-asked.ensures.answer in
-    let held = subst (λ (k : Answer). HoldsGraph k graph c.args.self.now) (sym same) holds in
     on_err_weaker c.answer_question.result
     (λ cut. record {
       given = cut.given;
       is_prefix = λ text is.
           cut.is_prefix text
-          (subst (λ (k : Answer). IsAnswerTextBy k c.lines_for.result job text) (sym same)
           (subst (λ lines. IsAnswerTextBy kind lines job text) (sym c.lines_for.ensures)
-          (subst (λ unasked. IsBodyIf unasked kind by job text) asked is)));
+          (subst (λ unasked. IsBodyIf unasked kind by job text) asked is));
       appended = cut.appended;
     })
-    (c.answer_question.ensures.prefix job (graph_rows c.asked_for-asked.result.answer graph c.args.self.now c.requires.graphs.is held)
-    refl)
+    (c.answer_question.ensures.prefix job (graph_rows kind graph c.args.self.now c.requires.graphs.is holds) refl)

@@ -1,0 +1,68 @@
+//! By how many workers is a question answered, where those are saved that gain less than they take?
+//!
+//! No answer depends on what is said here.
+
+ghost use Rattle.std.specs.Prelude.{◌≡◌};
+
+use crate::asked::{Answer, Asked};
+use crate::graphs::Graphs;
+use dimacs_text::Ask;
+use obim_engine::{MAX_CHUNK, Settings};
+
+/// How many vertices and arcs one worker goes over, those of each of several sources or pairs, before another one would
+/// gain what its start costs: some 100 microseconds a question.
+const FEW: usize = 1 << 14;
+
+/// The same of a single one, which workers share: each step of one takes longer there, so they gain later.
+const FEW_SHARED: usize = 1 << 17;
+
+/// The same where there are two workers, which gain the least.
+const FEW_SHARED_BY_TWO: usize = 1 << 19;
+
+/// What is asked of these graphs: where workers are saved, by one of them if there is so little to do that no other
+/// gains what it takes.
+pub(crate) fn asked_for(asked: &Asked, graphs: &Graphs, ask: &Ask) -> Asked
+    ensures answer { result.answer ≡ asked.now.answer }
+{
+    if asked.saves && is_little(asked, graphs, ask) {
+        return asked.with_settings(alone(asked.settings));
+    }
+    *asked
+}
+
+/// Whether one worker goes over so few vertices and arcs that no other gains what it takes.
+fn is_little(asked: &Asked, graphs: &Graphs, ask: &Ask) -> bool {
+    let rows = graphs.network.rows();
+    let size = rows.arc_count().saturating_add(rows.n() as usize);
+    let count = count_of(asked.answer, ask);
+    size.saturating_mul(count) <= few_for(count, asked.settings.workers)
+}
+
+/// For how many sources a graph is solved at most.
+fn count_of(answer: Answer, ask: &Ask) -> usize {
+    match (answer, ask) {
+        (Answer::Components, _) | (_, Ask::Absent) => 1,
+        (_, Ask::Sources(sources)) => sources.len(),
+        (_, Ask::Pairs(pairs)) => pairs.len(),
+    }
+}
+
+/// Up to how many vertices and arcs one worker answers alone, where this many sources or pairs are asked for.
+fn few_for(count: usize, workers: u32) -> usize {
+    if count > 1 {
+        FEW
+    } else if workers > 2 {
+        FEW_SHARED
+    } else {
+        FEW_SHARED_BY_TWO
+    }
+}
+
+/// The settings with one worker. It shares nothing, and its chunks take the same room whatever their size is.
+fn alone(settings: Settings) -> Settings {
+    Settings {
+        workers: 1,
+        buckets: settings.buckets,
+        chunk: MAX_CHUNK,
+    }
+}
