@@ -16,7 +16,7 @@ use Rattle.job_reader.specs.declared.fault.ReadFault.TheVariants as fault
 use Rattle.job_reader.specs.Pieces.{Feeds, StepsOn, StopsShort}
 use Rattle.job_reader.specs.Request.{HasTaken, SaysOfText, fault_of}
 use Rattle.job_reader.specs.Taken.{TakesAtMost, TakesOneMore, TakesWhole}
-use Rattle.std.proofs.KnownBytes.{Consumes-nil, Consumes-trans}
+use Rattle.std.proofs.KnownBytes.{Consumes-trans}
 
 -- the reader of the job has read all that was taken but the pieces at hand; `left` bytes may still come
 pub record IsFed (reader : JobReader) (at_hand : List ℕ) (limit left : ℕ) (before after : Option (List ℕ))
@@ -129,19 +129,6 @@ pub record IsFedOn (old new : JobReader) (at_hand : List ℕ) (limit left : ℕ)
   pub reads : Reads old new text
   pub taken : Consumes before after (text ++ at_hand)
   pub count : length (text ++ at_hand) + left ≡ limit
-
--- nothing is read by reading nothing
-pub reads-none : (job : JobReader) → Reads job job []
-reads-none job text read few = subst (λ l. HasRead job l) (sym (append-nil text)) read
-
--- nothing was taken yet
-pub fed-none : (job : JobReader) (limit : ℕ) (now : Option (List ℕ)) → IsFedOn job job [] limit limit now now
-fed-none job limit now = record {
-  text = [];
-  reads = reads-none job;
-  taken = Consumes-nil now;
-  count = omega arith;
-}
 
 -- the first piece was fed, and another was taken
 pub fed-further : (old job new : JobReader) (limit left most : ℕ) (before between after : Option (List ℕ))

@@ -26,22 +26,31 @@ const MOST_POPS: u32 = 2048;
 /// stop would save less than it takes to look through what is left.
 const LAST: u32 = 32;
 
-/// What a worker leaves alone, and when it leaves.
+/// What a worker leaves alone, and when it leaves. An aim that says nothing else leaves no vertex alone.
 pub(crate) trait Aim {
     /// Whether a head whose label fell to this is left alone: it is marked, and not handed to the pool.
-    fn is_past(&self, label: u64) -> bool;
+    #[inline(always)]
+    fn is_past(&self, _label: u64) -> bool {
+        false
+    }
 
     /// Whether a vertex is left alone: it isn't taken.
+    #[inline(always)]
     fn leaves<P, G>(&self, shared: &Shared<'_, P, G>, seat: &WorkSeat, v: u32) -> bool
         requires words { seat.now.words ≡ shared.now.words.now }
         requires graph { shared.now.run.csr.now ≡ seat.now.known.graph }
-        requires vertex { v < shared.now.run.csr.now.n };
+        requires vertex { v < shared.now.run.csr.now.n }
+    {
+        false
+    }
 
     /// Where the worker has visited a vertex since its last fruitless pop.
-    fn renew(&mut self);
+    #[inline(always)]
+    fn renew(&mut self) {}
 
     /// After a sweep, and whether it visited a vertex.
-    fn swept(&mut self, has_visited: bool);
+    #[inline(always)]
+    fn swept(&mut self, _has_visited: bool) {}
 
     /// Looks at the labels of the targets, after so many visits.
     fn look<P, G>(&mut self, shared: &Shared<'_, P, G>, seat: &WorkSeat, visits: u64)
@@ -72,22 +81,6 @@ pub(crate) struct Whole;
 
 impl Aim for Whole {
     #[inline(always)]
-    fn is_past(&self, _label: u64) -> bool {
-        false
-    }
-
-    #[inline(always)]
-    fn leaves<P, G>(&self, _shared: &Shared<'_, P, G>, _seat: &WorkSeat, _v: u32) -> bool {
-        false
-    }
-
-    #[inline(always)]
-    fn renew(&mut self) {}
-
-    #[inline(always)]
-    fn swept(&mut self, _has_visited: bool) {}
-
-    #[inline(always)]
     fn look<P, G>(&mut self, _shared: &Shared<'_, P, G>, _seat: &WorkSeat, _visits: u64) {}
 
     #[inline(always)]
@@ -117,22 +110,6 @@ pub(crate) struct Seeker {
 }
 
 impl Aim for Seeker {
-    #[inline(always)]
-    fn is_past(&self, _label: u64) -> bool {
-        false
-    }
-
-    #[inline(always)]
-    fn leaves<P, G>(&self, _shared: &Shared<'_, P, G>, _seat: &WorkSeat, _v: u32) -> bool {
-        false
-    }
-
-    #[inline(always)]
-    fn renew(&mut self) {}
-
-    #[inline(always)]
-    fn swept(&mut self, _has_visited: bool) {}
-
     fn look<P, G>(&mut self, shared: &Shared<'_, P, G>, seat: &WorkSeat, visits: u64) {
         shared.pace.begin();
         self.visits = visits;
