@@ -1,7 +1,7 @@
-//! What do `answer` and `answer_session` do that no contract says?
+//! What do `answer`, `answer_session` and `parse_options` do that no contract says?
 //!
-//! Tests of `job_answer` and `session_answer`, which know their public calls and contracts alone. They stand in a crate of their own, since a
-//! crate is proved once more for the tests that it has.
+//! Tests of `job_answer`, `session_answer` and `command_line`, which know their public calls and contracts alone. They
+//! stand in a crate of their own, since a crate is proved once more for the tests that it has.
 
 #![tactic(auto)]
 
@@ -9,3 +9,5 @@
 mod answers;
 #[cfg(test)]
 mod kept;
+#[cfg(test)]
+mod words;

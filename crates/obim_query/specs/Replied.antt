@@ -10,8 +10,8 @@ use Rattle.job_answer.specs.declared.asked.Lines.{Lines}
 use Rattle.job_answer.specs.Outcome.{IsAnsweredBy, IsBegunBy, IsReplyBy}
 use Rattle.session_answer.specs.Conversations.{IsAnsweredSession}
 use Rattle.session_answer.specs.Cuts.{IsCutSession}
-use Rattle.obim_query.specs.declared.options.Options.{Options}
-use Rattle.obim_query.specs.CommandLine.{AskForText, WordsAskFor}
+use Rattle.command_line.specs.declared.options.Options.{Options}
+use Rattle.command_line.specs.CommandLine.{AskForText, WordsAskFor}
 
 -- 0 after an answer, and else the status of the fault
 abbrev pub status_after : Result (Unit {0}) Fault → ℕ

@@ -1,45 +1,32 @@
 //! Which job, and where do its bytes go: the program.
 //!
 //! `obim_query` reads a job from standard input and writes its answer to standard output. What it
-//! writes, and what a fault leaves, is the contract of `answer` of `job_answer`; this crate reads the
-//! command line, prints help, faults with their explanations and figures, and gives the status.
+//! writes, and what a fault leaves, is the contract of `answer` of `job_answer`, and of a session that of
+//! `answer_session`; this crate prints help and faults, and gives the status.
 //!
-//! It stands on `job_answer`, on `dimacs_text` for what is said of a line that is wrong, on `obim_engine`
-//! for the limits of the settings, and on `clap` for the command line.
+//! It stands on `command_line` for what is asked for, on `job_answer` and `session_answer` for the answers, on
+//! `job_messages` and `dimacs_text` for what is told besides, on `obim_engine`, whose workers pass an open gate, and on
+//! `clap`, which prints its help.
 #![tactic(auto)]
 
 ghost use Rattle.std.specs.Prelude.{◌≡◌, map};
 ghost use Rattle.job_answer.specs.Choices.{status_of};
 ghost use Rattle.job_answer.specs.Outcome.{IsReplyBy};
 ghost use Rattle.job_answer.specs.Solves.{IsLinesAsked};
-ghost use Rattle.obim_query.specs.CommandLine.{IsText};
+ghost use Rattle.command_line.specs.CommandLine.{IsText};
 ghost use Rattle.obim_query.specs.Replied.{HasReplied, HasRun, HasServed, IsRefusalStatus, IsTextStatus};
 
-mod command;
-mod command_line;
-mod explain;
-mod guess;
 mod input;
-mod lines;
-mod options;
 mod output;
-mod progress;
-mod refusals;
-mod stats;
-mod values;
 
-use command_line::parse_options;
+use command_line::{Options, Refusal, parse_options};
 use dimacs_text::Explanation;
-use explain::print_explanation;
 use input::Input;
 use job_answer::{Counter, Fault, Phase, Watch, answer_by, status};
+use job_messages::{Progress, Shown, print_explanation, print_stats};
 use obim_engine::OpenGate;
-use options::Options;
 use output::Output;
-use progress::{Progress, Shown};
-use refusals::Refusal;
 use session_answer::answer_session;
-use stats::print_stats;
 use std::convert::AsStr;
 use std::env::Env;
 use std::io::{self, ErrorKind, IsTerminal, Read, Write};

@@ -5,7 +5,7 @@ use Rattle.job_answer.specs.LineWalks.{bound_in}
 use Rattle.job_answer.specs.Solves.{IsLinesAsked}
 use Rattle.job_answer.specs.declared.asked.Lines.{Lines}
 use Rattle.job_answer.specs.declared.asked.Lines.TheVariants as lines
-use Rattle.obim_query.specs.CommandLine.{AsksCost}
+use Rattle.command_line.specs.CommandLine.{AsksCost}
 use Rattle.obim_query.specs.Replied.{IsTextStatus}
 use Rattle.obim_query.proofs.run.Goals as goal
 

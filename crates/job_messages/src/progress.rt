@@ -16,7 +16,7 @@ const TERMINAL_PACE: u64 = 200;
 
 /// Where progress is shown.
 #[derive(Clone, Copy, PartialEq)]
-pub(crate) enum Shown {
+pub enum Shown {
     Nowhere,
     /// In lines of their own.
     Lines,
@@ -26,11 +26,12 @@ pub(crate) enum Shown {
 
 /// Figures of a job, of which it prints how far it is from time to time.
 #[derive(Drop)]
-pub(crate) struct Progress<'a, H> {
+pub struct Progress<'a, H> {
     rt: &'a H,
-    pub(crate) figures: Figures,
+    /// What was counted and how long each part took.
+    pub figures: Figures,
     /// Why the text is refused, if it is.
-    pub(crate) explanation: Option<Explanation>,
+    pub explanation: Option<Explanation>,
     shown: Shown,
     bytes: u64,
     lines: u32,
@@ -42,8 +43,8 @@ pub(crate) struct Progress<'a, H> {
 }
 
 impl<'a, H: Eprint + Clock> Progress<'a, H> {
-    /// Of nothing, from now on.
-    pub(crate) fn new(rt: &'a H, shown: Shown) -> Progress<'a, H> {
+    /// Of a job of which nothing is read yet: its time begins now.
+    pub fn new(rt: &'a H, shown: Shown) -> Progress<'a, H> {
         let mut progress = Progress {
             rt,
             figures: Figures::new(rt),
@@ -104,7 +105,7 @@ impl<'a, H: Eprint + Clock> Progress<'a, H> {
 
     /// Prints that the answer is whole, if a line was printed before: so a log tells a job that ended from one that
     /// hangs.
-    pub(crate) fn tell_end(&self) {
+    pub fn tell_end(&self) {
         if self.lines == 0 {
             return;
         }
@@ -113,8 +114,8 @@ impl<'a, H: Eprint + Clock> Progress<'a, H> {
         let _ = eprintln!(self.rt; "obim_query: answered, {spent} s");
     }
 
-    /// Takes the line at a terminal away.
-    pub(crate) fn clear(&self) {
+    /// Takes the line at a terminal away, before something else is printed.
+    pub fn clear(&self) {
         if self.shown == Shown::Terminal {
             let _ = eprint!(self.rt; "\r\u{1b}[K");
         }

@@ -1,8 +1,8 @@
 use Rattle.std.proofs.Common.{◌≡◌, ◌∙◌, Option, codes, rules, subst, sym}
 use Rattle.clap.proofs.WalkLemmas.{first_value-rows}
 use Rattle.clap.specs.Words.{Text, first_of, found_of, rows_of}
-use Rattle.obim_query.specs.CommandLine.{AsksAtOnce, AsksCost, AsksSettings, IsFlag, NamesKind, NamesLabels}
-use Rattle.obim_query.proofs.command_line.options_in.Goals as goal
+use Rattle.command_line.specs.CommandLine.{AsksAtOnce, AsksCost, AsksSettings, IsFlag, NamesKind, NamesLabels}
+use Rattle.command_line.proofs.parse.options_in.Goals as goal
 
 -- what is said of the value that was found, and of what it asks for
 carried : {X : Type 0} (P : Option Text → X → Type 0) (found row : Option Text) (old new : X)

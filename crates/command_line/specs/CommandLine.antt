@@ -22,10 +22,10 @@ use Rattle.job_answer.specs.declared.asked.Answer.{Answer}
 use Rattle.job_answer.specs.declared.asked.Answer.TheVariants.{Distances, Levels, Components}
 use Rattle.least_costs.specs.declared.plan.AtOnce.{AtOnce}
 use Rattle.least_costs.specs.declared.plan.AtOnce.TheVariants as at_once
-use Rattle.obim_query.specs.declared.options.Options.{Options}
-use Rattle.obim_query.specs.declared.refusals.Refusal.{Refusal}
-use Rattle.obim_query.specs.declared.refusals.Refusal.TheVariants as refusal
-use Rattle.obim_query.specs.declared.values.TheConstants.{CHUNK_OF_TWO, SHARED_CHUNK}
+use Rattle.command_line.specs.declared.options.Options.{Options}
+use Rattle.command_line.specs.declared.refusals.Refusal.{Refusal}
+use Rattle.command_line.specs.declared.refusals.Refusal.TheVariants as refusal
+use Rattle.command_line.specs.declared.values.TheConstants.{CHUNK_OF_TWO, SHARED_CHUNK}
 
 -- ---- the arguments of the command
 

@@ -1,7 +1,7 @@
 //! Why does a command line ask for no answer?
 
 ghost use Rattle.clap.specs.Words.{kind_of};
-ghost use Rattle.obim_query.specs.CommandLine.{IsText, IsTextKind};
+ghost use Rattle.command_line.specs.CommandLine.{IsText, IsTextKind};
 
 use crate::values::{AT_ONCE, CHUNK, Misuse, Numbers, SHIFT, WORKERS};
 use clap::Error;
@@ -11,7 +11,7 @@ use std::convert::AsStr;
 
 /// Why a command line asks for no answer.
 #[derive(Drop)]
-pub(crate) enum Refusal {
+pub enum Refusal {
     /// It asks for a text: the help or the version.
     Text(Error),
     /// It is refused: what is wrong with it, in a sentence.

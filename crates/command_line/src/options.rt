@@ -7,19 +7,20 @@ use job_answer::{Asked, Lines};
 
 /// What a command line asks for.
 #[derive(Clone, Copy)]
-pub(crate) struct Options {
-    pub(crate) asked: Asked,
+pub struct Options {
+    /// The kind of answer, the settings, and whether walks are told.
+    pub asked: Asked,
     /// Which lines the block of a source has.
-    pub(crate) lines: Lines,
+    pub lines: Lines,
     /// Whether requests follow the graph, each of which is answered at once.
-    pub(crate) session: bool,
+    pub session: bool,
     /// Whether figures are printed after the answer.
-    pub(crate) stats: bool,
+    pub stats: bool,
     /// Whether it is printed how far the answer is.
-    pub(crate) progress: bool,
+    pub progress: bool,
     /// Whether a fault is explained.
-    pub(crate) explain: bool,
+    pub explain: bool,
     /// Whether the job may come from a terminal, since the argument `-` is there.
-    pub(crate) typed: bool,
+    pub typed: bool,
     ghost walks: { has_walks lines ≡ asked.walks },
 }

@@ -2,7 +2,7 @@
 
 ghost use Rattle.std.specs.Prelude.{map, IfErr, IfOk};
 ghost use Rattle.clap.specs.Words.{found_of, rows_of};
-ghost use Rattle.obim_query.specs.CommandLine.{AskForText, AsksFor, IsText, WordsAskFor};
+ghost use Rattle.command_line.specs.CommandLine.{AskForText, AsksFor, IsText, WordsAskFor};
 
 use crate::command::{Limits, command};
 use crate::lines::lines_in;
@@ -16,12 +16,13 @@ use job_answer::{Asked, MAX_BYTES};
 use std::alloc::Global;
 use std::convert::AsStr;
 
-/// Judges the command line: what its arguments ask for, or why they are refused. The first is the
-/// program's name.
-pub(crate) fn parse_options<'a, S: AsStr>(
-    alloc: Global,
-    arguments: &'a [S],
-) -> Result<Options, Refusal>
+/// What the arguments of a command line ask for, of which the first is the program's name.
+///
+/// # Errors
+///
+/// `Refusal::Text` where they ask for the help or the version, `Refusal::Line` where something is wrong with them, of
+/// which it names the first, and `Refusal::Memory` where the system refuses memory.
+pub fn parse_options<'a, S: AsStr>(alloc: Global, arguments: &'a [S]) -> Result<Options, Refusal>
     ensures asked { IfOk result (WordsAskFor (map S.text arguments.entry.now)) }
     ensures text { IfErr result (λ refusal. IsText refusal → AskForText (map S.text arguments.entry.now)) }
 {

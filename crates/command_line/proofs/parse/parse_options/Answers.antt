@@ -2,8 +2,8 @@ use Rattle.std.proofs.Common.{◌≡◌, ◌∙◌, List, ap, inl, inr, refl, su
 use Rattle.clap.specs.Words.{App, HasKind, Row, Text, fault_of, is_simple, is_simple_and_free, kind_of, matches_of}
 use Rattle.clap.specs.declared.error.Error.{Error}
 use Rattle.clap.specs.declared.error.kind.ErrorKind.TheVariants.{DisplayHelp, DisplayVersion, OutOfMemory}
-use Rattle.obim_query.specs.CommandLine.{AsksFor, AskForText, IsTextKind, program}
-use Rattle.obim_query.proofs.command_line.parse_options.Goals as goal
+use Rattle.command_line.specs.CommandLine.{AsksFor, AskForText, IsTextKind, program}
+use Rattle.command_line.proofs.parse.parse_options.Goals as goal
 
 -- no argument of the command changes how the words are read
 is_simple_program : is_simple program ≡ true

@@ -2,9 +2,9 @@
 
 ghost use Rattle.std.specs.Prelude.{◌≡◌, codes, false, IfOk};
 ghost use Rattle.clap.specs.Words.{app_of, rule_of, with_rule};
-ghost use Rattle.obim_query.specs.CommandLine.{answer_rule, at_once_rule, chunk_rule, operand_rule, shift_rule};
-ghost use Rattle.obim_query.specs.CommandLine.{bare_program, flag, labels_rule, program, valued, walks_rule};
-ghost use Rattle.obim_query.specs.CommandLine.{within_rule, workers_rule};
+ghost use Rattle.command_line.specs.CommandLine.{answer_rule, at_once_rule, chunk_rule, operand_rule, shift_rule};
+ghost use Rattle.command_line.specs.CommandLine.{bare_program, flag, labels_rule, program, valued, walks_rule};
+ghost use Rattle.command_line.specs.CommandLine.{within_rule, workers_rule};
 
 use crate::values::{AT_ONCE, CHUNK, KINDS, LABELS, SHIFT, WORKERS};
 use clap::{Arg, ArgAction, Command};

@@ -3,7 +3,7 @@
 ghost use Rattle.std.specs.Prelude.{◌≡◌, codes, IfOk};
 ghost use Rattle.clap.specs.Words.{first_value, found_of};
 ghost use Rattle.job_answer.specs.LineWalks.{bound_in, has_walks, is_raw, is_totals};
-ghost use Rattle.obim_query.specs.CommandLine.{AsksCost, IsFlag, NamesLabels};
+ghost use Rattle.command_line.specs.CommandLine.{AsksCost, IsFlag, NamesLabels};
 
 use crate::values::{Misuse, has_flag, has_raw_labels, within_in};
 use clap::ArgMatches;

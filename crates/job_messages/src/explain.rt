@@ -5,9 +5,9 @@ use dimacs_text::{Explanation, LineKind, MAX_KEPT};
 use job_answer::{Fault, MAX_BYTES};
 use std::{fmt, io};
 
-/// The lines that explain a fault, of which each begins alike. What is wrong with a text stands in its explanation, and
-/// what the system said of a read or a write that failed is its failure.
-pub(crate) fn print_explanation<H: Eprint>(
+/// Prints the lines that explain a fault, at most four. What is wrong with a text stands in its explanation, and what the
+/// system said of a read or a write that failed is its failure; without these nothing is printed of such a fault.
+pub fn print_explanation<H: Eprint>(
     rt: &H,
     fault: Fault,
     explanation: Option<Explanation>,

@@ -12,8 +12,9 @@ const FEW: u64 = 20;
 
 const OFTEN: u64 = 200;
 
-/// The lines of the figures, and a hint where they say that the default shift would serve better.
-pub(crate) fn print_stats<H: Eprint>(rt: &H, asked: &Asked, figures: &Figures, counter: &Counter) {
+/// Prints a line for each of the figures and for the visits of each worker, and a hint where they say that the default
+/// shift would serve better.
+pub fn print_stats<H: Eprint>(rt: &H, asked: &Asked, figures: &Figures, counter: &Counter) {
     // Where standard error is closed, nobody reads them.
     let _ = eprintln!(rt; "vertices: {}", figures.vertices);
     let _ = eprintln!(rt; "arcs: {}", figures.arcs);

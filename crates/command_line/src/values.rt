@@ -2,8 +2,8 @@
 
 ghost use Rattle.std.specs.Prelude.{◌≡◌, codes, IfOk};
 ghost use Rattle.clap.specs.Words.{first_value, found_of};
-ghost use Rattle.obim_query.specs.CommandLine.{AsksAtOnce, AsksCost, AsksNumber, AsksSettings, IsFlag, NamesKind};
-ghost use Rattle.obim_query.specs.CommandLine.{NamesLabels, usual_chunk};
+ghost use Rattle.command_line.specs.CommandLine.{AsksAtOnce, AsksCost, AsksNumber, AsksSettings, IsFlag, NamesKind};
+ghost use Rattle.command_line.specs.CommandLine.{NamesLabels, usual_chunk};
 
 use clap::ArgMatches;
 use job_answer::{Answer, AtOnce, MAX_AT_ONCE};

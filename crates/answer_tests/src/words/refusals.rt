@@ -1,0 +1,41 @@
+//! The command line with one allocation refused: `Memory` then, and judged once more it asks for what it asks for.
+//! `tests/refusals` refuses each in turn; `tests/refusals.tsv` has the calls.
+
+use command_line::{Options, Refusal, parse_options};
+use job_answer::Answer;
+use route_walks::refusable;
+use std::test::Fail;
+
+const WORDS: [&str; 4] = ["obim_query", "--answer", "levels", "-w3"];
+
+/// The last value is refused.
+const WRONG: [&str; 3] = ["obim_query", "--workers", "65"];
+
+const WHY: &str = "invalid value '65' for '--workers': a number from 1 to 64, or auto";
+
+#[test]
+fn of_parse_options(rt: HostRuntime) -> Result<(), Fail> {
+    let alloc = rt.alloc();
+    match refusable!(alloc, parse_options(alloc, &WORDS)) {
+        Ok(options) => assert!(rt; is_wanted(&options)),
+        Err(refusal) => {
+            assert!(rt; matches!(refusal, Refusal::Memory));
+            match parse_options(alloc, &WORDS) {
+                Ok(options) => assert!(rt; is_wanted(&options)),
+                Err(_) => assert!(rt; false),
+            }
+        }
+    }
+    match refusable!(alloc, parse_options(alloc, &WRONG)) {
+        Err(Refusal::Line(line)) => {
+            assert!(rt; line.as_str() == WHY);
+        }
+        Err(refusal) => assert!(rt; matches!(refusal, Refusal::Memory)),
+        Ok(_) => assert!(rt; false),
+    }
+    Ok(())
+}
+
+fn is_wanted(options: &Options) -> bool {
+    options.asked.answer == Answer::Levels && options.asked.settings.workers == 3
+}
