@@ -17,7 +17,7 @@ const FEW: usize = 1 << 14;
 const FEW_SHARED: usize = 1 << 17;
 
 /// The same where there are two workers, which gain the least.
-const FEW_SHARED_BY_TWO: usize = 1 << 19;
+const FEW_SHARED_BY_TWO: usize = 3 << 18;
 
 /// What is asked of these graphs: where workers are saved, by one of them if there is so little to do that no other
 /// gains what it takes.
