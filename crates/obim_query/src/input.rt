@@ -2,12 +2,19 @@
 
 use std::io::{self, Read};
 
+/// How many bytes of the stack lie between what started the process and what `main` calls.
+const APART: usize = 1 << 14;
+
 /// A reader that notes why it failed.
 #[derive(Drop)]
 pub(crate) struct Input<R> {
     pub(crate) inner: R,
     /// What the system said of a read that failed.
     pub(crate) failure: Option<io::Error>,
+    /// Nobody reads this. It keeps what `main` calls away from the part of the stack that starting a process writes to. At
+    /// the first allocation glibc 2.36 reads the system's setting of large pages into memory there that it doesn't clear,
+    /// and on past what it read: it takes the setting for another one, unless nothing was ever written there.
+    _apart: [u8; APART],
 }
 
 impl<R> Input<R> {
@@ -15,6 +22,7 @@ impl<R> Input<R> {
         Input {
             inner,
             failure: None,
+            _apart: [0; APART],
         }
     }
 }
