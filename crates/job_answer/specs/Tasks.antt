@@ -20,11 +20,15 @@ pub record AreSourceTasks (of : SourceTasks) : Type 0 where
   pub lines : IsLinesAsked of.kind.lines
   pub within : All (λ source. source < of.kind.graphs.now.network.n) of.sources.now
 
+-- the text is the block of a source
+abbrev pub IsSourceBlock : SourceTasks → ℕ → List ℕ → Type 0
+IsSourceBlock of =
+    IsGrownLines of.kind.lines of.kind.graphs.now.network.n of.kind.graphs.now.network.arcs
+    (growth_of of.kind.graphs.now.grown)
+
 -- the text is the block of the source at a place
 abbrev pub IsBlockText : SourceTasks → ℕ → BlockText → Type 0
-IsBlockText of place text =
-    IsGrownLines of.kind.lines of.kind.graphs.now.network.n of.kind.graphs.now.network.arcs
-    (growth_of of.kind.graphs.now.grown) (slice_index of.sources.now place) text.bytes.items
+IsBlockText of place text = IsSourceBlock of (slice_index of.sources.now place) text.bytes.items
 
 -- ---- pairs with walks: a task for those that stand side by side and have one source gives their lines
 

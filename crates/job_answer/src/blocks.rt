@@ -1,15 +1,16 @@
 //! Which blocks answer sources and components?
 
-ghost use Rattle.std.specs.Prelude.{◌≡◌, ◌<◌, ◌≤◌, All, IfErr, IfOk, IfSome, OnErr, OnOk};
+ghost use Rattle.std.specs.Prelude.{◌≡◌, ◌<◌, ◌≤◌, length, slice_index, All, IfErr, IfOk, IfSome, OnErr, OnOk};
 ghost use Rattle.std.specs.Thread.{IsSync};
 ghost use Rattle.least_costs.specs.Rounds.{AreMade};
+ghost use Rattle.job_answer.specs.AnswerText.{AreBlocks};
 ghost use Rattle.job_answer.specs.Graphs.{AreGraphs, growth_of};
 ghost use Rattle.least_costs.specs.Network.{IsStartWithin};
 ghost use Rattle.job_answer.specs.Outcome.{IsWritingFault};
 ghost use Rattle.job_answer.specs.Sinks.{Cuts, IsSame, Puts};
 ghost use Rattle.job_answer.specs.Solves.{AreCostsFor, IsGrownStart, IsLinesAsked, IsRest};
 ghost use Rattle.job_answer.specs.Solves.{IsStartBlock, IsStartLines, goal_of};
-ghost use Rattle.job_answer.specs.Tasks.{AreSourceTasks, IsBlockText};
+ghost use Rattle.job_answer.specs.Tasks.{AreSourceTasks, IsBlockText, IsSourceBlock};
 ghost use Rattle.job_answer.specs.LineWalks.{AreWalksFor, HasVertexLines, has_walks};
 ghost use Rattle.job_answer.specs.Within.{AreLinesBlocks, IsGrownLines, IsLinesBlock};
 ghost use Rattle.least_costs.specs.declared.start.Start.TheVariants.{At};
@@ -84,8 +85,6 @@ pub fn put_sources<H: Threads + Wait + Clock + Sync, W: Write, G: Gate + Sync>(
         kind.entry.graphs.now.network.arcs (growth_of kind.entry.graphs.now.grown) sources.now) sink.old sink.new) }
     ensures kinds { IfErr result IsWritingFault }
 {
-    // So what is a prefix of these blocks is one of the blocks that another run would write.
-    lines_are_unique();
     let teams = teams_for(kind.graphs, asked);
     let tasks = SourceTasks {
         kind,
@@ -95,17 +94,67 @@ pub fn put_sources<H: Threads + Wait + Clock + Sync, W: Write, G: Gate + Sync>(
     };
     let mut rounds = Rounds::new(alloc, sources.len(), teams, asked.settings.workers);
     let mut workers = Workers::new(asked.settings, gate, None);
-    for place in 0..sources.len() {
-        watch.see_answered(place, sources.len());
-        if let Some(text) = take_block(rt, alloc, &mut rounds, &tasks, gate, place, watch) {
-            sink.send_with(&text.bytes)?;
-            watch.end(rt, Phase::Writing);
-            continue;
-        }
-        let start = Start::At(sources[place]);
-        put_solved(rt, alloc, sink, &tasks.kind, start, &mut workers, watch)?;
+    put_blocks(rt, alloc, sink, &tasks, &mut rounds, &mut workers, watch)
+}
+
+/// Puts the block of each source in turn.
+fn put_blocks<H: Threads + Wait + Clock + Sync, W: Write, G: Gate + Sync>(
+    rt: &H,
+    alloc: Global,
+    sink: &mut Sink<'_, W>,
+    tasks: &SourceTasks<'_>,
+    rounds: &mut Rounds<BlockText, Runner>,
+    workers: &mut Workers<'_, G>,
+    watch: &mut impl Watch,
+) -> Result<(), Fault>
+    requires tasks { AreSourceTasks tasks.now }
+    requires made { AreMade (IsBlockText tasks.now) rounds.old.made.items }
+    ensures same { IsSame sink.old sink.new }
+    ensures blocks { OnOk result (Puts W.contents (AreBlocks (IsSourceBlock tasks.now) tasks.now.sources.now)
+        sink.old sink.new) }
+    ensures prefix { OnErr result (Cuts W.contents (AreBlocks (IsSourceBlock tasks.now) tasks.now.sources.now)
+        sink.old sink.new) }
+    ensures kinds { IfErr result IsWritingFault }
+{
+    // So what is a prefix of these blocks is one of the blocks that another run would write.
+    lines_are_unique();
+    for place in 0..tasks.sources.len() {
+        watch.see_answered(place, tasks.sources.len());
+        put_block_at(rt, alloc, sink, tasks, place, rounds, workers, watch)?;
     }
     Ok(())
+}
+
+/// Puts the block of the source at a place: as it was made before its turn, or else solved now.
+fn put_block_at<H: Threads + Wait + Clock + Sync, W: Write, G: Gate + Sync>(
+    rt: &H,
+    alloc: Global,
+    sink: &mut Sink<'_, W>,
+    tasks: &SourceTasks<'_>,
+    place: usize,
+    rounds: &mut Rounds<BlockText, Runner>,
+    workers: &mut Workers<'_, G>,
+    watch: &mut impl Watch,
+) -> Result<(), Fault>
+    requires tasks { AreSourceTasks tasks.now }
+    requires place { place < length tasks.now.sources.now }
+    requires made { AreMade (IsBlockText tasks.now) rounds.old.made.items }
+    ensures same { IsSame sink.old sink.new }
+    ensures left { AreMade (IsBlockText tasks.now) rounds.new.made.items }
+    ensures block { OnOk result (Puts W.contents (IsSourceBlock tasks.now (slice_index tasks.now.sources.now place))
+        sink.old sink.new) }
+    ensures prefix { OnErr result (Cuts W.contents (IsSourceBlock tasks.now (slice_index tasks.now.sources.now place))
+        sink.old sink.new) }
+    ensures kinds { IfErr result IsWritingFault }
+{
+    lines_are_unique();
+    if let Some(text) = take_block(rt, alloc, rounds, tasks, workers.gate, place, watch) {
+        sink.send_with(&text.bytes)?;
+        watch.end(rt, Phase::Writing);
+        return Ok(());
+    }
+    let start = Start::At(tasks.sources[place]);
+    put_solved(rt, alloc, sink, &tasks.kind, start, workers, watch)
 }
 
 /// The block of the source at a place, if it was made before its turn.

@@ -1,6 +1,6 @@
 //! Which lines answer pairs with walks?
 
-ghost use Rattle.std.specs.Prelude.{◌≡◌, ◌<◌, ◌≤◌, ◌++◌, drop, length, max, slice_index, slice_range};
+ghost use Rattle.std.specs.Prelude.{◌≡◌, ◌+◌, ◌<◌, ◌≤◌, ◌++◌, drop, length, max, slice_index, slice_range, take};
 ghost use Rattle.std.specs.Prelude.{All, IfErr, IfOk, IfSome, OnErr, OnOk, true};
 ghost use Rattle.std.specs.Thread.{IsSync};
 ghost use Rattle.least_costs.specs.Rounds.{AreMade};
@@ -86,7 +86,6 @@ pub fn put_all_walked<H: Threads + Wait + Clock + Sync, W: Write, G: Gate + Sync
         (growth_of graphs.now.grown) pairs.now) sink.old sink.new) }
     ensures kinds { IfErr result IsWritingFault }
 {
-    blocks_are_unique();
     let tasks = WalkTasks {
         queries: PairQueries { graphs, pairs },
         settings: &asked.settings,
@@ -95,21 +94,73 @@ pub fn put_all_walked<H: Threads + Wait + Clock + Sync, W: Write, G: Gate + Sync
     let teams = teams_for(graphs, asked);
     let mut rounds = Rounds::new(alloc, pairs.len(), teams, asked.settings.workers);
     let mut workers = Workers::new(asked.settings, gate, None);
+    put_all_lines(rt, alloc, sink, &tasks, &mut rounds, &mut workers, watch)
+}
+
+/// Puts the lines of each pair in turn.
+fn put_all_lines<H: Threads + Wait + Clock + Sync, W: Write, G: Gate + Sync>(
+    rt: &H,
+    alloc: Global,
+    sink: &mut Sink<'_, W>,
+    tasks: &WalkTasks<'_>,
+    rounds: &mut Rounds<LinesText, Runner>,
+    workers: &mut Workers<'_, G>,
+    watch: &mut impl Watch,
+) -> Result<(), Fault>
+    requires tasks { AreWalkTasks tasks.now }
+    requires made { AreMade (AreLines tasks.now) rounds.old.made.items }
+    ensures same { IsSame sink.old sink.new }
+    ensures blocks { OnOk result (Puts W.contents (AreBlocks (IsWalkedBlock tasks.now.queries.graphs.now)
+        tasks.now.queries.pairs.now) sink.old sink.new) }
+    ensures prefix { OnErr result (Cuts W.contents (AreBlocks (IsWalkedBlock tasks.now.queries.graphs.now)
+        tasks.now.queries.pairs.now) sink.old sink.new) }
+    ensures kinds { IfErr result IsWritingFault }
+{
+    blocks_are_unique();
+    let count = tasks.queries.pairs.len();
     let mut first = 0;
-    while first < pairs.len() {
-        watch.see_answered(first, pairs.len());
-        if let Some(text) = take_lines(rt, alloc, &mut rounds, &tasks, gate, first, watch) {
-            sink.send_with(&text.bytes)?;
-            watch.end(rt, Phase::Writing);
-            first += text.count;
-            continue;
-        }
-        let solve = Solve::of_queries(pairs, first);
-        let queries = &tasks.queries;
-        put_solved_pairs(rt, alloc, sink, queries, solve, &mut workers, watch)?;
-        first = solve.end;
+    while first < count {
+        watch.see_answered(first, count);
+        first += put_lines_at(rt, alloc, sink, tasks, first, rounds, workers, watch)?;
     }
     Ok(())
+}
+
+/// Puts the lines of the pairs from a place on that have one source: as they were made before their turn, or else
+/// solved now. How many pairs these are.
+fn put_lines_at<H: Threads + Wait + Clock + Sync, W: Write, G: Gate + Sync>(
+    rt: &H,
+    alloc: Global,
+    sink: &mut Sink<'_, W>,
+    tasks: &WalkTasks<'_>,
+    first: usize,
+    rounds: &mut Rounds<LinesText, Runner>,
+    workers: &mut Workers<'_, G>,
+    watch: &mut impl Watch,
+) -> Result<usize, Fault>
+    requires tasks { AreWalkTasks tasks.now }
+    requires place { first < length tasks.now.queries.pairs.now }
+    requires made { AreMade (AreLines tasks.now) rounds.old.made.items }
+    ensures same { IsSame sink.old sink.new }
+    ensures left { AreMade (AreLines tasks.now) rounds.new.made.items }
+    ensures some { IfOk result (λ count. 1 ≤ count) }
+    ensures within { IfOk result (λ count. first + count ≤ length tasks.now.queries.pairs.now) }
+    ensures blocks { IfOk result (λ count. Puts W.contents (AreBlocks (IsWalkedBlock tasks.now.queries.graphs.now)
+        (take count (drop first tasks.now.queries.pairs.now))) sink.old sink.new) }
+    ensures prefix { OnErr result (Cuts W.contents (AreBlocks (IsWalkedBlock tasks.now.queries.graphs.now)
+        (drop first tasks.now.queries.pairs.now)) sink.old sink.new) }
+    ensures kinds { IfErr result IsWritingFault }
+{
+    blocks_are_unique();
+    if let Some(text) = take_lines(rt, alloc, rounds, tasks, workers.gate, first, watch) {
+        sink.send_with(&text.bytes)?;
+        watch.end(rt, Phase::Writing);
+        return Ok(text.count);
+    }
+    let queries = &tasks.queries;
+    let solve = Solve::of_queries(queries.pairs, first);
+    put_solved_pairs(rt, alloc, sink, queries, solve, workers, watch)?;
+    Ok(solve.end - first)
 }
 
 /// The lines of the pairs from a place on, if they were made before their turn.
