@@ -114,14 +114,12 @@ impl<P: Send + Drop, S: Send + Drop> Rounds<P, S> {
         ensures left { AreMade (P.is_part of.now) self.new.made.items }
         ensures part { IfSome result (P.is_part of.now place) }
     {
-        if place >= self.end && self.teams >= 2 {
-            self.make_next(rt, alloc, of, make, after, place);
-        }
+        self.make_next(rt, alloc, of, make, after, place);
         let at = self.made.iter().position(|made| made.place == place)?;
         Some(self.made.swap_remove(at).part)
     }
 
-    /// Does the task at this place, and some after it.
+    /// Does the task at this place, and some after it, where the place was not tried yet.
     fn make_next<H, O, F, A>(
         &mut self,
         rt: &H,
@@ -143,6 +141,9 @@ impl<P: Send + Drop, S: Send + Drop> Rounds<P, S> {
         requires made { AreMade (P.is_part of.now) self.old.made.items }
         ensures { AreMade (P.is_part of.now) self.new.made.items }
     {
+        if place < self.end || self.teams < 2 {
+            return;
+        }
         let most = self.teams.saturating_mul(2);
         let Some((places, end)) = places_from(alloc, after, place, self.len, most) else {
             return;
