@@ -113,12 +113,9 @@ fn with_answers<'a>(alloc: Global) -> Result<Command<'a>, AllocError>
     ensures { IfOk result (λ with. app_of with ≡ with_rule (with_rule (with_rule bare_program answer_rule)
         walks_rule) within_rule) }
 {
-    let help = "Print a shortest path for each cost, of fewest arcs";
-    let walks = flag(alloc, "walks", help).short('W');
-    let within = option(alloc, "within", "COST", "Leave out vertices that cost more");
     let command = texts(alloc).arg(answer_option(alloc))?;
-    let command = command.arg(walks)?.arg(within)?;
-    Ok(command)
+    let command = command.arg(walks_option(alloc))?;
+    Ok(command.arg(within_option(alloc))?)
 }
 
 /// The options of how labels are told.
@@ -126,13 +123,9 @@ fn with_forms<'a>(alloc: Global, command: Command<'a>) -> Result<Command<'a>, Al
     ensures { IfOk result (λ with. app_of with ≡ with_rule (with_rule (app_of command.entry) labels_rule)
         (flag (codes "totals"))) }
 {
-    let totals = flag(
-        alloc,
-        "totals",
-        "Print one line a source: how many, sum, greatest",
-    );
-    let command = command.arg(labels_option(alloc))?.arg(totals)?;
-    Ok(command)
+    let command = command.arg(labels_option(alloc))?;
+    let help = "Print one line a source: how many, sum, greatest";
+    with_flag(alloc, command, "totals", help)
 }
 
 /// The flag of a session.
@@ -140,8 +133,7 @@ fn with_session<'a>(alloc: Global, command: Command<'a>) -> Result<Command<'a>, 
     ensures { IfOk result (λ with. app_of with ≡ with_rule (app_of command.entry) (flag (codes "session"))) }
 {
     let help = "Answer requests after the graph, each at once";
-    let command = command.arg(flag(alloc, "session", help))?;
-    Ok(command)
+    with_flag(alloc, command, "session", help)
 }
 
 /// The command with its texts, before it has an argument. Of an option the last one counts.
@@ -179,23 +171,25 @@ fn with_flags<'a>(alloc: Global, command: Command<'a>) -> Result<Command<'a>, Al
         (app_of command.entry) (flag (codes "progress"))) (flag (codes "stats"))) (flag (codes "explain")))
         operand_rule) }
 {
-    let progress = flag(
-        alloc,
-        "progress",
-        "Print on standard error how far the answer is",
-    );
-    let stats = flag(
-        alloc,
-        "stats",
-        "Print figures on standard error after the answer",
-    );
-    let explain = flag(
-        alloc,
-        "explain",
-        "Explain a fault: the line, the field, what was expected",
-    );
-    let command = command.arg(progress)?.arg(stats)?.arg(explain)?;
+    let help = "Print on standard error how far the answer is";
+    let command = with_flag(alloc, command, "progress", help)?;
+    let help = "Print figures on standard error after the answer";
+    let command = with_flag(alloc, command, "stats", help)?;
+    let help = "Explain a fault: the line, the field, what was expected";
+    let command = with_flag(alloc, command, "explain", help)?;
     Ok(command.arg(operand(alloc))?)
+}
+
+/// The command with one flag more.
+fn with_flag<'a>(
+    alloc: Global,
+    command: Command<'a>,
+    name: &'a str,
+    help: &'a str,
+) -> Result<Command<'a>, AllocError>
+    ensures { IfOk result (λ with. app_of with ≡ with_rule (app_of command.entry) (flag name.entry.now)) }
+{
+    Ok(command.arg(flag(alloc, name, help))?)
 }
 
 fn answer_option<'a>(alloc: Global) -> Arg<'a>
@@ -205,6 +199,21 @@ fn answer_option<'a>(alloc: Global) -> Arg<'a>
     option(alloc, "answer", "KIND", KINDS)
         .short('a')
         .default_value("distances")
+}
+
+fn walks_option<'a>(alloc: Global) -> Arg<'a>
+    ensures rule { rule_of result ≡ walks_rule }
+    ensures local { result.global ≡ false }
+{
+    let help = "Print a shortest path for each cost, of fewest arcs";
+    flag(alloc, "walks", help).short('W')
+}
+
+fn within_option<'a>(alloc: Global) -> Arg<'a>
+    ensures rule { rule_of result ≡ within_rule }
+    ensures local { result.global ≡ false }
+{
+    option(alloc, "within", "COST", "Leave out vertices that cost more")
 }
 
 fn labels_option<'a>(alloc: Global) -> Arg<'a>
