@@ -1,4 +1,4 @@
-use Rattle.std.proofs.Common.{◌≡◌, subst, sym}
+use Rattle.std.proofs.Common.{subst, sym}
 use Rattle.label_words.specs.Paused.{IsPause}
 use Rattle.least_costs.specs.Network.{seeds_at}
 use Rattle.least_costs.proofs.Starts.{start-seeds}

@@ -4,7 +4,6 @@ use Rattle.std.specs.Prelude.{slice_get}
 use Rattle.std.proofs.lemmas.Option.{same_Some}
 use Rattle.std.proofs.lemmas.Result.{IfErr-weaker, on_ok_weaker}
 use Rattle.obim_bags.specs.Entries.{AreAllOf, EntrySeen, IsEntry}
-use Rattle.obim_bags.specs.declared.fault.SettleFault.TheVariants.{Missing}
 use Rattle.obim_bags.proofs.Listed.{at_set_else, found_at, map_kept}
 use Rattle.obim_bags.proofs.entries.Entries.drain_at.Goals as goal
 
