@@ -1,5 +1,5 @@
 use Rattle.relax_core.specs.State.{IsOf}
-use Rattle.core_tests.proofs.events.play.Given as goal
+use Rattle.graph_tests.proofs.events.refusals.play_again.Given as goal
 
 abbrev pub invariant-loop-i : goal.invariant-loop-i
 invariant-loop-i g l = IsOf l.csr l.core

@@ -1,5 +1,5 @@
 use Rattle.relax_core.specs.State.{IsOf}
-use Rattle.core_tests.proofs.events.refusals.split_again.Given as goal
+use Rattle.graph_tests.proofs.events.refusals.split_again.Given as goal
 
 abbrev pub invariant-loop : goal.invariant-loop
 invariant-loop g l = IsOf l.csr l.core
