@@ -1,4 +1,4 @@
-use Rattle.std.proofs.Common.{subst}
+use Rattle.std.proofs.Common.{rules, subst}
 use Rattle.dimacs_text.specs.Jobs.{question_of}
 use Rattle.job_answer.specs.Bytes.{GivesPrefix}
 use Rattle.session_answer.specs.Replies.{IsAnswerIn}
@@ -18,3 +18,6 @@ returns-in_err-write_whole-clause-cut g c graph holds =
     (λ bytes. GivesPrefix (g.W.Write.contents c.args.writer.now) (g.W.Write.contents c.write_whole.new.writer) bytes)
     c.deref.ensures.value c.in_err-write_whole.ensures.prefix))
     c.from_residual-in_err-write_whole.result
+
+pub returns-in-Err : goal.returns-in-Err
+returns-in-Err g c = search rules

@@ -1,4 +1,4 @@
-use Rattle.std.proofs.Common.{◌≡◌, ◌++◌, Some, length, refl}
+use Rattle.std.proofs.Common.{◌≡◌, ◌++◌, Some, length, refl, rules}
 use Rattle.answer_lines.specs.Lines.{grown_text}
 use Rattle.dimacs_text.specs.Jobs.{question_of}
 use Rattle.job_answer.proofs.Facts.{appends-then}
@@ -40,3 +40,6 @@ returns-clause-reply g c graph holds =
           appends-then _ _ _ line written.text (told_whole _ _ _ c.in-Whole.is c.in_ok-grow.ensures.told)
           written.appended;
     }
+
+pub returns-clause-graph : goal.returns-clause-graph
+returns-clause-graph g c = search rules

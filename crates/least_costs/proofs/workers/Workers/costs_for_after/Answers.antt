@@ -1,0 +1,11 @@
+use Rattle.std.proofs.Common.{rules}
+use Rattle.least_costs.proofs.workers.Workers.costs_for_after.Goals as goal
+
+pub new-requires-clause-end : goal.new-requires-clause-end
+new-requires-clause-end g c = search rules
+
+pub new-requires-clause-least : goal.new-requires-clause-least
+new-requires-clause-least g c = search rules
+
+pub returns-clause-net : goal.returns-clause-net
+returns-clause-net g c = search rules
