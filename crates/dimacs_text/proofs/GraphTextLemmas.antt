@@ -1,6 +1,6 @@
 -- A reader that has come to the end of a graph: what its text is, and how many lines it has.
 use Rattle.std.proofs.Common.{◌≡◌, ℕ, suc, ◌+◌, Bool, true, false, cond, eqb, List, [], ◌∷◌, ◌++◌, length, drop, map}
-use Rattle.std.proofs.Common.{Option, None, Ok, refl, sym, ap, ap₂, subst, ◌∙◌, arith}
+use Rattle.std.proofs.Common.{Option, Some, None, Ok, inl, inr, is_some, refl, sym, ap, ap₂, subst, ◌∙◌, arith}
 use Rattle.std.proofs.lemmas.List.{append-nil, length-map}
 use Rattle.std.specs.List.{onto_first}
 use Rattle.route_walks.specs.declared.graph.TheConstants.{MAX_VERTICES}
@@ -10,13 +10,17 @@ use Rattle.dimacs_text.specs.declared.reader.JobReader.{JobReader}
 use Rattle.dimacs_text.specs.declared.stage.Stage.{Stage}
 use Rattle.dimacs_text.specs.declared.stage.Stage.TheVariants.{Within}
 use Rattle.dimacs_text.specs.Forms.{Reading, Record, reading, readings, vertices_after}
-use Rattle.dimacs_text.specs.GraphTexts.{HasGraph, IsGraphText}
+use Rattle.dimacs_text.specs.declared.fault.LineKind.{LineKind}
+use Rattle.dimacs_text.specs.declared.fault.TextFault.{TextFault}
+use Rattle.dimacs_text.specs.declared.fault.TextFault.TheVariants.{Memory, Line}
+use Rattle.dimacs_text.specs.Faults.{IsFaultOf, IsFirstFault}
+use Rattle.dimacs_text.specs.GraphTexts.{HasGraph, IsGraphOver, IsGraphText}
 use Rattle.dimacs_text.specs.Jobs.{Content, absent, arc_record, problem_record, records_of, IsJobText}
 use Rattle.dimacs_text.specs.Lines.{lines}
 use Rattle.dimacs_text.specs.Reading.{HasRead, HasReadBy, Keeps}
 use Rattle.dimacs_text.specs.reader.Drafts.{IsReadTo, progress_of, records_by}
 use Rattle.dimacs_text.proofs.ReaderLemmas.{all_said, finished}
-use Rattle.dimacs_text.proofs.TextLaws.{one_job}
+use Rattle.dimacs_text.proofs.TextLaws.{no_fault, one_first_fault, one_job}
 
 -- the graph of the arcs that were read
 abbrev graph_of : Draft → Content
@@ -30,7 +34,8 @@ read_whole : (reader : JobReader) (text more : List ℕ) → HasGraph reader →
     → IsReadTo (text ++ more) more reader.lines.line (progress_of reader.lines.draft)
 read_whole reader text more has r =
     let reads = subst (λ o. HasReadBy o reader.lines.draft reader.lines.line r.whole) has.right r.lines in
-    let keeps = subst (λ o. Keeps o r.whole reader.unfinished.items text) has.right r.keeps in
+    let outside = subst (λ inside. Keeps reader.lines.fault inside r.whole reader.unfinished.items text) has.outside r.keeps in
+    let keeps = subst (λ o. Keeps o false r.whole reader.unfinished.items text) has.right outside in
     let same : text ≡ r.whole = keeps.0 ∙ ap (λ kept. r.whole ++ kept) has.kept ∙ append-nil r.whole in
     subst (λ t. IsReadTo (t ++ more) more reader.lines.line (progress_of reader.lines.draft)) (sym same) (reads.1 more)
 
@@ -53,6 +58,55 @@ graph_text reader text job has r is_job =
     (graph_records_are reader.lines.draft has.complete) in
     let same : job ≡ graph_of reader.lines.draft = one_job text job (graph_of reader.lines.draft) is_job is_graph in
     record { is_job = is_job; unasked = ap (λ j. j.question) same; unadded = ap (λ j. j.added) same }
+
+-- ---- its fault
+
+-- a reader that has met a fault knows it, whatever comes after the text
+known_fault : (fault : Option LineKind) (draft : Draft) (line : ℕ) (in_comment : Bool) (whole kept text : List ℕ)
+    → is_some fault ≡ true → HasReadBy fault draft line whole → Keeps fault in_comment whole kept text
+    → (kind : LineKind) × ((more : List ℕ) → IsFirstFault (text ++ more) line kind)
+known_fault None draft line in_comment whole kept text some reads keeps = absurd (cc)
+known_fault (Some kind) draft line in_comment whole kept text some reads keeps =
+    (kind, λ more. subst (λ t. IsFirstFault (t ++ more) line kind) (sym keeps) (reads more).0)
+
+-- so it is that of the text, and of all that begins with it
+fault_stays_by : (text more : List ℕ) (line : ℕ) (kind : LineKind) (fault : TextFault)
+    → IsFirstFault (text ++ []) line kind → IsFirstFault (text ++ more) line kind → IsFaultOf text fault
+    → IsFaultOf (text ++ more) fault
+fault_stays_by text more line kind Memory here later is = tt
+fault_stays_by text more line kind (Line at what) here later is =
+    let same = one_first_fault text line at kind what (subst (λ t. IsFirstFault t line kind) (append-nil text) here) is in
+    rw (← same.0, ← same.1) later
+
+not_a_job : (text : List ℕ) (job : Content) (fault : TextFault) → IsJobText text job → IsFaultOf text fault
+    → (more : List ℕ) → IsFaultOf (text ++ more) fault
+not_a_job text job Memory is_job is more = tt
+not_a_job text job (Line at what) is_job is more = absurd (no_fault text job at what is_job is)
+
+-- what the reader of a graph that is over refuses is refused whatever comes after the text
+pub fault_over : (reader : JobReader) (text more : List ℕ) (fault : TextFault) → IsGraphOver reader → HasRead reader text
+    → IsFaultOf text fault → IsFaultOf (text ++ more) fault
+fault_over reader text more fault (inl some) r is =
+    let known = known_fault reader.lines.fault reader.lines.draft reader.lines.line reader.in_comment r.whole
+    reader.unfinished.items text some r.lines r.keeps in
+    fault_stays_by text more reader.lines.line known.0 fault (known.1 []) (known.1 more) is
+fault_over reader text more fault (inr has) r is =
+    let read = subst (λ t. IsReadTo t [] reader.lines.line (progress_of reader.lines.draft)) (append-nil text)
+    (read_whole reader text [] has r) in
+    not_a_job text (graph_of reader.lines.draft) fault
+    (finished text reader.lines.line (progress_of reader.lines.draft) (graph_of reader.lines.draft) read
+    (graph_records_are reader.lines.draft has.complete)) is more
+
+-- a text whose graph is over is that of a graph, or no job's
+pub never_over : (reader : JobReader) (text : List ℕ) (job : Content) → IsGraphOver reader → HasRead reader text
+    → IsJobText text job → (HasGraph reader → ⊥)
+    → ⊥
+never_over reader text job (inr has) r is_job never = never has
+never_over reader text job (inl some) r is_job never =
+    let known = known_fault reader.lines.fault reader.lines.draft reader.lines.line reader.in_comment r.whole
+    reader.unfinished.items text some r.lines r.keeps in
+    no_fault text job reader.lines.line known.0 is_job
+    (subst (λ t. IsFirstFault t reader.lines.line known.0) (append-nil text) (known.1 []))
 
 -- ---- how many lines it has
 

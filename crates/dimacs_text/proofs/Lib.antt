@@ -1,5 +1,6 @@
 pub mod Machine
 pub mod LineLemmas
+pub mod CommentLemmas
 pub mod FormLemmas
 pub mod WordLemmas
 pub mod ReaderLemmas

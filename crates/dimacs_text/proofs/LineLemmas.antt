@@ -34,6 +34,13 @@ lines_cut (b ∷ bs) (suc i) more small none here =
     (simp unary_clauses at
     (lines_cut bs i more (omega arith) (λ k h e. none (suc k) (omega arith) e) here)))
 
+-- a line and its line feed, whatever comes after
+pub line_first : (line more : List ℕ) → HasNoFeed line 0 (length line) → lines (line ++ 10 ∷ more) ≡ line ∷ lines more
+line_first [] more free = refl
+line_first (b ∷ bs) more free =
+    lines-other b (bs ++ 10 ∷ more) (free 0 (omega arith) (omega arith))
+    ∙ ap (λ ls. onto_first b ls) (line_first bs more (λ k from to. free (suc k) (omega arith) (omega arith)))
+
 -- the line from one place to a line feed, whatever comes after
 pub line_split : (bytes : List ℕ) (start end : ℕ)
     → start ≤ end → end < length bytes → get_or bytes end 0 ≡ 10 → HasNoFeed bytes start end
@@ -56,7 +63,7 @@ lines_whole (b ∷ c ∷ bs) filled none =
     ∙ ap (λ ls. onto_first b ls)
     (lines_whole (c ∷ bs) (omega arith) (λ k h e. none (suc k) (omega arith) e))
 
-fields_after_blank : (b : ℕ) (bs : List ℕ) → is_blank b ≡ true → fields (b ∷ bs) ≡ fields bs
+pub fields_after_blank : (b : ℕ) (bs : List ℕ) → is_blank b ≡ true → fields (b ∷ bs) ≡ fields bs
 unfolding fields
 fields_after_blank b bs e = rw (slice_split-cons_yes is_blank b bs e) refl
 

@@ -1,6 +1,6 @@
 -- What one more line does to what was read, and what is known at the end.
 use Rattle.std.proofs.Common.{◌≡◌, ℕ, zero, suc, ◌+◌, ◌-◌, ◌^◌, List, [], ◌∷◌, ◌++◌, map, ◌⊎◌, inl, inr, Option, Some}
-use Rattle.std.proofs.Common.{None, Ok, Err, option_to_list, refl, sym, ap, ap₂, subst, ◌∙◌, true, false, is_some, ◌≤◌}
+use Rattle.std.proofs.Common.{Bool, None, Ok, Err, option_to_list, refl, sym, ap, ap₂, subst, ◌∙◌, true, false, is_some, ◌≤◌}
 use Rattle.std.proofs.Common.{length, IfOk, IfErr, Result, append-nil, append_assoc, length-append, arith, take, drop, drop-drop}
 use Rattle.std.proofs.Math.Seq.{take-add}
 use Rattle.std.proofs.lemmas.Grind.{common_steps}
@@ -16,7 +16,7 @@ use Rattle.dimacs_text.specs.declared.form.Section.TheVariants.{Problem, Sources
 use Rattle.dimacs_text.specs.declared.fault.LineKind.{LineKind}
 use Rattle.dimacs_text.specs.declared.fault.TextFault.{TextFault}
 use Rattle.dimacs_text.specs.declared.fault.TextFault.TheVariants.{Memory, Line}
-use Rattle.dimacs_text.specs.Lines.{lines}
+use Rattle.dimacs_text.specs.Lines.{begins_comment, lines}
 use Rattle.dimacs_text.specs.declared.form.Form.{Form}
 use Rattle.dimacs_text.specs.declared.form.Form.TheVariants.{Head, Counted}
 use Rattle.dimacs_text.specs.Forms.{Record, Reading, reading, readings, vertices_after}
@@ -34,7 +34,9 @@ use Rattle.dimacs_text.specs.reader.FastArc.{IsArcLine, HasNoFeed}
 use Rattle.dimacs_text.specs.declared.job.Job.{Job}
 use Rattle.dimacs_text.specs.declared.reader.LineReader.{LineReader}
 use Rattle.dimacs_text.specs.declared.reader.JobReader.{JobReader}
-use Rattle.dimacs_text.specs.Reading.{HasReadBy, HasRead, HasReadText, Keeps, Reads}
+use Rattle.dimacs_text.specs.Reading.{HasReadBy, HasRead, HasReadText, IsLineEnd, IsOpenComment, Keeps, Reads}
+use Rattle.dimacs_text.proofs.CommentLemmas.{comment-more, comment_filled, comment_reading}
+use Rattle.dimacs_text.proofs.LineLemmas.{line_first, lines_whole}
 use Rattle.dimacs_text.proofs.Machine.{run-append, run_begins, machine_misfit, legal_runs}
 
 pub map_ok-push : (said : List (Option Record)) (s : Option Record) (more : List Reading)
@@ -117,6 +119,12 @@ line_reads old new whole rest text after line split r p =
     subst (λ (x : Progress). IsReadTo whole after (line + 1) x) (sym r.after)
     (line_leads old (lines whole) (lines after) text r.said line r.reads r.fits
     (subst (λ ls. IsReadAmong (lines whole) ls line old) split p))
+
+-- a comment says nothing
+comment_says_nothing : (progress : Progress) (line : List ℕ) → begins_comment line ≡ true
+    → ReadsLine progress progress line
+comment_says_nothing progress line is =
+    record { said = None; reads = comment_reading progress.vertices line is; fits = tt; after = refl }
 
 -- the line of an arc is read wherever it comes next
 one_arc : (n j : ℕ) (arcs : List ArcRec) (arc : ArcRec) (rest after : List ℕ) (line : ℕ)
@@ -276,47 +284,70 @@ lacking text line draft (Line number kind) p (same, lack) =
 
 -- what a reader of lines has read
 pub text_read : (reader : LineReader) (kept text : List ℕ)
-    → reader.fault ≡ None → HasReadText reader kept text
+    → reader.fault ≡ None → HasReadText reader false kept text
     → (reader.line ≤ length text + 1)
     × IsReadTo text kept reader.line (progress_of reader.draft)
     × HasNoFeed kept 0 (length kept)
 text_read reader kept text right r =
     let reads = subst (λ o. HasReadBy o reader.draft reader.line r.whole) right r.lines in
-    let keeps = subst (λ o. Keeps o r.whole kept text) right r.keeps in
+    let keeps = subst (λ o. Keeps o false r.whole kept text) right r.keeps in
     let len = ap (λ l. length l) keeps.0 ∙ length-append r.whole kept in (
       omega (arith, len, reads.0),
       subst (λ t. IsReadTo t kept reader.line (progress_of reader.draft)) (sym keeps.0) (reads.1 kept),
       keeps.1,
     )
 
-pub text_fails : (reader : LineReader) (kept text : List ℕ) (kind : LineKind)
-    → reader.fault ≡ Some kind → HasReadText reader kept text
+-- and where it is in a comment, which says nothing
+pub comment_read : (reader : LineReader) (kept text : List ℕ)
+    → reader.fault ≡ None → HasReadText reader true kept text
+    → (reader.line ≤ length text + 1)
+    × IsReadTo text [] (reader.line + 1) (progress_of reader.draft)
+comment_read reader kept text right r =
+    let reads = subst (λ o. HasReadBy o reader.draft reader.line r.whole) right r.lines in
+    let keeps = subst (λ o. Keeps o true r.whole kept text) right r.keeps in
+    let comment = keeps.1.0 in
+    let begun = keeps.1.2 in
+    let progress = progress_of reader.draft in
+    let len = ap (λ l. length l) keeps.1.1 ∙ length-append r.whole comment in (
+      omega (arith, len, reads.0),
+      subst (λ t. IsReadTo t [] (reader.line + 1) progress) (sym keeps.1.1)
+          (line_reads progress progress (r.whole ++ comment) comment comment [] reader.line
+          (lines_whole comment (comment_filled comment begun.begins) (λ k few. begun.no_feed k (omega arith) few))
+          (comment_says_nothing progress comment begun.begins) (reads.1 comment)),
+    )
+
+pub text_fails : (reader : LineReader) (in_comment : Bool) (kept text : List ℕ) (kind : LineKind)
+    → reader.fault ≡ Some kind → HasReadText reader in_comment kept text
     → IsFirstFault text reader.line kind
-text_fails reader kept text kind wrong r =
-    let is = subst (λ o. Keeps o r.whole kept text) wrong r.keeps in
+text_fails reader in_comment kept text kind wrong r =
+    let is = subst (λ o. Keeps o in_comment r.whole kept text) wrong r.keeps in
     subst (λ t. IsFirstFault t reader.line kind) (append-nil r.whole ∙ sym is)
     (subst (λ o. HasReadBy o reader.draft reader.line r.whole) wrong r.lines []).0
 
-pub text_explained : (reader : LineReader) (kept text : List ℕ) (kind : LineKind)
-    → reader.fault ≡ Some kind → HasReadText reader kept text
+pub text_explained : (reader : LineReader) (in_comment : Bool) (kept text : List ℕ) (kind : LineKind)
+    → reader.fault ≡ Some kind → HasReadText reader in_comment kept text
     → Explains text (Line reader.line kind) reader.draft.explanation
-text_explained reader kept text kind wrong r =
-    let is = subst (λ o. Keeps o r.whole kept text) wrong r.keeps in
+text_explained reader in_comment kept text kind wrong r =
+    let is = subst (λ o. Keeps o in_comment r.whole kept text) wrong r.keeps in
     subst (λ t. Explains t (Line reader.line kind) reader.draft.explanation) (append-nil r.whole ∙ sym is)
     (subst (λ o. HasReadBy o reader.draft reader.line r.whole) wrong r.lines []).1
 
 -- what is kept of a line is read with the rest of it
-pub nothing_kept : (o : Option LineKind) (whole text : List ℕ) → text ≡ whole → Keeps o whole [] text
+pub nothing_kept : (o : Option LineKind) (whole text : List ℕ) → text ≡ whole → Keeps o false whole [] text
 nothing_kept None whole text e = (e ∙ sym (append-nil whole), λ k from to. absurd (omega arith))
 nothing_kept (Some kind) whole text e = e
+
+ended_by : (comment rest more : List ℕ)
+    → (comment ++ (rest ++ 10 ∷ [])) ++ more ≡ (comment ++ rest) ++ 10 ∷ more
+ended_by comment rest more = simp append_assoc refl
 
 pub regrouped : (whole kept end rest : List ℕ)
     → (whole ++ kept) ++ (end ++ rest) ≡ (whole ++ (kept ++ end)) ++ rest
 regrouped whole kept end rest = simp append_assoc refl
 
-pub kept_whole : (o : Option LineKind) (whole kept text : List ℕ) → o ≡ None → Keeps o whole kept text
+pub kept_whole : (o : Option LineKind) (whole kept text : List ℕ) → o ≡ None → Keeps o false whole kept text
     → text ≡ whole ++ kept
-kept_whole o whole kept text e k = (subst (λ x. Keeps x whole kept text) e k).0
+kept_whole o whole kept text e k = (subst (λ x. Keeps x false whole kept text) e k).0
 
 -- what is known before the next lines are read
 pub nothing_wrong : (fault : Option LineKind) → is_some fault ≡ false → fault ≡ None
@@ -335,21 +366,93 @@ read_before None draft line text bytes none r = (
 )
 read_before (Some kind) draft line text bytes none r = absurd (cc)
 
+pub no_feed_joined : (front back : List ℕ)
+    → HasNoFeed front 0 (length front) → HasNoFeed back 0 (length back)
+    → HasNoFeed (front ++ back) 0 (length (front ++ back))
+no_feed_joined front back closed free k from to feed =
+    let len = length-append front back in
+    let first = closed k in
+    let second = free (k - length front) in
+    let left = get_or_append_left front back 0 k in
+    let right = get_or-append-add front back (k - length front) 0 in
+    grind (arith, common_steps)
+
 pub keeps_more : (o : Option LineKind) (whole kept text bytes : List ℕ)
-    → is_some o ≡ false → HasNoFeed bytes 0 (length bytes) → Keeps o whole kept text
-    → Keeps o whole (kept ++ bytes) (text ++ bytes)
+    → is_some o ≡ false → HasNoFeed bytes 0 (length bytes) → Keeps o false whole kept text
+    → Keeps o false whole (kept ++ bytes) (text ++ bytes)
 keeps_more (Some kind) whole kept text bytes none free is = absurd (cc)
 keeps_more None whole kept text bytes none free (is, closed) =
-    (ap (λ t. t ++ bytes) is ∙ append_assoc whole kept bytes, no_feed)
+    (ap (λ t. t ++ bytes) is ∙ append_assoc whole kept bytes, no_feed_joined kept bytes closed free)
+
+-- a comment goes on
+pub comment_longer : (o : Option LineKind) (whole kept text bytes : List ℕ)
+    → is_some o ≡ false → HasNoFeed bytes 0 (length bytes) → Keeps o true whole kept text
+    → Keeps o true whole kept (text ++ bytes)
+comment_longer (Some kind) whole kept text bytes none free is = absurd (cc)
+comment_longer None whole kept text bytes none free (empty, (comment, is, begun)) = (
+  empty,
+  (
+    comment ++ bytes,
+    ap (λ t. t ++ bytes) is ∙ append_assoc whole comment bytes,
+    record {
+      begins = comment-more comment bytes begun.begins;
+      no_feed = no_feed_joined comment bytes begun.no_feed free;
+    },
+  ),
+)
+
+-- what is kept is known to begin one, and is let go
+pub comment_begun : (o : Option LineKind) (whole kept text : List ℕ)
+    → is_some o ≡ false → begins_comment kept ≡ true → Keeps o false whole kept text
+    → Keeps o true whole [] text
+comment_begun (Some kind) whole kept text none begins is = absurd (cc)
+comment_begun None whole kept text none begins (is, free) =
+    (refl, (kept, is, record { begins = begins; no_feed = free }))
+
+-- it is over with its line feed
+pub comment_passed : (fault : Option LineKind) (draft : Draft) (line next : ℕ) (text comment end : List ℕ)
+    → fault ≡ None → HasReadBy fault draft line text → IsOpenComment comment → IsLineEnd end
+    → (line ≤ length text + 1 → next ≡ line + 1)
+    → HasReadBy fault draft next (text ++ (comment ++ end))
+comment_passed fault draft line next text comment end none before begun ended exact =
+    subst (λ f. HasReadBy f draft next (text ++ (comment ++ end))) (sym none)
+    (after (subst (λ f. HasReadBy f draft line text) none before))
   where
-    no_feed : HasNoFeed (kept ++ bytes) 0 (length (kept ++ bytes))
-    no_feed k from to feed =
-        let len = length-append kept bytes in
-        let front = closed k in
-        let back = free (k - length kept) in
-        let left = get_or_append_left kept bytes 0 k in
-        let right = get_or-append-add kept bytes (k - length kept) 0 in
-        grind (arith, common_steps)
+    progress : Progress
+    progress = progress_of draft
+
+    says : List ℕ
+    says = comment ++ ended.rest
+
+    split : (more : List ℕ) → lines ((comment ++ end) ++ more) ≡ says ∷ lines more
+    split more =
+        ap (λ e. lines ((comment ++ e) ++ more)) ended.joined
+        ∙ ap (λ (bytes : List ℕ). lines bytes) (ended_by comment ended.rest more)
+        ∙ line_first says more (no_feed_joined comment ended.rest begun.no_feed ended.no_feed)
+
+    after : HasReadBy None draft line text → HasReadBy None draft next (text ++ (comment ++ end))
+    after read =
+        let is = exact read.0 in
+        let all = length-append text (comment ++ end) in
+        let last = length-append comment end in
+        let feed = ap (λ l. length l) ended.joined ∙ length-append ended.rest (10 ∷ []) in (
+          omega (arith, read.0, is, all, last, feed),
+          λ more.
+              subst (λ n. IsReadTo ((text ++ (comment ++ end)) ++ more) more n progress) (sym is)
+              (subst (λ t. IsReadTo t more (line + 1) progress) (sym (append_assoc text (comment ++ end) more))
+              (line_reads progress progress (text ++ ((comment ++ end) ++ more)) ((comment ++ end) ++ more) says more line
+              (split more) (comment_says_nothing progress says (comment-more comment ended.rest begun.begins))
+              (read.1 ((comment ++ end) ++ more)))),
+        )
+
+-- of a text that ends in a comment the bytes before it are whole lines
+pub comment_in : (o : Option LineKind) (whole kept text : List ℕ) → o ≡ None → Keeps o true whole kept text
+    → (comment : List ℕ) × (text ≡ whole ++ comment) × IsOpenComment comment
+comment_in o whole kept text e k = (subst (λ x. Keeps x true whole kept text) e k).1
+
+pub comment_kept : (o : Option LineKind) (whole kept text : List ℕ) → o ≡ None → Keeps o true whole kept text
+    → kept ≡ []
+comment_kept o whole kept text e k = (subst (λ x. Keeps x true whole kept text) e k).0
 
 -- the job and the fault at the end of the text
 pub job_at_end : (text : List ℕ) (line : ℕ) (draft : Draft) (result : Result Job ExplainedFault)
@@ -385,9 +488,9 @@ fault_stays reader text bytes some r few =
     stays : (o : Option LineKind)
         → is_some o ≡ true
         → HasReadBy o reader.lines.draft reader.lines.line r.whole
-        → Keeps o r.whole reader.unfinished.items text
+        → Keeps o reader.in_comment r.whole reader.unfinished.items text
         → HasReadBy o reader.lines.draft reader.lines.line (text ++ bytes)
-        × Keeps o (text ++ bytes) reader.unfinished.items (text ++ bytes)
+        × Keeps o reader.in_comment (text ++ bytes) reader.unfinished.items (text ++ bytes)
     stays None some reads is = absurd (cc)
     stays (Some kind) some reads is = (
       λ more.

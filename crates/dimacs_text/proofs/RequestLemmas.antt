@@ -22,8 +22,12 @@ use Rattle.dimacs_text.specs.Jobs.{Content, Question, absent, from_sources, of_p
 use Rattle.dimacs_text.specs.Jobs.{records_of, records_of_question, records_of_added, records_among}
 use Rattle.dimacs_text.specs.AfterGraph.{after_graph, asks, reading_after, AreSilent, IsFaultAfter, IsWhole}
 use Rattle.dimacs_text.specs.reader.Machine.{run, misfit_at, next_at}
-use Rattle.dimacs_text.specs.reader.Drafts.{Progress, arcs_progress, token_in, after_line, records_by, Fits, IsLackAt}
+use Rattle.dimacs_text.specs.declared.request_draft.RequestDraft.{RequestDraft}
+use Rattle.dimacs_text.specs.Lines.{begins_comment}
+use Rattle.dimacs_text.specs.RequestDrafts.{HasReadAfter, is_whole}
+use Rattle.dimacs_text.specs.reader.Drafts.{Progress, progress_of, arcs_progress, token_in, after_line, records_by, Fits, IsLackAt}
 use Rattle.dimacs_text.specs.reader.Requests.{is_begun_at, is_request_at, is_section_at, HasSaid, IsWrongAfter, ReadsAfter}
+use Rattle.dimacs_text.proofs.CommentLemmas.{comment_after}
 use Rattle.dimacs_text.proofs.Machine.{items_run, run_begins, machine_misfit}
 use Rattle.dimacs_text.proofs.ReaderLemmas.{one_more, incomplete, form-token}
 use Rattle.dimacs_text.proofs.TextLaws.{PartsAfter, graph_first, lack_within, parts_of_question, rest_of, tokens_of_items}
@@ -138,6 +142,15 @@ said_fault n ls old line number (Err Memory) wrong p = tt
 said_fault n ls old line number (Err (Line at kind)) wrong p =
     (wrong.0, λ more. said_wrong n ls old line kind more wrong.1 p)
 
+-- a comment says nothing
+pub comment_said : (n : ℕ) (ls : List (List ℕ)) (draft : RequestDraft) (line : List ℕ)
+    → begins_comment line ≡ true → HasReadAfter n ls draft
+    → HasReadAfter n (ls ++ line ∷ []) draft
+comment_said n ls draft line is p =
+    let progress = progress_of draft.draft in
+    said_line n ls progress progress line
+    (record { said = None; reads = comment_after progress.vertices line is; fits = tt; after = refl }) p
+
 -- where parts follow a section, the reader ends in a section of a later place
 later_place : (ps : List Part) (p : Part) (s : Section)
     → AreInTurn s (p ∷ ps)
@@ -215,6 +228,10 @@ whole_stage n ls progress job p w =
     ∙ ends.1 in
     let stage : progress.stage ≡ Within ends.0 0 = let here = p.stage in cc in
     ap is_request_at stage ∙ complete_at ends.0 ends.2
+
+pub not_whole : (n : ℕ) (ls : List (List ℕ)) (draft : RequestDraft) (job : Content)
+    → is_whole draft ≡ false → HasReadAfter n ls draft → IsWhole n ls job → ⊥
+not_whole n ls draft job lacks p w = let whole = whole_stage n ls (progress_of draft.draft) job p w in cc
 
 -- a section that has begun and isn't complete lacks records
 lacks_at : (stage : Stage) → is_section_at stage ≡ true → is_request_at stage ≡ false → IsLackAt stage TooFew

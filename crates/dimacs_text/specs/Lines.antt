@@ -47,6 +47,11 @@ is_empty (b ∷ bs) = false
 unfoldable pub fields : List ℕ → List (List ℕ)
 fields line = filter (λ run. not (is_empty run)) (slice_split is_blank line)
 
+-- the first byte that is no blank begins a comment, whatever comes after these bytes on their line
+abbrev pub begins_comment : List ℕ → Bool
+begins_comment [] = false
+begins_comment (b ∷ bs) = if is_blank b then begins_comment bs else (b == letter_c)
+
 -- one or more decimal digits are a number, however many
 unfoldable pub number : List ℕ → Option ℕ
 number [] = None

@@ -1,5 +1,5 @@
 -- What a reader of jobs has read, of a text that came in pieces.
-use Rattle.std.specs.Prelude.{◌≡◌, ℕ, ◌+◌, ◌^◌, ◌≤◌, List, ◌++◌, length, Option, Some, None, All}
+use Rattle.std.specs.Prelude.{◌≡◌, ℕ, ◌+◌, ◌^◌, ◌≤◌, Bool, true, false, List, [], ◌∷◌, ◌++◌, length, Option, Some, None, All}
 use Rattle.dimacs_text.specs.declared.arc_runs.ArcRuns.{ArcRuns}
 use Rattle.dimacs_text.specs.declared.arc_runs.Parts.{Parts}
 use Rattle.dimacs_text.specs.declared.arc_runs.ReadAhead.{ReadAhead}
@@ -10,6 +10,7 @@ use Rattle.dimacs_text.specs.declared.reader.JobReader.{JobReader}
 use Rattle.dimacs_text.specs.declared.fault.TextFault.TheVariants.{Line}
 use Rattle.dimacs_text.specs.Explaining.{Explains}
 use Rattle.dimacs_text.specs.Faults.{IsFirstFault}
+use Rattle.dimacs_text.specs.Lines.{begins_comment}
 use Rattle.dimacs_text.specs.reader.FastArc.{HasNoFeed}
 use Rattle.dimacs_text.specs.reader.Drafts.{IsReadTo, progress_of}
 use Rattle.dimacs_text.specs.reader.ArcRuns.{IsArcRun}
@@ -27,21 +28,35 @@ HasReadBy (Some kind) draft line text =
 abbrev pub HasReadLines : LineReader → List ℕ → Type 0
 HasReadLines reader text = HasReadBy reader.fault reader.draft reader.line text
 
--- of the text the bytes of the last, unfinished line are kept; after a fault nothing need be
-abbrev pub Keeps : Option LineKind → List ℕ → List ℕ → List ℕ → Type 0
-Keeps None whole kept text = (text ≡ whole ++ kept) × HasNoFeed kept 0 (length kept)
-Keeps (Some kind) whole kept text = text ≡ whole
+-- the bytes are a comment without its line feed
+pub record IsOpenComment (bytes : List ℕ) : Type 0 where
+  pub begins : begins_comment bytes ≡ true
+  pub no_feed : HasNoFeed bytes 0 (length bytes)
 
--- the text, of 2^36 bytes at most, was read: its whole lines, and the bytes of an unfinished one
-pub record HasReadText (reader : LineReader) (kept text : List ℕ) : Type 0 where
+-- of the text the bytes of the last, unfinished line are kept; those of a comment are let go, and after a fault nothing
+-- need be kept
+abbrev pub Keeps : Option LineKind → Bool → List ℕ → List ℕ → List ℕ → Type 0
+Keeps None false whole kept text = (text ≡ whole ++ kept) × HasNoFeed kept 0 (length kept)
+Keeps None true whole kept text =
+    (kept ≡ []) × ((comment : List ℕ) × (text ≡ whole ++ comment) × IsOpenComment comment)
+Keeps (Some kind) in_comment whole kept text = text ≡ whole
+
+-- the text, of 2^36 bytes at most, was read: its whole lines, and of an unfinished one the bytes that are kept
+pub record HasReadText (reader : LineReader) (in_comment : Bool) (kept text : List ℕ) : Type 0 where
   pub short : length text ≤ 2 ^ 36
   pub whole : List ℕ
   pub lines : HasReadLines reader whole
-  pub keeps : Keeps reader.fault whole kept text
+  pub keeps : Keeps reader.fault in_comment whole kept text
 
 -- this is the text that was read so far
 abbrev pub HasRead : JobReader → List ℕ → Type 0
-HasRead reader text = HasReadText reader.lines reader.unfinished.items text
+HasRead reader text = HasReadText reader.lines reader.in_comment reader.unfinished.items text
+
+-- the bytes end one line: the last of them is a line feed, and no other
+pub record IsLineEnd (bytes : List ℕ) : Type 0 where
+  pub rest : List ℕ
+  pub joined : bytes ≡ rest ++ 10 ∷ []
+  pub no_feed : HasNoFeed rest 0 (length rest)
 
 -- new has read what old had, and then the bytes, if they are not too many
 abbrev pub Reads : JobReader → JobReader → List ℕ → Type 0

@@ -33,5 +33,6 @@ pub use explanation::{Beginning, Expected, ExplainedFault, Explanation, MAX_KEPT
 pub use fault::{LineKind, TextFault};
 pub use form::{Form, Item, Limit, MAX_ADDED, MAX_QUERIES, MAX_TEXT_ARCS, Section};
 pub use job::{Ask, Job};
+pub use line::begins_comment;
 pub use reader::{JobReader, read_job};
 pub use request_draft::RequestDraft;

@@ -1,10 +1,14 @@
 //! Lines, fields and numbers.
 
 ghost use Rattle.std.specs.Prelude.{◌≡◌, ◌<◌, ◌≤◌, ◌∷◌, [], length, take};
-ghost use Rattle.std.specs.Prelude.{MatchOption, option_map, slice_index};
-ghost use Rattle.dimacs_text.specs.Lines.{without_cr, is_blank, fields, number};
+ghost use Rattle.std.specs.Bool.{OnTrue};
+ghost use Rattle.std.specs.Prelude.{true, MatchOption, option_map, slice_index};
+ghost use Rattle.dimacs_text.specs.Lines.{without_cr, is_blank, begins_comment, fields, number};
 ghost use Rattle.dimacs_text.specs.reader.FastArc.{EndsWithFeed, HasNoFeed};
 ghost use Rattle.dimacs_text.specs.reader.Pieces.{SkipsBlanks, SplitsRun, capped};
+
+/// How many bytes of a line are looked at for the letter that begins a comment: it may come after blanks.
+const MOST_BLANKS: usize = 1 << 10;
 
 /// The place of the line feed that ends the line which begins at a place.
 pub fn line_end(bytes: &[u8], start: usize) -> usize
@@ -61,6 +65,16 @@ pub fn skip_blanks(bytes: &[u8]) -> &[u8]
         }
     }
     &bytes[bytes.len()..]
+}
+
+/// Whether the bytes are known to begin a comment, whatever comes after them on their line. Only the first of them are
+/// looked at, so that it costs the same each time more of a long line has come.
+pub fn begins_comment(bytes: &[u8]) -> bool
+    ensures { OnTrue result (begins_comment bytes.now ≡ true) }
+{
+    let (first, _) = bytes.split_at(bytes.len().min(MOST_BLANKS));
+    let rest = skip_blanks(first);
+    !rest.is_empty() && rest[0] == b'c'
 }
 
 /// The bytes before the first blank, and the rest from there on.

@@ -1,9 +1,11 @@
 //! From a text to its job.
 //!
 //! A text comes whole, or in pieces of any size. Each whole line is read at once, and its bytes are let go:
-//! only those of the last line are kept until the rest of it comes.
+//! only those of the last line are kept until the rest of it comes. A comment says nothing, so its bytes are let go
+//! before its end has come.
 
 ghost use Rattle.std.specs.Prelude.{◌≡◌, ◌^◌, ◌≤◌, ◌+◌, ◌++◌, ℕ, All, List, [], length, take, ◌<◌, None, IfOk, IfErr};
+ghost use Rattle.std.specs.Prelude.{◌⊎◌, true, false};
 ghost use Rattle.dimacs_text.specs.Lines.{lines};
 ghost use Rattle.std.specs.Prelude.{OnOk};
 ghost use Rattle.dimacs_text.specs.Jobs.{content_of, IsJobText, IsWithinLimits};
@@ -13,15 +15,15 @@ ghost use Rattle.std.specs.Bool.{OnFalse, OnTrue};
 ghost use Rattle.dimacs_text.specs.reader.FastArc.{EndsWithFeed, HasNoFeed};
 ghost use Rattle.dimacs_text.specs.reader.Drafts.{AreArcLines};
 ghost use Rattle.dimacs_text.specs.Reading.{IsReadAhead, Reads};
-ghost use Rattle.dimacs_text.specs.Reading.{HasRead, HasReadLines, HasReadText};
-ghost use Rattle.dimacs_text.specs.GraphTexts.{HasGraph, IsGraphText};
+ghost use Rattle.dimacs_text.specs.Reading.{HasRead, HasReadLines, HasReadText, IsLineEnd, IsOpenComment};
+ghost use Rattle.dimacs_text.specs.GraphTexts.{HasFault, HasGraph, IsGraphOver, IsGraphText};
 
 use crate::arc_runs::{ArcRun, ReadAhead};
 use crate::draft::Draft;
 use crate::explanation::ExplainedFault;
 use crate::fault::{LineKind, TextFault};
 use crate::job::Job;
-use crate::line::{after_last_feed, line_end};
+use crate::line::{after_last_feed, begins_comment, line_end};
 use route_walks::Memory;
 use std::alloc::Global;
 
@@ -76,13 +78,24 @@ impl LineReader {
         taken
     }
 
-    /// The job of the lines and of a last line with no line feed, which is empty where there is none.
-    fn finish(self, last: &[u8]) -> Result<Job, ExplainedFault>
-        ensures job { (text : List ℕ) → HasReadText self last.now text
+    /// Passes by a comment and its line feed.
+    fn pass_comment(&mut self)
+        requires right { self.old.fault ≡ None }
+        ensures passes { (text comment end : List ℕ) → HasReadLines self.old text → IsOpenComment comment → IsLineEnd end
+            → length text + length comment + length end ≤ 2 ^ 36
+            → HasReadLines self.new (text ++ (comment ++ end)) }
+    {
+        self.line = self.line.saturating_add(1);
+    }
+
+    /// The job of the lines and of a last line with no line feed: a comment, or these bytes, of which there are none if
+    /// there is no such line.
+    fn finish(self, in_comment: bool, last: &[u8]) -> Result<Job, ExplainedFault>
+        ensures job { (text : List ℕ) → HasReadText self in_comment last.now text
             → IfOk result (λ job. IsJobText text (content_of job)) }
-        ensures fault { (text : List ℕ) → HasReadText self last.now text
+        ensures fault { (text : List ℕ) → HasReadText self in_comment last.now text
             → IfErr result (λ refused. IsFaultOf text refused.fault) }
-        ensures explained { (text : List ℕ) → HasReadText self last.now text
+        ensures explained { (text : List ℕ) → HasReadText self in_comment last.now text
             → IfErr result (λ refused. Explains text refused.fault refused.explanation) }
     {
         let LineReader {
@@ -95,6 +108,9 @@ impl LineReader {
                 fault: TextFault::Line { line, kind },
                 explanation: draft.explanation,
             });
+        }
+        if in_comment {
+            return draft.finish(line.saturating_add(1));
         }
         if last.is_empty() {
             return draft.finish(line);
@@ -113,8 +129,10 @@ impl LineReader {
 #[derive(Debug, Drop)]
 pub struct JobReader {
     lines: LineReader,
-    /// The bytes of the last line, whose line feed hasn't come.
+    /// The bytes of the last line, whose line feed hasn't come. Those of a comment are let go.
     unfinished: Vec<u8>,
+    /// Whether the last line is a comment whose line feed hasn't come.
+    in_comment: bool,
 }
 
 impl JobReader {
@@ -129,6 +147,7 @@ impl JobReader {
                 fault: None,
             },
             unfinished: Vec::new(alloc),
+            in_comment: false,
         }
     }
 
@@ -173,7 +192,7 @@ impl JobReader {
             → length run.now.arcs.items ≤ length lines → Reads self.old self.new lines) }
         ensures left { OnFalse result (Reads self.old self.new []) }
     {
-        if self.lines.fault.is_some() || !self.unfinished.is_empty() {
+        if self.lines.fault.is_some() || self.has_begun_line() {
             return false;
         }
         self.lines.take_run(run)
@@ -189,10 +208,29 @@ impl JobReader {
             return Ok(());
         }
         let (end, rest) = lines.split_at(self.left_of_line(lines));
+        self.end_line(end)?;
+        self.lines.read(rest)
+    }
+
+    /// Reads the line that was begun, if there is one, of which these bytes are the end.
+    fn end_line(&mut self, end: &[u8]) -> Result<(), Memory>
+        requires right { self.old.lines.fault ≡ None }
+        requires ended { EndsWithFeed (self.old.unfinished.items ++ end.now) }
+        requires comment { self.old.in_comment ≡ true → IsLineEnd end.now }
+        ensures reads { OnOk result ((text : List ℕ) → HasRead self.old text → length text + length end.now ≤ 2 ^ 36
+            → HasReadLines self.new.lines (text ++ end.now)) }
+        ensures kept { OnOk result ((text : List ℕ) → HasRead self.old text → self.new.unfinished.items ≡ []) }
+        ensures outside { OnOk result (self.new.in_comment ≡ false) }
+    {
+        if self.in_comment {
+            self.in_comment = false;
+            self.lines.pass_comment();
+            return Ok(());
+        }
         self.unfinished.extend_from_slice(end)?;
         self.lines.read(&self.unfinished)?;
         self.unfinished.clear();
-        self.lines.read(rest)
+        Ok(())
     }
 
     /// Keeps bytes of an unfinished line.
@@ -203,21 +241,39 @@ impl JobReader {
         if self.lines.fault.is_some() {
             return Ok(());
         }
+        if self.in_comment {
+            return Ok(());
+        }
         self.unfinished.extend_from_slice(bytes)?;
+        if !begins_comment(&self.unfinished) {
+            return Ok(());
+        }
+        self.unfinished.clear();
+        self.in_comment = true;
         Ok(())
     }
 
-    /// How many bytes end the unfinished line, where there is one.
+    /// Whether bytes of a line have come and its line feed hasn't.
+    fn has_begun_line(&self) -> bool
+        ensures none { result ≡ false → (self.now.in_comment ≡ false) × (self.now.unfinished.items ≡ []) }
+        ensures comment { self.now.in_comment ≡ true → result ≡ true }
+        ensures some { result ≡ true → (self.now.in_comment ≡ true) ⊎ (0 < length self.now.unfinished.items) }
+    {
+        self.in_comment || !self.unfinished.is_empty()
+    }
+
+    /// How many bytes end the line that was begun, if there is one.
     fn left_of_line(&self, lines: &[u8]) -> usize
         requires filled { 0 < length lines.now }
         requires ended { EndsWithFeed lines.now }
         ensures place { result ≤ length lines.now }
         ensures ends { EndsWithFeed (self.now.unfinished.items ++ take result lines.now) }
+        ensures comment { self.now.in_comment ≡ true → IsLineEnd (take result lines.now) }
     {
-        if self.unfinished.is_empty() {
-            0
-        } else {
+        if self.has_begun_line() {
             line_end(lines, 0) + 1
+        } else {
+            0
         }
     }
 
@@ -236,9 +292,10 @@ impl JobReader {
     pub fn feed_graph(&mut self, bytes: &[u8]) -> Result<usize, Memory>
         ensures place { IfOk result (λ count. count ≤ length bytes.now) }
         ensures reads { IfOk result (λ count. Reads self.old self.new (take count bytes.now)) }
+        ensures over { IfOk result (λ count. count < length bytes.now → IsGraphOver self.new) }
     {
         let mut at = 0;
-        while at < bytes.len() && !self.is_refused() && !self.has_graph() {
+        while at < bytes.len() && !self.is_graph_over() {
             let rest = &bytes[at..];
             let (part, _) = rest.split_at(self.graph_part(rest));
             self.feed(part)?;
@@ -253,15 +310,25 @@ impl JobReader {
     }
 
     /// Whether a line is wrong.
-    pub fn is_refused(&self) -> bool {
+    pub fn is_refused(&self) -> bool
+        ensures { OnTrue result (HasFault self.now) }
+    {
         self.lines.fault.is_some()
+    }
+
+    /// Whether no more bytes are read of the graph: it is whole, or a line is wrong.
+    pub fn is_graph_over(&self) -> bool
+        ensures { OnTrue result (IsGraphOver self.now) }
+    {
+        self.is_refused() || self.has_graph()
     }
 
     /// Whether the problem line and all arcs that it counts were read, nothing after them, and no line is wrong.
     pub fn has_graph(&self) -> bool
-        ensures { OnTrue result (HasGraph self.now) }
+        ensures whole { OnTrue result (HasGraph self.now) }
+        ensures told { HasGraph self.now → result ≡ true }
     {
-        if self.lines.fault.is_some() || !self.unfinished.is_empty() {
+        if self.lines.fault.is_some() || self.has_begun_line() {
             return false;
         }
         matches!(self.lines.draft.stage.missing_arcs(), Some(0))
@@ -296,18 +363,20 @@ impl JobReader {
             → IfOk result (λ graph. graph.1 ≡ length (lines text) + 1) }
         ensures joined { (text more : List ℕ) → HasRead self text
             → IfOk result (λ graph. lines (text ++ more) ≡ lines text ++ lines more) }
+        // If the graph is over, the fault is that of the text whatever comes after it.
+        ensures fault { (text more : List ℕ) → HasRead self text → IsGraphOver self
+            → IfErr result (IsFaultOf (text ++ more)) }
     {
         let line = self.lines.line;
         let is_whole = self.has_graph();
-        let graph = self.finish()?;
-        if is_whole {
-            Ok((graph, line))
-        } else {
+        match self.finish() {
+            Err(fault) => Err(fault),
+            Ok(graph) if is_whole => Ok((graph, line)),
             // A section was read, or bytes of a line without its line feed.
-            Err(TextFault::Line {
+            Ok(_) => Err(TextFault::Line {
                 line,
                 kind: LineKind::Misplaced,
-            })
+            }),
         }
     }
 
@@ -337,8 +406,12 @@ impl JobReader {
         ensures explained { (text : List ℕ) → HasRead self text
             → IfErr result (λ refused. Explains text refused.fault refused.explanation) }
     {
-        let JobReader { lines, unfinished } = self;
-        lines.finish(&unfinished)
+        let JobReader {
+            lines,
+            unfinished,
+            in_comment,
+        } = self;
+        lines.finish(in_comment, &unfinished)
     }
 }
 

@@ -1,6 +1,6 @@
 //! Where the reader stands, and which lines can come there.
 
-ghost use Rattle.std.specs.Prelude.{◌≡◌, IfSome};
+ghost use Rattle.std.specs.Prelude.{ℕ, ◌≡◌, IfSome};
 
 use crate::fault::LineKind;
 use crate::form::{Form, Section};
@@ -49,7 +49,8 @@ impl Stage {
 
     /// How many arcs are missing, where arcs come next.
     pub fn missing_arcs(self) -> Option<u32>
-        ensures { IfSome result (λ missing. self ≡ Stage.Within Section.Problem missing) }
+        ensures some { IfSome result (λ missing. self ≡ Stage.Within Section.Problem missing) }
+        ensures told { (missing : ℕ) → self ≡ Stage.Within Section.Problem missing → result ≡ Some missing }
     {
         match self {
             Stage::Within {

@@ -1,10 +1,10 @@
 -- How a text is read piece by piece: one is fed to the reader of the job while the next is taken.
-use Rattle.std.specs.Prelude.{◌≡◌, ◌≤◌, ◌<◌, ◌⊎◌, ℕ, Bool, true, false, List, length, Option}
+use Rattle.std.specs.Prelude.{◌≡◌, ◌≤◌, ◌<◌, ℕ, Bool, true, false, List, length, Option}
 use Rattle.std.specs.Io.KnownBytes.{Consumes, IsAtEnd}
 use Rattle.dimacs_text.specs.declared.reader.JobReader.{JobReader}
 use Rattle.dimacs_text.specs.Reading.{Reads}
 use Rattle.job_reader.specs.declared.fault.ReadFault.{ReadFault}
-use Rattle.job_reader.specs.declared.fault.ReadFault.TheVariants as fault
+use Rattle.job_reader.specs.Request.{IsOfSystem}
 use Rattle.job_reader.specs.Taken.{TakesAtMost}
 
 -- a piece was taken, of at most `limit` bytes; there are some, if not ended
@@ -23,7 +23,7 @@ pub record StepsOn (limit : ℕ) (old new : JobReader) (fed next : List ℕ) (be
 -- memory was refused or the reader failed, when at most `most` bytes were taken
 pub record StopsShort (most : ℕ) (before after : Option (List ℕ)) (kind : ReadFault) : Type 0 where
   pub taken : TakesAtMost most before after
-  pub only : (kind ≡ fault.Read) ⊎ (kind ≡ fault.Memory)
+  pub only : IsOfSystem kind
 
 -- so many bytes were taken, at most `limit`, and the reader of the job has read them
 pub record Feeds (limit count : ℕ) (old new : JobReader) (before after : Option (List ℕ)) : Type 0 where

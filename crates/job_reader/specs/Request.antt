@@ -1,5 +1,5 @@
 -- What a reader gave: the text of a job, or why it is none; and how much of it was taken.
-use Rattle.std.specs.Prelude.{◌≤◌, ℕ, List, length, Option, ⊤}
+use Rattle.std.specs.Prelude.{◌≡◌, ◌⊎◌, ◌≤◌, ℕ, List, length, Option, ⊤}
 use Rattle.dimacs_text.specs.declared.fault.LineKind.{LineKind}
 use Rattle.dimacs_text.specs.declared.fault.TextFault.{TextFault}
 use Rattle.dimacs_text.specs.declared.fault.TextFault.TheVariants as refused
@@ -32,6 +32,10 @@ HasTaken limit before after _ = TakesAtMost limit before after
 abbrev pub SaysOfText : Option (List ℕ) → Option (List ℕ) → ReadFault → Type 0
 SaysOfText before after (fault.Text line kind) = IsFaulty before after line kind
 SaysOfText before after _ = ⊤
+
+-- the reader failed, or memory was refused
+abbrev pub IsOfSystem : ReadFault → Type 0
+IsOfSystem kind = (kind ≡ fault.Read) ⊎ (kind ≡ fault.Memory)
 
 -- what the reader of the text refused, as a fault of reading
 abbrev pub fault_of : TextFault → ReadFault

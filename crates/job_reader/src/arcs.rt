@@ -6,6 +6,7 @@
 
 ghost use Rattle.std.specs.Prelude.{◌≡◌, ◌≤◌, ◌+◌, [], IfOk, IfErr, length};
 ghost use Rattle.job_reader.specs.Pieces.{Feeds};
+ghost use Rattle.job_reader.specs.Request.{IsOfSystem};
 ghost use Rattle.job_reader.specs.Taken.{TakesAtMost};
 
 use crate::fault::ReadFault;
@@ -27,7 +28,7 @@ const LEAST: usize = 1 << 20;
 /// Reads on in a graph by several threads, as long as many of its arcs are missing, and no more bytes than surely are
 /// the graph's: how many it read, at most `limit`. It reads none where that isn't worth it, or by one thread. It stops
 /// at the reader's end, and soon after a line that is wrong. At most `threads` threads work at that, and no more than
-/// 16. After an `Err` nothing is known of the job.
+/// 16. After an `Err`, which is `Read` or `Memory`, nothing is known of the job.
 pub fn read_arcs_from<H: Threads + Clock + Sync, R: Read>(
     rt: &H,
     alloc: Global,
@@ -39,6 +40,7 @@ pub fn read_arcs_from<H: Threads + Clock + Sync, R: Read>(
     ensures feeds { IfOk result (λ count. Feeds limit count job.old job.new
         (R.remaining reader.old) (R.remaining reader.new)) }
     ensures short { IfErr result (λ _. TakesAtMost limit (R.remaining reader.old) (R.remaining reader.new)) }
+    ensures only { IfErr result IsOfSystem }
 {
     if threads < 2 || sure_bytes(job, 0) < LEAST {
         return Ok(0);
@@ -61,6 +63,7 @@ fn read_sure<H: Threads + Clock + Sync, R: Read>(
     ensures feeds { IfOk result (λ count. Feeds limit count job.old job.new
         (R.remaining reader.old) (R.remaining reader.new)) }
     ensures short { IfErr result (λ _. TakesAtMost limit (R.remaining reader.old) (R.remaining reader.new)) }
+    ensures only { IfErr result IsOfSystem }
 {
     let mut left = limit;
     let mut ended = false;
@@ -75,8 +78,8 @@ fn read_sure<H: Threads + Clock + Sync, R: Read>(
         ended = ended || ends;
         pieces.turn();
     }
-    // No one sends that much.
-    Err(ReadFault::TooLong)
+    // No reader is asked so often.
+    Err(ReadFault::Read)
 }
 
 /// How many bytes the next piece has, of those that are left: none after the reader's end.

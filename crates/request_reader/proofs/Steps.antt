@@ -244,6 +244,23 @@ waits n draft b v number first all line outcomes p = record {
   number = p.number;
 }
 
+-- so is a line of a request that was refused
+pub waits_passing : (n : ℕ) (b : Bool) (number first : ℕ) (all : List (List ℕ)) (line : List ℕ) (outcomes : List Outcome)
+    → IsPassing n b number first all [] outcomes
+    → IsPassing n b number first all (line ∷ []) outcomes
+waits_passing n b number first all line outcomes p = record {
+  done = p.done;
+  ls = p.ls;
+  parts = p.parts;
+  before = p.before;
+  outcome = p.outcome;
+  last = p.last;
+  requests = λ more. p.requests (line ∷ more);
+  refused = p.refused;
+  sections = p.sections;
+  number = p.number;
+}
+
 ends_at : (first : ℕ) (all done ls : List (List ℕ)) → all ≡ done ++ ls → first + length done + length ls ≡ first + length all
 ends_at first all done ls parts = omega (arith, ap (λ l. length l) parts, length-append done ls)
 

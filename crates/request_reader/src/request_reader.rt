@@ -3,6 +3,7 @@
 ghost use Rattle.std.specs.Prelude.{◌≡◌, ◌≤◌, ◌&&◌, ◌++◌, ◌∷◌, [], ℕ, List, true, false, IfNone, IfSome};
 ghost use Rattle.route_walks.specs.declared.graph.TheConstants.{MAX_VERTICES};
 ghost use Rattle.dimacs_text.specs.AfterGraph.{begins_section, extent_of};
+ghost use Rattle.dimacs_text.specs.Lines.{begins_comment};
 ghost use Rattle.dimacs_text.specs.declared.after_graph.Extent.TheVariants.{Plain};
 ghost use Rattle.dimacs_text.specs.RequestDrafts.{HasReadAfter, is_whole};
 ghost use Rattle.request_reader.specs.Requests.{AreRequests, AreShort, Outcome, no_memory};
@@ -183,6 +184,16 @@ impl RequestReader {
             }
             Ok(()) => None,
         }
+    }
+
+    /// Passes by a line that is a comment, which says nothing: its bytes need not be kept until its end has come.
+    pub fn pass_comment(&mut self)
+        ensures requests { (first : ℕ) (all : List (List ℕ)) (outcomes : List Outcome) (line : List ℕ)
+            → HasRequests self.old first all outcomes → begins_comment line ≡ true
+            → HasRequests self.new first (all ++ line ∷ []) outcomes }
+        ensures vertices { vertices_of self.new ≡ vertices_of self.old }
+    {
+        self.line = self.line.saturating_add(1);
     }
 
     /// Refuses the request that was whole with the last line, for want of memory, and gives the number of that line. What

@@ -281,7 +281,7 @@ module _ (law : AnswerTextsByLinesAreUnique) (kind : Answer) (by : Lines) where
       → HasHeard kind by all_walks graph first conversation heard before after
       → AreCutAfterBytes kind by all_walks graph first heard before after
   heard_cut all_walks graph first conversation heard before after is more =
-      let kept = conversation.unfinished.items in
+      let kept = is.begun in
       subst (λ (ls : List (List ℕ)). AreRepliesCut kind by all_walks graph first ls before after)
       (sym
       (ap (λ (bytes : List ℕ). lines (bytes ++ more)) is.parts

@@ -117,12 +117,12 @@ nothing_cut kind by all_walks taken_from taken_to same some =
     record { text = some.bytes; taken = some.taken; given = inl (Keeps-refl same) }
 
 -- the lines of a graph, and those that follow
-front_parts : (front : Front) (buffer : List ℕ) (taken_from taken_to : Option (List ℕ))
-    → (is : HasFront front buffer taken_from taken_to)
+front_parts : (limit : ℕ) (front : Front) (buffer : List ℕ) (taken_from taken_to : Option (List ℕ))
+    → (is : HasFront limit front buffer taken_from taken_to)
     → (more : List ℕ) → MayFollow taken_to more
     → (rest : List (List ℕ))
     × (lines ((is.text ++ take (front.end - front.at) (drop front.at buffer)) ++ more) ≡ lines is.text ++ rest)
-front_parts front buffer taken_from taken_to is more may = by_end front.has_ended refl
+front_parts limit front buffer taken_from taken_to is more may = by_end front.has_ended refl
   where
     last : List ℕ
     last = take (front.end - front.at) (drop front.at buffer)
@@ -146,17 +146,17 @@ front_parts front buffer taken_from taken_to is more may = by_end front.has_ende
         )
 
 -- the reply to the graph was cut short
-pub greeting_cut : (kind : Answer) (by : Lines) (all_walks : Bool) (front : Front) (buffer : List ℕ)
+pub greeting_cut : (limit : ℕ) (kind : Answer) (by : Lines) (all_walks : Bool) (front : Front) (buffer : List ℕ)
     (taken_from taken_to given_from given_to : Option (List ℕ))
-    → HasFront front buffer taken_from taken_to
+    → HasFront limit front buffer taken_from taken_to
     → WritesPrefix (IsAnswerIn kind by false (content_of front.graph) absent) given_from given_to
     → IsCutSession kind by all_walks taken_from taken_to given_from given_to
-greeting_cut kind by all_walks front buffer taken_from taken_to given_from given_to has cut = record {
+greeting_cut limit kind by all_walks front buffer taken_from taken_to given_from given_to has cut = record {
   text = has.text ++ take (front.end - front.at) (drop front.at buffer);
   taken = has.taken;
   given = inr
       (λ more may.
-      let parts = front_parts front buffer taken_from taken_to has more may in
+      let parts = front_parts limit front buffer taken_from taken_to has more may in
       record {
         front = has.text;
         graph = content_of front.graph;
@@ -176,14 +176,14 @@ greeting_cut kind by all_walks front buffer taken_from taken_to given_from given
 
 -- the replies to requests were cut short
 pub session_cut : AnswerTextsByLinesAreUnique
-    → (kind : Answer) (by : Lines) (all_walks : Bool) (front : Front) (buffer : List ℕ)
+    → (limit : ℕ) (kind : Answer) (by : Lines) (all_walks : Bool) (front : Front) (buffer : List ℕ)
     (taken_from between taken_to given_from middle given_to : Option (List ℕ))
-    → HasFront front buffer taken_from between → front.has_ended ≡ false
+    → HasFront limit front buffer taken_from between → front.has_ended ≡ false
     → Writes (IsAnswerIn kind by false (content_of front.graph) absent) given_from middle
     → IsCutConversation kind by all_walks (content_of front.graph) front.line
     (take (front.end - front.at) (drop front.at buffer)) between taken_to middle given_to
     → IsCutSession kind by all_walks taken_from taken_to given_from given_to
-session_cut law kind by all_walks front buffer taken_from between taken_to given_from middle given_to has goes_on writes
+session_cut law limit kind by all_walks front buffer taken_from between taken_to given_from middle given_to has goes_on writes
     conversed =
     let heard = take (front.end - front.at) (drop front.at buffer) in
     let graph = content_of front.graph in

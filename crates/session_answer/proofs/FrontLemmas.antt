@@ -63,7 +63,7 @@ pub ended_has : (job : JobReader) (limit left : ℕ) (before between after : Opt
     → IsFed job limit left before between → Consumes between after (take count buffer) → count ≡ 0 → IsAtEnd after
     → IfOk result (λ front. (front.at ≡ 0) × (front.end ≡ 0) × (front.has_ended ≡ true))
     → ((text : List ℕ) → HasRead job text → IfOk result (λ front. IsGraphText text (content_of front.graph)))
-    → IfOk result (λ front. HasFront front buffer before after)
+    → IfOk result (λ front. HasFront limit front buffer before after)
 ended_has job limit left before between after buffer count (Err fault) fed takes none ended places graph = tt
 ended_has job limit left before between after buffer count (Ok front) fed takes none ended places graph =
     let zero : front.end - front.at ≡ count = omega (arith, places.0, places.1, none) in
@@ -71,6 +71,7 @@ ended_has job limit left before between after buffer count (Ok front) fed takes 
     ap (λ k. take k (drop front.at buffer)) (zero ∙ none) ∙ sym (ap (λ k. take k buffer) none) in
     record {
       text = fed.text;
+      few = omega (arith, fed.count);
       is_graph = graph fed.text fed.read;
       number = λ other. absurd (let is = places.2 in cc);
       joined = λ other more. absurd (let is = places.2 in cc);
@@ -90,7 +91,7 @@ pub open_has : (old job : JobReader) (limit left : ℕ) (before between after : 
     → ((text : List ℕ) → HasRead job text → IfOk result (λ front. front.line ≡ length (lines text) + 1))
     → ((text more : List ℕ) → HasRead job text
     → IfOk result (λ front. lines (text ++ more) ≡ lines text ++ lines more))
-    → IfOk result (λ front. HasFront front buffer before after)
+    → IfOk result (λ front. HasFront limit front buffer before after)
 open_has old job limit left before between after buffer at count (Err fault) low fed takes room few place reads places
     graph next joined = tt
 open_has old job limit left before between after buffer at count (Ok front) low fed takes room few place reads places
@@ -104,6 +105,7 @@ open_has old job limit left before between after buffer at count (Ok front) low 
     ap₂ (λ k j. take (k - j) (drop j buffer)) places.1 places.0 in
     record {
       text = text;
+      few = omega (arith, fed.count, short, length-append fed.text (take at (take count buffer)));
       is_graph = graph text read;
       number = λ other. next text read;
       joined = λ other more. joined text more read;
@@ -151,7 +153,7 @@ pub whole_has : (job : JobReader) (limit left : ℕ) (before after : Option (Lis
     → ((text : List ℕ) → HasRead job text → IfOk result (λ front. front.line ≡ length (lines text) + 1))
     → ((text more : List ℕ) → HasRead job text
     → IfOk result (λ front. lines (text ++ more) ≡ lines text ++ lines more))
-    → IfOk result (λ front. HasFront front buffer before after)
+    → IfOk result (λ front. HasFront limit front buffer before after)
 whole_has job limit left before after buffer (Err fault) fed places graph next joined = tt
 whole_has job limit left before after buffer (Ok front) fed places graph next joined =
     let nothing : take (front.end - front.at) (drop front.at buffer) ≡ [] =
@@ -159,6 +161,7 @@ whole_has job limit left before after buffer (Ok front) fed places graph next jo
     ∙ ap (λ k. take (0 - k) (drop k buffer)) places.0 in
     record {
       text = fed.text;
+      few = omega (arith, fed.count);
       is_graph = graph fed.text fed.read;
       number = λ other. next fed.text fed.read;
       joined = λ other more. joined fed.text more fed.read;

@@ -1,28 +1,23 @@
 -- The bytes that came after a graph, line by line.
-use Rattle.std.proofs.Common.{◌≡◌, ◌∙◌, ℕ, zero, suc, ◌<◌, ◌≤◌, Bool, false, List, [], ◌∷◌, ◌++◌, Option, None, length}
+use Rattle.std.proofs.Common.{◌≡◌, ◌∙◌, ℕ, zero, suc, ◌<◌, ◌≤◌, Bool, true, false, List, [], ◌∷◌, ◌++◌, Option, None, length}
 use Rattle.std.proofs.Common.{◌+◌, ◌-◌, take, drop, refl, sym, ap, subst, arith, append_assoc, get_or-drop, length-drop}
 use Rattle.std.specs.Prelude.{slice_index}
 use Rattle.std.proofs.lemmas.Bool.{ne_eqb}
 use Rattle.std.proofs.lemmas.List.{append-nil}
 use Rattle.std.specs.List.{onto_first}
 use Rattle.dimacs_text.specs.Jobs.{Content}
-use Rattle.dimacs_text.specs.Lines.{lines}
+use Rattle.dimacs_text.specs.Lines.{begins_comment, lines}
 use Rattle.dimacs_text.specs.reader.FastArc.{HasNoFeed}
-use Rattle.dimacs_text.proofs.Facts.{drop_next, keeps_more, lines_test, lines_whole}
+use Rattle.dimacs_text.proofs.Facts.{drop_next, keeps_more, line_first, lines_whole}
 use Rattle.request_reader.specs.Reading.{HasRequests, vertices_of}
 use Rattle.job_answer.specs.declared.asked.Answer.{Answer}
 use Rattle.job_answer.specs.declared.asked.Lines.{Lines}
-use Rattle.session_answer.specs.Conversations.{HasHeard, HasRepliedTo, Replies}
+use Rattle.request_reader.specs.Requests.{Outcome}
+use Rattle.session_answer.specs.Conversations.{HasHeard, HasRepliedTo, IsKeptOf, Replies}
 use Rattle.session_answer.specs.Cuts.{AreCutAfterBytes, AreCutAfterLines, AreRepliesCut}
 use Rattle.session_answer.specs.declared.conversation.Conversation.{Conversation}
 
 -- ---- a line and what comes after it
-
-line_first : (line more : List ℕ) → HasNoFeed line 0 (length line) → lines (line ++ 10 ∷ more) ≡ line ∷ lines more
-line_first [] more free = refl
-line_first (b ∷ bs) more free =
-    lines_test false b (bs ++ 10 ∷ more) (ne_eqb b 10 (free 0 (omega arith) (omega arith)))
-    ∙ ap (λ ls. onto_first b ls) (line_first bs more (λ k from to. free (suc k) (omega arith) (omega arith)))
 
 -- whole lines, and one more with its line feed
 abbrev with_line : List ℕ → List ℕ → List ℕ
@@ -99,44 +94,71 @@ pub heard_rest : (kind : Answer) (by : Lines) (all_walks : Bool) (graph : Conten
     (old new : Conversation) (heard rest : List ℕ) (before after : Option (List ℕ))
     → HasHeard kind by all_walks graph first old heard before after
     → HasNoFeed rest 0 (length rest)
-    → new.unfinished.items ≡ old.unfinished.items ++ rest
+    → ((begun : List ℕ) → IsKeptOf old.in_comment old.unfinished.items begun
+    → IsKeptOf new.in_comment new.unfinished.items (begun ++ rest))
     → new.requests ≡ old.requests → new.session ≡ old.session
     → HasHeard kind by all_walks graph first new (heard ++ rest) before after
-heard_rest kind by all_walks graph first old new heard rest before after is free unfinished requests session =
-    let keeps = keeps_more None is.whole old.unfinished.items heard rest refl free (is.parts, is.no_feed) in
+heard_rest kind by all_walks graph first old new heard rest before after is free kept requests session =
+    let keeps = keeps_more None is.whole is.begun heard rest refl free (is.parts, is.no_feed) in
     record {
       whole = is.whole;
-      parts = keeps.0 ∙ ap (λ (kept : List ℕ). is.whole ++ kept) (sym unfinished);
+      begun = is.begun ++ rest;
+      parts = keeps.0;
       ended = is.ended;
-      no_feed = subst (λ (kept : List ℕ). HasNoFeed kept 0 (length kept)) (sym unfinished) keeps.1;
+      no_feed = keeps.1;
+      kept = kept is.begun is.kept;
       replied =
           same_replied kind by all_walks graph first old new (lines is.whole) before after requests session is.replied;
     }
+
+-- a comment is passed by
+pub passed_replied : (kind : Answer) (by : Lines) (all_walks : Bool) (graph : Content) (first : ℕ)
+    (old new : Conversation) (ls : List (List ℕ)) (line : List ℕ) (before after : Option (List ℕ))
+    → ((outcomes : List Outcome) → HasRequests old.requests first ls outcomes
+    → HasRequests new.requests first (ls ++ line ∷ []) outcomes)
+    → vertices_of new.requests ≡ vertices_of old.requests → new.session ≡ old.session
+    → HasRepliedTo kind by all_walks graph first old ls before after
+    → HasRepliedTo kind by all_walks graph first new (ls ++ line ∷ []) before after
+passed_replied kind by all_walks graph first old new ls line before after requests vertices session is = record {
+  outcomes = is.outcomes;
+  requests = requests is.outcomes is.requests;
+  vertices = vertices ∙ is.vertices;
+  replied = subst (λ kept. Replies kind by all_walks graph is.outcomes kept before after) (sym session) is.replied;
+}
+
+-- what is kept of a line that is no comment is what has come of it
+pub kept_begun : (in_comment : Bool) (kept begun : List ℕ) → in_comment ≡ false → IsKeptOf in_comment kept begun
+    → kept ≡ begun
+kept_begun in_comment kept begun outside is = subst (λ inside. IsKeptOf inside kept begun) outside is
+
+pub comment_begun : (in_comment : Bool) (kept begun : List ℕ) → in_comment ≡ true → IsKeptOf in_comment kept begun
+    → (kept ≡ []) × (begins_comment begun ≡ true)
+comment_begun in_comment kept begun inside is = subst (λ test. IsKeptOf test kept begun) inside is
 
 -- the rest of a line, and its line feed
 pub heard_line : (kind : Answer) (by : Lines) (all_walks : Bool) (graph : Content) (first : ℕ)
     (old new : Conversation) (heard rest : List ℕ) (before between after : Option (List ℕ))
     → (is : HasHeard kind by all_walks graph first old heard before between)
     → HasNoFeed rest 0 (length rest)
-    → new.unfinished.items ≡ []
-    → HasRepliedTo kind by all_walks graph first new (lines is.whole ++ (old.unfinished.items ++ rest) ∷ []) before after
+    → new.in_comment ≡ false → new.unfinished.items ≡ []
+    → HasRepliedTo kind by all_walks graph first new (lines is.whole ++ (is.begun ++ rest) ∷ []) before after
     → HasHeard kind by all_walks graph first new (heard ++ rest ++ 10 ∷ []) before after
-heard_line kind by all_walks graph first old new heard rest before between after is free none replied =
-    let keeps = keeps_more None is.whole old.unfinished.items heard rest refl free (is.parts, is.no_feed) in
-    let line = old.unfinished.items ++ rest in
+heard_line kind by all_walks graph first old new heard rest before between after is free outside none replied =
+    let keeps = keeps_more None is.whole is.begun heard rest refl free (is.parts, is.no_feed) in
+    let line = is.begun ++ rest in
     let so_far = lines_so_far is.whole line is.ended keeps.1 in
     record {
       whole = with_line is.whole line;
+      begun = [];
       parts =
           ap (λ (bytes : List ℕ). bytes ++ 10 ∷ []) keeps.0
           ∙ append_assoc is.whole line (10 ∷ [])
-          ∙ sym (append-nil (with_line is.whole line))
-          ∙ ap (λ (kept : List ℕ). with_line is.whole line ++ kept) (sym none);
+          ∙ sym (append-nil (with_line is.whole line));
       ended = λ more.
           lines_with is.whole line more is.ended keeps.1
           ∙ ap (λ (ls : List (List ℕ)). ls ++ lines more) (sym so_far);
-      no_feed =
-          subst (λ (kept : List ℕ). HasNoFeed kept 0 (length kept)) (sym none) (λ k from to. absurd (omega arith));
+      no_feed = λ k from to. absurd (omega arith);
+      kept = subst (λ inside. IsKeptOf inside new.unfinished.items []) (sym outside) none;
       replied =
           subst (λ (ls : List (List ℕ)). HasRepliedTo kind by all_walks graph first new ls before after) (sym so_far)
           replied;
@@ -147,11 +169,11 @@ pub cut_at_line : (kind : Answer) (by : Lines) (all_walks : Bool) (graph : Conte
     (old : Conversation) (heard rest : List ℕ) (before between after : Option (List ℕ))
     → (is : HasHeard kind by all_walks graph first old heard before between)
     → HasNoFeed rest 0 (length rest)
-    → AreCutAfterLines kind by all_walks graph first (lines is.whole ++ (old.unfinished.items ++ rest) ∷ []) before after
+    → AreCutAfterLines kind by all_walks graph first (lines is.whole ++ (is.begun ++ rest) ∷ []) before after
     → AreCutAfterBytes kind by all_walks graph first (heard ++ rest ++ 10 ∷ []) before after
 cut_at_line kind by all_walks graph first old heard rest before between after is free cut more =
-    let keeps = keeps_more None is.whole old.unfinished.items heard rest refl free (is.parts, is.no_feed) in
-    let line = old.unfinished.items ++ rest in
+    let keeps = keeps_more None is.whole is.begun heard rest refl free (is.parts, is.no_feed) in
+    let line = is.begun ++ rest in
     subst (λ (ls : List (List ℕ)). AreRepliesCut kind by all_walks graph first ls before after)
     (sym
     (ap (λ (bytes : List ℕ). lines (bytes ++ more))
@@ -165,7 +187,7 @@ cut_at_line kind by all_walks graph first old heard rest before between after is
 pub lines_heard : (kind : Answer) (by : Lines) (all_walks : Bool) (graph : Content) (first : ℕ)
     (conversation : Conversation) (heard : List ℕ) (before after : Option (List ℕ))
     → (is : HasHeard kind by all_walks graph first conversation heard before after)
-    → conversation.unfinished.items ≡ []
+    → is.begun ≡ []
     → lines heard ≡ lines is.whole
 lines_heard kind by all_walks graph first conversation heard before after is none =
     ap (λ (bytes : List ℕ). lines bytes)
@@ -175,10 +197,10 @@ lines_heard kind by all_walks graph first conversation heard before after is non
 pub lines_at_end : (kind : Answer) (by : Lines) (all_walks : Bool) (graph : Content) (first : ℕ)
     (conversation : Conversation) (heard : List ℕ) (before after : Option (List ℕ))
     → (is : HasHeard kind by all_walks graph first conversation heard before after)
-    → 0 < length conversation.unfinished.items
-    → lines heard ≡ lines is.whole ++ conversation.unfinished.items ∷ []
+    → 0 < length is.begun
+    → lines heard ≡ lines is.whole ++ is.begun ∷ []
 lines_at_end kind by all_walks graph first conversation heard before after is some =
     ap (λ (bytes : List ℕ). lines bytes) is.parts
-    ∙ is.ended conversation.unfinished.items
+    ∙ is.ended is.begun
     ∙ ap (λ (ls : List (List ℕ)). lines is.whole ++ ls)
-    (lines_whole conversation.unfinished.items some (λ k few. is.no_feed k (omega arith) few))
+    (lines_whole is.begun some (λ k few. is.no_feed k (omega arith) few))

@@ -4,3 +4,4 @@ pub mod FrontLemmas
 pub mod WholeLemmas
 pub mod CutLemmas
 pub mod CutSessions
+pub mod EndLemmas

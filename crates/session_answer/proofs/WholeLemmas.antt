@@ -17,7 +17,7 @@ use Rattle.job_answer.specs.declared.fault.Fault.{Fault}
 use Rattle.job_answer.proofs.Facts.{appends-then}
 use Rattle.session_answer.specs.declared.conversation.Conversation.{Conversation}
 use Rattle.session_answer.specs.declared.graph_front.Front.{Front}
-use Rattle.session_answer.specs.Conversations.{AreAnswered, HasConversed, HasFront, HasHeard, IsAnsweredSession, IsKept}
+use Rattle.session_answer.specs.Conversations.{AreAnswered, HasConversed, HasFront, HasHeard, IsAnsweredSession, IsKept, IsKeptOf}
 use Rattle.session_answer.specs.Replies.{HoldsGraph, IsAnswerIn}
 use Rattle.session_answer.proofs.ReplyLemmas.{no_bytes}
 
@@ -71,14 +71,17 @@ all_taken kind by all_walks graph first conversation heard buffer count taken_fr
 -- before the first byte after the graph
 pub begins_heard : (kind : Answer) (by : Lines) (all_walks : Bool) (graph : Content) (first : ℕ)
     (conversation : Conversation) (written : Option (List ℕ))
-    → conversation.unfinished.items ≡ [] → HasRequests conversation.requests first [] []
+    → conversation.in_comment ≡ false → conversation.unfinished.items ≡ []
+    → HasRequests conversation.requests first [] []
     → vertices_of conversation.requests ≡ graph.n → HoldsGraph kind graph conversation.session
     → HasHeard kind by all_walks graph first conversation [] written written
-begins_heard kind by all_walks graph first conversation written none requests vertices holds = record {
+begins_heard kind by all_walks graph first conversation written outside none requests vertices holds = record {
   whole = [];
-  parts = sym none;
+  begun = [];
+  parts = refl;
   ended = λ more. refl;
-  no_feed = subst (λ kept. HasNoFeed kept 0 (length kept)) (sym none) (λ k from to. absurd (omega arith));
+  no_feed = λ k from to. absurd (omega arith);
+  kept = subst (λ inside. IsKeptOf inside conversation.unfinished.items []) (sym outside) none;
   replied = record {
     outcomes = [];
     requests = requests;
@@ -88,12 +91,12 @@ begins_heard kind by all_walks graph first conversation written none requests ve
 }
 
 -- the input ends with the graph
-pub session_ended : (kind : Answer) (by : Lines) (all_walks : Bool) (front : Front) (buffer : List ℕ)
+pub session_ended : (limit : ℕ) (kind : Answer) (by : Lines) (all_walks : Bool) (front : Front) (buffer : List ℕ)
     (taken_from taken_to given_from given_to : Option (List ℕ))
-    → HasFront front buffer taken_from taken_to → front.has_ended ≡ true
+    → HasFront limit front buffer taken_from taken_to → front.has_ended ≡ true
     → Writes (IsAnswerIn kind by false (content_of front.graph) absent) given_from given_to
-    → IsAnsweredSession kind by all_walks taken_from taken_to given_from given_to
-session_ended kind by all_walks front buffer taken_from taken_to given_from given_to has ended writes =
+    → IsAnsweredSession limit kind by all_walks taken_from taken_to given_from given_to
+session_ended limit kind by all_walks front buffer taken_from taken_to given_from given_to has ended writes =
     let last = has.ended ended in
     let nothing : front.end - front.at ≡ 0 = omega (arith, last.1) in
     record {
@@ -119,21 +122,22 @@ session_ended kind by all_walks front buffer taken_from taken_to given_from give
         replied = refl;
         written = sym (append-nil writes.text);
       };
+      few = has.few;
       written = writes.appended;
     }
 
 -- requests come after it
-pub session_whole : {T : Type 0} (kind : Answer) (by : Lines) (all_walks : Bool) (front : Front) (buffer : List ℕ)
+pub session_whole : {T : Type 0} (limit : ℕ) (kind : Answer) (by : Lines) (all_walks : Bool) (front : Front) (buffer : List ℕ)
     (taken_from between taken_to given_from middle given_to : Option (List ℕ)) (result : Result T Fault)
-    → HasFront front buffer taken_from between → front.has_ended ≡ false
+    → HasFront limit front buffer taken_from between → front.has_ended ≡ false
     → Writes (IsAnswerIn kind by false (content_of front.graph) absent) given_from middle
     → OnOk result
     (HasConversed kind by all_walks (content_of front.graph) front.line
     (take (front.end - front.at) (drop front.at buffer)) between taken_to middle given_to)
-    → OnOk result (IsAnsweredSession kind by all_walks taken_from taken_to given_from given_to)
-session_whole kind by all_walks front buffer taken_from between taken_to given_from middle given_to (Err fault) has goes_on
+    → OnOk result (IsAnsweredSession limit kind by all_walks taken_from taken_to given_from given_to)
+session_whole limit kind by all_walks front buffer taken_from between taken_to given_from middle given_to (Err fault) has goes_on
     writes conversed = tt
-session_whole kind by all_walks front buffer taken_from between taken_to given_from middle given_to (Ok done) has goes_on
+session_whole limit kind by all_walks front buffer taken_from between taken_to given_from middle given_to (Ok done) has goes_on
     writes conversed =
     let heard = take (front.end - front.at) (drop front.at buffer) in
     let more = conversed.more in
@@ -163,6 +167,7 @@ session_whole kind by all_walks front buffer taken_from between taken_to given_f
         replied = conversed.answered.replied;
         written = refl;
       };
+      few = has.few;
       written =
           appends-then given_from middle given_to writes.text conversed.answered.replies writes.appended
           conversed.answered.written;

@@ -1,9 +1,9 @@
 -- How far a session has come: which lines it has read, and what it has replied.
-use Rattle.std.specs.Prelude.{◌≡◌, ℕ, ◌+◌, ◌-◌, Bool, true, false, List, [], ◌∷◌, ◌++◌, length, take, drop, Option}
+use Rattle.std.specs.Prelude.{◌≡◌, ℕ, ◌+◌, ◌-◌, ◌≤◌, Bool, true, false, List, [], ◌∷◌, ◌++◌, length, take, drop, Option}
 use Rattle.std.specs.Io.KnownBytes.{Appends, Consumes, IsAtEnd}
 use Rattle.dimacs_text.specs.GraphTexts.{IsGraphText}
 use Rattle.dimacs_text.specs.Jobs.{Content, content_of}
-use Rattle.dimacs_text.specs.Lines.{lines}
+use Rattle.dimacs_text.specs.Lines.{begins_comment, lines}
 use Rattle.dimacs_text.specs.reader.FastArc.{HasNoFeed}
 use Rattle.job_reader.specs.Taken.{TakesWhole}
 use Rattle.request_reader.specs.Reading.{HasRequests, vertices_of}
@@ -46,13 +46,20 @@ pub record IsKept (conversation : Conversation) : Type 0 where
   pub requests : HasRequests conversation.requests first ls outcomes
   pub vertices : vertices_of conversation.requests ≡ conversation.session.graphs.network.n
 
--- These bytes came after the graph: their whole lines were read, and those of an unfinished line are kept.
+-- the bytes of a line that was begun are kept; of a comment none is
+abbrev pub IsKeptOf : Bool → List ℕ → List ℕ → Type 0
+IsKeptOf false kept begun = kept ≡ begun
+IsKeptOf true kept begun = (kept ≡ []) × (begins_comment begun ≡ true)
+
+-- These bytes came after the graph: their whole lines were read, and those of a line that was begun are kept.
 pub record HasHeard (kind : Answer) (by : Lines) (all_walks : Bool) (graph : Content) (first : ℕ)
     (conversation : Conversation) (bytes : List ℕ) (before after : Option (List ℕ)) : Type 0 where
   pub whole : List ℕ
-  pub parts : bytes ≡ whole ++ conversation.unfinished.items
+  pub begun : List ℕ
+  pub parts : bytes ≡ whole ++ begun
   pub ended : (more : List ℕ) → lines (whole ++ more) ≡ lines whole ++ lines more
-  pub no_feed : HasNoFeed conversation.unfinished.items 0 (length conversation.unfinished.items)
+  pub no_feed : HasNoFeed begun 0 (length begun)
+  pub kept : IsKeptOf conversation.in_comment conversation.unfinished.items begun
   pub replied : HasRepliedTo kind by all_walks graph first conversation (lines whole) before after
 
 -- these bytes after the graph are requests, and exactly their replies were given
@@ -72,20 +79,23 @@ pub record HasConversed (kind : Answer) (by : Lines) (all_walks : Bool) (graph :
   pub whole : TakesWhole taken_from taken_to more
   pub answered : AreAnswered kind by all_walks graph first (heard ++ more) before after
 
--- A graph was read, and of the bytes that were taken those in the buffer come after it. Or the input has ended.
-pub record HasFront (front : Front) (buffer : List ℕ) (before after : Option (List ℕ)) : Type 0 where
+-- A graph was read, within the limit, and of the bytes that were taken those in the buffer come after it. Or the input
+-- has ended.
+pub record HasFront (limit : ℕ) (front : Front) (buffer : List ℕ) (before after : Option (List ℕ)) : Type 0 where
   pub text : List ℕ
+  pub few : length text ≤ limit
   pub is_graph : IsGraphText text (content_of front.graph)
   pub number : front.has_ended ≡ false → front.line ≡ length (lines text) + 1
   pub joined : front.has_ended ≡ false → (more : List ℕ) → lines (text ++ more) ≡ lines text ++ lines more
   pub taken : Consumes before after (text ++ take (front.end - front.at) (drop front.at buffer))
   pub ended : front.has_ended ≡ true → IsAtEnd after × (front.end ≡ front.at)
 
--- the whole text was taken, it is that of a session, and exactly its replies were given
-pub record IsAnsweredSession (kind : Answer) (by : Lines) (all_walks : Bool)
+-- the whole text was taken, it is that of a session, whose graph is within the limit, and exactly its replies were given
+pub record IsAnsweredSession (limit : ℕ) (kind : Answer) (by : Lines) (all_walks : Bool)
     (taken_from taken_to given_from given_to : Option (List ℕ)) : Type 0 where
   pub text : List ℕ
   pub whole : TakesWhole taken_from taken_to text
   pub replies : List ℕ
   pub session : IsSession kind by all_walks text replies
+  pub few : length session.front ≤ limit
   pub written : Appends given_from given_to replies

@@ -1,13 +1,20 @@
 -- What a session that ends with a fault has given: a prefix of its replies.
-use Rattle.std.specs.Prelude.{◌≡◌, ◌⊎◌, ◌+◌, ℕ, Bool, false, List, [], ◌++◌, length, Option}
+use Rattle.std.specs.Prelude.{◌≡◌, ◌⊎◌, ◌+◌, ◌-◌, ◌^◌, ◌<◌, ℕ, Bool, false, List, [], ◌++◌, length, Option, ⊤}
 use Rattle.std.specs.Io.KnownBytes.{Consumes, IsAtEnd, Keeps}
+use Rattle.dimacs_text.specs.declared.fault.LineKind.{LineKind}
+use Rattle.dimacs_text.specs.declared.fault.LineKind.TheVariants.{TooFew}
+use Rattle.dimacs_text.specs.Faults.{IsFirstFault}
 use Rattle.dimacs_text.specs.GraphTexts.{IsGraphText}
 use Rattle.dimacs_text.specs.Jobs.{Content, absent}
 use Rattle.dimacs_text.specs.Lines.{lines}
-use Rattle.request_reader.specs.Requests.{Outcome, AreRequestsTo}
+use Rattle.job_reader.specs.Taken.{TakesWhole}
+use Rattle.request_reader.specs.Requests.{Outcome, AreRequestsTo, AreShort}
 use Rattle.job_answer.specs.Bytes.{WritesPrefix}
 use Rattle.job_answer.specs.declared.asked.Answer.{Answer}
 use Rattle.job_answer.specs.declared.asked.Lines.{Lines}
+use Rattle.job_answer.specs.declared.fault.Fault.{Fault}
+use Rattle.job_answer.specs.declared.fault.Fault.TheVariants as fault
+use Rattle.job_answer.specs.Outcome.{IsWritingFault}
 use Rattle.session_answer.specs.Replies.{AreReplies, IsAnswerIn}
 
 -- some bytes were taken
@@ -90,3 +97,64 @@ pub record IsCutSession (kind : Answer) (by : Lines) (all_walks : Bool)
       ⊎ ((more : List ℕ)
       → MayFollow taken_to more
       → IsSessionBegun kind by all_walks (text ++ more) given_from given_to)
+
+-- ---- which fault ends a session
+
+-- more than the limit was taken
+pub record TakesMore (limit : ℕ) (before after : Option (List ℕ)) : Type 0 where
+  pub bytes : List ℕ
+  pub taken : Consumes before after bytes
+  pub many : limit < length bytes
+
+-- a fault of the graph's text: its first one, or memory was refused
+abbrev pub IsFaultOfGraph : List ℕ → Fault → Type 0
+IsFaultOfGraph text (fault.Text line kind) = IsFirstFault text line kind
+IsFaultOfGraph text fault.Memory = ⊤
+IsFaultOfGraph text _ = ⊥
+
+-- The first fault of what was taken is this one, whatever follows.
+pub record IsFaultyGraph (taken_from taken_to : Option (List ℕ)) (line : ℕ) (kind : LineKind) : Type 0 where
+  pub text : List ℕ
+  pub taken : Consumes taken_from taken_to text
+  pub first : (more : List ℕ) → MayFollow taken_to more → IsFirstFault (text ++ more) line kind
+
+-- All was taken. After a graph come requests, and at last one that lacks lines: the line after the last is wrong.
+pub record IsShortSession (taken_from taken_to : Option (List ℕ)) (line : ℕ) (kind : LineKind) : Type 0 where
+  pub text : List ℕ
+  pub whole : TakesWhole taken_from taken_to text
+  pub front : List ℕ
+  pub graph : Content
+  pub is_graph : IsGraphText front graph
+  pub rest : List (List ℕ)
+  pub parts : lines text ≡ lines front ++ rest
+  pub outcomes : List Outcome
+  pub short : AreShort graph.n (length (lines front) + 1) rest outcomes line
+  pub kind_is : kind ≡ TooFew
+
+-- What the fault says with which a session ends. A fault of the text is that of the graph, or of the last request.
+abbrev pub EndsBy : ℕ → Option (List ℕ) → Option (List ℕ) → Fault → Type 0
+EndsBy limit taken_from taken_to fault.TooLong = TakesMore limit taken_from taken_to
+EndsBy limit taken_from taken_to (fault.Text line kind) =
+    IsFaultyGraph taken_from taken_to line kind
+    ⊎ IsShortSession taken_from taken_to line kind
+EndsBy limit taken_from taken_to fault.NoAsk = ⊥
+EndsBy limit taken_from taken_to fault.NoSources = ⊥
+EndsBy limit taken_from taken_to _ = ⊤
+
+-- these lines after a graph of n vertices end with a request that lacks lines; or the system failed
+abbrev pub EndsShort : ℕ → ℕ → List (List ℕ) → Fault → Type 0
+EndsShort n first all (fault.Text line kind) =
+    ((outcomes : List Outcome) × AreShort n first all outcomes line)
+    × (kind ≡ TooFew)
+EndsShort n first all fault = IsWritingFault fault
+
+-- What the fault says of what comes after the graph, of which these bytes were read before. No limit holds there, but
+-- nobody reads 2^64 - 1 times.
+abbrev pub EndsAfterGraph : ℕ → ℕ → List ℕ → Option (List ℕ) → Option (List ℕ) → Fault → Type 0
+EndsAfterGraph n first heard taken_from taken_to fault.TooLong = TakesMore (2 ^ 64 - 2) taken_from taken_to
+EndsAfterGraph n first heard taken_from taken_to (fault.Text line kind) =
+    (more : List ℕ)
+    × TakesWhole taken_from taken_to more
+    × EndsShort n first (lines (heard ++ more)) (fault.Text line kind)
+EndsAfterGraph n first heard taken_from taken_to fault.Read = ⊤
+EndsAfterGraph n first heard taken_from taken_to fault = IsWritingFault fault

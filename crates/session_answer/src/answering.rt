@@ -1,10 +1,10 @@
 //! How does a session go from its first byte to its last?
 
-ghost use Rattle.std.specs.Prelude.{◌<◌, ◌≤◌, ◌^◌, ℕ, List, [], Option, IfOk, OnErr, OnOk, length};
+ghost use Rattle.std.specs.Prelude.{◌<◌, ◌≤◌, ◌^◌, ℕ, List, [], Option, IfErr, IfOk, OnErr, OnOk, length};
 ghost use Rattle.dimacs_text.specs.Jobs.{content_of, Content, IsWithinLimits};
 ghost use Rattle.job_answer.specs.Solves.{IsLinesAsked};
 ghost use Rattle.session_answer.specs.Conversations.{HasConversed, HasHeard, IsAnsweredSession, IsKept};
-ghost use Rattle.session_answer.specs.Cuts.{IsCutConversation, IsCutSession};
+ghost use Rattle.session_answer.specs.Cuts.{EndsAfterGraph, EndsBy, IsCutConversation, IsCutSession};
 ghost use Rattle.session_answer.specs.Replies.{HoldsGraph};
 
 use crate::conversation::Conversation;
@@ -40,13 +40,15 @@ pub fn answer_session<H: Threads + Wait + Clock + Sync, R: Read, W: Write, G: Ga
     gate: &G,
 ) -> Result<(), Fault>
     requires bound { IsLinesAsked lines }
-    ensures answered { OnOk result (IsAnsweredSession asked.now.answer lines asked.now.walks
+    ensures answered { OnOk result (IsAnsweredSession asked.now.limit asked.now.answer lines asked.now.walks
         (R.remaining reader.old) (R.remaining reader.new)
         (W.contents writer.old) (W.contents writer.new)) }
     // At each fault a prefix of the replies was written.
     ensures cut { OnErr result (IsCutSession asked.now.answer lines asked.now.walks
         (R.remaining reader.old) (R.remaining reader.new)
         (W.contents writer.old) (W.contents writer.new)) }
+    // The fault is that of the text, or the system's.
+    ensures says { IfErr result (EndsBy asked.now.limit (R.remaining reader.old) (R.remaining reader.new)) }
 {
     // A small request is answered by one worker, however many there are.
     let asked = asked.with_saving(true);
@@ -71,12 +73,13 @@ fn answer_by<H: Threads + Wait + Clock + Sync, R: Read, W: Write, G: Gate + Sync
     requires room { 0 < length buffer.old }
     requires bound { IsLinesAsked terms.now.lines }
     requires limit { terms.now.asked.now.limit ≤ 2 ^ 36 }
-    ensures answered { OnOk result (IsAnsweredSession terms.now.asked.now.answer terms.now.lines
-        terms.now.asked.now.walks (R.remaining reader.old) (R.remaining reader.new)
+    ensures answered { OnOk result (IsAnsweredSession terms.now.asked.now.limit terms.now.asked.now.answer
+        terms.now.lines terms.now.asked.now.walks (R.remaining reader.old) (R.remaining reader.new)
         (W.contents writer.old) (W.contents writer.new)) }
     ensures cut { OnErr result (IsCutSession terms.now.asked.now.answer terms.now.lines terms.now.asked.now.walks
         (R.remaining reader.old) (R.remaining reader.new)
         (W.contents writer.old) (W.contents writer.new)) }
+    ensures says { IfErr result (EndsBy terms.now.asked.now.limit (R.remaining reader.old) (R.remaining reader.new)) }
 {
     answer_texts_by_lines_are_unique();
     let threads = terms.asked.settings.workers as usize;
@@ -111,6 +114,7 @@ fn open_conversation<H: Threads + Sync>(
         session: Session::open(rt, alloc, front.graph, asked)?,
         requests: RequestReader::new(alloc, n, line),
         unfinished: Vec::new(alloc),
+        in_comment: false,
         alloc,
     })
 }
@@ -137,6 +141,10 @@ fn converse<H: Threads + Wait + Clock + Sync, R: Read, W: Write, G: Gate + Sync>
         heard before (W.contents writer.old)
         → OnErr result (IsCutConversation terms.now.asked.now.answer terms.now.lines terms.now.asked.now.walks graph
         first heard (R.remaining reader.old) (R.remaining reader.new) before (W.contents writer.new)) }
+    ensures says { (graph : Content) (first : ℕ) (heard : List ℕ) (before : Option (List ℕ))
+        → HasHeard terms.now.asked.now.answer terms.now.lines terms.now.asked.now.walks graph first conversation.old
+        heard before (W.contents writer.old)
+        → IfErr result (EndsAfterGraph graph.n first heard (R.remaining reader.old) (R.remaining reader.new)) }
 {
     answer_texts_by_lines_are_unique();
     for _ in 0..u64::MAX {

@@ -1,29 +1,30 @@
 //! How are requests told from the bytes that come, and replied to?
 
-ghost use Rattle.std.specs.Prelude.{◌≡◌, ◌≤◌, ◌<◌, ◌++◌, ◌∷◌, [], ℕ, List, Option, length, ⊤, IfNone, IfOk, IfSome, OnErr, OnOk};
-ghost use Rattle.std.specs.Prelude.{slice_index};
+ghost use Rattle.std.specs.Prelude.{◌≡◌, ◌≤◌, ◌<◌, ◌++◌, ◌∷◌, [], ℕ, List, Option, length, ⊤, IfErr, IfNone, IfOk, IfSome, OnErr, OnOk};
+ghost use Rattle.std.specs.Prelude.{slice_index, true, false};
 ghost use Rattle.dimacs_text.specs.Jobs.{Content, content_of, IsWithinLimits};
-ghost use Rattle.dimacs_text.specs.Lines.{lines};
+ghost use Rattle.dimacs_text.specs.Lines.{begins_comment, lines};
 ghost use Rattle.dimacs_text.specs.reader.FastArc.{HasNoFeed};
 ghost use Rattle.job_answer.specs.Bytes.{GivesPrefix, WritesPrefix};
 ghost use Rattle.job_answer.specs.Graphs.{AreGraphs};
+ghost use Rattle.job_answer.specs.Outcome.{IsWritingFault};
 ghost use Rattle.job_answer.specs.Solves.{IsLinesAsked};
 ghost use Rattle.answer_lines.specs.Lines.{refusal_text};
 ghost use Rattle.request_reader.specs.Reading.{outcomes_in, last_of, vertices_of, HasRequests, IsRefusedLast};
 ghost use Rattle.request_reader.specs.Requests.{Outcome, no_memory};
 ghost use Rattle.std.specs.Io.KnownBytes.{Appends};
-ghost use Rattle.session_answer.specs.Conversations.{AreAnswered, HasHeard, HasRepliedTo, IsKept, Replies};
-ghost use Rattle.session_answer.specs.Cuts.{AreCutAfterBytes, AreCutAfterLines, AreRepliesCut};
+ghost use Rattle.session_answer.specs.Conversations.{AreAnswered, HasHeard, HasRepliedTo, IsKept, IsKeptOf, Replies};
+ghost use Rattle.session_answer.specs.Cuts.{AreCutAfterBytes, AreCutAfterLines, AreRepliesCut, EndsShort};
 ghost use Rattle.session_answer.specs.Replies.{AreReplies, HoldsGraph, IsAskedIn, IsRequestWithin, IsTold, out_of_memory};
 
 use crate::session::{NO_MEMORY, Session, Told, refuse};
 use crate::terms::Terms;
-use dimacs_text::LineKind;
+use dimacs_text::{LineKind, begins_comment};
 use job_answer::Fault;
 use job_answer::laws::answer_texts_by_lines_are_unique;
 use obim_engine::Gate;
 use request_reader::{Request, RequestReader};
-use std::alloc::Global;
+use std::alloc::{AllocError, Global};
 use std::io::Write;
 use std::mem::replace;
 use std::sync::Wait;
@@ -35,8 +36,10 @@ use std::time::Clock;
 pub(crate) struct Conversation {
     pub(crate) session: Session,
     pub(crate) requests: RequestReader,
-    /// The bytes of the last line, whose line feed hasn't come.
+    /// The bytes of the last line, whose line feed hasn't come. Those of a comment are let go.
     pub(crate) unfinished: Vec<u8>,
+    /// Whether the last line is a comment whose line feed hasn't come.
+    pub(crate) in_comment: bool,
     pub(crate) alloc: Global,
 }
 
@@ -62,6 +65,7 @@ impl Conversation {
             → OnErr result (AreCutAfterBytes terms.now.asked.now.answer terms.now.lines terms.now.asked.now.walks graph
             first (heard ++ bytes.now) before (W.contents writer.new)) }
         ensures kept { OnOk result (IsKept self.new) }
+        ensures kinds { IfErr result IsWritingFault }
     {
         answer_texts_by_lines_are_unique();
         let mut at = 0;
@@ -69,7 +73,26 @@ impl Conversation {
             self.end_line(rt, writer, &bytes[at..end], terms)?;
             at = end + 1;
         }
-        self.unfinished.extend_from_slice(&bytes[at..])?;
+        self.keep(&bytes[at..])?;
+        Ok(())
+    }
+
+    /// Keeps bytes of a line whose line feed hasn't come, unless it is a comment.
+    fn keep(&mut self, bytes: &[u8]) -> Result<(), AllocError>
+        ensures kept { OnOk result ((begun : List ℕ) → IsKeptOf self.old.in_comment self.old.unfinished.items begun
+            → IsKeptOf self.new.in_comment self.new.unfinished.items (begun ++ bytes.now)) }
+        ensures requests { self.new.requests ≡ self.old.requests }
+        ensures session { self.new.session ≡ self.old.session }
+    {
+        if self.in_comment {
+            return Ok(());
+        }
+        self.unfinished.extend_from_slice(bytes)?;
+        if !begins_comment(&self.unfinished) {
+            return Ok(());
+        }
+        self.unfinished.clear();
+        self.in_comment = true;
         Ok(())
     }
 
@@ -95,12 +118,31 @@ impl Conversation {
             → OnErr result (AreCutAfterBytes terms.now.asked.now.answer terms.now.lines terms.now.asked.now.walks graph
             first (heard ++ rest.now ++ 10 ∷ []) before (W.contents writer.new)) }
         ensures kept { OnOk result (IsKept self.new) }
+        ensures kinds { IfErr result IsWritingFault }
     {
+        if self.in_comment {
+            self.end_comment();
+            return Ok(());
+        }
         if self.unfinished.is_empty() {
             // The whole line is there, and is read where it stands.
             return self.take_line(rt, writer, rest, terms);
         }
         self.end_unfinished(rt, writer, rest, terms)
+    }
+
+    /// Passes by the comment that was begun.
+    fn end_comment(&mut self)
+        ensures requests { (first : ℕ) (ls : List (List ℕ)) (outcomes : List Outcome) (line : List ℕ)
+            → HasRequests self.old.requests first ls outcomes → begins_comment line ≡ true
+            → HasRequests self.new.requests first (ls ++ line ∷ []) outcomes }
+        ensures vertices { vertices_of self.new.requests ≡ vertices_of self.old.requests }
+        ensures session { self.new.session ≡ self.old.session }
+        ensures unfinished { self.new.unfinished ≡ self.old.unfinished }
+        ensures outside { self.new.in_comment ≡ false }
+    {
+        self.in_comment = false;
+        self.requests.pass_comment();
     }
 
     /// Takes the rest of a line that came in pieces, whose line feed came after it.
@@ -112,6 +154,7 @@ impl Conversation {
         terms: &Terms<'_, G>,
     ) -> Result<(), Fault>
         requires kept { IsKept self.old }
+        requires outside { self.old.in_comment ≡ false }
         requires bound { IsLinesAsked terms.now.lines }
         requires no_feed { HasNoFeed rest.now 0 (length rest.now) }
         ensures heard { (graph : Content) (first : ℕ) (heard : List ℕ) (before : Option (List ℕ))
@@ -125,6 +168,7 @@ impl Conversation {
             → OnErr result (AreCutAfterBytes terms.now.asked.now.answer terms.now.lines terms.now.asked.now.walks graph
             first (heard ++ rest.now ++ 10 ∷ []) before (W.contents writer.new)) }
         ensures kept { OnOk result (IsKept self.new) }
+        ensures kinds { IfErr result IsWritingFault }
     {
         answer_texts_by_lines_are_unique();
         self.unfinished.extend_from_slice(rest)?;
@@ -154,6 +198,8 @@ impl Conversation {
             first (ls ++ line.now ∷ []) before (W.contents writer.new)) }
         ensures kept { OnOk result (IsKept self.new) }
         ensures unfinished { self.new.unfinished ≡ self.old.unfinished }
+        ensures in_comment { self.new.in_comment ≡ self.old.in_comment }
+        ensures kinds { IfErr result IsWritingFault }
     {
         answer_texts_by_lines_are_unique();
         let came = self.requests.read(line);
@@ -179,6 +225,8 @@ impl Conversation {
         ensures vertices { vertices_of self.new.requests ≡ vertices_of self.old.requests }
         ensures session { self.new.session ≡ self.old.session }
         ensures unfinished { self.new.unfinished ≡ self.old.unfinished }
+        ensures in_comment { self.new.in_comment ≡ self.old.in_comment }
+        ensures kinds { IfErr result IsWritingFault }
     {
         let line = self.requests.refuse();
         refuse(self.alloc, writer, line, NO_MEMORY)
@@ -210,6 +258,8 @@ impl Conversation {
             (self.new.session.graphs.network.n ≡ self.old.session.graphs.network.n) }
         ensures requests { self.new.requests ≡ self.old.requests }
         ensures unfinished { self.new.unfinished ≡ self.old.unfinished }
+        ensures in_comment { self.new.in_comment ≡ self.old.in_comment }
+        ensures kinds { IfErr result IsWritingFault }
     {
         match request {
             None => Ok(Told::Whole),
@@ -236,7 +286,12 @@ impl Conversation {
             before (W.contents writer.old)
             → OnErr result (AreRepliesCut terms.now.asked.now.answer terms.now.lines terms.now.asked.now.walks graph
             first (lines heard) before (W.contents writer.new)) }
+        ensures kinds { IfErr result IsWritingFault }
     {
+        if self.in_comment {
+            self.end_comment();
+            return Ok(());
+        }
         if self.unfinished.is_empty() {
             return Ok(());
         }
@@ -263,6 +318,10 @@ impl Conversation {
             before (W.contents writer.old)
             → OnErr result (AreRepliesCut terms.now.asked.now.answer terms.now.lines terms.now.asked.now.walks graph
             first (lines heard) before (W.contents writer.new)) }
+        ensures says { (graph : Content) (first : ℕ) (heard : List ℕ) (before : Option (List ℕ))
+            → HasHeard terms.now.asked.now.answer terms.now.lines terms.now.asked.now.walks graph first self.old heard
+            before (W.contents writer.old)
+            → IfErr result (EndsShort graph.n first (lines heard)) }
     {
         answer_texts_by_lines_are_unique();
         self.end_last_line(rt, writer, terms)?;

@@ -2,15 +2,16 @@
 
 ghost use Rattle.std.specs.Prelude.{◌≡◌, ◌+◌, ◌<◌, ◌≤◌, ◌^◌, ◌++◌, None, List, ℕ, length, true, false, IfErr, IfOk, OnErr};
 ghost use Rattle.std.specs.Bool.{OnTrue};
-ghost use Rattle.dimacs_text.specs.GraphTexts.{IsGraphText};
+ghost use Rattle.dimacs_text.specs.Faults.{IsFaultOf};
+ghost use Rattle.dimacs_text.specs.GraphTexts.{IsGraphOver, IsGraphText};
 ghost use Rattle.dimacs_text.specs.Lines.{lines};
 ghost use Rattle.dimacs_text.specs.Reading.{HasRead};
 ghost use Rattle.std.specs.Io.KnownBytes.{ReadConsumes};
 ghost use Rattle.dimacs_text.specs.Jobs.{absent, content_of, IsWithinLimits};
 ghost use Rattle.session_answer.specs.Conversations.{HasFront};
-ghost use Rattle.session_answer.specs.Cuts.{TakesSome};
+ghost use Rattle.session_answer.specs.Cuts.{EndsBy, IsFaultOfGraph, TakesSome};
 
-use dimacs_text::{Ask, Job, JobReader, LineKind, TextFault};
+use dimacs_text::{Ask, Job, JobReader, TextFault};
 use job_answer::Fault;
 use job_reader::read_arcs_from;
 use std::alloc::Global;
@@ -46,9 +47,11 @@ pub(crate) fn read_front<H: Threads + Clock + Sync, R: Read>(
     requires limit { limit ≤ 2 ^ 36 }
     requires room { 0 < length buffer.old }
     ensures places { IfOk result (λ front. (front.at ≤ front.end) × (front.end ≤ length buffer.new)) }
-    ensures front { IfOk result (λ front. HasFront front buffer.new (R.remaining reader.old) (R.remaining reader.new)) }
+    ensures front { IfOk result (λ front.
+        HasFront limit front buffer.new (R.remaining reader.old) (R.remaining reader.new)) }
     ensures limits { IfOk result (λ front. IsWithinLimits (content_of front.graph)) }
     ensures cut { OnErr result (TakesSome (R.remaining reader.old) (R.remaining reader.new)) }
+    ensures says { IfErr result (EndsBy limit (R.remaining reader.old) (R.remaining reader.new)) }
 {
     let mut job = JobReader::new(alloc);
     let mut left = limit as usize;
@@ -76,13 +79,16 @@ pub(crate) fn read_front<H: Threads + Clock + Sync, R: Read>(
 
 /// Whether no more bytes are to be read of the graph, of which this many were fed and this many came.
 fn is_over(job: &JobReader, fed: usize, came: usize) -> bool
-    ensures { result ≡ false → came ≤ fed }
+    requires { fed < came → IsGraphOver job.now }
+    ensures fed { result ≡ false → came ≤ fed }
+    ensures over { result ≡ true → IsGraphOver job.now }
 {
-    fed < came || job.is_refused() || job.has_graph()
+    fed < came || job.is_graph_over()
 }
 
 /// The graph that was read. Of the bytes that were read last, those from one place up to another come after it.
 fn open_front(job: JobReader, at: usize, end: usize) -> Result<Front, Fault>
+    requires over { IsGraphOver job }
     ensures places { IfOk result (λ front. (front.at ≡ at) × (front.end ≡ end) × (front.has_ended ≡ false)) }
     ensures limits { (text : List ℕ) → HasRead job text → IfOk result (λ front. IsWithinLimits (content_of front.graph)) }
     ensures graph { (text : List ℕ) → HasRead job text
@@ -90,6 +96,7 @@ fn open_front(job: JobReader, at: usize, end: usize) -> Result<Front, Fault>
     ensures next { (text : List ℕ) → HasRead job text → IfOk result (λ front. front.line ≡ length (lines text) + 1) }
     ensures joined { (text more : List ℕ) → HasRead job text
         → IfOk result (λ front. lines (text ++ more) ≡ lines text ++ lines more) }
+    ensures says { (text more : List ℕ) → HasRead job text → IfErr result (IsFaultOfGraph (text ++ more)) }
 {
     match job.finish_graph() {
         Err(fault) => Err(fault_of(fault)),
@@ -109,6 +116,7 @@ fn ended_front(job: JobReader) -> Result<Front, Fault>
     ensures limits { (text : List ℕ) → HasRead job text → IfOk result (λ front. IsWithinLimits (content_of front.graph)) }
     ensures graph { (text : List ℕ) → HasRead job text
         → IfOk result (λ front. IsGraphText text (content_of front.graph)) }
+    ensures says { (text : List ℕ) → HasRead job text → IfErr result (IsFaultOfGraph text) }
 {
     let line = job.next_line();
     match job.finish() {
@@ -120,11 +128,8 @@ fn ended_front(job: JobReader) -> Result<Front, Fault>
             end: 0,
             has_ended: true,
         }),
-        // The reader stops before a section.
-        Ok(_) => Err(Fault::Text {
-            line,
-            kind: LineKind::Misplaced,
-        }),
+        // The reader stops before a section, so this never comes.
+        Ok(_) => Err(Fault::Memory),
     }
 }
 
@@ -136,7 +141,9 @@ fn is_graph(job: &Job) -> bool
 }
 
 /// A fault of a text.
-fn fault_of(fault: TextFault) -> Fault {
+fn fault_of(fault: TextFault) -> Fault
+    ensures { (text : List ℕ) → IsFaultOf text fault → IsFaultOfGraph text result }
+{
     match fault {
         TextFault::Memory => Fault::Memory,
         TextFault::Line { line, kind } => Fault::Text { line, kind },

@@ -1,6 +1,6 @@
 //! The graph of a session, and the reply to one request.
 
-ghost use Rattle.std.specs.Prelude.{◌≡◌, ◌≤◌, ◌<◌, ◌++◌, true, false, [], Some, ⊤, IfOk, OnErr, OnOk, length};
+ghost use Rattle.std.specs.Prelude.{◌≡◌, ◌≤◌, ◌<◌, ◌++◌, true, false, [], Some, ⊤, IfErr, IfOk, OnErr, OnOk, length};
 ghost use Rattle.std.specs.Io.KnownBytes.{Appends};
 ghost use Rattle.answer_lines.specs.Lines.{grown_text, refusal_text};
 ghost use Rattle.dimacs_text.specs.Jobs.{Content, added_of, content_of, question_of};
@@ -8,6 +8,7 @@ ghost use Rattle.dimacs_text.specs.Jobs.{IsAddedWithin, IsQuestionWithin, IsWith
 ghost use Rattle.job_answer.specs.Bytes.{GivesPrefix, Writes, WritesPrefix};
 ghost use Rattle.job_answer.specs.Graphs.{AreGraphs};
 ghost use Rattle.job_answer.specs.LineWalks.{has_walks};
+ghost use Rattle.job_answer.specs.Outcome.{IsWritingFault};
 ghost use Rattle.job_answer.specs.Solves.{IsLinesAsked};
 ghost use Rattle.request_reader.specs.Reading.{outcome_of};
 ghost use Rattle.session_answer.specs.Replies.{HoldsGraph, IsAnswerIn, IsAsked, IsBodyIn, IsGrownReply, IsReplyFor};
@@ -107,6 +108,7 @@ impl Session {
             (HoldsGraph terms.now.asked.now.answer graph self.new)) }
         ensures graphs { OnOk result (AreGraphs self.new.graphs) }
         ensures vertices { OnOk result (self.new.graphs.network.n ≡ self.old.graphs.network.n) }
+        ensures kinds { IfErr result IsWritingFault }
     {
         match request {
             Request::Wrong { line, kind } => {
@@ -148,6 +150,7 @@ impl Session {
         ensures cut { (graph : Content) → HoldsGraph terms.now.asked.now.answer graph self.now
             → OnErr result (WritesPrefix (IsAnswerIn terms.now.asked.now.answer terms.now.lines walks graph
             (question_of ask.now)) (W.contents writer.old) (W.contents writer.new)) }
+        ensures kinds { IfErr result IsWritingFault }
     {
         answer_texts_by_lines_are_unique();
         if !self.is_short(ask, walks, terms) {
@@ -174,9 +177,10 @@ impl Session {
         requires graphs { AreGraphs self.now.graphs }
         requires bound { IsLinesAsked terms.now.lines }
         requires within { IsQuestionWithin self.now.graphs.network.n (question_of ask.now) }
-        ensures { (graph : Content) → HoldsGraph terms.now.asked.now.answer graph self.now
+        ensures text { (graph : Content) → HoldsGraph terms.now.asked.now.answer graph self.now
             → IfOk result (λ text. IsAnswerIn terms.now.asked.now.answer terms.now.lines walks graph
             (question_of ask.now) text.items) }
+        ensures kinds { IfErr result IsWritingFault }
     {
         let mut text = Vec::new(self.alloc);
         self.answer(rt, &mut text, ask, walks, terms)?;
@@ -222,6 +226,7 @@ impl Session {
             (HoldsGraph terms.now.asked.now.answer graph self.new)) }
         ensures graphs { OnOk result (AreGraphs self.new.graphs) }
         ensures vertices { OnOk result (self.new.graphs.network.n ≡ self.old.graphs.network.n) }
+        ensures kinds { IfErr result IsWritingFault }
     {
         let Told::Whole = self.grow(rt, writer, arcs, terms)? else {
             return Ok(Told::Nothing);
@@ -248,6 +253,7 @@ impl Session {
         ensures cut { (graph : Content) → HoldsGraph terms.now.asked.now.answer graph self.now
             → OnErr result (WritesPrefix (IsAnswerIn terms.now.asked.now.answer terms.now.lines walks graph
             (question_of ask.now)) (W.contents writer.old) (W.contents writer.new)) }
+        ensures kinds { IfErr result IsWritingFault }
     {
         answer_texts_by_lines_are_unique();
         self.write_body(rt, writer, ask, walks, terms)?;
@@ -274,6 +280,7 @@ impl Session {
         ensures cut { (graph : Content) → HoldsGraph terms.now.asked.now.answer graph self.now
             → OnErr result (WritesPrefix (IsBodyIn terms.now.asked.now.answer terms.now.lines walks graph
             (question_of ask.now)) (W.contents writer.old) (W.contents writer.new)) }
+        ensures kinds { IfErr result IsWritingFault }
     {
         if is_unasked(terms.asked.answer, ask) {
             return Ok(());
@@ -316,6 +323,7 @@ impl Session {
             (Appends (W.contents writer.old) (W.contents writer.new) [])) }
         ensures cut { OnErr result (GivesPrefix (W.contents writer.old) (W.contents writer.new)
             (grown_text (length arcs.now))) }
+        ensures kinds { IfErr result IsWritingFault }
     {
         networks_grow();
         // The line is made first: once the graph has grown no memory is asked for up to the first byte.
@@ -350,6 +358,7 @@ pub(crate) fn refuse<W: Write>(
     ensures told { OnOk result (Appends (W.contents writer.old) (W.contents writer.new) (refusal_text line words.now)) }
     ensures cut { OnErr result (GivesPrefix (W.contents writer.old) (W.contents writer.new)
         (refusal_text line words.now)) }
+    ensures kinds { IfErr result IsWritingFault }
 {
     let mut text = Vec::new(alloc);
     put_refusal(&mut text, line, words)?;

@@ -1,8 +1,9 @@
 use Rattle.std.proofs.Common.{[], take, drop, ◌-◌}
 use Rattle.dimacs_text.specs.Jobs.{content_of}
-use Rattle.std.proofs.lemmas.Result.{on_err_weaker}
+use Rattle.std.proofs.lemmas.Result.{IfErr-weaker, err_from_is_err_and, on_err_weaker}
 use Rattle.session_answer.proofs.CutLemmas.{on_err}
 use Rattle.session_answer.proofs.CutSessions.{first_heard_cut, greeting_cut, nothing_cut, session_cut}
+use Rattle.session_answer.proofs.EndLemmas.{after_graph_ends, writing_ends}
 use Rattle.session_answer.proofs.WholeLemmas.{session_ended, session_whole}
 use Rattle.session_answer.proofs.answering.answer_by.Goals as goal
 
@@ -10,7 +11,7 @@ pub returns-then-has_ended-clause-answered : goal.returns-then-has_ended-clause-
 returns-then-has_ended-clause-answered g c =
     let terms = c.args.terms.now in
     let front = c.in_ok-front.front in
-    session_ended terms.asked.now.answer terms.lines terms.asked.now.walks front c.read_front.new.buffer
+    session_ended terms.asked.now.limit terms.asked.now.answer terms.lines terms.asked.now.walks front c.read_front.new.buffer
     (g.R.Read.remaining c.args.reader.now) (g.R.Read.remaining c.read_front.new.reader)
     (g.W.Write.contents c.args.writer.now) (g.W.Write.contents c.answer.new.writer) c.in_ok-front.ensures.front
     c.if-has_ended.true (c.in_ok-answer.ensures.answered (content_of front.graph) c.in_ok-conversation.ensures.holds)
@@ -20,7 +21,7 @@ returns-clause-answered g c =
     let terms = c.args.terms.now in
     let front = c.in_ok-front.front in
     let written = g.W.Write.contents c.answer.new.writer in
-    session_whole terms.asked.now.answer terms.lines terms.asked.now.walks front c.read_front.new.buffer
+    session_whole terms.asked.now.limit terms.asked.now.answer terms.lines terms.asked.now.walks front c.read_front.new.buffer
     (g.R.Read.remaining c.args.reader.now) (g.R.Read.remaining c.read_front.new.reader)
     (g.R.Read.remaining c.converse.new.reader) (g.W.Write.contents c.args.writer.now) written
     (g.W.Write.contents c.converse.new.writer) c.converse.result c.in_ok-front.ensures.front c.if-has_ended.false
@@ -52,7 +53,7 @@ returns-in_err-answer-clause-cut g c =
     let terms = c.args.terms.now in
     let front = c.in_ok-front.front in
     on_err
-    (greeting_cut terms.asked.now.answer terms.lines terms.asked.now.walks front c.read_front.new.buffer
+    (greeting_cut terms.asked.now.limit terms.asked.now.answer terms.lines terms.asked.now.walks front c.read_front.new.buffer
     (g.R.Read.remaining c.args.reader.now) (g.R.Read.remaining c.read_front.new.reader)
     (g.W.Write.contents c.args.writer.now) (g.W.Write.contents c.answer.new.writer) c.in_ok-front.ensures.front
     (c.in_err-answer.ensures.cut (content_of front.graph) c.in_ok-conversation.ensures.holds))
@@ -67,7 +68,7 @@ returns-in_err-take-clause-cut g c =
     let written = g.W.Write.contents c.answer.new.writer in
     let taken = g.R.Read.remaining c.read_front.new.reader in
     on_err
-    (session_cut c.answer_texts_by_lines_are_unique.ensures terms.asked.now.answer terms.lines terms.asked.now.walks
+    (session_cut c.answer_texts_by_lines_are_unique.ensures terms.asked.now.limit terms.asked.now.answer terms.lines terms.asked.now.walks
     front c.read_front.new.buffer (g.R.Read.remaining c.args.reader.now) taken taken
     (g.W.Write.contents c.args.writer.now) written (g.W.Write.contents c.take.new.writer) c.in_ok-front.ensures.front
     c.if-has_ended.false (c.in_ok-answer.ensures.answered graph c.in_ok-conversation.ensures.holds)
@@ -85,10 +86,44 @@ returns-clause-cut g c =
     let written = g.W.Write.contents c.answer.new.writer in
     on_err_weaker c.converse.result
     (λ cut.
-    session_cut c.answer_texts_by_lines_are_unique.ensures terms.asked.now.answer terms.lines terms.asked.now.walks
+    session_cut c.answer_texts_by_lines_are_unique.ensures terms.asked.now.limit terms.asked.now.answer terms.lines terms.asked.now.walks
     front c.read_front.new.buffer (g.R.Read.remaining c.args.reader.now) (g.R.Read.remaining c.read_front.new.reader)
     (g.R.Read.remaining c.converse.new.reader) (g.W.Write.contents c.args.writer.now) written
     (g.W.Write.contents c.converse.new.writer) c.in_ok-front.ensures.front c.if-has_ended.false
     (c.in_ok-answer.ensures.answered graph c.in_ok-conversation.ensures.holds) cut)
     (c.converse.ensures.cut graph front.line heard written
+    (c.in_ok-take.ensures.heard graph front.line [] written (c.in_ok-conversation.ensures.heard terms.lines written)))
+
+pub returns-in_err-front-clause-says : goal.returns-in_err-front-clause-says
+returns-in_err-front-clause-says g c =
+    let p = err_from_is_err_and c.from_residual.result c.from_residual.ensures.1 in
+    rw (p.1, p.2) c.in_err-front.ensures.says
+
+pub returns-in_err-answer-clause-says : goal.returns-in_err-answer-clause-says
+returns-in_err-answer-clause-says g c =
+    let p = err_from_is_err_and c.from_residual-in_err-answer.result c.from_residual-in_err-answer.ensures.1 in
+    rw (p.1, p.2)
+    (writing_ends c.args.terms.now.asked.now.limit (g.R.Read.remaining c.args.reader.now)
+    (g.R.Read.remaining c.read_front.new.reader) c.in_err-answer.field-0.0 c.in_err-answer.ensures.kinds)
+
+pub returns-in_err-take-clause-says : goal.returns-in_err-take-clause-says
+returns-in_err-take-clause-says g c =
+    let p = err_from_is_err_and c.from_residual-in_err-take.result c.from_residual-in_err-take.ensures.1 in
+    rw (p.1, p.2)
+    (writing_ends c.args.terms.now.asked.now.limit (g.R.Read.remaining c.args.reader.now)
+    (g.R.Read.remaining c.read_front.new.reader) c.in_err-take.field-0.0 c.in_err-take.ensures.kinds)
+
+pub returns-clause-says : goal.returns-clause-says
+returns-clause-says g c =
+    let terms = c.args.terms.now in
+    let front = c.in_ok-front.front in
+    let graph = content_of front.graph in
+    let heard = take (front.end - front.at) (drop front.at c.read_front.new.buffer) in
+    let written = g.W.Write.contents c.answer.new.writer in
+    IfErr-weaker c.converse.result _ _
+    (λ fault says.
+    after_graph_ends terms.asked.now.limit front c.read_front.new.buffer (g.R.Read.remaining c.args.reader.now)
+    (g.R.Read.remaining c.read_front.new.reader) (g.R.Read.remaining c.converse.new.reader) fault c.requires.limit
+    c.in_ok-front.ensures.front c.if-has_ended.false says)
+    (c.converse.ensures.says graph front.line heard written
     (c.in_ok-take.ensures.heard graph front.line [] written (c.in_ok-conversation.ensures.heard terms.lines written)))

@@ -13,8 +13,11 @@ returns-in_err-buffer-clause-cut g c =
 
 pub returns-clause-answered : goal.returns-clause-answered
 returns-clause-answered g c =
-    rw (c.with_saving-asked.ensures.answer, c.with_saving-asked.ensures.walks) at c.answer_by.ensures.answered
+    rw (c.with_saving-asked.ensures.answer, c.with_saving-asked.ensures.walks, c.with_saving-asked.ensures.limit) at c.answer_by.ensures.answered
 
 pub returns-clause-cut : goal.returns-clause-cut
 returns-clause-cut g c =
     rw (c.with_saving-asked.ensures.answer, c.with_saving-asked.ensures.walks) at c.answer_by.ensures.cut
+
+pub returns-clause-says : goal.returns-clause-says
+returns-clause-says g c = rw c.with_saving-asked.ensures.limit at c.answer_by.ensures.says

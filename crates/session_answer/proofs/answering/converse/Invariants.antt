@@ -1,6 +1,7 @@
 use Rattle.std.proofs.Common.{ℕ, ◌<◌, List, Option, length}
 use Rattle.dimacs_text.specs.Jobs.{Content}
 use Rattle.session_answer.specs.Conversations.{HasHeard, IsKept}
+use Rattle.session_answer.proofs.EndLemmas.{TakesEach}
 use Rattle.session_answer.proofs.WholeLemmas.{HasTaken}
 use Rattle.session_answer.proofs.answering.converse.Given as goal
 
@@ -13,4 +14,5 @@ invariant-loop g l = record {
       heard before (g.W.Write.contents l.initial.writer)
       → HasTaken l.terms.asked.now.answer l.terms.lines l.terms.asked.now.walks graph first l.conversation heard
       (g.R.Read.remaining l.initial.reader) (g.R.Read.remaining l.reader) before (g.W.Write.contents l.writer);
+  often : TakesEach l.counter (g.R.Read.remaining l.initial.reader) (g.R.Read.remaining l.reader);
 }

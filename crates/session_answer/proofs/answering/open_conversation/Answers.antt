@@ -1,3 +1,4 @@
+use Rattle.std.proofs.Common.{refl}
 use Rattle.dimacs_text.specs.Jobs.{content_of}
 use Rattle.session_answer.proofs.WholeLemmas.{begins_heard, begins_kept}
 use Rattle.session_answer.proofs.answering.open_conversation.Goals as goal
@@ -10,4 +11,4 @@ returns-clause-kept g c =
 pub returns-clause-heard : goal.returns-clause-heard
 returns-clause-heard g c by written =
     begins_heard c.args.asked.now.answer by c.args.asked.now.walks (content_of c.args.front.graph) c.args.front.line _
-    written c.new-2.ensures.items c.new.ensures.requests c.new.ensures.vertices c.in_ok-open.ensures.holds
+    written refl c.new-2.ensures.items c.new.ensures.requests c.new.ensures.vertices c.in_ok-open.ensures.holds

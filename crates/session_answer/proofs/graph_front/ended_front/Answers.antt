@@ -2,3 +2,6 @@ use Rattle.session_answer.proofs.graph_front.ended_front.Goals as goal
 
 pub returns-in-Ok-clause-limits : goal.returns-in-Ok-clause-limits
 returns-in-Ok-clause-limits c text read = c.in-Ok.ensures.within text read
+
+pub returns-in-Err-clause-says : goal.returns-in-Err-clause-says
+returns-in-Err-clause-says c text read = c.fault_of.ensures text (c.in-Err.ensures.fault text read)

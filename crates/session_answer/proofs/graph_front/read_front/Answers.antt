@@ -1,8 +1,10 @@
 use Rattle.std.proofs.Common.{◌-◌, take, arith}
 use Rattle.std.proofs.lemmas.List.{length-take-le}
+use Rattle.std.proofs.lemmas.Result.{err_from_is_err_and}
 use Rattle.std.proofs.KnownBytes.{Keeps-refl}
 use Rattle.session_answer.proofs.CutLemmas.{on_err}
 use Rattle.session_answer.proofs.CutSessions.{fed_more, fed_some, fed_then}
+use Rattle.session_answer.proofs.EndLemmas.{ended_ends, long_ends, open_ends, system_ends, whole_ends}
 use Rattle.session_answer.proofs.FrontLemmas.{by_text, ended_has, fed_by_threads, fed_came, open_has, open_within, whole_has}
 use Rattle.session_answer.proofs.graph_front.read_front.Goals as goal
 
@@ -51,8 +53,16 @@ loop-preserved g c =
           (g.R.Read.remaining c.loop.reader) (g.R.Read.remaining c.read_some.new.reader) c.read_some.new.buffer
           c.in_ok-at.at c.in_ok-count.count c.requires.limit c.loop.invariant.fed c.in_ok-count.ensures.bytes.0
           c.in_ok-count.ensures.count (omega (arith, c.if-count-left.false))
-          c.in_ok-at.ensures.reads (c.is_over.ensures c.if-is_over.false))
+          c.in_ok-at.ensures.reads (c.is_over.ensures.fed c.if-is_over.false))
           c.in_ok-more.ensures.feeds;
+      often =
+          omega (
+            arith,
+            c.loop.invariant.often,
+            c.if-count-eq0.false,
+            c.if-count-left.false,
+            c.in_ok-more.ensures.feeds.few,
+          );
       room = grind (arith, c.loop.invariant.room, c.read_some.auto.buffer);
     }
 
@@ -68,7 +78,7 @@ returns-then-is_refused-clause-front g c =
     (g.R.Read.remaining c.loop.reader) (g.R.Read.remaining c.read_some.new.reader) c.read_some.new.buffer
     c.in_ok-at.at c.in_ok-count.count c.requires.limit c.loop.invariant.fed c.in_ok-count.ensures.bytes.0
     c.in_ok-count.ensures.count (omega (arith, c.if-count-left.false))
-    c.in_ok-at.ensures.reads (c.is_over.ensures c.if-is_over.false))
+    c.in_ok-at.ensures.reads (c.is_over.ensures.fed c.if-is_over.false))
     c.in_ok-more.ensures.feeds)
     c.open_front-then-is_refused.ensures.places c.open_front-then-is_refused.ensures.graph c.open_front-then-is_refused.ensures.next
     c.open_front-then-is_refused.ensures.joined
@@ -85,7 +95,7 @@ returns-then-is_refused-clause-limits g c =
     (g.R.Read.remaining c.loop.reader) (g.R.Read.remaining c.read_some.new.reader) c.read_some.new.buffer
     c.in_ok-at.at c.in_ok-count.count c.requires.limit c.loop.invariant.fed c.in_ok-count.ensures.bytes.0
     c.in_ok-count.ensures.count (omega (arith, c.if-count-left.false))
-    c.in_ok-at.ensures.reads (c.is_over.ensures c.if-is_over.false))
+    c.in_ok-at.ensures.reads (c.is_over.ensures.fed c.if-is_over.false))
     c.in_ok-more.ensures.feeds)
     c.open_front-then-is_refused.ensures.limits
 
@@ -151,3 +161,60 @@ pub returns-clause-cut : goal.returns-clause-cut
 returns-clause-cut g c =
     fed_some c.loop.job c.args.limit c.loop.left (g.R.Read.remaining c.args.reader.now)
     (g.R.Read.remaining c.loop.reader) (g.R.Read.remaining c.loop.reader) c.loop.invariant.fed (Keeps-refl _)
+
+pub is_over-requires : goal.is_over-requires
+is_over-requires g c less =
+    c.in_ok-at.ensures.over
+    (let came = length-take-le c.in_ok-count.count c.read_some.new.buffer c.in_ok-count.ensures.count in
+    omega (arith, came, less))
+
+pub returns-then-count-eq0-clause-says : goal.returns-then-count-eq0-clause-says
+returns-then-count-eq0-clause-says g c =
+    ended_ends c.loop.job c.args.limit c.loop.left (g.R.Read.remaining c.args.reader.now)
+    (g.R.Read.remaining c.loop.reader) (g.R.Read.remaining c.read_some.new.reader) c.read_some.new.buffer
+    c.in_ok-count.count c.ended_front.result c.loop.invariant.fed c.in_ok-count.ensures.bytes.0 c.if-count-eq0.true
+    (c.in_ok-count.ensures.bytes.1 c.if-count-eq0.true (grind (arith, c.loop.invariant.room, c.read_some.auto.buffer)))
+    c.ended_front.ensures.says
+
+pub returns-then-count-left-clause-says : goal.returns-then-count-left-clause-says
+returns-then-count-left-clause-says g c =
+    long_ends c.loop.job c.args.limit c.loop.left (g.R.Read.remaining c.args.reader.now)
+    (g.R.Read.remaining c.loop.reader) (g.R.Read.remaining c.read_some.new.reader) c.read_some.new.buffer
+    c.in_ok-count.count c.loop.invariant.fed c.in_ok-count.ensures.bytes.0 c.in_ok-count.ensures.count
+    (omega (arith, c.if-count-left.true))
+
+pub returns-then-is_over-clause-says : goal.returns-then-is_over-clause-says
+returns-then-is_over-clause-says g c =
+    open_ends c.loop.job c.feed_graph.new.self c.args.limit c.loop.left (g.R.Read.remaining c.args.reader.now)
+    (g.R.Read.remaining c.loop.reader) (g.R.Read.remaining c.read_some.new.reader) c.read_some.new.buffer
+    c.in_ok-at.at c.in_ok-count.count c.open_front.result c.requires.limit c.loop.invariant.fed
+    c.in_ok-count.ensures.bytes.0 c.in_ok-count.ensures.count c.if-count-left.false
+    (let came = length-take-le c.in_ok-count.count c.read_some.new.buffer c.in_ok-count.ensures.count in
+    omega (arith, came, c.in_ok-at.ensures.place))
+    c.in_ok-at.ensures.reads c.open_front.ensures.says
+
+pub returns-in_err-more-clause-says : goal.returns-in_err-more-clause-says
+returns-in_err-more-clause-says g c =
+    let p = err_from_is_err_and c.from_residual-in_err-more.result c.from_residual-in_err-more.ensures.1 in
+    rw (p.1, p.2)
+    (system_ends c.args.limit (g.R.Read.remaining c.args.reader.now) (g.R.Read.remaining c.read_arcs_from.new.reader)
+    c.in_err-more.field-0.0 c.in_err-more.ensures.only)
+
+pub returns-then-is_refused-clause-says : goal.returns-then-is_refused-clause-says
+returns-then-is_refused-clause-says g c =
+    whole_ends c.read_arcs_from.new.job c.args.limit (c.loop.left - c.in_ok-count.count - c.in_ok-more.more)
+    (g.R.Read.remaining c.args.reader.now) (g.R.Read.remaining c.read_arcs_from.new.reader)
+    c.open_front-then-is_refused.result
+    (fed_by_threads c.feed_graph.new.self c.read_arcs_from.new.job c.args.limit (c.loop.left - c.in_ok-count.count)
+    c.in_ok-more.more (g.R.Read.remaining c.args.reader.now) (g.R.Read.remaining c.read_some.new.reader)
+    (g.R.Read.remaining c.read_arcs_from.new.reader) c.requires.limit
+    (fed_came c.loop.job c.feed_graph.new.self c.args.limit c.loop.left (g.R.Read.remaining c.args.reader.now)
+    (g.R.Read.remaining c.loop.reader) (g.R.Read.remaining c.read_some.new.reader) c.read_some.new.buffer
+    c.in_ok-at.at c.in_ok-count.count c.requires.limit c.loop.invariant.fed c.in_ok-count.ensures.bytes.0
+    c.in_ok-count.ensures.count (omega (arith, c.if-count-left.false))
+    c.in_ok-at.ensures.reads (c.is_over.ensures.fed c.if-is_over.false))
+    c.in_ok-more.ensures.feeds)
+    c.open_front-then-is_refused.ensures.says
+
+pub returns-clause-says : goal.returns-clause-says
+returns-clause-says g c = absurd (omega (arith, c.requires.limit, c.loop.invariant.often, c.loop-test.false))

@@ -1,9 +1,10 @@
-use Rattle.std.proofs.Common.{◌<◌, length}
+use Rattle.std.proofs.Common.{◌+◌, ◌≤◌, ◌<◌, length}
 use Rattle.session_answer.proofs.FrontLemmas.{IsFed}
 use Rattle.session_answer.proofs.graph_front.read_front.Given as goal
 
 abbrev pub invariant-loop : goal.invariant-loop
 invariant-loop g l = record {
   fed : IsFed l.job l.limit l.left (g.R.Read.remaining l.initial.reader) (g.R.Read.remaining l.reader);
+  often : l.counter + l.left ≤ l.limit;
   room : 0 < length l.buffer;
 }

@@ -10,7 +10,7 @@ returns-clause-reads c line =
     let ready = c.room_for_arcs-room.new.self in
     let same = c.room_for_arcs-room.ensures.same in
     let stage : ready.stage ≡ Within Problem c.in-Some.missing =
-    ap (λ (p : Progress). p.stage) same ∙ c.in-Some.ensures in
+    ap (λ (p : Progress). p.stage) same ∙ c.in-Some.ensures.some in
     let start : arcs_progress ready.vertices c.in-Some.missing ready.arcs.items ≡ progress_of c.args.self.now =
     ap
     (λ s.

@@ -10,4 +10,4 @@ returns-clause-within c text r =
     IfOk-weaker c.finish.result (λ job. IsJobText text (content_of job)) (λ job. IsWithinLimits (content_of job))
     (λ job is. job_within text (content_of job) is)
     (c.finish.ensures.job text
-    (subst (λ (last : List ℕ). HasReadText c.args.self.lines last text) (sym c.deref.ensures.value) r))
+    (subst (λ (last : List ℕ). HasReadText c.args.self.lines c.args.self.in_comment last text) (sym c.deref.ensures.value) r))

@@ -1,7 +1,9 @@
 use Rattle.std.proofs.Common.{refl, subst}
 use Rattle.dimacs_text.specs.Lines.{lines}
-use Rattle.request_reader.specs.Requests.{AreRequests}
+use Rattle.std.proofs.lemmas.Result.{err_from_is_err_and}
+use Rattle.request_reader.specs.Requests.{AreRequests, AreShort}
 use Rattle.session_answer.proofs.CutLemmas.{cut_here, replied_cut}
+use Rattle.session_answer.proofs.EndLemmas.{writing_is_short}
 use Rattle.session_answer.proofs.conversation.Conversation.end.Goals as goal
 
 pub returns-in-None-clause-answered : goal.returns-in-None-clause-answered
@@ -25,3 +27,20 @@ returns-in-Some-clause-cut g c graph first heard before is =
     cut_here kind by walks graph first (lines heard) (lines heard) before _ refl
     (replied_cut c.answer_texts_by_lines_are_unique.ensures kind by walks graph first c.end_last_line.new.self
     (lines heard) before _ (c.in_ok-end_last_line.ensures.replied graph first heard before is))
+
+pub returns-in_err-end_last_line-clause-says : goal.returns-in_err-end_last_line-clause-says
+returns-in_err-end_last_line-clause-says g c graph first heard before is =
+    let p = err_from_is_err_and c.from_residual.result c.from_residual.ensures.1 in
+    rw (p.1, p.2)
+    (writing_is_short graph.n first (lines heard) c.in_err-end_last_line.field-0.0 c.in_err-end_last_line.ensures.kinds)
+
+pub returns-in-Some-clause-says : goal.returns-in-Some-clause-says
+returns-in-Some-clause-says g c graph first heard before is =
+    let replied = c.in_ok-end_last_line.ensures.replied graph first heard before is in (
+      (
+        replied.outcomes,
+        subst (λ n. AreShort n first (lines heard) replied.outcomes c.in-Some.line) replied.vertices
+            (c.in-Some.ensures.some first (lines heard) replied.outcomes replied.requests),
+      ),
+      refl,
+    )

@@ -4,7 +4,7 @@ use Rattle.dimacs_text.specs.Lines.{lines}
 use Rattle.session_answer.specs.Conversations.{HasRepliedTo}
 use Rattle.session_answer.specs.Cuts.{AreCutAfterLines}
 use Rattle.session_answer.proofs.CutLemmas.{cut_longer, heard_cut, on_err}
-use Rattle.session_answer.proofs.HeardLemmas.{cut_at_line, heard_line, same_replied}
+use Rattle.session_answer.proofs.HeardLemmas.{cut_at_line, heard_line, kept_begun, same_replied}
 use Rattle.session_answer.proofs.conversation.Conversation.end_unfinished.Goals as goal
 
 pub returns-clause-heard : goal.returns-clause-heard
@@ -14,10 +14,12 @@ returns-clause-heard g c graph first heard before is =
     let walks = c.args.terms.now.asked.now.walks in
     let self = c.args.self.now in
     let whole = lines is.whole in
-    let line : c.deref.result.now ≡ self.unfinished.items ++ c.args.rest.now =
+    let line : c.deref.result.now ≡ is.begun ++ c.args.rest.now =
     c.deref.ensures.value
     ∙ ap (λ list. list.items) c.replace-line.ensures.value
-    ∙ c.in_ok-extend_from_slice.ensures.items in
+    ∙ c.in_ok-extend_from_slice.ensures.items
+    ∙ ap (λ (kept : List ℕ). kept ++ c.args.rest.now)
+    (kept_begun self.in_comment self.unfinished.items is.begun c.requires.outside is.kept) in
     let none : c.take_line.new.self.unfinished.items ≡ [] =
     ap (λ list. list.items) c.take_line.ensures.unfinished
     ∙ ap (λ list. list.items) c.replace-line.ensures.after
@@ -25,7 +27,7 @@ returns-clause-heard g c graph first heard before is =
     on_ok_weaker c.take_line.result
     (λ replied.
     heard_line kind by walks graph first self c.take_line.new.self heard c.args.rest.now before _ _ is
-    c.requires.no_feed none
+    c.requires.no_feed (c.take_line.ensures.in_comment ∙ c.requires.outside) none
     (subst (λ (last : List ℕ). HasRepliedTo kind by walks graph first c.take_line.new.self (whole ++ last ∷ []) before
     (g.W.Write.contents c.take_line.new.writer)) line replied))
     (c.take_line.ensures.replied graph first whole before
@@ -51,10 +53,12 @@ returns-clause-cut g c graph first heard before is =
     let walks = c.args.terms.now.asked.now.walks in
     let self = c.args.self.now in
     let whole = lines is.whole in
-    let line : c.deref.result.now ≡ self.unfinished.items ++ c.args.rest.now =
+    let line : c.deref.result.now ≡ is.begun ++ c.args.rest.now =
     c.deref.ensures.value
     ∙ ap (λ list. list.items) c.replace-line.ensures.value
-    ∙ c.in_ok-extend_from_slice.ensures.items in
+    ∙ c.in_ok-extend_from_slice.ensures.items
+    ∙ ap (λ (kept : List ℕ). kept ++ c.args.rest.now)
+    (kept_begun self.in_comment self.unfinished.items is.begun c.requires.outside is.kept) in
     on_err_weaker c.take_line.result
     (λ cut.
     cut_at_line kind by walks graph first self heard c.args.rest.now before _ _ is c.requires.no_feed

@@ -1,7 +1,7 @@
 use Rattle.std.proofs.Common.{◌≡◌, ◌∙◌, ◌+◌, ◌-◌, ◌∷◌, ◌++◌, [], List, ℕ, length, take, drop, ap, refl, subst, sym, arith}
 use Rattle.std.proofs.Common.{append_assoc, length-drop, take-append-drop}
 use Rattle.std.proofs.lemmas.List.{take_all}
-use Rattle.session_answer.specs.Conversations.{HasHeard}
+use Rattle.session_answer.specs.Conversations.{HasHeard, IsKeptOf}
 use Rattle.session_answer.specs.Cuts.{AreCutAfterBytes}
 use Rattle.session_answer.proofs.CutLemmas.{cut_in_all, heard_cut, on_err}
 use Rattle.session_answer.proofs.HeardLemmas.{heard_rest, no_feed_after, taken_line}
@@ -44,9 +44,10 @@ returns-clause-heard g c graph first heard before is =
     (heard_rest kind by walks graph first c.loop-end.self _ (heard ++ take at bytes) (drop at bytes) before _
     (c.loop-end.invariant.heard graph first heard before is)
     (no_feed_after bytes at c.in_default.ensures.none)
-    (c.in_ok-extend_from_slice.ensures.items
-    ∙ ap (λ (rest : List ℕ). c.loop-end.self.unfinished.items ++ rest)
-    (take_all (length bytes - at) (drop at bytes) (omega (arith, length-drop at bytes)))) refl refl)
+    (λ begun kept.
+    subst (λ (rest : List ℕ). IsKeptOf c.keep.new.self.in_comment c.keep.new.self.unfinished.items (begun ++ rest))
+    (take_all (length bytes - at) (drop at bytes) (omega (arith, length-drop at bytes)))
+    (c.in_ok-keep.ensures.kept begun kept)) c.keep.ensures.requests c.keep.ensures.session)
 
 pub returns-in_err-end_line-clause-cut : goal.returns-in_err-end_line-clause-cut
 returns-in_err-end_line-clause-cut g c graph first heard before is =
@@ -69,8 +70,8 @@ returns-in_err-end_line-clause-cut g c graph first heard before is =
     (c.loop-end.invariant.heard graph first heard before is))))
     c.from_residual.result
 
-pub returns-in_err-extend_from_slice-clause-cut : goal.returns-in_err-extend_from_slice-clause-cut
-returns-in_err-extend_from_slice-clause-cut g c graph first heard before is =
+pub returns-in_err-keep-clause-cut : goal.returns-in_err-keep-clause-cut
+returns-in_err-keep-clause-cut g c graph first heard before is =
     let kind = c.args.terms.now.asked.now.answer in
     let by = c.args.terms.now.lines in
     let walks = c.args.terms.now.asked.now.walks in
@@ -81,4 +82,4 @@ returns-in_err-extend_from_slice-clause-cut g c graph first heard before is =
     (cut_in_all kind by walks graph first heard bytes at before _
     (heard_cut law kind by walks graph first c.loop-end.self (heard ++ take at bytes) before _
     (c.loop-end.invariant.heard graph first heard before is)))
-    c.from_residual-in_err-extend_from_slice.result
+    c.from_residual-in_err-keep.result

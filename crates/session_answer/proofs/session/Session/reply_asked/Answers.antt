@@ -13,7 +13,7 @@ returns-in_err-write_whole-clause-cut g c graph holds =
     on_err
     (text_cut (IsAnswerIn kind by c.args.walks graph question)
     (one_answer c.answer_texts_by_lines_are_unique.ensures kind by c.args.walks graph question) c.in-Ok.text.items _ _
-    (c.in-Ok.ensures graph holds)
+    (c.in-Ok.ensures.text graph holds)
     (subst
     (λ bytes. GivesPrefix (g.W.Write.contents c.args.writer.now) (g.W.Write.contents c.write_whole.new.writer) bytes)
     c.deref.ensures.value c.in_err-write_whole.ensures.prefix))

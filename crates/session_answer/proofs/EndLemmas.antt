@@ -1,0 +1,215 @@
+-- Which fault a session ends with.
+use Rattle.std.proofs.Common.{◌≡◌, ◌∙◌, ◌+◌, ◌-◌, ◌^◌, ◌≤◌, ◌<◌, ℕ, List, [], ◌++◌, Option, Result, Ok, Err, IfErr, false, inl, inr, length, take, drop}
+use Rattle.std.proofs.Common.{append_assoc, append-nil, arith, ap, length-append, refl, subst, sym, take-append-drop}
+use Rattle.std.proofs.lemmas.List.{length-take-le}
+use Rattle.std.proofs.KnownBytes.{Consumes-trans}
+use Rattle.std.specs.Io.KnownBytes.{Consumes, IsAtEnd}
+use Rattle.dimacs_text.specs.Lines.{lines}
+use Rattle.dimacs_text.specs.Jobs.{content_of}
+use Rattle.dimacs_text.specs.Reading.{HasRead, Reads}
+use Rattle.dimacs_text.specs.declared.reader.JobReader.{JobReader}
+use Rattle.job_answer.specs.declared.fault.Fault.{Fault}
+use Rattle.job_answer.specs.declared.fault.Fault.TheVariants as fault
+use Rattle.job_reader.specs.declared.fault.ReadFault.{ReadFault}
+use Rattle.job_reader.specs.Request.{IsOfSystem}
+use Rattle.job_answer.specs.Choices.{fault_of_reading}
+use Rattle.job_answer.specs.Outcome.{IsWritingFault}
+use Rattle.request_reader.specs.Requests.{AreShort}
+use Rattle.session_answer.specs.declared.graph_front.Front.{Front}
+use Rattle.session_answer.specs.Conversations.{HasFront}
+use Rattle.session_answer.specs.Cuts.{EndsAfterGraph, EndsBy, EndsShort, IsFaultOfGraph, MayFollow}
+use Rattle.session_answer.proofs.FrontLemmas.{IsFed}
+
+-- a fault of writing says nothing of the text
+pub writing_ends : (limit : ℕ) (taken_from taken_to : Option (List ℕ)) (kind : Fault) → IsWritingFault kind
+    → EndsBy limit taken_from taken_to kind
+writing_ends limit taken_from taken_to fault.Read is = absurd is
+writing_ends limit taken_from taken_to fault.TooLong is = absurd is
+writing_ends limit taken_from taken_to (fault.Text line kind) is = absurd is
+writing_ends limit taken_from taken_to fault.NoAsk is = absurd is
+writing_ends limit taken_from taken_to fault.NoSources is = absurd is
+writing_ends limit taken_from taken_to fault.Memory is = tt
+writing_ends limit taken_from taken_to fault.Spawn is = tt
+writing_ends limit taken_from taken_to fault.Write is = tt
+
+pub writing_ends_after : (n first : ℕ) (heard : List ℕ) (taken_from taken_to : Option (List ℕ)) (kind : Fault)
+    → IsWritingFault kind
+    → EndsAfterGraph n first heard taken_from taken_to kind
+writing_ends_after n first heard taken_from taken_to fault.Read is = tt
+writing_ends_after n first heard taken_from taken_to fault.TooLong is = absurd is
+writing_ends_after n first heard taken_from taken_to (fault.Text line kind) is = absurd is
+writing_ends_after n first heard taken_from taken_to fault.NoAsk is = is
+writing_ends_after n first heard taken_from taken_to fault.NoSources is = is
+writing_ends_after n first heard taken_from taken_to fault.Memory is = is
+writing_ends_after n first heard taken_from taken_to fault.Spawn is = is
+writing_ends_after n first heard taken_from taken_to fault.Write is = is
+
+pub writing_is_short : (n first : ℕ) (all : List (List ℕ)) (kind : Fault) → IsWritingFault kind → EndsShort n first all kind
+writing_is_short n first all fault.Read is = absurd is
+writing_is_short n first all fault.TooLong is = absurd is
+writing_is_short n first all (fault.Text line kind) is = absurd is
+writing_is_short n first all fault.NoAsk is = is
+writing_is_short n first all fault.NoSources is = is
+writing_is_short n first all fault.Memory is = is
+writing_is_short n first all fault.Spawn is = is
+writing_is_short n first all fault.Write is = is
+
+-- nor does a fault of the reader
+pub system_ends : (limit : ℕ) (taken_from taken_to : Option (List ℕ)) (kind : ReadFault) → IsOfSystem kind
+    → EndsBy limit taken_from taken_to (fault_of_reading kind)
+system_ends limit taken_from taken_to kind (inl is) = rw is tt
+system_ends limit taken_from taken_to kind (inr is) = rw is tt
+
+-- at the end of what the reader gives
+pub ends_short : (n first : ℕ) (heard more : List ℕ) (taken_from taken_to : Option (List ℕ)) (kind : Fault)
+    → Consumes taken_from taken_to more → IsAtEnd taken_to → EndsShort n first (lines (heard ++ more)) kind
+    → EndsAfterGraph n first heard taken_from taken_to kind
+ends_short n first heard more taken_from taken_to fault.Read takes ended is = tt
+ends_short n first heard more taken_from taken_to fault.TooLong takes ended is = absurd is
+ends_short n first heard more taken_from taken_to (fault.Text line kind) takes ended is =
+    (more, record { taken = takes; ended = ended }, is)
+ends_short n first heard more taken_from taken_to fault.NoAsk takes ended is = is
+ends_short n first heard more taken_from taken_to fault.NoSources takes ended is = is
+ends_short n first heard more taken_from taken_to fault.Memory takes ended is = is
+ends_short n first heard more taken_from taken_to fault.Spawn takes ended is = is
+ends_short n first heard more taken_from taken_to fault.Write takes ended is = is
+
+-- after a graph
+pub after_graph_ends : (limit : ℕ) (front : Front) (buffer : List ℕ) (taken_from between taken_to : Option (List ℕ))
+    (kind : Fault)
+    → limit ≤ 2 ^ 36 → HasFront limit front buffer taken_from between → front.has_ended ≡ false
+    → EndsAfterGraph front.graph.n front.line (take (front.end - front.at) (drop front.at buffer)) between taken_to kind
+    → EndsBy limit taken_from taken_to kind
+after_graph_ends limit front buffer taken_from between taken_to fault.Read low has goes_on is = tt
+after_graph_ends limit front buffer taken_from between taken_to fault.TooLong low has goes_on is =
+    let before = has.text ++ take (front.end - front.at) (drop front.at buffer) in
+    record {
+      bytes = before ++ is.bytes;
+      taken = Consumes-trans taken_from between taken_to before is.bytes has.taken is.taken;
+      many = omega (arith, low, is.many, length-append before is.bytes);
+    }
+after_graph_ends limit front buffer taken_from between taken_to (fault.Text line kind) low has goes_on is =
+    let heard = take (front.end - front.at) (drop front.at buffer) in
+    let more = is.0 in
+    inr (record {
+      text = has.text ++ (heard ++ more);
+      whole = record {
+        taken =
+            subst (λ bytes. Consumes taken_from taken_to bytes) (append_assoc has.text heard more)
+            (Consumes-trans taken_from between taken_to (has.text ++ heard) more has.taken is.1.taken);
+        ended = is.1.ended;
+      };
+      front = has.text;
+      graph = content_of front.graph;
+      is_graph = has.is_graph;
+      rest = lines (heard ++ more);
+      parts = has.joined goes_on (heard ++ more);
+      outcomes = is.2.0.0;
+      short =
+          subst (λ first. AreShort front.graph.n first (lines (heard ++ more)) is.2.0.0 line) (has.number goes_on)
+          is.2.0.1;
+      kind_is = is.2.1;
+    })
+after_graph_ends limit front buffer taken_from between taken_to fault.NoAsk low has goes_on is = is
+after_graph_ends limit front buffer taken_from between taken_to fault.NoSources low has goes_on is = is
+after_graph_ends limit front buffer taken_from between taken_to fault.Memory low has goes_on is = tt
+after_graph_ends limit front buffer taken_from between taken_to fault.Spawn low has goes_on is = tt
+after_graph_ends limit front buffer taken_from between taken_to fault.Write low has goes_on is = tt
+
+-- each of so many reads took a byte at least
+pub record TakesEach (count : ℕ) (before after : Option (List ℕ)) : Type 0 where
+  pub bytes : List ℕ
+  pub taken : Consumes before after bytes
+  pub many : count ≤ length bytes
+
+pub takes_more : (count : ℕ) (before between after : Option (List ℕ)) (next : List ℕ)
+    → TakesEach count before between → Consumes between after next → 0 < length next
+    → TakesEach (count + 1) before after
+takes_more count before between after next is takes some = record {
+  bytes = is.bytes ++ next;
+  taken = Consumes-trans before between after is.bytes next is.taken takes;
+  many = omega (arith, is.many, some, length-append is.bytes next);
+}
+
+-- what is said of the text of a graph is said of all that was taken
+graph_fault_ends : (limit : ℕ) (before after : Option (List ℕ)) (text : List ℕ) (kind : Fault)
+    → Consumes before after text
+    → ((more : List ℕ) → MayFollow after more → IsFaultOfGraph (text ++ more) kind)
+    → EndsBy limit before after kind
+graph_fault_ends limit before after text fault.Read takes says = absurd (says [] (λ _. refl))
+graph_fault_ends limit before after text fault.TooLong takes says = absurd (says [] (λ _. refl))
+graph_fault_ends limit before after text (fault.Text line what) takes says =
+    inl (record { text = text; taken = takes; first = says })
+graph_fault_ends limit before after text fault.NoAsk takes says = absurd (says [] (λ _. refl))
+graph_fault_ends limit before after text fault.NoSources takes says = absurd (says [] (λ _. refl))
+graph_fault_ends limit before after text fault.Memory takes says = tt
+graph_fault_ends limit before after text fault.Spawn takes says = absurd (says [] (λ _. refl))
+graph_fault_ends limit before after text fault.Write takes says = absurd (says [] (λ _. refl))
+
+-- the fault was found in what was read last, or before it
+pub open_ends : (old job : JobReader) (limit left : ℕ) (before between after : Option (List ℕ)) (buffer : List ℕ)
+    (at count : ℕ) (result : Result Front Fault)
+    → limit ≤ 2 ^ 36 → IsFed old limit left before between → Consumes between after (take count buffer)
+    → count ≤ length buffer → count ≤ left → at ≤ count → Reads old job (take at (take count buffer))
+    → ((text more : List ℕ) → HasRead job text → IfErr result (IsFaultOfGraph (text ++ more)))
+    → IfErr result (EndsBy limit before after)
+open_ends old job limit left before between after buffer at count (Ok front) low fed takes room few place reads says = tt
+open_ends old job limit left before between after buffer at count (Err kind) low fed takes room few place reads says =
+    let came = take count buffer in
+    let front = take at came in
+    let rest = drop at came in
+    let fed_now = length-take-le at came (omega (arith, place, length-take-le count buffer room)) in
+    let read : HasRead job (fed.text ++ front) =
+    reads fed.text fed.read (omega (arith, low, fed.count, fed_now, place, few)) in
+    let all : fed.text ++ came ≡ (fed.text ++ front) ++ rest =
+    ap (λ bytes. fed.text ++ bytes) (sym (take-append-drop at came)) ∙ sym (append_assoc fed.text front rest) in
+    graph_fault_ends limit before after (fed.text ++ came) kind
+    (Consumes-trans before between after fed.text came fed.taken takes)
+    (λ more may.
+    subst (λ bytes. IsFaultOfGraph bytes kind)
+    (sym (ap (λ bytes. bytes ++ more) all ∙ append_assoc (fed.text ++ front) rest more))
+    (says (fed.text ++ front) (rest ++ more) read))
+
+-- it was found by threads
+pub whole_ends : (job : JobReader) (limit left : ℕ) (before after : Option (List ℕ)) (result : Result Front Fault)
+    → IsFed job limit left before after
+    → ((text more : List ℕ) → HasRead job text → IfErr result (IsFaultOfGraph (text ++ more)))
+    → IfErr result (EndsBy limit before after)
+whole_ends job limit left before after (Ok front) fed says = tt
+whole_ends job limit left before after (Err kind) fed says =
+    graph_fault_ends limit before after fed.text kind fed.taken (λ more may. says fed.text more fed.read)
+
+-- the input has ended
+pub ended_ends : (job : JobReader) (limit left : ℕ) (before between after : Option (List ℕ)) (buffer : List ℕ) (count : ℕ)
+    (result : Result Front Fault)
+    → IsFed job limit left before between → Consumes between after (take count buffer) → count ≡ 0 → IsAtEnd after
+    → ((text : List ℕ) → HasRead job text → IfErr result (IsFaultOfGraph text))
+    → IfErr result (EndsBy limit before after)
+ended_ends job limit left before between after buffer count (Ok front) fed takes none ended says = tt
+ended_ends job limit left before between after buffer count (Err kind) fed takes none ended says =
+    let nothing : fed.text ++ take count buffer ≡ fed.text =
+    ap (λ k. fed.text ++ take k buffer) none ∙ append-nil fed.text in
+    graph_fault_ends limit before after (fed.text ++ take count buffer) kind
+    (Consumes-trans before between after fed.text (take count buffer) fed.taken takes)
+    (λ more may.
+    subst (λ bytes. IsFaultOfGraph bytes kind)
+    (sym (ap (λ bytes. (fed.text ++ take count buffer) ++ bytes) (may ended) ∙ append-nil _ ∙ nothing))
+    (says fed.text fed.read))
+
+-- more came than may
+pub long_ends : (job : JobReader) (limit left : ℕ) (before between after : Option (List ℕ)) (buffer : List ℕ) (count : ℕ)
+    → IsFed job limit left before between → Consumes between after (take count buffer) → count ≤ length buffer
+    → left < count
+    → EndsBy limit before after fault.TooLong
+long_ends job limit left before between after buffer count fed takes room many = record {
+  bytes = fed.text ++ take count buffer;
+  taken = Consumes-trans before between after fed.text (take count buffer) fed.taken takes;
+  many =
+      omega (
+        arith,
+        many,
+        fed.count,
+        length-append fed.text (take count buffer),
+        length-take-le count buffer room,
+      );
+}
