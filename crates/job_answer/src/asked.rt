@@ -182,6 +182,7 @@ impl Asked {
         ensures walks { result.walks ≡ self.walks }
         ensures limit { result.limit ≡ self.limit }
         ensures at_once { result.at_once ≡ self.at_once }
+        ensures saves { result.saves ≡ saves }
     {
         let mut asked = self;
         asked.saves = saves;
