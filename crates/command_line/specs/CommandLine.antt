@@ -2,24 +2,26 @@
 --
 -- Which words are values of which option is a matter of clap, whose `matches_of` says it of a command with these
 -- arguments: long and short options, bundles of short ones, `=`, `--`, and the last use of an option counts.
-use Rattle.std.specs.Prelude.{◌≡◌, ◌<◌, ◌⊎◌, ℕ, ⊤, Bool, true, false, List, [], ◌∷◌, codes, Option, Some, None}
-use Rattle.std.specs.Prelude.{unwrap_or, ◌==◌, if◌then◌else◌}
+use Rattle.std.specs.Prelude.{◌≡◌, ◌<◌, ◌≤◌, ◌⊎◌, ℕ, ⊤, Bool, true, false, List, [], ◌∷◌, length, codes, All}
+use Rattle.std.specs.Prelude.{Option, Some, None, unwrap_or, nat_lt, ◌==◌, if◌then◌else◌}
 use Rattle.std.specs.Str.Parse.{IsNumeral, digits_value, without_leading_plus}
 use Rattle.clap.specs.Lexer.{usize_max}
 use Rattle.clap.specs.Simple.{new_shape}
-use Rattle.clap.specs.Words.{App, IsAmong, Row, Rule, Text, fault_of, first_of, matches_of, new_rule}
+use Rattle.clap.specs.Words.{App, IsAmong, Row, Rule, Text, all_of, fault_of, first_of, matches_of, new_rule}
 use Rattle.clap.specs.declared.error.kind.ErrorKind.{ErrorKind}
 use Rattle.clap.specs.declared.error.kind.ErrorKind.TheVariants.{DisplayHelp, DisplayVersion}
 use Rattle.clap.specs.declared.builder.action.ArgAction.TheVariants.{Append, SetTrue}
 use Rattle.obim_engine.specs.declared.settings.Buckets.{Buckets}
 use Rattle.obim_engine.specs.declared.settings.Buckets.TheVariants.{Even, Widening}
-use Rattle.obim_engine.specs.declared.settings.TheConstants.{MAX_CHUNK}
+use Rattle.obim_engine.specs.declared.settings.TheConstants.{MAX_CHUNK, MAX_SHIFT, MAX_WORKERS}
 use Rattle.obim_engine.specs.declared.settings.Settings.{Settings}
-use Rattle.job_answer.specs.declared.asked.TheConstants.{MAX_BYTES}
+use Rattle.job_answer.specs.declared.asked.TheConstants.{MAX_AT_ONCE, MAX_BYTES}
 use Rattle.route_walks.specs.declared.graph.TheConstants.{INF}
 use Rattle.job_answer.specs.LineWalks.{bound_in, has_walks, is_raw, is_totals}
 use Rattle.job_answer.specs.declared.asked.Answer.{Answer}
 use Rattle.job_answer.specs.declared.asked.Answer.TheVariants.{Distances, Levels, Components}
+use Rattle.job_answer.specs.declared.asked.Lines.{Lines}
+use Rattle.job_answer.specs.declared.asked.Lines.TheVariants.{Each}
 use Rattle.least_costs.specs.declared.plan.AtOnce.{AtOnce}
 use Rattle.least_costs.specs.declared.plan.AtOnce.TheVariants as at_once
 use Rattle.command_line.specs.declared.options.Options.{Options}
@@ -107,11 +109,16 @@ abbrev pub IsNumeralOf : Text → ℕ → Type 0
 IsNumeralOf text number =
     IsNumeral 10 (without_leading_plus text) × (number ≡ digits_value 10 (without_leading_plus text))
 
--- the value is a number; there is none without a value, or where the value is `auto`
-abbrev pub AsksNumber : Option Text → Option ℕ → Type 0
-AsksNumber None number = number ≡ None
-AsksNumber (Some text) None = text ≡ codes "auto"
-AsksNumber (Some text) (Some number) = IsNumeralOf text number
+-- the text writes this number, which is one from `least` to `most`
+abbrev pub IsNumberIn : ℕ → ℕ → Text → ℕ → Type 0
+IsNumberIn least most text number = IsNumeralOf text number × (least ≤ number) × (number ≤ most)
+
+-- The value is a number from `least` to `most`, or `auto` where that may be. There is no number without a value, nor at
+-- `auto`.
+abbrev pub AsksNumber : Bool → ℕ → ℕ → Option Text → Option ℕ → Type 0
+AsksNumber has_auto least most None number = number ≡ None
+AsksNumber has_auto least most (Some text) None = (has_auto ≡ true) × (text ≡ codes "auto")
+AsksNumber has_auto least most (Some text) (Some number) = IsNumberIn least most text number
 
 -- the value is a number below INF; there is none without a value
 abbrev pub AsksCost : Option Text → Option ℕ → Type 0
@@ -124,10 +131,19 @@ abbrev pub IsFlag : Option Text → Bool → Type 0
 IsFlag None is_there = is_there ≡ false
 IsFlag (Some text) is_there = (text ≡ codes "true" → is_there ≡ true) × (is_there ≡ true → text ≡ codes "true")
 
+-- no number is asked for: there is no value, or it is `auto`
+abbrev pub IsAuto : Option Text → Bool → Type 0
+IsAuto None is_auto = is_auto ≡ true
+IsAuto (Some text) is_auto = (text ≡ codes "auto" → is_auto ≡ true) × (is_auto ≡ true → text ≡ codes "auto")
+
+-- each of the words that are no options is a hyphen, and whether there is one
+abbrev pub AreHyphens : List Text → Bool → Type 0
+AreHyphens operands typed = All (λ text. text ≡ codes "-") operands × (typed ≡ nat_lt 0 (length operands))
+
 -- how many sources at once: a number, or as many as fit
 abbrev pub AsksAtOnce : Option Text → AtOnce → Type 0
-AsksAtOnce text at_once.Auto = AsksNumber text None
-AsksAtOnce text (at_once.Most number) = AsksNumber text (Some number)
+AsksAtOnce text at_once.Auto = AsksNumber true 1 MAX_AT_ONCE text None
+AsksAtOnce text (at_once.Most number) = AsksNumber true 1 MAX_AT_ONCE text (Some number)
 
 -- vertices of a chunk where none are asked for: one worker shares nothing, so its chunks are as large as they can be
 abbrev pub usual_chunk : ℕ → ℕ
@@ -142,37 +158,60 @@ buckets_for (Some shift) = Even shift
 -- The settings: of the values of `--workers`, `--shift` and `--chunk`.
 pub record AsksSettings (workers shift chunk : Option Text) (settings : Settings) : Type 0 where
   pub worker_count : Option ℕ
-  pub asks_workers : AsksNumber workers worker_count
+  pub asks_workers : AsksNumber true 1 MAX_WORKERS workers worker_count
   pub workers_are : settings.workers ≡ unwrap_or worker_count 2
   pub shift_bits : Option ℕ
-  pub asks_shift : AsksNumber shift shift_bits
+  pub asks_shift : AsksNumber true 0 MAX_SHIFT shift shift_bits
   pub buckets_are : settings.buckets ≡ buckets_for shift_bits
   pub chunk_size : Option ℕ
-  pub asks_chunk : AsksNumber chunk chunk_size
+  pub asks_chunk : AsksNumber false 1 MAX_CHUNK chunk chunk_size
   pub chunk_is : settings.chunk ≡ unwrap_or chunk_size (usual_chunk settings.workers)
+
+-- The lines: of the values of `--within`, `--labels` and `--totals`, for this kind of answer, with walks or not. The
+-- components have the lines of all vertices.
+pub record AsksLines (within labels totals : Option Text) (kind : Answer) (walks : Bool) (lines : Lines) : Type 0 where
+  pub walked : has_walks lines ≡ walks
+  pub asks_within : AsksCost within (bound_in lines)
+  pub asks_labels : NamesLabels labels (is_raw lines)
+  pub asks_totals : IsFlag totals (is_totals lines)
+  pub plain : kind ≡ Components → lines ≡ Each walks
+
+-- a session has neither figures nor progress
+abbrev pub IsAlone : Bool → Bool → Bool → Type 0
+IsAlone session stats progress = session ≡ true → (stats ≡ false) × (progress ≡ false)
+
+-- the words that are no options
+abbrev pub operands_in : List Row → List Text
+operands_in rows = unwrap_or (all_of (codes "operand") rows) []
 
 -- The options, of the values that each argument was given: `first_of` is its first value.
 pub record AsksFor (rows : List Row) (options : Options) : Type 0 where
   pub answer : NamesKind (first_of (codes "answer") rows) options.asked.answer
   pub walks : IsFlag (first_of (codes "walks") rows) options.asked.walks
-  pub lines : has_walks options.lines ≡ options.asked.walks
-  pub within : AsksCost (first_of (codes "within") rows) (bound_in options.lines)
-  pub labels : NamesLabels (first_of (codes "labels") rows) (is_raw options.lines)
-  pub totals : IsFlag (first_of (codes "totals") rows) (is_totals options.lines)
+  pub lines : AsksLines (first_of (codes "within") rows) (first_of (codes "labels") rows)
+      (first_of (codes "totals") rows) options.asked.answer options.asked.walks options.lines
   pub settings : AsksSettings (first_of (codes "workers") rows) (first_of (codes "shift") rows)
       (first_of (codes "chunk") rows) options.asked.settings
+  -- one worker works alone in a small graph, unless a number of them is asked for
+  pub saves : IsAuto (first_of (codes "workers") rows) options.asked.saves
   pub at_once : AsksAtOnce (first_of (codes "at-once") rows) options.asked.at_once
   pub limit : options.asked.limit ≡ MAX_BYTES
   pub session : IsFlag (first_of (codes "session") rows) options.session
   pub stats : IsFlag (first_of (codes "stats") rows) options.stats
   pub progress : IsFlag (first_of (codes "progress") rows) options.progress
   pub explain : IsFlag (first_of (codes "explain") rows) options.explain
+  pub alone : IsAlone options.session options.stats options.progress
+  pub typed : AreHyphens (operands_in rows) options.typed
 
 -- The words, of which the first is the program's name, ask for these options.
 pub record WordsAskFor (words : List Text) (options : Options) : Type 0 where
   -- clap finds no fault with them
   pub fit : fault_of program words ≡ []
   pub ask : AsksFor (matches_of program words) options
+
+-- No options are asked for.
+abbrev pub AskForNothing : List Text → Type 0
+AskForNothing words = (options : Options) → WordsAskFor words options → ⊥
 
 -- ---- the words that ask for a text
 
@@ -191,3 +230,9 @@ abbrev pub IsText : Refusal → Type 0
 IsText (refusal.Text text) = ⊤
 IsText (refusal.Line line) = ⊥
 IsText refusal.Memory = ⊥
+
+-- what is wrong with the words, in a sentence
+abbrev pub IsLine : Refusal → Type 0
+IsLine (refusal.Text text) = ⊥
+IsLine (refusal.Line line) = ⊤
+IsLine refusal.Memory = ⊥

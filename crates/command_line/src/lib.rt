@@ -19,6 +19,7 @@
 #![tactic(auto)]
 
 mod command;
+pub mod laws;
 mod lines;
 mod options;
 mod parse;

@@ -1,9 +1,9 @@
 //! Which lines does the block of a source have?
 
-ghost use Rattle.std.specs.Prelude.{◌≡◌, codes, IfOk};
+ghost use Rattle.std.specs.Prelude.{codes};
 ghost use Rattle.clap.specs.Words.{first_value, found_of};
-ghost use Rattle.job_answer.specs.LineWalks.{bound_in, has_walks, is_raw, is_totals};
-ghost use Rattle.command_line.specs.CommandLine.{AsksCost, IsFlag, NamesLabels};
+ghost use Rattle.command_line.specs.CommandLine.{AsksLines};
+ghost use Rattle.command_line.specs.Misuses.{AreLines, Finds, SuitsKind};
 
 use crate::values::{Misuse, has_flag, has_raw_labels, within_in};
 use clap::ArgMatches;
@@ -18,29 +18,42 @@ pub(crate) fn lines_in(
     answer: Answer,
     walks: bool,
 ) -> Result<Lines, Misuse>
-    ensures walks { IfOk result (λ lines. has_walks lines ≡ walks) }
-    ensures within { IfOk result (λ lines.
-        AsksCost (first_value (found_of matches.now) (codes "within")) (bound_in lines)) }
-    ensures labels { IfOk result (λ lines.
-        NamesLabels (first_value (found_of matches.now) (codes "labels")) (is_raw lines)) }
-    ensures totals { IfOk result (λ lines.
-        IsFlag (first_value (found_of matches.now) (codes "totals")) (is_totals lines)) }
+    ensures { Finds (AsksLines (first_value (found_of matches.now) (codes "within"))
+        (first_value (found_of matches.now) (codes "labels")) (first_value (found_of matches.now) (codes "totals"))
+        answer walks) result }
 {
     let within = within_in(alloc, matches)?;
     let raw = has_raw_labels(alloc, matches)?;
     let totals = has_flag(matches, "totals");
     refuse_components(alloc, answer, within, raw, totals)?;
-    match (raw, totals, walks, within) {
-        (false, false, walks, within) => Ok(Lines::of(walks, within)),
-        (true, false, false, None) => Ok(Lines::Raw),
-        (false, true, false, None) => Ok(Lines::Totals),
-        (true, _, _, _) => Err(Misuse::Line(format!(in alloc;
-            "--labels raw takes no --walks, --within or --totals"
-        )?)),
-        (false, true, _, _) => Err(Misuse::Line(format!(in alloc;
-            "--totals takes no --walks or --within"
-        )?)),
+    lines_of(alloc, walks, within, raw, totals)
+}
+
+/// The lines that have all this, if there are such lines.
+fn lines_of(
+    alloc: Global,
+    walks: bool,
+    within: Option<u64>,
+    raw: bool,
+    totals: bool,
+) -> Result<Lines, Misuse>
+    ensures { Finds (AreLines walks within raw totals) result }
+{
+    if raw {
+        if walks || totals || within.is_some() {
+            return Err(Misuse::Line(format!(in alloc;
+                "--labels raw takes no --walks, --within or --totals"
+            )?));
+        }
+        return Ok(Lines::Raw);
     }
+    if totals {
+        if walks || within.is_some() {
+            return Err(Misuse::Line(format!(in alloc; "--totals takes no --walks or --within")?));
+        }
+        return Ok(Lines::Totals);
+    }
+    Ok(Lines::of(walks, within))
 }
 
 /// Refuses what components don't have.
@@ -50,7 +63,9 @@ fn refuse_components(
     within: Option<u64>,
     raw: bool,
     totals: bool,
-) -> Result<(), Misuse> {
+) -> Result<(), Misuse>
+    ensures { Finds (λ _. SuitsKind answer within raw totals) result }
+{
     if !matches!(answer, Answer::Components) {
         return Ok(());
     }

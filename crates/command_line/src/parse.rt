@@ -1,8 +1,10 @@
 //! What does the command line ask for?
 
-ghost use Rattle.std.specs.Prelude.{map, IfErr, IfOk};
+ghost use Rattle.std.specs.Prelude.{◌↔◌, map, IfErr, IfOk, IsTrue};
 ghost use Rattle.clap.specs.Words.{found_of, rows_of};
-ghost use Rattle.command_line.specs.CommandLine.{AskForText, AsksFor, IsText, WordsAskFor};
+ghost use Rattle.command_line.specs.CommandLine.{AskForNothing, AskForText, AsksFor, IsAlone, IsLine, IsText};
+ghost use Rattle.command_line.specs.CommandLine.{WordsAskFor};
+ghost use Rattle.command_line.specs.Misuses.{Finds};
 
 use crate::command::{Limits, command};
 use crate::lines::lines_in;
@@ -25,6 +27,7 @@ use std::convert::AsStr;
 pub fn parse_options<'a, S: AsStr>(alloc: Global, arguments: &'a [S]) -> Result<Options, Refusal>
     ensures asked { IfOk result (WordsAskFor (map S.text arguments.entry.now)) }
     ensures text { IfErr result (λ refusal. IsText refusal → AskForText (map S.text arguments.entry.now)) }
+    ensures refused { IfErr result (λ refusal. IsLine refusal → AskForNothing (map S.text arguments.entry.now)) }
 {
     let limits = Limits::new(alloc)?;
     match command(alloc, &limits)?.try_get_matches_from(arguments) {
@@ -35,19 +38,19 @@ pub fn parse_options<'a, S: AsStr>(alloc: Global, arguments: &'a [S]) -> Result<
 
 /// What the values ask for that clap found.
 fn options_in(alloc: Global, matches: &ArgMatches) -> Result<Options, Misuse>
-    ensures { IfOk result (AsksFor (rows_of (found_of matches.now))) }
+    ensures { Finds (AsksFor (rows_of (found_of matches.now))) result }
 {
     let typed = has_hyphen(alloc, matches)?;
     let answer = answer_in(alloc, matches)?;
     let settings = settings_in(alloc, matches)?;
     let at_once = at_once_in(alloc, matches)?;
-    let saves = saves_workers(alloc, matches)?;
+    let saves = saves_workers(matches);
     let walks = has_flag(matches, "walks");
     let lines = lines_in(alloc, matches, answer, walks)?;
     let session = has_flag(matches, "session");
     let stats = has_flag(matches, "stats");
     let progress = has_flag(matches, "progress");
-    if session && (stats || progress) {
+    if !is_alone(session, stats, progress) {
         return Err(Misuse::Line(format!(in alloc;
             "--stats and --progress are for jobs, not for --session"
         )?));
@@ -64,4 +67,11 @@ fn options_in(alloc: Global, matches: &ArgMatches) -> Result<Options, Misuse>
         explain: has_flag(matches, "explain"),
         typed,
     })
+}
+
+/// Whether there is no session, or nothing is told beside it.
+fn is_alone(session: bool, stats: bool, progress: bool) -> bool
+    ensures { IsTrue result ↔ IsAlone session stats progress }
+{
+    !session || !(stats || progress)
 }

@@ -1,7 +1,11 @@
 //! Why does a command line ask for no answer?
 
+ghost use Rattle.std.specs.Prelude.{◌≡◌, ◌≢◌};
 ghost use Rattle.clap.specs.Words.{kind_of};
-ghost use Rattle.command_line.specs.CommandLine.{IsText, IsTextKind};
+ghost use Rattle.clap.specs.declared.error.kind.ErrorKind.TheVariants.{OutOfMemory};
+ghost use Rattle.command_line.specs.CommandLine.{IsLine, IsText, IsTextKind};
+ghost use Rattle.command_line.specs.Misuses.{refusal_of};
+ghost use Rattle.command_line.specs.declared.refusals.Refusal.TheVariants as refusal;
 
 use crate::values::{AT_ONCE, CHUNK, Misuse, Numbers, SHIFT, WORKERS};
 use clap::Error;
@@ -21,7 +25,7 @@ pub enum Refusal {
 }
 
 impl From<AllocError> for Refusal {
-    ghost from_gives = { λ _ given. IsText given → ⊥ };
+    ghost from_gives = { λ _ given. given ≡ refusal.Memory };
 
     fn from(_refused: AllocError) -> Refusal {
         Refusal::Memory
@@ -29,7 +33,7 @@ impl From<AllocError> for Refusal {
 }
 
 impl From<Misuse> for Refusal {
-    ghost from_gives = { λ _ given. IsText given → ⊥ };
+    ghost from_gives = { λ misuse given. given ≡ refusal_of misuse };
 
     fn from(misuse: Misuse) -> Refusal {
         match misuse {
@@ -41,22 +45,29 @@ impl From<Misuse> for Refusal {
 
 /// Why clap gave no matches: a text is asked for, or its words in a sentence of ours.
 pub(crate) fn refused_by<S: AsStr>(alloc: Global, error: Error, arguments: &[S]) -> Refusal
-    ensures { IsText result → IsTextKind (kind_of error) }
+    ensures text { IsText result → IsTextKind (kind_of error) }
+    ensures line { IsLine result → kind_of error ≢ OutOfMemory }
 {
     match error.kind() {
-        ErrorKind::OutOfMemory => return Refusal::Memory,
-        ErrorKind::DisplayHelp | ErrorKind::DisplayVersion => return Refusal::Text(error),
-        _ => {}
+        ErrorKind::OutOfMemory => Refusal::Memory,
+        ErrorKind::DisplayHelp | ErrorKind::DisplayVersion => Refusal::Text(error),
+        kind => match line_of(alloc, &error, kind, arguments) {
+            Ok(line) => Refusal::Line(line),
+            Err(_) => Refusal::Memory,
+        },
     }
-    let line = match negative_in(arguments) {
-        Some((numbers, text)) if error.kind() == ErrorKind::UnknownArgument => {
-            numbers.refuse(alloc, text)
-        }
-        _ => sentence_of(alloc, &error),
-    };
-    match line {
-        Ok(line) => Refusal::Line(line),
-        Err(_) => Refusal::Memory,
+}
+
+/// What is wrong, in a sentence.
+fn line_of<S: AsStr>(
+    alloc: Global,
+    error: &Error,
+    kind: ErrorKind,
+    arguments: &[S],
+) -> Result<String, AllocError> {
+    match negative_in(arguments) {
+        Some((numbers, text)) if kind == ErrorKind::UnknownArgument => numbers.refuse(alloc, text),
+        _ => sentence_of(alloc, error),
     }
 }
 

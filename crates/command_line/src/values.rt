@@ -1,9 +1,11 @@
 //! What do the values of the options ask for?
 
-ghost use Rattle.std.specs.Prelude.{◌≡◌, codes, IfOk};
-ghost use Rattle.clap.specs.Words.{first_value, found_of};
-ghost use Rattle.command_line.specs.CommandLine.{AsksAtOnce, AsksCost, AsksNumber, AsksSettings, IsFlag, NamesKind};
-ghost use Rattle.command_line.specs.CommandLine.{NamesLabels, usual_chunk};
+ghost use Rattle.std.specs.Prelude.{◌≡◌, ℕ, [], codes, map, option_map, unwrap_or, MatchOption};
+ghost use Rattle.clap.specs.Words.{first_value, found_of, matched_of, raw_values};
+ghost use Rattle.command_line.specs.CommandLine.{AreHyphens, AsksAtOnce, AsksCost, AsksNumber, AsksSettings, IsAuto};
+ghost use Rattle.command_line.specs.CommandLine.{IsFlag, IsNumberIn, NamesKind, NamesLabels, usual_chunk};
+ghost use Rattle.command_line.specs.Misuses.{Finds};
+ghost use Rattle.command_line.specs.declared.values.Misuse.TheVariants as misuse;
 
 use clap::ArgMatches;
 use job_answer::{Answer, AtOnce, MAX_AT_ONCE};
@@ -65,6 +67,8 @@ pub(crate) enum Misuse {
 }
 
 impl From<AllocError> for Misuse {
+    ghost from_gives = { λ _ given. given ≡ misuse.Memory };
+
     fn from(_refused: AllocError) -> Misuse {
         Misuse::Memory
     }
@@ -78,8 +82,20 @@ pub(crate) fn has_flag(matches: &ArgMatches, flag: &str) -> bool
 }
 
 /// Whether the operand `-`, which is standard input, is there. Each other operand is refused.
-pub(crate) fn has_hyphen(alloc: Global, matches: &ArgMatches) -> Result<bool, Misuse> {
-    let operands = matches.get_strs("operand").unwrap_or(&[]);
+pub(crate) fn has_hyphen(alloc: Global, matches: &ArgMatches) -> Result<bool, Misuse>
+    ensures { Finds (AreHyphens (unwrap_or
+        (option_map raw_values (matched_of (found_of matches.now) (codes "operand"))) [])) result }
+{
+    match matches.get_strs("operand") {
+        Some(operands) => are_hyphens(alloc, operands),
+        None => Ok(false),
+    }
+}
+
+/// Whether there are operands, of which each has to be a hyphen.
+fn are_hyphens(alloc: Global, operands: &[&str]) -> Result<bool, Misuse>
+    ensures { Finds (AreHyphens (map (λ operand. operand.now) operands.now)) result }
+{
     for operand in operands {
         if *operand != "-" {
             return Err(Misuse::Line(format!(in alloc;
@@ -103,7 +119,8 @@ pub(crate) struct Numbers {
 impl Numbers {
     /// The number that the option asks for. There is none where it is left out or `auto`.
     fn asked_in(self, alloc: Global, matches: &ArgMatches) -> Result<Option<u32>, Misuse>
-        ensures { IfOk result (AsksNumber (first_value (found_of matches.now) self.option.now)) }
+        ensures { Finds (AsksNumber self.has_auto self.least self.most
+            (first_value (found_of matches.now) self.option.now)) result }
     {
         let Some(text) = matches.get_str(self.option) else {
             return Ok(None);
@@ -111,9 +128,9 @@ impl Numbers {
         if self.has_auto && text == "auto" {
             return Ok(None);
         }
-        match text.parse::<u32>() {
-            Ok(number) if self.least <= number && number <= self.most => Ok(Some(number)),
-            _ => Err(Misuse::Line(self.refuse(alloc, text)?)),
+        match number_in(text, u64::from(self.least), u64::from(self.most)) {
+            Some(number) => Ok(Some(number as u32)),
+            None => Err(Misuse::Line(self.refuse(alloc, text)?)),
         }
     }
 
@@ -131,15 +148,25 @@ impl fmt::Display for Numbers {
     }
 }
 
+/// The number that the text writes, if it is one of those from `least` to `most`.
+fn number_in(text: &str, least: u64, most: u64) -> Option<u64>
+    ensures { MatchOption result ((number : ℕ) → IsNumberIn least most text.now number → ⊥)
+        (IsNumberIn least most text.now) }
+{
+    match text.parse::<u64>() {
+        Ok(number) if least <= number && number <= most => Some(number),
+        Ok(_) => None,
+        Err(_) => None,
+    }
+}
+
 pub(crate) fn settings_in(alloc: Global, matches: &ArgMatches) -> Result<Settings, Misuse>
-    ensures { IfOk result (AsksSettings (first_value (found_of matches.now) (codes "workers"))
-        (first_value (found_of matches.now) (codes "shift")) (first_value (found_of matches.now) (codes "chunk"))) }
+    ensures { Finds (AsksSettings (first_value (found_of matches.now) (codes "workers"))
+        (first_value (found_of matches.now) (codes "shift")) (first_value (found_of matches.now) (codes "chunk")))
+        result }
 {
     let workers = WORKERS.asked_in(alloc, matches)?.unwrap_or(2);
-    let chunk = match CHUNK.asked_in(alloc, matches)? {
-        Some(chunk) => chunk as usize,
-        None => usual_chunk(workers),
-    };
+    let chunk = chunk_of(CHUNK.asked_in(alloc, matches)?, workers);
     let shift = SHIFT.asked_in(alloc, matches)?;
     let Some(settings) = Settings::new(workers, shift.unwrap_or(0), chunk) else {
         return Err(Misuse::Line(format!(in alloc; "a setting is outside its limits")?));
@@ -151,17 +178,32 @@ pub(crate) fn settings_in(alloc: Global, matches: &ArgMatches) -> Result<Setting
 }
 
 /// Whether the number of workers is left to the program, which then has one work alone in a small graph.
-pub(crate) fn saves_workers(alloc: Global, matches: &ArgMatches) -> Result<bool, Misuse> {
-    Ok(WORKERS.asked_in(alloc, matches)?.is_none())
+pub(crate) fn saves_workers(matches: &ArgMatches) -> bool
+    ensures { IsAuto (first_value (found_of matches.now) (codes "workers")) result }
+{
+    match matches.get_str("workers") {
+        Some(text) => text == "auto",
+        None => true,
+    }
 }
 
 pub(crate) fn at_once_in(alloc: Global, matches: &ArgMatches) -> Result<AtOnce, Misuse>
-    ensures { IfOk result (AsksAtOnce (first_value (found_of matches.now) (codes "at-once"))) }
+    ensures { Finds (AsksAtOnce (first_value (found_of matches.now) (codes "at-once"))) result }
 {
     Ok(match AT_ONCE.asked_in(alloc, matches)? {
         Some(count) => AtOnce::Most(count),
         None => AtOnce::Auto,
     })
+}
+
+/// The chunk size that is asked for, or the usual one.
+fn chunk_of(asked: Option<u32>, workers: u32) -> usize
+    ensures { result ≡ unwrap_or asked (usual_chunk workers) }
+{
+    match asked {
+        Some(chunk) => chunk as usize,
+        None => usual_chunk(workers),
+    }
 }
 
 /// The chunk size where none is given. One worker shares nothing, so its chunks are as large as they can
@@ -178,21 +220,21 @@ fn usual_chunk(workers: u32) -> usize
 
 /// The bound that is asked for, if one is.
 pub(crate) fn within_in(alloc: Global, matches: &ArgMatches) -> Result<Option<u64>, Misuse>
-    ensures { IfOk result (AsksCost (first_value (found_of matches.now) (codes "within"))) }
+    ensures { Finds (AsksCost (first_value (found_of matches.now) (codes "within"))) result }
 {
     let Some(text) = matches.get_str("within") else {
         return Ok(None);
     };
-    match text.parse::<u64>() {
-        Ok(cost) if cost < INF => Ok(Some(cost)),
-        _ => Err(Misuse::Line(format!(in alloc;
+    match number_in(text, 0, MAX_COST) {
+        Some(cost) => Ok(Some(cost)),
+        None => Err(Misuse::Line(format!(in alloc;
             "invalid value '{text}' for '--within': a cost from 0 to {MAX_COST}"
         )?)),
     }
 }
 
 pub(crate) fn answer_in(alloc: Global, matches: &ArgMatches) -> Result<Answer, Misuse>
-    ensures { IfOk result (NamesKind (first_value (found_of matches.now) (codes "answer"))) }
+    ensures { Finds (NamesKind (first_value (found_of matches.now) (codes "answer"))) result }
 {
     match matches.get_str("answer") {
         None | Some("distances") => Ok(Answer::Distances),
@@ -206,7 +248,7 @@ pub(crate) fn answer_in(alloc: Global, matches: &ArgMatches) -> Result<Answer, M
 
 /// Whether labels are written as bytes, and not as text.
 pub(crate) fn has_raw_labels(alloc: Global, matches: &ArgMatches) -> Result<bool, Misuse>
-    ensures { IfOk result (NamesLabels (first_value (found_of matches.now) (codes "labels"))) }
+    ensures { Finds (NamesLabels (first_value (found_of matches.now) (codes "labels"))) result }
 {
     match matches.get_str("labels") {
         None | Some("text") => Ok(false),

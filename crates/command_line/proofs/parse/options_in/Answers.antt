@@ -1,7 +1,18 @@
-use Rattle.std.proofs.Common.{◌≡◌, ◌∙◌, Option, codes, rules, subst, sym}
-use Rattle.clap.proofs.WalkLemmas.{first_value-rows}
-use Rattle.clap.specs.Words.{Text, first_of, found_of, rows_of}
-use Rattle.command_line.specs.CommandLine.{AsksAtOnce, AsksCost, AsksSettings, IsFlag, NamesKind, NamesLabels}
+use Rattle.std.proofs.Common.{◌≡◌, ◌∙◌, List, [], Option, codes, false, true, rules, subst, sym, ap}
+use Rattle.std.proofs.Common.{unwrap_or, is_some, option_map}
+use Rattle.clap.proofs.WalkLemmas.{first_value-rows, raw_values-rows}
+use Rattle.clap.specs.Words.{Text, first_of, first_value, found_of, matched_of, raw_values, rows_of}
+use Rattle.clap.specs.declared.parser.matches.Found.{Found}
+use Rattle.job_answer.specs.LineWalks.{bound_in, is_raw}
+use Rattle.job_answer.specs.Choices.{IsAsked}
+use Rattle.job_answer.specs.declared.asked.Answer.{Answer}
+use Rattle.job_answer.specs.declared.asked.Lines.TheVariants.{Each}
+use Rattle.job_answer.specs.declared.asked.TheConstants.{MAX_BYTES}
+use Rattle.command_line.specs.CommandLine.{AreHyphens, AsksAtOnce, AsksCost, AsksFor, AsksLines, AsksSettings, IsAlone}
+use Rattle.command_line.specs.CommandLine.{IsAuto, IsFlag, NamesKind, NamesLabels, operands_in}
+use Rattle.command_line.specs.declared.options.Options.{Options}
+use Rattle.command_line.proofs.Finding.{none_passed}
+use Rattle.command_line.proofs.Unique.{one_flag, one_kind}
 use Rattle.command_line.proofs.parse.options_in.Goals as goal
 
 -- what is said of the value that was found, and of what it asks for
@@ -9,7 +20,69 @@ carried : {X : Type 0} (P : Option Text → X → Type 0) (found row : Option Te
     → found ≡ row → new ≡ old → P found old → P row new
 carried P found row old new rows same is = subst (P row) (sym same) (subst (λ text. P text old) rows is)
 
+-- the operands that were found
+operands_of : Found → List Text
+operands_of found = unwrap_or (option_map raw_values (matched_of found (codes "operand"))) []
+
+operands-rows : (found : Found) → operands_of found ≡ operands_in (rows_of found)
+unfolding operands_of
+operands-rows found = ap (λ given. unwrap_or given []) (raw_values-rows found (codes "operand"))
+
+-- what options are asked for, of the values that were found
+module _ (found : Found) (options : Options) (asks : AsksFor (rows_of found) options) where
+  -- a flag is there
+  flag_found : (name : Text) (is_there : _) → IsFlag (first_of name (rows_of found)) is_there
+      → IsFlag (first_value found name) is_there
+  flag_found name is_there is = subst (λ text. IsFlag text is_there) (sym (first_value-rows found name)) is
+
+  kind_found : NamesKind (first_value found (codes "answer")) options.asked.answer
+  kind_found = subst (λ text. NamesKind text options.asked.answer) (sym (first_value-rows found (codes "answer"))) asks.answer
+
+  settings_found : AsksSettings (first_value found (codes "workers")) (first_value found (codes "shift"))
+      (first_value found (codes "chunk")) options.asked.settings
+  settings_found =
+      let workers = first_value-rows found (codes "workers") in
+      let shift = first_value-rows found (codes "shift") in
+      let chunk = first_value-rows found (codes "chunk") in
+      rw (workers, shift, chunk) asks.settings
+
+  plan_found : AsksAtOnce (first_value found (codes "at-once")) options.asked.at_once
+  plan_found = subst (λ text. AsksAtOnce text options.asked.at_once) (sym (first_value-rows found (codes "at-once"))) asks.at_once
+
+  hyphens_found : AreHyphens (operands_of found) options.typed
+  hyphens_found = subst (λ (texts : List Text). AreHyphens texts options.typed) (sym (operands-rows found)) asks.typed
+
+  lines_found : (kind : Answer) (walks : _) → kind ≡ options.asked.answer → walks ≡ options.asked.walks
+      → AsksLines (first_value found (codes "within")) (first_value found (codes "labels"))
+      (first_value found (codes "totals")) kind walks options.lines
+  lines_found kind walks same walked = record {
+    walked = asks.lines.walked ∙ sym walked;
+    asks_within = subst (λ text. AsksCost text (bound_in options.lines)) (sym (first_value-rows found (codes "within")))
+        asks.lines.asks_within;
+    asks_labels = subst (λ text. NamesLabels text (is_raw options.lines)) (sym (first_value-rows found (codes "labels")))
+        asks.lines.asks_labels;
+    asks_totals = flag_found _ _ asks.lines.asks_totals;
+    plain = λ components. asks.lines.plain (sym same ∙ components) ∙ ap Each (sym walked);
+  }
+
+  -- a session that was found is alone
+  alone_found : (session stats progress : _) → IsFlag (first_value found (codes "session")) session
+      → IsFlag (first_value found (codes "stats")) stats → IsFlag (first_value found (codes "progress")) progress
+      → IsAlone session stats progress
+  alone_found session stats progress has_session has_stats has_progress is =
+      let same = one_flag _ _ _ has_session (flag_found _ _ asks.session) in
+      let alone = asks.alone (sym same ∙ is) in (
+        one_flag _ _ _ has_stats (flag_found _ _ asks.stats) ∙ alone.0,
+        one_flag _ _ _ has_progress (flag_found _ _ asks.progress) ∙ alone.1,
+      )
+
+  -- what was found may be asked
+  asked_found : (kind : Answer) (walks : _) → kind ≡ options.asked.answer → walks ≡ options.asked.walks
+      → IsAsked kind walks MAX_BYTES
+  asked_found kind walks same walked = rw (same, walked, ← asks.limit) options.asked.within
+
 pub returns : goal.returns
+unfolding operands_of
 returns c =
     let found = found_of c.args.matches.now in
     let rows = rows_of found in
@@ -19,21 +92,26 @@ returns c =
     let workers = first_value-rows found (codes "workers") in
     let shift = first_value-rows found (codes "shift") in
     let chunk = first_value-rows found (codes "chunk") in
+    let answer = saving.answer ∙ with.answer ∙ made.answer in
+    let walks = saving.walks ∙ with.walks ∙ made.walks in
+    let lines = c.in_ok-lines.ensures in
     record {
-      answer = carried NamesKind _ _ _ _ (first_value-rows found (codes "answer")) (saving.answer ∙ with.answer ∙ made.answer)
-          c.in_ok-answer.ensures;
-      walks = carried IsFlag _ _ _ _ (first_value-rows found (codes "walks")) (saving.walks ∙ with.walks ∙ made.walks)
-          c.has_flag-walks.ensures;
-      lines = c.in_ok-lines.ensures.walks ∙ sym (saving.walks ∙ with.walks ∙ made.walks);
-      within = carried AsksCost _ _ _ _ (first_value-rows found (codes "within")) (search rules)
-          c.in_ok-lines.ensures.within;
-      labels = carried NamesLabels _ _ _ _ (first_value-rows found (codes "labels")) (search rules)
-          c.in_ok-lines.ensures.labels;
-      totals = carried IsFlag _ _ _ _ (first_value-rows found (codes "totals")) (search rules)
-          c.in_ok-lines.ensures.totals;
+      answer = carried NamesKind _ _ _ _ (first_value-rows found (codes "answer")) answer c.in_ok-answer.ensures;
+      walks = carried IsFlag _ _ _ _ (first_value-rows found (codes "walks")) walks c.has_flag-walks.ensures;
+      lines = record {
+        walked = lines.walked ∙ sym walks;
+        asks_within = carried AsksCost _ _ _ _ (first_value-rows found (codes "within")) (search rules)
+            lines.asks_within;
+        asks_labels = carried NamesLabels _ _ _ _ (first_value-rows found (codes "labels")) (search rules)
+            lines.asks_labels;
+        asks_totals = carried IsFlag _ _ _ _ (first_value-rows found (codes "totals")) (search rules)
+            lines.asks_totals;
+        plain = λ components. lines.plain (sym answer ∙ components) ∙ ap Each (sym walks);
+      };
       settings = subst (AsksSettings (first_of (codes "workers") rows) (first_of (codes "shift") rows)
           (first_of (codes "chunk") rows)) (sym (saving.settings ∙ with.settings ∙ made.settings))
           (rw (← workers, ← shift, ← chunk) c.in_ok-settings.ensures);
+      saves = carried IsAuto _ _ _ _ workers saving.saves c.saves_workers-saves.ensures;
       at_once = carried AsksAtOnce _ _ _ _ (first_value-rows found (codes "at-once")) (saving.at_once ∙ with.at_once)
           c.in_ok-at_once.ensures;
       limit = saving.limit ∙ with.limit ∙ made.limit;
@@ -43,4 +121,53 @@ returns c =
       progress = carried IsFlag _ _ _ _ (first_value-rows found (codes "progress")) (search rules)
           c.has_flag-progress.ensures;
       explain = carried IsFlag _ _ _ _ (first_value-rows found (codes "explain")) (search rules) c.has_flag.ensures;
+      alone = c.is_alone.ensures.0 c.if-not-is_alone.false;
+      typed = subst (λ (texts : List Text). AreHyphens texts c.in_ok-typed.typed) (operands-rows found)
+          c.in_ok-typed.ensures;
     }
+
+pub returns-in_err-typed : goal.returns-in_err-typed
+unfolding operands_of
+returns-in_err-typed c =
+    none_passed _ _ _ _ c.from_residual.ensures.1 c.in_err-typed.ensures
+    (λ options asks. (options.typed, hyphens_found (found_of c.args.matches.now) options asks))
+
+pub returns-in_err-answer : goal.returns-in_err-answer
+returns-in_err-answer c =
+    none_passed _ _ _ _ c.from_residual-in_err-answer.ensures.1 c.in_err-answer.ensures
+    (λ options asks. (options.asked.answer, kind_found (found_of c.args.matches.now) options asks))
+
+pub returns-in_err-settings : goal.returns-in_err-settings
+returns-in_err-settings c =
+    none_passed _ _ _ _ c.from_residual-in_err-settings.ensures.1 c.in_err-settings.ensures
+    (λ options asks. (options.asked.settings, settings_found (found_of c.args.matches.now) options asks))
+
+pub returns-in_err-at_once : goal.returns-in_err-at_once
+returns-in_err-at_once c =
+    none_passed _ _ _ _ c.from_residual-in_err-at_once.ensures.1 c.in_err-at_once.ensures
+    (λ options asks. (options.asked.at_once, plan_found (found_of c.args.matches.now) options asks))
+
+pub returns-in_err-lines : goal.returns-in_err-lines
+returns-in_err-lines c =
+    let found = found_of c.args.matches.now in
+    none_passed _ _ _ _ c.from_residual-in_err-lines.ensures.1 c.in_err-lines.ensures
+    (λ options asks. (
+      options.lines,
+      lines_found found options asks _ _ (one_kind _ _ _ c.in_ok-answer.ensures (kind_found found options asks))
+          (one_flag _ _ _ c.has_flag-walks.ensures (flag_found found options asks _ _ asks.walks)),
+    ))
+
+pub returns-in_default : goal.returns-in_default
+returns-in_default c options asks =
+    let found = found_of c.args.matches.now in
+    let may = asked_found found options asks _ _
+    (one_kind _ _ _ c.in_ok-answer.ensures (kind_found found options asks))
+    (one_flag _ _ _ c.has_flag-walks.ensures (flag_found found options asks _ _ asks.walks)) in
+    let bad : false ≡ true = sym (ap is_some c.in_default.is) ∙ c.new.ensures.within.1 may in absurd (cc)
+
+pub returns-then-not-is_alone : goal.returns-then-not-is_alone
+returns-then-not-is_alone c options asks =
+    let found = found_of c.args.matches.now in
+    let alone = c.is_alone.ensures.1 (alone_found found options asks _ _ _ c.has_flag-session.ensures
+    c.has_flag-stats.ensures c.has_flag-progress.ensures) in
+    let bad : false ≡ true = sym c.if-not-is_alone.true ∙ alone in absurd (cc)

@@ -1,0 +1,3 @@
+mod Finding
+mod Same
+mod Unique
