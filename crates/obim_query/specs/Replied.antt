@@ -1,5 +1,5 @@
 -- What the status of the program says of the bytes that it took and wrote.
-use Rattle.std.specs.Prelude.{◌≡◌, ◌⊎◌, ℕ, true, false, List, Option, Result, Ok, Err}
+use Rattle.std.specs.Prelude.{◌≡◌, ◌⊎◌, ℕ, Bool, true, false, List, Option, Result, Ok, Err}
 use Rattle.std.specs.Result.{OnErr, OnOk}
 use Rattle.std.specs.Io.KnownBytes.{Keeps}
 use Rattle.clap.specs.Words.{Text}
@@ -11,7 +11,9 @@ use Rattle.job_answer.specs.Outcome.{IsAnsweredBy, IsBegunBy, IsReplyBy}
 use Rattle.session_answer.specs.Conversations.{IsAnsweredSession}
 use Rattle.session_answer.specs.Cuts.{IsCutSession}
 use Rattle.command_line.specs.declared.options.Options.{Options}
-use Rattle.command_line.specs.CommandLine.{AskForText, WordsAskFor}
+use Rattle.command_line.specs.declared.refusals.Refusal.{Refusal}
+use Rattle.command_line.specs.declared.refusals.Refusal.TheVariants as refusal
+use Rattle.command_line.specs.CommandLine.{AskForNothing, AskForText, WordsAskFor}
 
 -- 0 after an answer, and else the status of the fault
 abbrev pub status_after : Result (Unit {0}) Fault → ℕ
@@ -44,11 +46,16 @@ pub record HasReplied (asked : Asked) (lines : Lines) (taken_from taken_to given
   pub status_is : status ≡ status_after result
   pub says : StatusSays asked lines taken_from taken_to given_from given_to status
 
+-- A job may come from standard input: that is no terminal, or the words have `-`.
+abbrev pub MayCome : Bool → Options → Type 0
+MayCome is_terminal options = (is_terminal ≡ false) ⊎ (options.typed ≡ true)
+
 -- The words ask for an answer, and the status is that of the reply.
-pub record HasAnswered (words : List Text) (taken_from taken_to given_from given_to : Option (List ℕ)) (status : ℕ)
-    : Type 0 where
+pub record HasAnswered (words : List Text) (is_terminal : Bool) (taken_from taken_to given_from given_to : Option (List ℕ))
+    (status : ℕ) : Type 0 where
   pub options : Options
   pub asked : WordsAskFor words options
+  pub job : MayCome is_terminal options
   pub one : options.session ≡ false
   pub replied : HasReplied options.asked options.lines taken_from taken_to given_from given_to status
 
@@ -63,10 +70,11 @@ pub record HasServed (asked : Asked) (lines : Lines) (taken_from taken_to given_
   pub status_is : status ≡ status_after result
 
 -- The words ask for a session, and the status is that of its end.
-pub record HasConversed (words : List Text) (taken_from taken_to given_from given_to : Option (List ℕ)) (status : ℕ)
-    : Type 0 where
+pub record HasConversed (words : List Text) (is_terminal : Bool)
+    (taken_from taken_to given_from given_to : Option (List ℕ)) (status : ℕ) : Type 0 where
   pub options : Options
   pub asked : WordsAskFor words options
+  pub job : MayCome is_terminal options
   pub more : options.session ≡ true
   pub served : HasServed options.asked options.lines taken_from taken_to given_from given_to status
 
@@ -78,18 +86,34 @@ IsTextStatus status = (status ≡ 0) ⊎ (status ≡ 4)
 abbrev pub IsRefusalStatus : ℕ → Type 0
 IsRefusalStatus status = (status ≡ 1) ⊎ (status ≡ 3) ⊎ IsTextStatus status
 
+-- the status of a refusal: that of its text, 1 of a sentence, 3 where memory is refused
+abbrev pub IsStatusOf : Refusal → ℕ → Type 0
+IsStatusOf (refusal.Text text) status = IsTextStatus status
+IsStatusOf (refusal.Line line) status = status ≡ 1
+IsStatusOf refusal.Memory status = status ≡ 3
+
+-- The words ask for options, but have no `-`, and standard input is a terminal.
+pub record IsAtTerminal (words : List Text) (is_terminal : Bool) : Type 0 where
+  pub options : Options
+  pub asked : WordsAskFor words options
+  pub terminal : is_terminal ≡ true
+  pub untyped : options.typed ≡ false
+
 -- No answer is begun: the command line is refused, asks for a text, or there is no job. Nothing is taken or written.
-pub record HasNotBegun (words : List Text) (taken_from taken_to given_from given_to : Option (List ℕ)) (status : ℕ)
-    : Type 0 where
+pub record HasNotBegun (words : List Text) (is_terminal : Bool) (taken_from taken_to given_from given_to : Option (List ℕ))
+    (status : ℕ) : Type 0 where
   pub taken : Keeps taken_from taken_to
   pub written : Keeps given_from given_to
   pub status_is : IsRefusalStatus status
-  -- the status is 0 only where the words ask for the help or the version
+  -- the status is 0 or 4 only where the words ask for the help or the version
   pub text : IsTextStatus status → AskForText words
+  -- and 1 only where they ask for no options, or no job may come
+  pub refused : status ≡ 1 → AskForNothing words ⊎ IsAtTerminal words is_terminal
 
--- What a run of the program comes to, on these words.
-abbrev pub HasRun : List Text → Option (List ℕ) → Option (List ℕ) → Option (List ℕ) → Option (List ℕ) → ℕ → Type 0
-HasRun words taken_from taken_to given_from given_to status =
-    HasNotBegun words taken_from taken_to given_from given_to status
-    ⊎ HasAnswered words taken_from taken_to given_from given_to status
-    ⊎ HasConversed words taken_from taken_to given_from given_to status
+-- What a run of the program comes to, on these words, where standard input is a terminal or not.
+abbrev pub HasRun : List Text → Bool → Option (List ℕ) → Option (List ℕ) → Option (List ℕ) → Option (List ℕ) → ℕ
+    → Type 0
+HasRun words is_terminal taken_from taken_to given_from given_to status =
+    HasNotBegun words is_terminal taken_from taken_to given_from given_to status
+    ⊎ HasAnswered words is_terminal taken_from taken_to given_from given_to status
+    ⊎ HasConversed words is_terminal taken_from taken_to given_from given_to status

@@ -13,8 +13,7 @@ ghost use Rattle.std.specs.Prelude.{◌≡◌, map};
 ghost use Rattle.job_answer.specs.Choices.{status_of};
 ghost use Rattle.job_answer.specs.Outcome.{IsReplyBy};
 ghost use Rattle.job_answer.specs.Solves.{IsLinesAsked};
-ghost use Rattle.command_line.specs.CommandLine.{IsText};
-ghost use Rattle.obim_query.specs.Replied.{HasReplied, HasRun, HasServed, IsRefusalStatus, IsTextStatus};
+ghost use Rattle.obim_query.specs.Replied.{HasReplied, HasRun, HasServed, IsStatusOf, IsTextStatus};
 
 mod input;
 mod output;
@@ -97,7 +96,7 @@ fn run<
     R: Read,
     W: Write,
 >(rt: &H, words: &[S], input: &mut Input<R>, output: &mut Output<W>, terminals: Terminals) -> u8
-    ensures { HasRun (map S.text words.now) (R.remaining input.old.inner) (R.remaining input.new.inner)
+    ensures { HasRun (map S.text words.now) terminals.input (R.remaining input.old.inner) (R.remaining input.new.inner)
         (W.contents output.old.inner) (W.contents output.new.inner) result }
 {
     match parse_options(rt.alloc(), words) {
@@ -110,8 +109,7 @@ fn run<
 
 /// Prints why the command line asks for no answer, and gives the status to end with.
 fn print_refusal<H: Print + Eprint>(rt: &H, refusal: Refusal) -> u8
-    ensures status { IsRefusalStatus result }
-    ensures text { IsTextStatus result → IsText refusal }
+    ensures { IsStatusOf refusal result }
 {
     match refusal {
         Refusal::Text(text) => print_clap(rt, &text),
