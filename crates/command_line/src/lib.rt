@@ -2,8 +2,8 @@
 //!
 //! `parse_options` judges the words of a command line of `obim_query`, of which the first is the program's name. It gives
 //! the `Options` that they ask for, or a `Refusal`: the help or the version, which the words ask for then, or what is
-//! wrong with them, in a sentence. Its contract says of each option which value was asked for; which words are values of
-//! which option says the contract of `clap`.
+//! wrong with them, in a sentence. Its contract says of each option which value was asked for, and that words which are
+//! refused in a sentence ask for no options; which words are values of which option says the contract of `clap`.
 //!
 //! ```text
 //! let options = parse_options(rt.alloc(), &["obim_query", "-a", "levels", "--within", "3"])?;

@@ -69,7 +69,7 @@ fn options_in(alloc: Global, matches: &ArgMatches) -> Result<Options, Misuse>
     })
 }
 
-/// Whether there is no session, or nothing is told beside it.
+/// Tells whether there is no session, or nothing beside it.
 fn is_alone(session: bool, stats: bool, progress: bool) -> bool
     ensures { IsTrue result ↔ IsAlone session stats progress }
 {

@@ -58,7 +58,7 @@ pub(crate) fn refused_by<S: AsStr>(alloc: Global, error: Error, arguments: &[S])
     }
 }
 
-/// What is wrong, in a sentence.
+/// The sentence that says what is wrong.
 fn line_of<S: AsStr>(
     alloc: Global,
     error: &Error,

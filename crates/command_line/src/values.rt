@@ -92,7 +92,7 @@ pub(crate) fn has_hyphen(alloc: Global, matches: &ArgMatches) -> Result<bool, Mi
     }
 }
 
-/// Whether there are operands, of which each has to be a hyphen.
+/// Tells whether there are operands, and refuses each that is no hyphen.
 fn are_hyphens(alloc: Global, operands: &[&str]) -> Result<bool, Misuse>
     ensures { Finds (AreHyphens (map (λ operand. operand.now) operands.now)) result }
 {
