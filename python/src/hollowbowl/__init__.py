@@ -3,9 +3,36 @@
 `Graph` hands its arcs to the program `obim_query`, which keeps them and answers one question after another.
 """
 
-from ._errors import Ended, Error, NoPath, Refused
+from ._errors import (
+    BadGraph,
+    Closed,
+    Ended,
+    Error,
+    GraphChanged,
+    NoPath,
+    NoVertex,
+    OutOfMemory,
+    OutOfStep,
+    Refused,
+    WrongProcess,
+)
 from ._graph import Graph, Totals
 from ._numbers import INF
 
-__all__ = ["INF", "Ended", "Error", "Graph", "NoPath", "Refused", "Totals"]
+__all__ = [
+    "INF",
+    "BadGraph",
+    "Closed",
+    "Ended",
+    "Error",
+    "Graph",
+    "GraphChanged",
+    "NoPath",
+    "NoVertex",
+    "OutOfMemory",
+    "OutOfStep",
+    "Refused",
+    "Totals",
+    "WrongProcess",
+]
 __version__ = "0.1.0"

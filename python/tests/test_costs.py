@@ -1,80 +1,41 @@
 """The package beside Dijkstra's algorithm in Python, and beside networkx, scipy, igraph and graph-tool where they are.
 
-HOLLOWBOWL names the program. Run by `python3 -m unittest discover python/tests`, with `python/src` on PYTHONPATH.
+Run by `python3 -m unittest discover python/tests`, with `python/src` on PYTHONPATH.
 """
 
-import heapq
-import os
-import random
-import tempfile
 import threading
 import unittest
-from unittest import mock
+
+from common import (
+    Case,
+    columns,
+    components_of,
+    costs_from,
+    drawn,
+    graph_tool,
+    igraph,
+    ints,
+    levels_from,
+    networkx,
+    numpy,
+    pandas,
+    scipy,
+    totals_of,
+    whole,
+)
 
 import hollowbowl
-from hollowbowl import INF, Ended, Graph, NoPath, Refused
-from hollowbowl._program import Program
+from hollowbowl import INF, Graph, NoPath
 
 
-def optional(name):
-    """A module, or None if it isn't there."""
-    try:
-        return __import__(name, fromlist=["*"])
-    except ImportError:
-        return None
-
-
-networkx, scipy, igraph = optional("networkx"), optional("scipy.sparse.csgraph"), optional("igraph")
-graph_tool, pandas, numpy = optional("graph_tool.topology"), optional("pandas"), optional("numpy")
-
-
-def costs_from(n, arcs, source):
-    """The least costs by a heap of vertices."""
-    rows = [[] for _ in range(n)]
-    for tail, head, weight in arcs:
-        rows[tail].append((head, weight))
-    costs, heap = [INF] * n, [(0, source)]
-    while heap:
-        cost, tail = heapq.heappop(heap)
-        if costs[tail] == INF:
-            costs[tail] = cost
-            for head, weight in rows[tail]:
-                heapq.heappush(heap, (cost + weight, head))
-    return costs
-
-
-def drawn(seed, most=30):
-    """A random graph: how many vertices, and arcs."""
-    draw = random.Random(seed)
-    n = draw.randrange(1, most)
-    weights = draw.choice([1, 9, 1000, 2**32])
-    return n, [(draw.randrange(n), draw.randrange(n), draw.randrange(weights)) for _ in range(draw.randrange(4 * n))]
-
-
-def columns(arcs):
-    """Tails, heads and weights."""
-    return [list(column) for column in zip(*arcs)] if arcs else [[], [], []]
-
-
-def totals_of(costs):
-    """How many are reached, the sum of their costs, the greatest, and the first vertex that has it."""
-    reached = [cost for cost in costs if cost != INF]
-    return len(reached), sum(reached), max(reached), costs.index(max(reached))
-
-
-def whole(rows):
-    """Rows of labels as lists of numbers."""
-    return [[int(label) for label in row] for row in rows]
-
-
-class Costs(unittest.TestCase):
+class Costs(Case):
     """What is asked of numbered vertices."""
 
     def test_beside_a_heap(self):
-        for seed in range(40):
+        for seed in range(30):
             n, arcs = drawn(seed)
             wanted = [costs_from(n, arcs, source) for source in range(n)]
-            fewest = [costs_from(n, [(u, v, 1) for u, v, _ in arcs], source) for source in range(n)]
+            fewest = [levels_from(n, arcs, source) for source in range(n)]
             with Graph(*columns(arcs), n, workers=1 + seed % 3) as graph:
                 self.assertEqual((graph.n, graph.m), (n, len(arcs)))
                 self.assertEqual(whole(graph.distances(range(n))), wanted)
@@ -111,14 +72,10 @@ class Costs(unittest.TestCase):
             self.assertEqual(graph.distance(0, target), wanted[0][target])
 
     def test_components(self):
-        for seed in range(40):
+        for seed in range(30):
             n, arcs = drawn(seed)
-            label = list(range(n))
-            for _ in range(n):
-                for tail, head, _ in arcs:
-                    label[tail] = label[head] = min(label[tail], label[head])
             with Graph(*columns(arcs), n) as graph:
-                self.assertEqual([int(found) for found in graph.components()], label)
+                self.assertEqual(ints(graph.components()), components_of(n, arcs))
 
     def test_added_arcs(self):
         for seed in range(20):
@@ -133,8 +90,7 @@ class Costs(unittest.TestCase):
                 self.assertEqual(whole([graph.distances(0)])[0], costs)
                 near = [vertex for vertex, cost in enumerate(costs) if cost <= 9]
                 self.assertEqual(whole(graph.within(0, 9)), [near, [costs[vertex] for vertex in near]])
-                ones = [(u, v, 1) for u, v, _ in arcs + more]
-                self.assertEqual(whole([graph.levels(0)])[0], costs_from(n, ones, 0))
+                self.assertEqual(ints(graph.levels(0)), levels_from(n, arcs + more, 0))
 
     def test_worked_row(self):
         with Graph([0, 0, 1], [1, 2, 2], [7, 20, 6]) as graph:
@@ -165,82 +121,7 @@ class Costs(unittest.TestCase):
         self.assertEqual(wrong, [])
 
 
-class Faults(unittest.TestCase):
-    """What is refused, and what is left then."""
-
-    def test_numbers(self):
-        for weight in (-1, 2**32, 1.5, "x", None, float("nan")):
-            with self.assertRaisesRegex(ValueError, r"^weights\[1\] is "):
-                Graph([0, 0], [1, 1], [3, weight])
-        for tails, heads, n in (([0], [-1], None), ([0], [3], 3), ([2**28], [0], None)):
-            with self.assertRaises(ValueError):
-                Graph(tails, heads, [1], n)
-        with self.assertRaises(ValueError):
-            Graph([0], [1, 2], [1])
-        with Graph([0.0], [1], [2.0]) as graph:
-            self.assertEqual(graph.distance(0, 1), 2)
-
-    def test_bounds(self):
-        with Graph([0, 1], [1, 2], [3, 4]) as graph:
-            for bound in (-1, INF, 1.5, "x", None, float("nan")):
-                with self.assertRaisesRegex(ValueError, r"^the cost is "):
-                    graph.within(0, bound)
-            with self.assertRaises(IndexError):
-                graph.within(3, 1)
-            self.assertEqual(whole(graph.within(0, 3.0)), [[0, 1], [0, 3]])
-            self.assertEqual(whole(graph.within(0, INF - 1)), [[0, 1, 2], [0, 3, 7]])
-
-    def test_vertices(self):
-        with Graph([0], [1], [3]) as graph:
-            for ask in (lambda: graph.distance(0, 2), lambda: graph.path(-1, 0), lambda: graph.distances([5])):
-                with self.assertRaises(IndexError):
-                    ask()
-            with self.assertRaises(IndexError):
-                graph.add([0], [2], [1])
-            self.assertEqual((graph.m, graph.distance(0, 1)), (1, 3))
-
-    def test_interrupted(self):
-        with Graph([0, 1], [1, 2], [7, 6]) as graph:
-            graph.add([0], [2], [9])
-            with mock.patch.object(Program, "_read", side_effect=KeyboardInterrupt):
-                with self.assertRaises(KeyboardInterrupt):
-                    graph.distance(1, 2)
-            # What was left of that reply is taken for no other one.
-            self.assertEqual((graph.distance(0, 2), graph.m), (9, 3))
-
-    def test_closed(self):
-        graph = Graph([0], [1], [3])
-        graph.close()
-        graph.close()
-        with self.assertRaises(Ended):
-            graph.distance(0, 1)
-
-    def test_file(self):
-        with tempfile.TemporaryDirectory() as folder:
-            good, bad = os.path.join(folder, "good.gr"), os.path.join(folder, "bad.gr")
-            with open(good, "w", encoding="ascii") as file:
-                file.write("c a graph\np sp 3 2\na 1 2 7\na 2 3 6")
-            with open(bad, "w", encoding="ascii") as file:
-                file.write("p sp 2 1\na 1 3 7\n")
-            with Graph.from_gr(good) as graph:
-                self.assertEqual((graph.n, graph.m, graph.path(0, 2)), (3, 2, [0, 1, 2]))
-            with self.assertRaises(Ended) as caught:
-                Graph.from_gr(bad)
-            self.assertEqual((caught.exception.status, caught.exception.text), (2, "obim_query: line 2: out of range"))
-
-    def test_no_program(self):
-        named = os.environ.pop("HOLLOWBOWL", None)
-        path, os.environ["PATH"] = os.environ["PATH"], ""
-        try:
-            with self.assertRaises(FileNotFoundError):
-                Graph([], [], [])
-        finally:
-            os.environ["PATH"] = path
-            if named is not None:
-                os.environ["HOLLOWBOWL"] = named
-
-
-class Names(unittest.TestCase):
+class Names(Case):
     """Vertices by name."""
 
     EDGES = [("a", "b", 7), ("a", "c", 20), ("b", "c", 6), ((1, 2), "a", 1)]
@@ -284,7 +165,7 @@ class Names(unittest.TestCase):
 
 
 @unittest.skipIf(numpy is None, "no numpy")
-class Arrays(unittest.TestCase):
+class Arrays(Case):
     """Beside libraries that work on arrays."""
 
     def test_kinds(self):

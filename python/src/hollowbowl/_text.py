@@ -1,0 +1,149 @@
+"""The text of graphs and requests, and what replies say. Vertices count from 1 in text, and from 0 everywhere else."""
+
+from array import array
+
+from ._errors import OutOfStep
+from ._numbers import INF, numpy
+
+#: How many sources, pairs or arcs a request can have.
+MOST_ITEMS = 1 << 20
+
+# Lines whose text is made at a time.
+_CHUNK = 1 << 18
+
+# From how many lines on arrays are quicker than a loop.
+_MANY = 64
+
+
+def graph_text(n, tails, heads, weights):
+    """The text of a graph, in pieces."""
+    yield b"p sp %d %d\n" % (n, len(tails))
+    yield from lines_text("a", [tails, heads, weights], (1, 1, 0))
+
+
+def arcs_text(tails, heads, weights):
+    """A request that adds arcs."""
+    return b"p aux sp add %d\n" % len(tails) + b"".join(lines_text("a", [tails, heads, weights], (1, 1, 0)))
+
+
+def sources_text(form, sources):
+    """A section of sources."""
+    return b"p aux sp %s %d\n" % (form, len(sources)) + b"".join(lines_text("s", [sources], (1,)))
+
+
+def pairs_text(form, sources, targets):
+    """A section of pairs."""
+    return b"p aux sp %s %d\n" % (form, len(sources)) + b"".join(lines_text("q", [sources, targets], (1, 1)))
+
+
+def lines_text(letter, columns, first_numbers):
+    """The text of lines that begin with a letter and have the numbers of the columns, in pieces.
+
+    The least number of a column is 0 here, and in text what `first_numbers` says.
+    """
+    for first in range(0, len(columns[0]), _CHUNK):
+        part = [column[first : first + _CHUNK] for column in columns]
+        if numpy is not None and len(part[0]) > _MANY:
+            yield _numpy_text(letter, [numpy.asarray(column, dtype=numpy.uint32) + numpy.uint32(more) for column, more in zip(part, first_numbers)])
+        else:
+            form = letter + " %d" * len(part) + "\n"
+            counted = [column if more == 0 else [number + more for number in _ints(column)] for column, more in zip(part, first_numbers)]
+            yield "".join(map(form.__mod__, zip(*counted))).encode("ascii")
+
+
+def _ints(column):
+    return column.tolist() if hasattr(column, "tolist") else column
+
+
+def _numpy_text(letter, columns):
+    """Each line in a row of bytes of one width, and from that the bytes that belong to it."""
+    count = len(columns[0])
+    widths = [len(str(int(column.max()))) for column in columns]
+    width = 2 + sum(widths) + len(columns)
+    text = numpy.full((count, width), ord(" "), dtype=numpy.uint8)
+    shown = numpy.ones((count, width), dtype=bool)
+    text[:, 0] = ord(letter)
+    at = 2
+    for column, digits in zip(columns, widths):
+        rest = column
+        for place in range(at + digits - 1, at - 1, -1):
+            text[:, place] = ord("0") + (rest % 10).astype(numpy.uint8)
+            if place < at + digits - 1:
+                shown[:, place] = rest > 0
+            rest = rest // 10
+        at += digits + 1
+    text[:, width - 1] = ord("\n")
+    return text[shown].tobytes()
+
+
+def _is(good):
+    """Goes on if a reply is one to its request."""
+    if not good:
+        raise OutOfStep("a reply is none to its request")
+
+
+def _numbers(text, width):
+    """The numbers of lines of numbers, a row for each line."""
+    numbers = numpy.fromstring(text, dtype=numpy.uint64, sep=" ")
+    _is(len(numbers) % width == 0)
+    return numbers.reshape(-1, width)
+
+
+def pair_costs(body, sources, targets):
+    """The costs in the lines of these pairs, 2**64 - 1 where no walk leads."""
+    if numpy is not None and len(sources) > _MANY:
+        rows = _numbers(body.translate(None, b"q").replace(b"inf", b"%d" % INF), 3)
+        _is(len(rows) == len(sources) and (rows[:, 0] == numpy.asarray(sources) + 1).all() and (rows[:, 1] == numpy.asarray(targets) + 1).all())
+        return rows[:, 2]
+    words = body.split()
+    _is(len(words) == 4 * len(sources))
+    _is(list(map(int, words[1::4])) == [source + 1 for source in _ints(sources)])
+    _is(list(map(int, words[2::4])) == [target + 1 for target in _ints(targets)])
+    return array("Q", [INF if word == b"inf" else int(word) for word in words[3::4]])
+
+
+def walk_of(body, source, target):
+    """The vertices of the walk in the lines of a pair; None if no walk leads."""
+    lines = body.split(b"\n")
+    words = lines[0].split()
+    _is(words[:3] == [b"q", b"%d" % (source + 1), b"%d" % (target + 1)] and lines[-1] == b"")
+    if words[3] == b"inf":
+        _is(len(lines) == 2)
+        return None
+    letter, end, cost, *walk = lines[1].split()
+    _is(letter == b"w" and end == words[2] and cost == words[3] and walk[0] == words[1] and walk[-1] == words[2])
+    return [int(word) - 1 for word in walk]
+
+
+def near_in(body, source):
+    """The vertices and costs in the block of a source."""
+    head, lines = body.split(b"\n", 1)
+    _is(head == b"s %d" % (source + 1))
+    if numpy is not None:
+        rows = _numbers(lines.translate(None, b"d"), 2)
+        return rows[:, 0] - numpy.uint64(1), rows[:, 1].copy()
+    words = lines.split()
+    _is(len(words) % 3 == 0)
+    return array("Q", (int(word) - 1 for word in words[1::3])), array("Q", map(int, words[2::3]))
+
+
+def totals_in(body, sources):
+    """For each source how many are reached, the sum of their costs, the greatest, and the vertex that has it."""
+    lines = body.splitlines()
+    _is(len(lines) == len(sources))
+    for line, source in zip(lines, _ints(sources)):
+        letter, vertex, *numbers = line.split()
+        _is(letter == b"t" and int(vertex) == source + 1)
+        reached, total, greatest, farthest = map(int, numbers)
+        yield reached, total, greatest, farthest - 1
+
+
+def components_in(body, n):
+    """The labels in the text of the components."""
+    if numpy is not None:
+        rows = _numbers(body.translate(None, b"k"), 2)
+        _is(len(rows) == n and (rows[:, 0] == numpy.arange(1, n + 1, dtype=numpy.uint64)).all())
+        return rows[:, 1] - numpy.uint64(1)
+    words = body.split()
+    _is(len(words) == 3 * n and list(map(int, words[1::3])) == list(range(1, n + 1)))
+    return array("Q", (int(word) - 1 for word in words[2::3]))

@@ -1,0 +1,180 @@
+"""What the tests share: libraries that may be there, graphs, definitions of answers, and what a test may leave behind.
+
+HOLLOWBOWL names the program. With HOLLOWBOWL_NUMPY=no the package finds no numpy, as if it were not installed.
+"""
+
+import faulthandler
+import gc
+import heapq
+import os
+import random
+import signal
+import sys
+import threading
+import time
+import unittest
+
+if os.environ.get("HOLLOWBOWL_NUMPY") == "no":
+    sys.modules["numpy"] = None
+
+from hollowbowl import INF
+
+# After so many seconds a test hangs: it says where each thread is.
+_LIMIT = 60
+
+
+def optional(name):
+    """A module, or None if it isn't there."""
+    try:
+        return __import__(name, fromlist=["*"])
+    except ImportError:
+        return None
+
+
+networkx, scipy, igraph = optional("networkx"), optional("scipy.sparse.csgraph"), optional("igraph")
+graph_tool, pandas, numpy = optional("graph_tool.topology"), optional("pandas"), optional("numpy")
+
+
+def costs_from(n, arcs, source):
+    """The least costs by a heap of vertices."""
+    rows = [[] for _ in range(n)]
+    for tail, head, weight in arcs:
+        rows[tail].append((head, weight))
+    costs, heap = [INF] * n, [(0, source)]
+    while heap:
+        cost, tail = heapq.heappop(heap)
+        if costs[tail] == INF:
+            costs[tail] = cost
+            for head, weight in rows[tail]:
+                heapq.heappush(heap, (cost + weight, head))
+    return costs
+
+
+def levels_from(n, arcs, source):
+    """The fewest arcs."""
+    return costs_from(n, [(tail, head, 1) for tail, head, _ in arcs], source)
+
+
+def components_of(n, arcs):
+    """The least vertex that arcs join to each."""
+    label = list(range(n))
+    changed = True
+    while changed:
+        changed = False
+        for tail, head, _ in arcs:
+            least = min(label[tail], label[head])
+            changed = changed or label[tail] != label[head]
+            label[tail] = label[head] = least
+    return label
+
+
+def totals_of(costs):
+    """How many are reached, the sum of their costs, the greatest, and the first vertex that has it."""
+    reached = [cost for cost in costs if cost != INF]
+    return len(reached), sum(reached), max(reached), costs.index(max(reached))
+
+
+def drawn(seed, most=30):
+    """A random graph: how many vertices, and arcs."""
+    draw = random.Random(seed)
+    n = draw.randrange(1, most)
+    weights = draw.choice([1, 9, 1000, 2**32])
+    return n, [(draw.randrange(n), draw.randrange(n), draw.randrange(weights)) for _ in range(draw.randrange(4 * n))]
+
+
+def columns(arcs):
+    """Tails, heads and weights."""
+    return [list(column) for column in zip(*arcs)] if arcs else [[], [], []]
+
+
+def ints(row):
+    """A row of labels as a list of numbers."""
+    return [int(label) for label in row]
+
+
+def whole(rows):
+    """Rows of labels as lists of numbers."""
+    return [ints(row) for row in rows]
+
+
+def children():
+    """The processes that this one began and that have not been waited for: a number, and the words of its command."""
+    found = {}
+    for name in filter(str.isdigit, os.listdir("/proc")):
+        try:
+            with open(f"/proc/{name}/stat", encoding="utf-8") as file:
+                parent = int(file.read().rpartition(")")[2].split()[1])
+            if parent == os.getpid():
+                with open(f"/proc/{name}/cmdline", encoding="utf-8") as file:
+                    found[int(name)] = file.read().split("\0")
+        except OSError:
+            continue
+    return found
+
+
+def program_of(kind):
+    """The number of the one program of this process that answers a kind."""
+    options = {"distances": None, "levels": "levels", "components": "components", "totals": "--totals"}
+    special = set(filter(None, options.values()))
+    found = []
+    for number, words in children().items():
+        if "--session" in words:
+            marks = special.intersection(words)
+            if marks == ({options[kind]} if options[kind] else set()):
+                found.append(number)
+    assert len(found) == 1, (kind, found)
+    return found[0]
+
+
+def descriptors():
+    """How many descriptors are open."""
+    return len(os.listdir("/proc/self/fd"))
+
+
+def threads():
+    """The threads of graphs that are there."""
+    return [thread for thread in threading.enumerate() if thread.name.startswith("hollowbowl")]
+
+
+def waits_for(is_so, seconds=5):
+    """Whether something is so within some seconds."""
+    end = time.monotonic() + seconds
+    while not is_so():
+        if time.monotonic() > end:
+            return False
+        time.sleep(0.01)
+    return True
+
+
+def interrupt(*_):
+    """Interrupts the main thread, as a handler of signals."""
+    raise KeyboardInterrupt
+
+
+class Case(unittest.TestCase):
+    """A test that may not hang, and leaves no program, no thread of a graph and no descriptor."""
+
+    def setUp(self):
+        faulthandler.dump_traceback_later(_LIMIT, exit=True)
+        gc.collect()
+        self._before = set(children()), descriptors()
+        self.addCleanup(self._look)
+
+    def _look(self):
+        gc.collect()
+        programs, count = self._before
+        faulthandler.cancel_dump_traceback_later()
+        self.assertTrue(waits_for(lambda: set(children()) <= programs), f"left: {children()}")
+        self.assertTrue(waits_for(lambda: not threads()), f"left: {threads()}")
+        self.assertTrue(waits_for(lambda: descriptors() <= count), f"{descriptors()} descriptors, {count} before")
+
+    def interrupted_after(self, seconds, ask):
+        """Interrupts a call after some seconds; it has to be under way then."""
+        before = signal.signal(signal.SIGALRM, interrupt)
+        try:
+            signal.setitimer(signal.ITIMER_REAL, seconds)
+            with self.assertRaises(KeyboardInterrupt):
+                ask()
+        finally:
+            signal.setitimer(signal.ITIMER_REAL, 0)
+            signal.signal(signal.SIGALRM, before)

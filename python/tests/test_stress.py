@@ -1,0 +1,211 @@
+"""Processes, threads, kills and interrupts at random, beside definitions in Python.
+
+HOLLOWBOWL_SEED draws what another run drew, as far as threads allow.
+"""
+
+import os
+import random
+import signal
+import threading
+import time
+import traceback
+import unittest
+
+from common import Case, children, columns, components_of, costs_from, descriptors, interrupt, ints, levels_from, threads, totals_of, waits_for, whole
+
+import hollowbowl
+from hollowbowl import INF, Ended, Graph, NoPath, NoVertex, WrongProcess
+
+PROCESSES, THREADS, QUESTIONS, VERTICES = 4, 8, 2000, 30
+
+
+class States:
+    """The arcs that a graph may have: those it has for sure, and those of an `add` whose end nobody has seen."""
+
+    def __init__(self, arcs):
+        self.lock = threading.Lock()
+        self.all = [arcs]
+
+    def since(self, count):
+        """All that the graph has had since there were so many states."""
+        with self.lock:
+            return self.all[count - 1 :]
+
+    def count(self):
+        with self.lock:
+            return len(self.all)
+
+
+def question(graph, draw):
+    """A question: what it gives, and what a state of the arcs would give."""
+    source, target = draw.randrange(VERTICES), draw.randrange(VERTICES)
+    few = [draw.randrange(VERTICES) for _ in range(draw.randrange(4))]
+    bound = draw.randrange(2000)
+
+    def near(arcs):
+        costs = costs_from(VERTICES, arcs, source)
+        return [(vertex, cost) for vertex, cost in enumerate(costs) if cost <= bound]
+
+    def distance():
+        try:
+            return graph.distance(source, target)
+        except NoPath:
+            return INF
+
+    return draw.choice(
+        [
+            (lambda: ints(graph.distances(source)), lambda arcs: costs_from(VERTICES, arcs, source)),
+            (lambda: whole(graph.distances(few)), lambda arcs: [costs_from(VERTICES, arcs, each) for each in few]),
+            (lambda: ints(graph.levels(source)), lambda arcs: levels_from(VERTICES, arcs, source)),
+            (lambda: ints(graph.components()), lambda arcs: components_of(VERTICES, arcs)),
+            (lambda: tuple(graph.totals(source)), lambda arcs: totals_of(costs_from(VERTICES, arcs, source))),
+            (lambda: list(zip(*whole(graph.within(source, bound)))), near),
+            (lambda: whole(graph.matrix([source], few)), lambda arcs: [[costs_from(VERTICES, arcs, source)[each] for each in few]]),
+            (distance, lambda arcs: costs_from(VERTICES, arcs, source)[target]),
+        ]
+    )
+
+
+class One:
+    """The work of one process: threads that ask, and a main thread that adds, kills and is interrupted."""
+
+    def __init__(self, seed, inherited):
+        self.draw = random.Random(seed)
+        self.inherited = inherited
+        self.wrong = []
+        self.seen = set()
+        self.left = QUESTIONS // PROCESSES
+        self.lock = threading.Lock()
+        self.arcs = [self.an_arc(self.draw) for _ in range(2 * VERTICES)]
+        self.states = States(self.arcs)
+
+    def an_arc(self, draw):
+        return draw.randrange(VERTICES), draw.randrange(VERTICES), draw.randrange(1000)
+
+    def next(self):
+        with self.lock:
+            self.left -= 1
+            return self.left >= 0
+
+    def ask(self, graph, seed):
+        """A thread's questions."""
+        draw = random.Random(seed)
+        while self.next():
+            ask, define = question(graph, draw)
+            before = self.states.count()
+            try:
+                found = ask()
+            except Ended as fault:
+                self.seen.add(type(fault).__name__)
+                continue
+            except BaseException:
+                self.wrong.append(traceback.format_exc())
+                return
+            if not any(found == define(arcs) for arcs in self.states.since(before)):
+                self.wrong.append(f"{found} is none of {[define(arcs) for arcs in self.states.since(before)]}")
+
+    def add(self, graph, draw):
+        """Adds an arc, perhaps cut by an alarm, and finds out whether it is there."""
+        arc = self.an_arc(draw)
+        count = graph.m
+        with self.states.lock:
+            now = self.states.all[-1]
+            self.states.all.append(now + [arc])
+        try:
+            self.with_alarm(draw, lambda: graph.add(*columns([arc])))
+        except (Ended, KeyboardInterrupt) as fault:
+            self.seen.add(type(fault).__name__)
+        while True:
+            try:
+                graph.distance(0, 0)
+                break
+            except Ended:
+                continue
+        if graph.m == count:
+            with self.states.lock:
+                self.states.all.append(now)
+
+    def with_alarm(self, draw, ask):
+        try:
+            signal.setitimer(signal.ITIMER_REAL, draw.random() * 2e-3 + 1e-5)
+            ask()
+        finally:
+            signal.setitimer(signal.ITIMER_REAL, 0)
+
+    def disturb(self, graph, draw):
+        """What the main thread does beside the askers."""
+        chance = draw.randrange(4)
+        if chance == 0:
+            numbers = [number for number, words in children().items() if "--session" in words]
+            if numbers:
+                os.kill(draw.choice(numbers), signal.SIGKILL)
+        elif chance == 1:
+            self.add(graph, draw)
+        elif chance == 2:
+            try:
+                self.with_alarm(draw, lambda: graph.distances(range(VERTICES)))
+            except (Ended, KeyboardInterrupt) as fault:
+                self.seen.add(type(fault).__name__)
+        else:
+            for ask, kind in ((lambda: self.inherited.distance(0, 1), WrongProcess), (lambda: graph.distance(0, VERTICES), NoVertex)):
+                try:
+                    ask()
+                    self.wrong.append(f"no {kind.__name__}")
+                except kind:
+                    pass
+        time.sleep(0.005)
+
+    def run(self):
+        """All of it; what went wrong."""
+        signal.signal(signal.SIGALRM, interrupt)
+        count = descriptors()
+        graph = Graph(*columns(self.arcs), VERTICES, workers=1)
+        askers = [threading.Thread(target=self.ask, args=(graph, self.draw.random())) for _ in range(THREADS)]
+        for asker in askers:
+            asker.start()
+        while any(asker.is_alive() for asker in askers):
+            try:
+                self.disturb(graph, self.draw)
+            except KeyboardInterrupt:
+                # An alarm may ring once its call is over.
+                continue
+        graph.close()
+        if not waits_for(lambda: not children() and not threads() and descriptors() <= count):
+            self.wrong.append(f"left: {children()}, {threads()}, {descriptors()} descriptors in place of {count}")
+        return self.wrong
+
+
+class Stress(Case):
+    """Four processes by fork, each with eight threads."""
+
+    def test_all_at_once(self):
+        seed = int(os.environ.get("HOLLOWBOWL_SEED") or random.randrange(2**32))
+        with Graph([0], [1], [3]) as inherited:
+            numbers = {}
+            for place in range(PROCESSES):
+                taken, given = os.pipe()
+                number = os.fork()
+                if number == 0:
+                    os.close(taken)
+                    self.in_child(seed + place, inherited, given)
+                os.close(given)
+                numbers[number] = taken
+            for number, taken in numbers.items():
+                with os.fdopen(taken, "rb") as pipe:
+                    said = pipe.read().decode()
+                self.assertEqual((said, os.waitpid(number, 0)[1]), ("", 0), f"HOLLOWBOWL_SEED={seed}")
+            self.assertEqual(inherited.distance(0, 1), 3)
+
+    def in_child(self, seed, inherited, given):
+        said = "no end"
+        try:
+            said = "\n".join(One(seed, inherited).run()[:3])
+        except BaseException:
+            said = traceback.format_exc()
+        finally:
+            os.write(given, said.encode())
+            os._exit(0)
+
+
+if __name__ == "__main__":
+    unittest.main()
