@@ -9,6 +9,7 @@ import sys
 import threading
 import time
 import unittest
+from unittest import mock
 
 from common import Case, children, columns, costs_from, drawn, interrupt, ints, levels_from, program_of, threads, totals_of, waits_for, whole
 from fake import Fake, fake
@@ -141,13 +142,14 @@ class Refusals(Case):
             self.assertEqual(graph.distance(0, 1), 7)
 
     def test_memory_within_an_add(self):
-        most = hollowbowl._text.MOST_ITEMS
-        body = f'for count in (1, 2):\n    read({most} + 1)\n    say(b"g {most}\\nr 2 %d\\n" % ({most} * count + 1))\nread(2)\nsay(b"e %d out of memory\\n" % ({most} * 2 + 6))\nread(2)\nsay(b"q 1 2 7\\nr 2 %d\\n" % ({most} * 2 + 1))\nrest()'
-        count = 2 * most + 1
-        with fake(body), Graph(*ARC) as graph:
+        body = (
+            'for count in (1, 2):\n    read(11)\n    say(b"g 10\\nr 2 %d\\n" % (10 * count + 1))\n'
+            'read(2)\nsay(b"e 26 out of memory\\n")\nread(2)\nsay(b"q 1 2 7\\nr 2 21\\n")\nrest()'
+        )
+        with fake(body), Graph(*ARC) as graph, mock.patch.object(hollowbowl._programs, "MOST_ITEMS", 10):
             with self.assertRaises(OutOfMemory) as caught:
-                graph.add([0] * count, [1] * count, [1] * count)
-            self.assertEqual((caught.exception.added, graph.m, graph.distance(0, 1)), (2 * most, 2 * most + 1, 7))
+                graph.add([0] * 21, [1] * 21, [1] * 21)
+            self.assertEqual((caught.exception.added, graph.m, graph.distance(0, 1)), (20, 21, 7))
 
 
 class Ends(Case):
@@ -314,7 +316,7 @@ class Ends(Case):
     def test_end_of_python(self):
         begin = "import atexit, os, sys, threading, time, signal\nfrom hollowbowl import Graph, Closed\n"
         busy = "threading.Thread(target=lambda: g.distances([0] * 3000), daemon=True).start()\ntime.sleep(0.1)\n"
-        chain = "g = Graph(range(2999), range(1, 3000), [1] * 2999)\nprint(g._wire.state.processes['distances'].id, flush=True)\n"
+        chain = "g = Graph(range(2999), range(1, 3000), [1] * 2999)\nprint(g._wire.state.programs.process('distances').id, flush=True)\n"
         for end, status in (("", 0), ("sys.exit(3)", 3), ("os.kill(os.getpid(), 9)", -9)):
             got, out, err = self.run_python(begin + chain + busy + end)
             self.assertEqual((got, err), (status, ""))
@@ -349,8 +351,13 @@ class Interrupts(Case):
         """Stops the program of a kind, so that whatever asks it waits; it goes on at the end."""
         number = program_of(kind)
         os.kill(number, signal.SIGSTOP)
-        self.addCleanup(lambda: is_alive(number) and os.kill(number, signal.SIGCONT))
-        return lambda: os.kill(number, signal.SIGCONT)
+
+        def go_on():
+            if is_alive(number):
+                os.kill(number, signal.SIGCONT)
+
+        self.addCleanup(go_on)
+        return go_on
 
     def test_in_a_question(self):
         n, arcs = drawn(7, 60)
@@ -365,7 +372,7 @@ class Interrupts(Case):
             self.assertEqual(program_of("distances"), number)
 
     def test_in_an_add(self):
-        for kind in ("distances", "levels", "totals", "components"):
+        for kind in ("levels", "totals", "components", "distances"):
             with Graph([0, 1], [1, 2], [3, 4], 4) as graph:
                 graph.levels(0), graph.totals(0), graph.components()
                 go_on = self.stopped(kind)
@@ -462,7 +469,7 @@ class Interrupts(Case):
             self.assertGreater(cut, 5)
             # What is in the graph, and its order, is what the package itself keeps for a program that begins later.
             graph.distance(0, 0)
-            there = [tuple(int(column[0]) for column in part) for part in graph._wire.state._added]
+            there = [tuple(int(column[0]) for column in part) for part in graph._wire.state.programs.added]
             left = iter(added)
             self.assertTrue(all(arc in left for arc in there))
             costs = [costs_from(n, arcs + there, source) for source in range(n)]
@@ -480,14 +487,17 @@ class Interrupts(Case):
                     break
                 for target, cost in enumerate(wanted):
                     self.assertEqual(graph.distance(0, target), cost, place)
-        self.assertGreater(place, 50)
+        self.assertGreater(place, 20)
 
     def cut_at(self, place, ask):
-        """Whether a call of the package has so many opcodes; there it is interrupted, in the thread that calls."""
+        """Whether a call of the package has so many opcodes, or lines; there it is interrupted, in the thread that calls."""
         left = [place]
+        # Python 3.12 tells of lines alone in some frames; before, an exception at a line and its opcode would be two.
+        events = ("opcode",) if sys.version_info < (3, 12) else ("opcode", "line")
 
         def inner(frame, event, _):
-            if event == "opcode":
+            frame.f_trace_opcodes = True
+            if event in events:
                 left[0] -= 1
                 if left[0] == 0:
                     raise KeyboardInterrupt

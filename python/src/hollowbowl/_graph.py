@@ -68,7 +68,7 @@ class Graph:
         """
         graph = cls.__new__(cls)
         graph._begin(File(path), workers)
-        graph._names = Names(graph._wire.state.n)
+        graph._names = Names(graph._wire.state.programs.n)
         return graph
 
     @classmethod
@@ -105,7 +105,7 @@ class Graph:
     def m(self):
         """How many arcs there are, those that were added among them."""
         self._wire.check()
-        return self._wire.state.m
+        return self._wire.state.programs.m
 
     @property
     def names(self):

@@ -44,10 +44,11 @@ def lines_text(letter, columns, first_numbers):
     for first in range(0, len(columns[0]), _CHUNK):
         part = [column[first : first + _CHUNK] for column in columns]
         if numpy is not None and len(part[0]) > _MANY:
-            yield _numpy_text(letter, [numpy.asarray(column, dtype=numpy.uint32) + numpy.uint32(more) for column, more in zip(part, first_numbers)])
+            numbers = [numpy.asarray(column, dtype=numpy.uint32) for column in part]
+            yield _numpy_text(letter, [column + numpy.uint32(more) for column, more in zip(numbers, first_numbers)])
         else:
             form = letter + " %d" * len(part) + "\n"
-            counted = [column if more == 0 else [number + more for number in _ints(column)] for column, more in zip(part, first_numbers)]
+            counted = [[number + more for number in _ints(column)] for column, more in zip(part, first_numbers)]
             yield "".join(map(form.__mod__, zip(*counted))).encode("ascii")
 
 
@@ -93,7 +94,8 @@ def pair_costs(body, sources, targets):
     """The costs in the lines of these pairs, 2**64 - 1 where no walk leads."""
     if numpy is not None and len(sources) > _MANY:
         rows = _numbers(body.translate(None, b"q").replace(b"inf", b"%d" % INF), 3)
-        _is(len(rows) == len(sources) and (rows[:, 0] == numpy.asarray(sources) + 1).all() and (rows[:, 1] == numpy.asarray(targets) + 1).all())
+        _is(len(rows) == len(sources))
+        _is((rows[:, 0] == numpy.asarray(sources) + 1).all() and (rows[:, 1] == numpy.asarray(targets) + 1).all())
         return rows[:, 2]
     words = body.split()
     _is(len(words) == 4 * len(sources))
