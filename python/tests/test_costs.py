@@ -98,6 +98,13 @@ class Costs(Case):
             graph.add([0], [2], [5])
             self.assertEqual((graph.distance(0, 2), graph.path(0, 2)), (5, [0, 2]))
 
+    def test_sum_past_64_bits(self):
+        n = 100_000
+        with Graph(range(n - 1), range(1, n), [2**32 - 1] * (n - 1)) as graph:
+            total = graph.totals(0)
+        self.assertEqual(total, (n, (2**32 - 1) * n * (n - 1) // 2, (2**32 - 1) * (n - 1), n - 1))
+        self.assertGreater(total.sum, 2**64)
+
     def test_no_vertices(self):
         with Graph([], [], []) as graph:
             self.assertEqual((graph.n, graph.m, len(graph.components())), (0, 0, 0))
@@ -145,6 +152,14 @@ class Names(Case):
         frame = pandas.DataFrame(self.EDGES[:3], columns=["source", "target", "weight"])
         with Graph.from_pandas(frame) as graph:
             self.assertEqual(graph.path("a", "c"), ["a", "b", "c"])
+
+    @unittest.skipIf(networkx is None, "no networkx")
+    def test_edges_without_weight(self):
+        other = networkx.DiGraph()
+        other.add_edge("a", "b")
+        other.add_edge("b", "c", weight=5)
+        with Graph.from_networkx(other) as graph:
+            self.assertEqual(graph.distance("a", "c"), 6)
 
     @unittest.skipIf(networkx is None, "no networkx")
     def test_networkx(self):

@@ -203,6 +203,7 @@ class Ends(Case):
         graph.levels(0)
         begun = set(children())
         graph.close()
+        self.assertTrue(graph._wire.state.is_over)
         self.assertFalse(begun & set(children()))
         graph.close()
         for ask in every_question(graph):
@@ -211,6 +212,27 @@ class Ends(Case):
         self.assertEqual((graph.n, graph.m), (2, 1))
         self.assertFalse(begun & set(children()) or threads())
         self.assertTrue(issubclass(Closed, Ended))
+
+    def test_closed_while_any_kind_is_asked(self):
+        for kind in ("levels", "totals", "components", "distances"):
+            graph = Graph([0], [1], [3])
+            graph.levels(0), graph.totals(0), graph.components()
+            asks = {"levels": graph.levels, "totals": graph.totals, "components": lambda _: graph.components(), "distances": graph.distances}
+            os.kill(program_of(kind), signal.SIGSTOP)
+            came = []
+
+            def ask(ask=asks[kind], came=came):
+                try:
+                    ask(0)
+                except Closed as fault:
+                    came.append(fault)
+
+            asker = threading.Thread(target=ask)
+            asker.start()
+            time.sleep(0.05)
+            graph.close()
+            asker.join(5)
+            self.assertEqual(len(came), 1, kind)
 
     def test_closed_while_threads_ask(self):
         n = 3000
