@@ -146,9 +146,33 @@ def waits_for(is_so, seconds=5):
     return True
 
 
+def is_alive(number):
+    """Whether a process runs; one that has ended and that nobody waits for doesn't."""
+    try:
+        with open(f"/proc/{number}/stat", encoding="utf-8") as file:
+            return file.read().rpartition(")")[2].split()[0] != "Z"
+    except OSError:
+        return False
+
+
 def interrupt(*_):
     """Interrupts the main thread, as a handler of signals."""
     raise KeyboardInterrupt
+
+
+def every_question(graph):
+    """Each kind of question, and the change."""
+    yield lambda: graph.distance(0, 1)
+    yield lambda: graph.distances(0)
+    yield lambda: graph.distances([0])
+    yield lambda: graph.distances([])
+    yield lambda: graph.levels(0)
+    yield lambda: graph.totals(0)
+    yield lambda: graph.within(0, 9)
+    yield lambda: graph.components()
+    yield lambda: graph.matrix([0], [1])
+    yield lambda: graph.path(0, 1)
+    yield lambda: graph.add([0], [1], [1])
 
 
 class Case(unittest.TestCase):

@@ -71,7 +71,7 @@ def _none_such(name, place, value, most):
 
 
 def _as_numpy(name, values, most):
-    if not (hasattr(values, "__array__") or hasattr(values, "__array_interface__") or isinstance(values, (list, tuple, range, array))):
+    if not (hasattr(values, "__array__") or isinstance(values, (list, tuple, range, array))):
         values = list(values)
     if numpy.ma.isMaskedArray(values):
         if numpy.ma.is_masked(values):

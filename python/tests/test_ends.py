@@ -1,0 +1,226 @@
+"""Programs that die, graphs that are closed or dropped, and the end of Python."""
+
+import gc
+import os
+import signal
+import subprocess
+import sys
+import threading
+import time
+import unittest
+
+from common import Case, children, every_question, ints, is_alive, program_of, threads, waits_for
+from fake import fake
+
+from hollowbowl import INF, Closed, Ended, Graph, Refused
+
+ARC = ([0], [1], [7])
+
+
+class Ends(Case):
+    """Programs that die, graphs that are closed, and graphs that nothing refers to."""
+
+    def test_killed(self):
+        with Graph([0, 1], [1, 2], [3, 4]) as graph:
+            graph.add([0], [2], [5])
+            for kind, ask, wanted in (
+                ("distances", lambda: ints(graph.distances(0)), [0, 3, 5]),
+                ("levels", lambda: ints(graph.levels(0)), [0, 1, 1]),
+                ("components", lambda: ints(graph.components()), [0, 0, 0]),
+                ("totals", lambda: graph.totals(0), (3, 8, 5, 2)),
+            ):
+                self.assertEqual(ask(), wanted)
+                os.kill(program_of(kind), signal.SIGKILL)
+                with self.assertRaises(Ended) as caught:
+                    ask()
+                self.assertEqual(caught.exception.status, -9)
+                self.assertIn("memory", str(caught.exception))
+                self.assertEqual((ask(), ask(), graph.m), (wanted, wanted, 3))
+
+    def test_killed_while_it_answers(self):
+        n = 3000
+        with Graph(range(n - 1), range(1, n), [1] * (n - 1)) as graph:
+            threading.Timer(0.2, os.kill, (program_of("distances"), signal.SIGKILL)).start()
+            with self.assertRaises(Ended):
+                graph.distances([0] * 20000)
+            self.assertEqual(graph.distance(0, n - 1), n - 1)
+
+    def test_killed_before_an_add(self):
+        with Graph([0], [1], [3], 3) as graph:
+            self.assertEqual((ints(graph.levels(0)), ints(graph.components())), ([0, 1, INF], [0, 0, 2]))
+            os.kill(program_of("levels"), signal.SIGKILL)
+            graph.add([1], [2], [4])
+            self.assertEqual((ints(graph.levels(0)), ints(graph.components()), graph.m), ([0, 1, 2], [0, 0, 0], 2))
+            os.kill(program_of("distances"), signal.SIGKILL)
+            with self.assertRaises(Ended):
+                graph.add([0], [2], [1])
+            self.assertEqual((graph.m, ints(graph.levels(0)), ints(graph.distances(0))), (2, [0, 1, 2], [0, 3, 7]))
+
+    def test_all_kinds_grow(self):
+        with Graph([0], [1], [3], 3) as graph:
+            graph.levels(0), graph.components(), graph.totals(0)
+            graph.add([1], [2], [4])
+            self.assertEqual((ints(graph.levels(0)), ints(graph.components())), ([0, 1, 2], [0, 0, 0]))
+            self.assertEqual((graph.totals(0), ints(graph.distances(0))), ((3, 10, 7, 2), [0, 3, 7]))
+
+    def test_closed(self):
+        graph = Graph([0], [1], [3])
+        graph.levels(0)
+        begun = set(children())
+        graph.close()
+        self.assertTrue(graph._wire.state.is_over)
+        self.assertFalse(begun & set(children()))
+        graph.close()
+        for ask in every_question(graph):
+            with self.assertRaisesRegex(Closed, "^the graph is closed$"):
+                ask()
+        self.assertEqual((graph.n, graph.m), (2, 1))
+        self.assertFalse(begun & set(children()) or threads())
+        self.assertTrue(issubclass(Closed, Ended))
+
+    def test_closed_while_any_kind_is_asked(self):
+        for kind in ("levels", "totals", "components", "distances"):
+            graph = Graph([0], [1], [3])
+            graph.levels(0), graph.totals(0), graph.components()
+            asks = {"levels": graph.levels, "totals": graph.totals, "components": lambda _: graph.components(), "distances": graph.distances}
+            os.kill(program_of(kind), signal.SIGSTOP)
+            came = []
+
+            def ask(ask=asks[kind], came=came):
+                try:
+                    ask(0)
+                except Closed as fault:
+                    came.append(fault)
+
+            asker = threading.Thread(target=ask)
+            asker.start()
+            time.sleep(0.05)
+            graph.close()
+            asker.join(5)
+            self.assertEqual(len(came), 1, kind)
+
+    def test_closed_while_threads_ask(self):
+        n = 3000
+        graph = Graph(range(n - 1), range(1, n), [1] * (n - 1))
+        came = []
+
+        def ask():
+            try:
+                while True:
+                    graph.distances([0] * 1000)
+            except Closed as fault:
+                came.append(fault)
+
+        askers = [threading.Thread(target=ask) for _ in range(8)]
+        for each in askers:
+            each.start()
+        time.sleep(0.2)
+        start = time.monotonic()
+        graph.close()
+        self.assertLess(time.monotonic() - start, 2)
+        for each in askers:
+            each.join(5)
+        self.assertEqual((len(came), len(set(map(id, came)))), (8, 8))
+
+    def test_dropped(self):
+        before = set(children())
+        for _ in range(200):
+            graph = Graph([0], [1], [3])
+            self.assertEqual(graph.distance(0, 1), 3)
+        del graph
+        self.assertTrue(waits_for(lambda: set(children()) <= before and not threads()))
+        ring = [Graph([0], [1], [3])]
+        ring.append(ring)
+        del ring
+        gc.collect()
+        self.assertTrue(waits_for(lambda: set(children()) <= before))
+
+    def test_dropped_after_a_fault(self):
+        graph = Graph([0], [1], [3])
+        graph._names.n = 10
+        gc.disable()
+        try:
+            graph.distance(0, 8)
+        except Refused:
+            pass
+        finally:
+            del graph
+            self.assertTrue(waits_for(lambda: not threads()))
+            gc.enable()
+
+    def test_constructor_that_fails(self):
+        with self.assertRaises(Ended):
+            Graph([0], [1], [3], workers=1000)
+
+    def test_one_program_a_kind(self):
+        with Graph([0], [1], [3]) as graph:
+            barrier = threading.Barrier(8)
+
+            def ask():
+                barrier.wait()
+                graph.levels(0)
+
+            askers = [threading.Thread(target=ask) for _ in range(8)]
+            for each in askers:
+                each.start()
+            for each in askers:
+                each.join()
+            self.assertGreater(program_of("levels"), 0)
+
+    def test_options(self):
+        with fake("rest()"), Graph(*ARC, workers=3):
+            words = [words for words in children().values() if "--session" in words][0]
+        self.assertEqual(words[words.index("--session") :][:5], ["--session", "--workers", "3", "--labels", "raw"])
+
+    def test_a_relative_path(self):
+        named, folder = os.path.abspath(os.environ["HOLLOWBOWL"]), os.getcwd()
+        try:
+            os.chdir(os.path.dirname(named))
+            os.environ["HOLLOWBOWL"] = os.path.join(".", os.path.basename(named))
+            with Graph([0], [1], [3]) as graph:
+                os.chdir("/")
+                self.assertEqual(ints(graph.levels(0)), [0, 1])
+        finally:
+            os.chdir(folder)
+            os.environ["HOLLOWBOWL"] = named
+
+    def test_no_program(self):
+        named = os.environ.pop("HOLLOWBOWL", None)
+        path, os.environ["PATH"] = os.environ["PATH"], ""
+        try:
+            with self.assertRaises(FileNotFoundError):
+                Graph([], [], [])
+        finally:
+            os.environ["PATH"] = path
+            if named is not None:
+                os.environ["HOLLOWBOWL"] = named
+
+    def run_python(self, text):
+        """Runs a text by another Python, and gives its status and what it printed."""
+        done = subprocess.run([sys.executable, "-c", text], capture_output=True, timeout=30, text=True)
+        return done.returncode, done.stdout, done.stderr
+
+    def test_end_of_python(self):
+        begin = "import atexit, os, sys, threading, time, signal\nfrom hollowbowl import Graph, Closed\n"
+        busy = "threading.Thread(target=lambda: g.distances([0] * 3000), daemon=True).start()\ntime.sleep(0.1)\n"
+        chain = "g = Graph(range(2999), range(1, 3000), [1] * 2999)\nprint(g._wire.state.programs.process('distances').id, flush=True)\n"
+        for end, status in (("", 0), ("sys.exit(3)", 3), ("os.kill(os.getpid(), 9)", -9)):
+            got, out, err = self.run_python(begin + chain + busy + end)
+            self.assertEqual((got, err), (status, ""))
+            self.assertTrue(waits_for(lambda: not is_alive(int(out))))
+        late = "def late():\n    try:\n        print(g.distance(0, 5))\n    except Closed:\n        print('closed')\natexit.register(late)\n"
+        got, out, err = self.run_python(begin + chain + late)
+        self.assertEqual((got, err), (0, ""))
+        self.assertIn(out.split()[1], ("5", "closed"))
+
+    def test_ctrl_c_while_idle(self):
+        text = (
+            "import os, signal, time\nfrom hollowbowl import Graph\nos.setsid()\ng = Graph([0], [1], [3])\ng.levels(0)\n"
+            "try:\n    os.killpg(0, signal.SIGINT)\n    time.sleep(5)\nexcept KeyboardInterrupt:\n    pass\n"
+            "time.sleep(0.1)\nprint(g.distance(0, 1), g.distance(0, 1), list(g.levels(0))[1])\n"
+        )
+        self.assertEqual(self.run_python(text), (0, "3 3 1\n", ""))
+
+
+if __name__ == "__main__":
+    unittest.main()

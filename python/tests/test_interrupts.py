@@ -1,0 +1,194 @@
+"""KeyboardInterrupt at any moment of any call."""
+
+import os
+import random
+import signal
+import sys
+import threading
+import time
+import unittest
+
+from common import Case, columns, costs_from, drawn, interrupt, ints, is_alive, levels_from, program_of, totals_of, waits_for, whole
+
+import hollowbowl
+from hollowbowl import Ended, Graph
+
+
+class Interrupts(Case):
+    """KeyboardInterrupt at any moment of any call."""
+
+    def stopped(self, kind):
+        """Stops the program of a kind, so that whatever asks it waits; it goes on at the end."""
+        number = program_of(kind)
+        os.kill(number, signal.SIGSTOP)
+
+        def go_on():
+            if is_alive(number):
+                os.kill(number, signal.SIGCONT)
+
+        self.addCleanup(go_on)
+        return go_on
+
+    def test_in_a_question(self):
+        n, arcs = drawn(7, 60)
+        wanted = [costs_from(n, arcs, source) for source in range(n)]
+        with Graph(*columns(arcs), n) as graph:
+            number = program_of("distances")
+            for ask in (lambda: graph.distance(0, 0), lambda: graph.distances(range(n)), lambda: graph.path(0, 0), lambda: graph.within(0, 3)):
+                go_on = self.stopped("distances")
+                self.interrupted_after(0.05, ask)
+                go_on()
+                self.assertEqual(whole(graph.distances(range(n))), wanted)
+            self.assertEqual(program_of("distances"), number)
+
+    def test_in_an_add(self):
+        for kind in ("levels", "totals", "components", "distances"):
+            with Graph([0, 1], [1, 2], [3, 4], 4) as graph:
+                graph.levels(0), graph.totals(0), graph.components()
+                go_on = self.stopped(kind)
+                self.interrupted_after(0.05, lambda: graph.add([2], [3], [1]))
+                go_on()
+                reached = [
+                    ints(graph.distances(0)) == [0, 3, 7, 8],
+                    ints(graph.levels(0)) == [0, 1, 2, 3],
+                    graph.totals(0) == (4, 18, 8, 3),
+                    ints(graph.components()) == [0, 0, 0, 0],
+                    graph.m == 3,
+                ]
+                self.assertEqual(reached, [reached[0]] * 5, kind)
+                os.kill(program_of("distances"), signal.SIGKILL)
+                with self.assertRaises(Ended):
+                    graph.distance(0, 1)
+                self.assertEqual(ints(graph.distances(0)) == [0, 3, 7, 8], reached[0])
+
+    def test_of_another_thread(self):
+        with Graph([0], [1], [3]) as graph:
+            go_on = self.stopped("distances")
+            found = []
+            other = threading.Thread(target=lambda: found.append(graph.distance(0, 1)))
+            signal.setitimer(signal.ITIMER_REAL, 0)
+            threading.Timer(0.05, other.start).start()
+            self.interrupted_after(0.15, lambda: graph.distances(0))
+            go_on()
+            self.assertTrue(waits_for(lambda: found == [3]))
+            other.join()
+
+    def test_leaves_little_work(self):
+        n = 3000
+        with Graph(range(n - 1), range(1, n), [1] * (n - 1)) as graph:
+            graph.distances([0] * 16)
+            self.interrupted_after(0.3, lambda: graph.distances([0] * 100000))
+            start = time.monotonic()
+            self.assertEqual(graph.distance(0, n - 1), n - 1)
+            self.assertLess(time.monotonic() - start, 5)
+
+    def alarmed(self, seconds, ask):
+        """Asks again and again with an alarm at a random moment; how often it was cut, and how often not."""
+        draw = random.Random(5)
+        cut = done = 0
+        before = signal.signal(signal.SIGALRM, interrupt)
+        end = time.monotonic() + seconds
+        try:
+            while time.monotonic() < end:
+                try:
+                    signal.setitimer(signal.ITIMER_REAL, draw.random() * 6e-4 + 1e-6)
+                    ask(draw)
+                    signal.setitimer(signal.ITIMER_REAL, 0)
+                    done += 1
+                except KeyboardInterrupt:
+                    cut += 1
+        except KeyboardInterrupt:
+            return self.alarmed(max(0.1, end - time.monotonic()), ask)
+        finally:
+            signal.setitimer(signal.ITIMER_REAL, 0)
+            signal.signal(signal.SIGALRM, before)
+        return cut, done
+
+    def test_alarms_in_questions(self):
+        n, arcs = drawn(8, 40)
+        wanted = [costs_from(n, arcs, source) for source in range(n)]
+        wrong = []
+        with Graph(*columns(arcs), n) as graph:
+            number = program_of("distances")
+
+            def ask(draw):
+                source = draw.randrange(n)
+                if draw.randrange(2):
+                    found = ints(graph.distances(source))
+                else:
+                    found = whole(graph.matrix([source], range(n)))[0]
+                if found != wanted[source]:
+                    wrong.append(source)
+
+            cut, _ = self.alarmed(2, ask)
+            self.assertGreater(cut, 10)
+            self.assertEqual((wrong, whole(graph.distances(range(n))), program_of("distances")), ([], wanted, number))
+
+    def test_alarms_in_adds(self):
+        n, arcs = drawn(9, 20)
+        with Graph(*columns(arcs), n) as graph:
+            graph.levels(0)
+            added = []
+
+            def ask(draw):
+                tail, head, weight = draw.randrange(n), draw.randrange(n), draw.randrange(1000)
+                added.append((tail, head, weight))
+                graph.add([tail], [head], [weight])
+
+            cut, _ = self.alarmed(1.5, ask)
+            self.assertGreater(cut, 5)
+            # What is in the graph, and its order, is what the package itself keeps for a program that begins later.
+            graph.distance(0, 0)
+            there = [tuple(int(column[0]) for column in part) for part in graph._wire.state.programs.added]
+            left = iter(added)
+            self.assertTrue(all(arc in left for arc in there))
+            costs = [costs_from(n, arcs + there, source) for source in range(n)]
+            self.assertEqual((graph.m, whole(graph.distances(range(n)))), (len(arcs) + len(there), costs))
+            self.assertEqual(ints(graph.levels(0)), levels_from(n, arcs + there, 0))
+            self.assertEqual(graph.totals(0), totals_of(costs[0]))
+
+    def test_at_each_opcode(self):
+        wanted = [0, 7, 13]
+        with Graph([0, 0, 1], [1, 2, 2], [7, 20, 6]) as graph:
+            place = 0
+            while True:
+                place += 1
+                if not self.cut_at(place, lambda: graph.distance(0, 2)):
+                    break
+                for target, cost in enumerate(wanted):
+                    self.assertEqual(graph.distance(0, target), cost, place)
+        self.assertGreater(place, 20)
+
+    def cut_at(self, place, ask):
+        """Whether a call of the package has so many opcodes, or lines; there it is interrupted, in the thread that calls."""
+        left = [place]
+        # Python 3.12 tells of lines alone in some frames; before, an exception at a line and its opcode would be two.
+        events = ("opcode",) if sys.version_info < (3, 12) else ("opcode", "line")
+
+        def inner(frame, event, _):
+            frame.f_trace_opcodes = True
+            if event in events:
+                left[0] -= 1
+                if left[0] == 0:
+                    raise KeyboardInterrupt
+            return inner
+
+        def outer(frame, *_):
+            if not frame.f_code.co_filename.startswith(os.path.dirname(hollowbowl.__file__)):
+                return None
+            frame.f_trace_opcodes = True
+            return inner
+
+        before = sys.gettrace()
+        sys.settrace(outer)
+        try:
+            ask()
+        except KeyboardInterrupt:
+            pass
+        finally:
+            sys.settrace(before)
+        return left[0] <= 0
+
+
+if __name__ == "__main__":
+    unittest.main()
