@@ -23,6 +23,9 @@ ROWS = [
     ("graph alone", GRAPH, READY, "", 0),
     ("graph without a line feed", "p sp 2 0", READY, "", 0),
     ("graph that lacks an arc", "p sp 2 1\n", "", "line 2: too few lines", 2),
+    ("a section while an arc is missing", "p sp 2 1\np aux sp ss 1\ns 1\n", "", "line 2: too few lines", 2),
+    ("walks while an arc is missing", "p sp 2 1\np aux sp walk 1\nq 1 2\n", "", "line 2: unknown line", 2),
+    ("a bound while an arc is missing", "p sp 2 1\np aux sp within 3 1\ns 1\n", "", "line 2: unknown line", 2),
     ("fault in the graph", "p sp 2 1\na 1 3 0\np aux sp ss 1\ns 1\n", "", "line 2: out of range", 2),
     ("nothing", "", "", "line 1: no problem line", 2),
     ("comment before and after", "c x\n" + GRAPH + "c y\np aux sp p2p 1\nc z\nq 1 1\n", READY + "q 1 1 0\n" + READY, "", 0),
@@ -124,6 +127,29 @@ ROWS += [
 ]
 
 
+# Rows with options of the session: these, and then as above.
+BLOCK = "k 1 1\nk 2 2\n"
+OPTION_ROWS = [
+    (["--within", "3"], "a bound is for sources", GRAPH + "p aux sp p2p 1\nq 1 2\n", READY + "q 1 2 inf\n" + READY, "", 0),
+    (
+        ["--within", "3"],
+        "a pair that costs more",
+        "p sp 2 1\na 1 2 7\np aux sp walk 1\nq 1 2\np aux sp ss 1\ns 1\n",
+        "r 2 1\nq 1 2 7\nw 2 7 1 2\nr 2 1\n" + "s 1\nd 1 0\nr 2 1\n",
+        "",
+        0,
+    ),
+    (
+        ["--answer", "components"],
+        "the block for each section",
+        GRAPH + "p aux sp walk 1\nq 1 2\np aux sp within 3 1\ns 1\np aux sp ss 0\n",
+        (BLOCK + READY) * 4,
+        "",
+        0,
+    ),
+]
+
+
 def wrong(text):
     """Says what is wrong, and ends."""
     print(text, file=sys.stderr)
@@ -175,9 +201,10 @@ def in_pieces(program, options, text, output, sizes):
 def check_rows(program):
     """Each row whole, byte by byte and in random pieces."""
     draw = random.Random(7)
+    rows = [([], *row) for row in ROWS] + OPTION_ROWS
     for workers in ("1", "3"):
-        options = ["--workers", workers]
-        for name, text, output, fault, status in ROWS:
+        for more, name, text, output, fault, status in rows:
+            options = ["--workers", workers, *more]
             error = f"obim_query: {fault}\n" if fault else ""
             wanted = (output, error, status)
             sizes = {

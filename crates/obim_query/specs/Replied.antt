@@ -1,6 +1,6 @@
 -- What the status of the program says of the bytes that it took and wrote.
 use Rattle.std.specs.Prelude.{◌≡◌, ◌⊎◌, ℕ, Bool, true, false, List, Option, Result, Ok, Err}
-use Rattle.std.specs.Result.{OnErr, OnOk}
+use Rattle.std.specs.Result.{IfErr, OnErr, OnOk}
 use Rattle.std.specs.Io.KnownBytes.{Keeps}
 use Rattle.clap.specs.Words.{Text}
 use Rattle.job_answer.specs.declared.asked.Asked.{Asked}
@@ -9,7 +9,7 @@ use Rattle.job_answer.specs.Choices.{status_of}
 use Rattle.job_answer.specs.declared.asked.Lines.{Lines}
 use Rattle.job_answer.specs.Outcome.{IsAnsweredBy, IsBegunBy, IsReplyBy}
 use Rattle.session_answer.specs.Conversations.{IsAnsweredSession}
-use Rattle.session_answer.specs.Cuts.{IsCutSession}
+use Rattle.session_answer.specs.Cuts.{EndsBy, IsCutSession}
 use Rattle.command_line.specs.declared.options.Options.{Options}
 use Rattle.command_line.specs.declared.refusals.Refusal.{Refusal}
 use Rattle.command_line.specs.declared.refusals.Refusal.TheVariants as refusal
@@ -64,9 +64,12 @@ pub record HasServed (asked : Asked) (lines : Lines) (taken_from taken_to given_
     : Type 0 where
   pub result : Result (Unit {0}) Fault
   -- all was taken, it is a graph and then requests, and exactly their replies were written
-  pub replied : OnOk result (IsAnsweredSession asked.answer lines asked.walks taken_from taken_to given_from given_to)
+  pub replied : OnOk result
+      (IsAnsweredSession asked.limit asked.answer lines asked.walks taken_from taken_to given_from given_to)
   -- at a fault a prefix of the replies was written
   pub cut : OnErr result (IsCutSession asked.answer lines asked.walks taken_from taken_to given_from given_to)
+  -- which is the text's, or the system's
+  pub says : IfErr result (EndsBy asked.limit taken_from taken_to)
   pub status_is : status ≡ status_after result
 
 -- The words ask for a session, and the status is that of its end.
