@@ -7,8 +7,9 @@ use Rattle.dimacs_text.specs.declared.form.Form.{Form}
 use Rattle.dimacs_text.specs.declared.form.Form.TheVariants.{Head}
 use Rattle.dimacs_text.specs.declared.form.Section.TheVariants.{Pairs}
 use Rattle.dimacs_text.specs.Lines.{fields, without_cr}
-use Rattle.dimacs_text.specs.Forms.{Reading, begins_with, fields_reading, form_of, in_form, leading, limits, numbers_within}
+use Rattle.dimacs_text.specs.Forms.{Record, Reading, begins_with, fields_reading, form_of, in_form, leading, limits, numbers_within}
 use Rattle.dimacs_text.specs.Forms.{reading, record_reading}
+use Rattle.dimacs_text.specs.Jobs.{sources_record}
 use Rattle.dimacs_text.specs.AfterGraph.{begins_section, begins_walks, begins_within, extent_by, extent_of, is_later, plain}
 use Rattle.dimacs_text.specs.AfterGraph.{reading_after, sources_reading, walks_if, within_limits, within_numbers}
 use Rattle.dimacs_text.specs.reader.Entries.{FollowsLeading}
@@ -152,3 +153,49 @@ silent_begins n line e = by_line (begins_within line) e
     by_line : (b : Bool) → by_bound n line b ≡ Ok None → (b || is_later (form_of (plain (fields (without_cr line))))) ≡ false
     by_line true is = absurd (by_numbers (within_numbers line) is)
     by_line false is = silent_fields n (plain (fields (without_cr line))) is
+
+-- what a line has the form of is known from its record
+later_record : (n : ℕ) (o : Option Form) (fs : List (List ℕ)) (r : Record)
+    → record_reading n o fs ≡ Ok (Some r)
+    → is_later o ≡ is_later (Some r.form)
+later_record n None fs r e = absurd (cc)
+later_record n (Some form) fs r e = by_numbers (numbers_within (limits n form) (drop (length (leading form)) fs)) e
+  where
+    by_numbers : (res : Result (List ℕ) LineKind)
+        → in_form form res ≡ Ok (Some r)
+        → is_later (Some form) ≡ is_later (Some r.form)
+    by_numbers (Ok vs) is =
+        let same : record { form = form; numbers = vs } ≡ r = cc in
+        ap (λ (x : Record). is_later (Some x.form)) same
+    by_numbers (Err kind) is = absurd (cc)
+
+later_field : (n : ℕ) (f : List ℕ) (fs : List (List ℕ)) (r : Record) (comment : Bool)
+    → cond comment (Ok None) (record_reading n (form_of (f ∷ fs)) (f ∷ fs)) ≡ Ok (Some r)
+    → is_later (form_of (f ∷ fs)) ≡ is_later (Some r.form)
+later_field n f fs r true e = absurd (cc)
+later_field n f fs r false e = later_record n (form_of (f ∷ fs)) (f ∷ fs) r e
+
+later_fields : (n : ℕ) (fs : List (List ℕ)) (r : Record)
+    → fields_reading n fs ≡ Ok (Some r)
+    → is_later (form_of fs) ≡ is_later (Some r.form)
+unfolding fields_reading
+later_fields n [] r e = absurd (cc)
+later_fields n (f ∷ fs) r e = later_field n f fs r (eqb (get_or f 0 0) 99) e
+
+-- a line that says a record begins a section if the record does
+pub record_begins : (n : ℕ) (line : List ℕ) (r : Record)
+    → reading_after n line ≡ Ok (Some r)
+    → begins_section line ≡ is_later (Some r.form)
+unfolding reading_after begins_section
+record_begins n line r e = by_line (begins_within line) e
+  where
+    by_numbers : (res : Result (List ℕ) LineKind) → sources_reading res ≡ Ok (Some r) → true ≡ is_later (Some r.form)
+    by_numbers (Ok vs) is =
+        let same : sources_record (get_or vs 1 0) ≡ r = cc in
+        ap (λ (x : Record). is_later (Some x.form)) same
+    by_numbers (Err kind) is = absurd (cc)
+
+    by_line : (b : Bool) → by_bound n line b ≡ Ok (Some r)
+        → (b || is_later (form_of (plain (fields (without_cr line))))) ≡ is_later (Some r.form)
+    by_line true is = by_numbers (within_numbers line) is
+    by_line false is = later_fields n (plain (fields (without_cr line))) r is

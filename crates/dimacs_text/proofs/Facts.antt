@@ -10,3 +10,4 @@ pub use Rattle.dimacs_text.proofs.ExtentLemmas.{extent-more, extents_within, pla
 pub use Rattle.dimacs_text.proofs.RequestLemmas.{comment_said, empty_unasked, not_whole}
 pub use Rattle.dimacs_text.proofs.RequestLaws.{fault_inside, fault_or_end, silent_right, silent_unasked}
 pub use Rattle.dimacs_text.proofs.OneRequest.{one_request, IsOneRequest}
+pub use Rattle.dimacs_text.proofs.SectionLemmas.{one_section, IsAnsweredEarlier}

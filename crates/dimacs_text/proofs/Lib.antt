@@ -17,3 +17,4 @@ pub mod RequestLimits
 pub mod Facts
 pub mod RequestLaws
 pub mod OneRequest
+pub mod SectionLemmas

@@ -72,7 +72,7 @@ right_plain n line said right = (no_bound (begins_within line) refl, no_walks (b
     no_walks true e = absurd (let wrong = walks_unknown n line e in cc)
 
 -- what lines say, and their records, part alike
-split_said : (said : List (Option Record)) (us vs : List Record)
+pub split_said : (said : List (Option Record)) (us vs : List Record)
     → records_among said ≡ us ++ vs
     → (s : List (Option Record))
     × (t : List (Option Record))
@@ -206,7 +206,7 @@ last_said (Some y ∷ t) r (q ∷ rs) e =
     let l = last_said t q rs rest in
     (Some y ∷ l.0, l.1, l.2, ap (λ x. Some y ∷ x) l.3, l.4, ap₂ (λ a x. a ∷ x) first l.5)
 
-split_map : (n : ℕ) (ls : List (List ℕ)) (s t : List (Option Record))
+pub split_map : (n : ℕ) (ls : List (List ℕ)) (s t : List (Option Record))
     → map (λ l. reading_after n l) ls ≡ map (λ x. Ok x) (s ++ t)
     → (front : List (List ℕ))
     × (rest : List (List ℕ))

@@ -5,3 +5,4 @@ pub mod Unique
 pub mod Prefix
 pub mod JobRequest
 pub mod Facts
+pub mod Sections

@@ -1,12 +1,12 @@
 -- Laws of requests.
-use Rattle.std.specs.Prelude.{◌≡◌, ◌⊎◌, ℕ, List, [], ◌∷◌, ◌++◌, None, true}
+use Rattle.std.specs.Prelude.{◌≡◌, ◌⊎◌, ◌+◌, ℕ, List, [], ◌∷◌, ◌++◌, length, count_by, None, true}
 use Rattle.std.specs.List.{AllByRecursion}
 use Rattle.route_walks.specs.declared.graph.TheConstants.{MAX_VERTICES}
 use Rattle.dimacs_text.specs.declared.after_graph.Extent.TheVariants.{Plain}
 use Rattle.dimacs_text.specs.Lines.{lines}
 use Rattle.dimacs_text.specs.Forms.{readings}
 use Rattle.dimacs_text.specs.Jobs.{Content, IsJobText}
-use Rattle.dimacs_text.specs.AfterGraph.{asked_of, graph_of, has_question, IsJobAmong}
+use Rattle.dimacs_text.specs.AfterGraph.{asked_of, begins_section, graph_of, has_question, IsJobAmong}
 use Rattle.request_reader.specs.declared.request_reader.RequestReader.{RequestReader}
 use Rattle.request_reader.specs.Requests.{Outcome, whole, wrong, no_memory, AreRequests, AreShort}
 use Rattle.request_reader.specs.Reading.{vertices_of, HasRequests}
@@ -56,3 +56,10 @@ AJobIsOneRequest =
     × (lines text ≡ graph ++ ls)
     × IsJobAmong (readings MAX_VERTICES graph) (graph_of job)
     × ((first : ℕ) → AreRequests job.n first ls (whole (asked_of job) Plain ∷ []))
+
+-- each request has one section line; only one that the lines end in may have none
+abbrev pub EachRequestHasItsSectionLine : Type 0
+EachRequestHasItsSectionLine =
+    (n first : ℕ) (all : List (List ℕ)) (outcomes : List Outcome)
+    → AreRequests n first all outcomes
+    → (length outcomes ≡ count_by begins_section all) ⊎ (length outcomes ≡ count_by begins_section all + 1)

@@ -1,6 +1,6 @@
 //! Laws of requests: each is the contract of a function that does nothing.
 
-ghost use Rattle.request_reader.specs.Laws.{AJobIsOneRequest, LinesComeToOneList, WhatWasSaidStays};
+ghost use Rattle.request_reader.specs.Laws.{AJobIsOneRequest, EachRequestHasItsSectionLine, LinesComeToOneList, WhatWasSaidStays};
 
 /// Where memory is not refused, lines after a graph come to at most one list of outcomes.
 pub fn lines_come_to_one_list()
@@ -15,4 +15,9 @@ pub fn what_was_said_stays()
 /// The lines of a job's text after its graph are one request, if no arcs are added and something is asked.
 pub fn a_job_is_one_request()
     ensures { AJobIsOneRequest }
+{}
+
+/// There are as many outcomes as section lines, or one more, of lines at the end that no section line follows.
+pub fn each_request_has_its_section_line()
+    ensures { EachRequestHasItsSectionLine }
 {}
