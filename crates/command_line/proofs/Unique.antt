@@ -120,11 +120,6 @@ same_lines one other walks bound bytes short =
     let too = lines_again other in
     sym is ∙ rw (walks, bound, bytes, short) too
 
--- lines without a bound that stand neither as bytes nor in short are those of each vertex
-pub each_of : (lines : Lines) (walks : Bool) → has_walks lines ≡ walks → bound_in lines ≡ None
-    → is_raw lines ≡ false → is_totals lines ≡ false → lines ≡ Each walks
-each_of lines walks walked bound bytes short = same_lines lines (Each walks) walked bound bytes short
-
 pub one_hyphen : (texts : List Text) (one other : Bool) → AreHyphens texts one → AreHyphens texts other → one ≡ other
 one_hyphen texts one other is too = is.1 ∙ sym too.1
 

@@ -341,10 +341,6 @@ ended_by : (comment rest more : List ℕ)
     → (comment ++ (rest ++ 10 ∷ [])) ++ more ≡ (comment ++ rest) ++ 10 ∷ more
 ended_by comment rest more = simp append_assoc refl
 
-pub regrouped : (whole kept end rest : List ℕ)
-    → (whole ++ kept) ++ (end ++ rest) ≡ (whole ++ (kept ++ end)) ++ rest
-regrouped whole kept end rest = simp append_assoc refl
-
 pub kept_whole : (o : Option LineKind) (whole kept text : List ℕ) → o ≡ None → Keeps o false whole kept text
     → text ≡ whole ++ kept
 kept_whole o whole kept text e k = (subst (λ x. Keeps x false whole kept text) e k).0
