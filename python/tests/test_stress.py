@@ -20,20 +20,33 @@ PROCESSES, THREADS, QUESTIONS, VERTICES = 4, 8, 2000, 30
 
 
 class States:
-    """The arcs that a graph may have: those it has for sure, and those of an `add` whose end nobody has seen."""
+    """The arcs that the graph may have: those of the last state that was seen, and of each that may have come since."""
 
     def __init__(self, arcs):
         self.lock = threading.Lock()
         self.all = [arcs]
+        self.seen = 0
 
-    def since(self, count):
-        """All that the graph has had since there were so many states."""
+    def last_seen(self):
+        """The place of the last state that was seen."""
         with self.lock:
-            return self.all[count - 1 :]
+            return self.seen
 
-    def count(self):
+    def since(self, place):
+        """All that the graph may have had since the state at a place was seen."""
         with self.lock:
-            return len(self.all)
+            return self.all[place:]
+
+    def may_come(self, arcs):
+        """Has a state that comes, or not. Questions that are asked meanwhile may meet either."""
+        with self.lock:
+            self.all.append(arcs)
+
+    def see(self, arcs):
+        """Has a state that the graph is in."""
+        with self.lock:
+            self.all.append(arcs)
+            self.seen = len(self.all) - 1
 
 
 def question(graph, draw):
@@ -92,7 +105,7 @@ class One:
         draw = random.Random(seed)
         while self.next():
             ask, define = question(graph, draw)
-            before = self.states.count()
+            before = self.states.last_seen()
             try:
                 found = ask()
             except Ended as fault:
@@ -106,24 +119,20 @@ class One:
 
     def add(self, graph, draw):
         """Adds an arc, perhaps cut by an alarm, and finds out whether it is there."""
-        arc = self.an_arc(draw)
-        count = graph.m
-        with self.states.lock:
-            now = self.states.all[-1]
-            self.states.all.append(now + [arc])
+        arc, count, now = self.an_arc(draw), graph.m, self.states.all[-1]
+        self.states.may_come(now + [arc])
         try:
             self.with_alarm(draw, lambda: graph.add(*columns([arc])))
         except (Ended, KeyboardInterrupt) as fault:
             self.seen.add(type(fault).__name__)
         while True:
             try:
+                # Once it is answered, the add before it is over.
                 graph.distance(0, 0)
                 break
-            except Ended:
+            except (Ended, KeyboardInterrupt):
                 continue
-        if graph.m == count:
-            with self.states.lock:
-                self.states.all.append(now)
+        self.states.see(now if graph.m == count else now + [arc])
 
     def with_alarm(self, draw, ask):
         try:
