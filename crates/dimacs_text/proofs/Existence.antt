@@ -270,7 +270,7 @@ question_of_part Pairs k ps r rs after turn m e top shaped =
 question_of_part Added k ps r rs after turn m e top shaped =
     let (arcs, is) = added_of_part Added k ps r rs (omega arith) turn m e top shaped in (absent, Some arcs, is)
 
-question_in : (ps : List Part) (rs : List Record)
+pub question_in : (ps : List Part) (rs : List Record)
     → AreInTurn Problem ps → map token_in rs ≡ flat_map tokens_of ps → AreShaped rs
     → AsksAndAdds rs
 question_in [] rs turn e shaped = (absent, None, no_records rs e)

@@ -11,3 +11,4 @@ pub use Rattle.dimacs_text.proofs.RequestLemmas.{comment_said, empty_unasked, no
 pub use Rattle.dimacs_text.proofs.RequestLaws.{fault_inside, fault_or_end, silent_right, silent_unasked}
 pub use Rattle.dimacs_text.proofs.OneRequest.{one_request, IsOneRequest}
 pub use Rattle.dimacs_text.proofs.SectionLemmas.{one_section, IsAnsweredEarlier}
+pub use Rattle.dimacs_text.proofs.ShortLemmas.{short_section}

@@ -18,3 +18,4 @@ pub mod Facts
 pub mod RequestLaws
 pub mod OneRequest
 pub mod SectionLemmas
+pub mod ShortLemmas

@@ -20,7 +20,7 @@ use Rattle.dimacs_text.proofs.Limits.{IsWithin, AreWithin, fields_within, questi
 use Rattle.dimacs_text.proofs.TextLaws.{graph_first, rest_of}
 
 -- each record is within its limits, where vertices count to the same number
-abbrev AllWithin : ℕ → List Record → Type 0
+abbrev pub AllWithin : ℕ → List Record → Type 0
 AllWithin n [] = Unit {0}
 AllWithin n (r ∷ rs) = IsWithin n r × AllWithin n rs
 
@@ -50,7 +50,7 @@ line_within : (n : ℕ) (l : List ℕ) (r : Record) (b : Bool)
 line_within n l r true e = head_within n (drop 4 (fields (without_cr l))) (within_numbers l) r refl e
 line_within n l r false e = fields_within n (plain (fields (without_cr l))) r e
 
-lines_within : (n : ℕ) (ls : List (List ℕ)) (said : List (Option Record))
+pub lines_within : (n : ℕ) (ls : List (List ℕ)) (said : List (Option Record))
     → map (λ l. reading_after n l) ls ≡ map (λ s. Ok s) said
     → AllWithin n (records_among said)
 unfolding reading_after

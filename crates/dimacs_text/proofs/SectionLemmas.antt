@@ -4,19 +4,19 @@ use Rattle.std.proofs.Common.{count_by, Option, Some, None, Ok, refl, sym, ap, a
 use Rattle.std.proofs.lemmas.List.Sums.{sum_by-cons}
 use Rattle.route_walks.specs.declared.graph.ArcRec.{ArcRec}
 use Rattle.dimacs_text.specs.Forms.{Record}
-use Rattle.dimacs_text.specs.Jobs.{Content, Question, absent, from_sources, of_pairs, arc_record, pair_record, problem_record}
-use Rattle.dimacs_text.specs.Jobs.{source_record, records_among, records_of, records_of_added, records_of_question}
-use Rattle.dimacs_text.specs.AfterGraph.{asks, begins_section, is_later, reading_after, IsWhole}
+use Rattle.dimacs_text.specs.Jobs.{Content, Question, absent, from_sources, of_pairs, added_record, arc_record, pair_record}
+use Rattle.dimacs_text.specs.Jobs.{problem_record, source_record, records_among, records_of, records_of_added, records_of_question}
+use Rattle.dimacs_text.specs.AfterGraph.{after_graph, asks, begins_section, is_later, reading_after, IsWhole}
 use Rattle.dimacs_text.proofs.AfterGraphLemmas.{record_begins, silent_begins}
 use Rattle.dimacs_text.proofs.OneRequest.{split_map, split_said}
 use Rattle.dimacs_text.proofs.TextLaws.{graph_first, rest_of}
 
 -- the heads of sections that can come after a graph
-abbrev heads_in : List Record → ℕ
+abbrev pub heads_in : List Record → ℕ
 heads_in [] = 0
 heads_in (r ∷ rs) = cond (is_later (Some r.form)) 1 0 + heads_in rs
 
-heads-append : (rs us : List Record) → heads_in (rs ++ us) ≡ heads_in rs + heads_in us
+pub heads-append : (rs us : List Record) → heads_in (rs ++ us) ≡ heads_in rs + heads_in us
 heads-append [] us = omega arith
 heads-append (r ∷ rs) us = let later = heads-append rs us in omega arith
 
@@ -28,7 +28,7 @@ items_headless rec (x ∷ xs) each =
     ap₂ (λ b k. cond b 1 0 + k) (each x) (items_headless rec xs each)
 
 -- section lines are the lines that say such a head
-count_heads : (n : ℕ) (ls : List (List ℕ)) (said : List (Option Record))
+pub count_heads : (n : ℕ) (ls : List (List ℕ)) (said : List (Option Record))
     → map (λ l. reading_after n l) ls ≡ map (λ s. Ok s) said
     → count_by begins_section ls ≡ heads_in (records_among said)
 count_heads n [] [] e = refl
@@ -81,54 +81,50 @@ pub record IsAnsweredEarlier (n : ℕ) (ls : List (List ℕ)) : Type 0 where
   pub parts : ls ≡ front ++ next ∷ rest
   pub is_whole : IsWhole n front job
 
+-- so it is where the records are those of a request, and more
+pub answered_front : (n : ℕ) (ls : List (List ℕ)) (job : Content) (v : Record) (vs : List Record)
+    (said : List (Option Record))
+    → after_graph n ls ≡ map (λ x. Ok x) said → records_among said ≡ records_of job ++ v ∷ vs
+    → asks job.question job.added ≡ true
+    → IsAnsweredEarlier n ls
+answered_front n ls job v vs said reads is asked =
+    let parts = split_said said (records_of job) (v ∷ vs) is in
+    by_front parts.0 parts.1 (reads ∙ ap (λ s. map (λ x. Ok x) s) parts.2) parts.3 parts.4
+  where
+    by_rest : (front rest : List (List ℕ)) (t : List (Option Record))
+        → ls ≡ front ++ rest → IsWhole n front job
+        → map (λ l. reading_after n l) rest ≡ map (λ x. Ok x) t → records_among t ≡ v ∷ vs
+        → IsAnsweredEarlier n ls
+    by_rest front [] [] parts whole reads more = absurd (cc)
+    by_rest front [] (x ∷ t) parts whole reads more = absurd (cc)
+    by_rest front (l ∷ rest) t parts whole reads more =
+        record { front = front; next = l; rest = rest; job = job; parts = parts; is_whole = whole }
+
+    by_front : (s t : List (Option Record))
+        → after_graph n ls ≡ map (λ x. Ok x) (s ++ t) → records_among s ≡ records_of job → records_among t ≡ v ∷ vs
+        → IsAnsweredEarlier n ls
+    by_front [] t reads is more = absurd (let none = is ∙ graph_first job in cc)
+    by_front (x ∷ s) t reads is more =
+        let first : x ≡ Some (problem_record n 0) = cc in
+        let rest : map (λ l. reading_after n l) ls ≡ map (λ x. Ok x) (s ++ t) = cc in
+        let cut = split_map n ls s t rest in
+        by_rest cut.0 cut.1 t cut.2
+        (record { is_job = (x ∷ s, ap₂ (λ o rs. Ok o ∷ rs) (sym first) cut.3, is); asked = asked }) cut.4 more
+
 -- where arcs are added to what is asked, the question is a whole request by itself
 asked_first : (n : ℕ) (ls : List (List ℕ)) (job : Content) (arcs : List ArcRec)
     → IsWhole n ls job → asks job.question None ≡ true → job.added ≡ Some arcs
     → IsAnsweredEarlier n ls
 asked_first n ls job arcs w asked adds =
-    let graph = problem_record job.n (length job.arcs) ∷ map arc_record job.arcs in
-    let parts =
-    split_said w.is_job.0 (graph ++ records_of_question job.question) (records_of_added job.added) w.is_job.2 in
-    by_front parts.0 parts.1
-    (w.is_job.1 ∙ ap (λ s. map (λ x. Ok x) s) parts.2) parts.3
-    (parts.4 ∙ ap (λ added. records_of_added added) adds)
-  where
-    by_rest : (front rest : List (List ℕ)) (s t : List (Option Record))
-        → ls ≡ front ++ rest
-        → IsWhole n front (record { n = job.n; arcs = job.arcs; question = job.question; added = None })
-        → map (λ l. reading_after n l) rest ≡ map (λ x. Ok x) t
-        → records_among t ≡ records_of_added (Some arcs)
-        → IsAnsweredEarlier n ls
-    by_rest front [] s [] parts whole reads more = absurd (cc)
-    by_rest front [] s (x ∷ t) parts whole reads more = absurd (cc)
-    by_rest front (l ∷ rest) s t parts whole reads more =
-        record { front = front; next = l; rest = rest; job = _; parts = parts; is_whole = whole }
-
-    by_front : (s t : List (Option Record))
-        → Ok (Some (problem_record n 0)) ∷ map (λ l. reading_after n l) ls ≡ map (λ x. Ok x) (s ++ t)
-        → records_among s
-        ≡ (problem_record job.n (length job.arcs) ∷ map arc_record job.arcs) ++ records_of_question job.question
-        → records_among t ≡ records_of_added (Some arcs)
-        → IsAnsweredEarlier n ls
-    by_front [] t reads is more = absurd (cc)
-    by_front (x ∷ s) t reads is more =
-        let first : x ≡ Some (problem_record n 0) = cc in
-        let rest : map (λ l. reading_after n l) ls ≡ map (λ x. Ok x) (s ++ t) = cc in
-        let cut = split_map n ls s t rest in
-        by_rest cut.0 cut.1 s t cut.2
-        (record {
-          is_job = (
-            x ∷ s,
-            ap₂ (λ o rs. Ok o ∷ rs) (sym first) cut.3,
-            is
-                ∙ sym
-                (append-nil
-                ((problem_record job.n (length job.arcs) ∷ map arc_record job.arcs)
-                ++ records_of_question job.question)),
-          );
-          asked = asked;
-        })
-        cut.4 more
+    answered_front n ls (record { n = job.n; arcs = job.arcs; question = job.question; added = None })
+    (added_record (length arcs)) (map arc_record arcs) w.is_job.0 w.is_job.1
+    (w.is_job.2
+    ∙ ap₂ (λ a b. a ++ b)
+    (sym
+    (append-nil
+    ((problem_record job.n (length job.arcs) ∷ map arc_record job.arcs) ++ records_of_question job.question)))
+    (ap (λ added. records_of_added added) adds))
+    asked
 
 question_heads : (q : Question) → heads_in (records_of_question q) ≡ cond (asks q None) 1 0
 question_heads absent = refl

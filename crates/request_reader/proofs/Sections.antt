@@ -3,11 +3,13 @@ use Rattle.std.proofs.Common.{◌≡◌, ◌≤◌, ◌<◌, ◌⊎◌, inl, inr
 use Rattle.std.proofs.Common.{refl, sym, ap, ◌∙◌, arith}
 use Rattle.std.proofs.lemmas.List.Sums.{sum_by-append}
 use Rattle.dimacs_text.specs.declared.after_graph.Extent.{Extent}
+use Rattle.dimacs_text.specs.declared.fault.LineKind.TheVariants.{TooFew}
 use Rattle.dimacs_text.specs.Jobs.{Content}
 use Rattle.dimacs_text.specs.AfterGraph.{begins_section}
-use Rattle.dimacs_text.proofs.Facts.{one_section, IsAnsweredEarlier}
-use Rattle.request_reader.specs.Requests.{Outcome, whole, wrong, no_memory, AreRequests, AreRequestsTo, BeginsSection}
-use Rattle.request_reader.specs.Requests.{IsAnswered, IsCut, IsRequest, IsUnanswered}
+use Rattle.dimacs_text.proofs.Facts.{one_section, short_section, IsAnsweredEarlier}
+use Rattle.request_reader.specs.Requests.{Outcome, whole, wrong, no_memory, AreRequests, AreRequestsTo, AreShort}
+use Rattle.request_reader.specs.Requests.{BeginsSection, IsAnswered, IsCut, IsRequest, IsUnanswered}
+use Rattle.request_reader.specs.Laws.{EachRequestHasItsSectionLine}
 use Rattle.request_reader.proofs.Splits.{parted, silent_count}
 
 -- a list with something in it is not empty
@@ -110,7 +112,7 @@ counted_to n next end first all (outcome ∷ outcomes) (ls, rest, parts, request
           left.1,
         )
 
-pub each_counted : (n first : ℕ) (all : List (List ℕ)) (outcomes : List Outcome)
+each_counted : (n first : ℕ) (all : List (List ℕ)) (outcomes : List Outcome)
     → AreRequests n first all outcomes
     → (length outcomes ≡ count_by begins_section all) ⊎ (length outcomes ≡ count_by begins_section all + 1)
 each_counted n first all outcomes p = by_count (counted_to n p.next p.end first all outcomes p.requests)
@@ -119,3 +121,25 @@ each_counted n first all outcomes p = by_count (counted_to n p.next p.end first 
         → (length outcomes ≡ count_by begins_section all) ⊎ (length outcomes ≡ count_by begins_section all + 1)
     by_count (inl same) = inl (omega (arith, silent_count n p.end p.silent))
     by_count (inr (more, none)) = inr more
+
+-- so it is where the last request lacks lines
+short_counted : (n first : ℕ) (all : List (List ℕ)) (outcomes : List Outcome) (line : ℕ)
+    → AreShort n first all outcomes line
+    → length outcomes + 1 ≡ count_by begins_section all
+short_counted n first all outcomes line p = by_count (counted_to n p.next p.end first all outcomes p.requests)
+  where
+    last : (count_by begins_section p.end ≡ 1) ⊎ IsAnsweredEarlier n p.end → count_by begins_section p.end ≡ 1
+    last (inl one) = one
+    last (inr earlier) =
+        absurd (p.unanswered earlier.front (earlier.next ∷ earlier.rest) earlier.job earlier.parts earlier.is_whole)
+
+    one : count_by begins_section p.end ≡ 1
+    one = last (short_section n p.end TooFew p.short)
+
+    by_count : AreCounted p.end all outcomes → length outcomes + 1 ≡ count_by begins_section all
+    by_count (inl same) = omega (arith, one)
+    by_count (inr (more, none)) = absurd (omega (arith, one, ap (λ l. count_by begins_section l) none))
+
+pub each_has_its_line : EachRequestHasItsSectionLine
+each_has_its_line n first all outcomes =
+    (each_counted n first all outcomes, λ line short. short_counted n first all outcomes line short)

@@ -57,9 +57,13 @@ AJobIsOneRequest =
     × IsJobAmong (readings MAX_VERTICES graph) (graph_of job)
     × ((first : ℕ) → AreRequests job.n first ls (whole (asked_of job) Plain ∷ []))
 
--- each request has one section line; only one that the lines end in may have none
+-- Each request has one section line, and so has one that lacks lines at the end. Only one that the lines end in may have
+-- none, and then it is refused.
 abbrev pub EachRequestHasItsSectionLine : Type 0
 EachRequestHasItsSectionLine =
     (n first : ℕ) (all : List (List ℕ)) (outcomes : List Outcome)
-    → AreRequests n first all outcomes
-    → (length outcomes ≡ count_by begins_section all) ⊎ (length outcomes ≡ count_by begins_section all + 1)
+    → (AreRequests n first all outcomes
+    → (length outcomes ≡ count_by begins_section all) ⊎ (length outcomes ≡ count_by begins_section all + 1))
+    × ((line : ℕ)
+    → AreShort n first all outcomes line
+    → length outcomes + 1 ≡ count_by begins_section all)

@@ -17,7 +17,8 @@ pub fn a_job_is_one_request()
     ensures { AJobIsOneRequest }
 {}
 
-/// There are as many outcomes as section lines, or one more, of lines at the end that no section line follows.
+/// There are as many outcomes as section lines, or one more: lines at the end may be refused without one. A request that
+/// lacks lines at the end has one too, and no outcome.
 pub fn each_request_has_its_section_line()
     ensures { EachRequestHasItsSectionLine }
 {}
