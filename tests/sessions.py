@@ -84,6 +84,13 @@ ROWS = [
     ("an arc too many", "p sp 2 1\na 1 2 3\na 1 2 4\np aux sp p2p 1\nq 1 2\n", "r 2 1\ne 3 too many lines\n", "", 0),
     ("junk before a section", GRAPH + "junk\np aux sp p2p 1\nq 1 1\n", READY + "e 2 unknown line\n", "", 0),
     ("a section that there isn't", GRAPH + "p aux sp p2q 1\nq 1 1\n", READY + "e 2 unknown line\n", "", 0),
+    (
+        "a request after a section that there isn't",
+        GRAPH + "p aux sp p2q 1\nq 1 1\np aux sp p2p 1\nq 1 1\np aux sp ss 0\n",
+        READY + "e 2 unknown line\n" + READY,
+        "",
+        0,
+    ),
     ("a wrong count", GRAPH + "p aux sp ss x\ns 1\np aux sp ss 0\n", READY + "e 2 not a number\n" + READY, "", 0),
     ("walk with a tail", GRAPH + "p aux sp walks 1\nq 1 1\n", READY + "e 2 unknown line\n", "", 0),
     ("another graph", GRAPH + "p sp 3 0\np aux sp ss 0\n", READY + "e 2 misplaced line\n", "", 0),

@@ -7,7 +7,7 @@ ghost use Rattle.dimacs_text.specs.Lines.{without_cr, is_blank, begins_comment, 
 ghost use Rattle.dimacs_text.specs.reader.FastArc.{EndsWithFeed, HasNoFeed};
 ghost use Rattle.dimacs_text.specs.reader.Pieces.{SkipsBlanks, SplitsRun, capped};
 
-/// How many bytes of a line are looked at for the letter that begins a comment: it may come after blanks.
+/// The bytes of a line that are looked at for the letter of a comment, which may come after blanks.
 const MOST_BLANKS: usize = 1 << 10;
 
 /// The place of the line feed that ends the line which begins at a place.
@@ -67,8 +67,8 @@ pub fn skip_blanks(bytes: &[u8]) -> &[u8]
     &bytes[bytes.len()..]
 }
 
-/// Whether the bytes are known to begin a comment, whatever comes after them on their line. Only the first of them are
-/// looked at, so that it costs the same each time more of a long line has come.
+/// Tells whether the bytes are known to begin a comment, whatever comes after them on their line. Only the first of them
+/// are looked at, so that it costs the same each time more of a long line has come.
 pub fn begins_comment(bytes: &[u8]) -> bool
     ensures { OnTrue result (begins_comment bytes.now ≡ true) }
 {

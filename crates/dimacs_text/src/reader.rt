@@ -131,7 +131,7 @@ pub struct JobReader {
     lines: LineReader,
     /// The bytes of the last line, whose line feed hasn't come. Those of a comment are let go.
     unfinished: Vec<u8>,
-    /// Whether the last line is a comment whose line feed hasn't come.
+    /// The last line is a comment whose line feed hasn't come.
     in_comment: bool,
 }
 
@@ -253,7 +253,7 @@ impl JobReader {
         Ok(())
     }
 
-    /// Whether bytes of a line have come and its line feed hasn't.
+    /// Tells whether bytes of a line have come and its line feed hasn't.
     fn has_begun_line(&self) -> bool
         ensures none { result ≡ false → (self.now.in_comment ≡ false) × (self.now.unfinished.items ≡ []) }
         ensures comment { self.now.in_comment ≡ true → result ≡ true }
@@ -262,7 +262,7 @@ impl JobReader {
         self.in_comment || !self.unfinished.is_empty()
     }
 
-    /// How many bytes end the line that was begun, if there is one.
+    /// The number of bytes that end the line that was begun, 0 if there is none.
     fn left_of_line(&self, lines: &[u8]) -> usize
         requires filled { 0 < length lines.now }
         requires ended { EndsWithFeed lines.now }
@@ -316,7 +316,7 @@ impl JobReader {
         self.lines.fault.is_some()
     }
 
-    /// Whether no more bytes are read of the graph: it is whole, or a line is wrong.
+    /// Tells whether no more bytes are read of the graph: it is whole, or a line is wrong.
     pub fn is_graph_over(&self) -> bool
         ensures { OnTrue result (IsGraphOver self.now) }
     {

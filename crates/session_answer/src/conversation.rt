@@ -38,7 +38,7 @@ pub(crate) struct Conversation {
     pub(crate) requests: RequestReader,
     /// The bytes of the last line, whose line feed hasn't come. Those of a comment are let go.
     pub(crate) unfinished: Vec<u8>,
-    /// Whether the last line is a comment whose line feed hasn't come.
+    /// The last line is a comment whose line feed hasn't come.
     pub(crate) in_comment: bool,
     pub(crate) alloc: Global,
 }

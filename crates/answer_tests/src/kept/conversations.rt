@@ -30,7 +30,7 @@ const LINES: [(&[u8], u64); 10] = [
 const REPLIES: &[u8] =
     b"r 2 0\nq 1 2 inf\nr 2 0\ne 6 out of range\ng 1\nr 2 1\nq 1 2 5\nw 2 5 1 2\nr 2 1\n";
 
-/// What a client sees of a session: how many replies have come, and how many bytes wait for a flush.
+/// The part of a session that a client sees: the number of replies that have come, and whether bytes wait for a flush.
 #[derive(Drop)]
 struct Wire {
     replies: AtomicU64,
@@ -45,7 +45,7 @@ impl Wire {
         }
     }
 
-    /// Whether this number of replies has come, and nothing waits.
+    /// Tells whether this number of replies has come, and nothing waits.
     fn has(&self, replies: u64) -> bool {
         self.replies.load(Ordering::SeqCst) == replies && self.waiting.load(Ordering::SeqCst) == 0
     }
@@ -56,7 +56,7 @@ impl Wire {
 struct Client<'a> {
     wire: &'a Wire,
     place: usize,
-    /// How many reads were made before the replies to all lines so far were out.
+    /// The number of reads that were made before the replies to all lines so far were out.
     early: u64,
 }
 
@@ -110,7 +110,7 @@ impl Write for Wired<'_> {
     }
 }
 
-/// How many lines end a reply.
+/// The number of lines that end a reply.
 fn ends(bytes: &[u8]) -> u64 {
     let mut count = 0_u64;
     let mut begins = true;
