@@ -2,8 +2,8 @@
 """Distances between vertices with names, by obim_query.
 
 by_name.py SOURCE <ROADS.csv reads rows FROM,TO,WEIGHT, as to_gr.py beside it does, and prints lines NAME,DISTANCE of
-the places that can be reached. A row that is not understood is refused, and so is a source that no row names. From
-Python:
+the places that can be reached, by their names in Unicode's form NFC. A row that is not understood is refused, and so is
+a source that no row names. From Python:
 
     distances(arcs, source)     arcs: (from, to, weight) each, of any names that can be keys, and whole-number weights
 
@@ -17,6 +17,7 @@ import os
 import shutil
 import subprocess
 import sys
+import unicodedata
 
 MOST = 4294967295  # the greatest weight that obim_query reads
 
@@ -59,7 +60,7 @@ def main():
         raise to_gr.Refused("usage: by_name.py SOURCE <ROADS.csv")
     arcs = to_gr.roads(sys.stdin.buffer, "standard input")
     try:
-        found = distances(arcs, sys.argv[1])
+        found = distances(arcs, unicodedata.normalize("NFC", sys.argv[1]))
     except ValueError as fault:
         raise to_gr.Refused(fault) from None
     except subprocess.CalledProcessError as fault:

@@ -18,7 +18,6 @@ A map that is no such XML, was cut off, or has no road is refused, with its line
 and neither file is written.
 """
 
-import bz2
 import gzip
 import math
 import re
@@ -31,7 +30,7 @@ from collections import Counter, namedtuple
 from xml.parsers import expat
 
 sys.dont_write_bytecode = True
-from to_gr import Arguments, Refused, run, write_graph
+from to_gr import Arguments, Refused, run, unpacked, write_graph
 
 # Which highways, in km/h; which of them only where a tag of the profile's own, not `access`, gives leave; which tags say
 # who may go there, and in which direction: of each the first that is there decides.
@@ -109,6 +108,10 @@ def length(one, other):
     return 2 * EARTH * math.asin(math.sqrt(min(h, 1)))
 
 
+def is_deleted(attributes):
+    return attributes.get("action") == "delete" or attributes.get("visible") == "false"
+
+
 class Map:
     """The roads of a map. Of other ways only counts are kept, and nodes wait in a temporary file."""
 
@@ -120,6 +123,7 @@ class Map:
         self.left_out, self.speeds_not_read = Counter(), Counter()
         self.nodes = tempfile.TemporaryFile()
         self.way, self.tags, self.remark, self.depth = None, {}, None, 0
+        self.is_relation, self.restrictions = False, 0  # of turns, which a graph of nodes can't have
 
     def start(self, element, attributes):
         self.depth += 1
@@ -128,11 +132,12 @@ class Map:
         if element == "node":
             self.add_node(attributes)
         elif element == "way":
-            is_deleted = attributes.get("action") == "delete" or attributes.get("visible") == "false"
-            self.way, self.tags = (None if is_deleted else []), {}
+            self.way, self.tags = (None if is_deleted(attributes) else []), {}
         elif element == "nd" and self.way is not None:
             self.way.append(int(attributes["ref"]))
-        elif element == "tag" and self.way is not None:
+        elif element == "relation":
+            self.is_relation, self.tags = not is_deleted(attributes), {}
+        elif element == "tag" and (self.way is not None or self.is_relation):
             self.tags[attributes["k"]] = attributes["v"].strip()
         elif element == "remark":
             self.remark = ""
@@ -143,6 +148,9 @@ class Map:
             if "highway" in self.tags:
                 self.add_way()
             self.way = None
+        elif element == "relation":
+            self.restrictions += self.is_relation and self.tags.get("type") == "restriction"
+            self.is_relation = False
         elif element == "remark":
             raise ValueError(f"the map was cut off: {' '.join(self.remark.split())}")
 
@@ -151,7 +159,7 @@ class Map:
             self.remark += text
 
     def add_node(self, attributes):
-        if attributes.get("action") == "delete" or attributes.get("visible") == "false":
+        if is_deleted(attributes):
             return
         node, latitude, longitude = int(attributes["id"]), float(attributes["lat"]), float(attributes["lon"])
         if not (abs(latitude) <= 90 and abs(longitude) <= 180):
@@ -188,24 +196,16 @@ class Map:
         return latitudes, longitudes
 
 
-def unpacked(stream, name):
-    """The stream, unpacked if its first bytes say that it is packed."""
-    first = stream.peek(32)
-    if b"OSMHeader" in first[:32]:
-        raise Refused(f"{name}: this is PBF, and not XML: osmium cat -f osm MAP.osm.pbf | osm_to_gr.py")
-    if first.startswith(b"\x1f\x8b"):
-        return gzip.open(stream)
-    return bz2.open(stream) if first.startswith(b"BZh") else stream
-
-
 def read_map(stream, name, profile):
+    if b"OSMHeader" in stream.peek(32)[:32]:
+        raise Refused(f"{name}: this is PBF, and not XML: osmium cat -f osm MAP.osm.pbf | osm_to_gr.py")
     found = Map(profile)
     parser = expat.ParserCreate()
     parser.buffer_text = True
     parser.StartElementHandler, parser.EndElementHandler = found.start, found.end
     parser.CharacterDataHandler = found.text
     try:
-        parser.ParseFile(unpacked(stream, name))
+        parser.ParseFile(unpacked(stream))
     except expat.ExpatError as fault:
         raise Refused(f"{name}:{fault.lineno}: not well-formed XML: {expat.ErrorString(fault.code)}") from None
     except KeyError as fault:
@@ -246,6 +246,8 @@ def report(found, lacking):
     say(f"{roads + others} ways with highway: {roads} roads, {others} left out{reasons}")
     if found.speeds_not_read:
         say(f"{sum(found.speeds_not_read.values())} maxspeed not read: {most(found.speeds_not_read)}")
+    if found.restrictions and found.profile is CAR:
+        say(f"{found.restrictions} turn restrictions not kept")
     if lacking:
         say(f"nodes of roads that the map lacks: {lacking} of {len(found.numbers)}")
 
@@ -298,9 +300,9 @@ def convert():
         cure = ": in Overpass ask for (._;>;)" if lacking else ""
         raise Refused(f"{name}: no road of profile {options.profile} whose nodes are in the map{cure}")
     weighed = weigh(found, latitudes, longitudes, options.weight)
-    arcs = ((vertices[one], vertices[other], weight) for one, other, weight in weighed)
+    arcs = (f"a {vertices[one]} {vertices[other]} {weight}\n" for one, other, weight in weighed)
     lines = (f"{node} {latitudes[i]} {longitudes[i]}\n" for node, i in found.numbers.items() if vertices[i])
-    write_graph(count, arcs, many, options.nodes, lines)
+    write_graph(count, many, arcs, options.nodes, lines)
 
 
 if __name__ == "__main__":
