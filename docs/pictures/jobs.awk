@@ -1,4 +1,5 @@
-# Draws whole jobs beside plain Rust, from the README's table of them: a bar a time, in seconds.
+# Draws whole jobs beside plain Rust, from the README's table of them: a bar a time, in seconds. The
+# longest bar goes nearly to the right edge.
 function bar(at, seconds, colour) {
     printf "<rect x=\"250\" y=\"%d\" width=\"%.1f\" height=\"18\" fill=\"%s\"/>\n", at, seconds * scale, colour
     printf "<text x=\"%.1f\" y=\"%d\">%.2f s</text>\n", 258 + seconds * scale, at + 14, seconds
@@ -6,7 +7,6 @@ function bar(at, seconds, colour) {
 
 BEGIN {
     FS = " *[|] *"
-    scale = 120
     who[5] = "plain Rust, Dijkstra"; who[3] = "one worker"; who[4] = "four workers"
     colour[5] = "#aaaaaa"; colour[3] = "#1b6ca8"; colour[4] = "#8fb8dc"
 }
@@ -16,10 +16,12 @@ is_there && $5 ~ /^[0-9.]+ s$/ {
     name[rows] = $2
     size[rows] = $4 " arcs"
     seconds[rows, 5] = $7 + 0; seconds[rows, 3] = $5 + 0; seconds[rows, 4] = $6 + 0
+    for (j = 3; j <= 5; j++) if (seconds[rows, j] > greatest) greatest = seconds[rows, j]
 }
 
 END {
-    height = 20 + rows * 88
+    height = 8 + rows * 88
+    scale = 570 / greatest
     printf "<svg xmlns=\"http://www.w3.org/2000/svg\" viewBox=\"0 0 900 %d\" font-family=\"sans-serif\" font-size=\"14\">\n", height
     printf "<rect width=\"900\" height=\"%d\" fill=\"white\"/>\n", height
     split("5 3 4", order, " ")

@@ -1,11 +1,24 @@
 # Draws time over workers, from the table of whole jobs in docs/BENCHMARKS.md: a panel for one source and one for
-# ten, a line a graph, in ratio to plain Rust, on a scale where each doubling takes the same height.
+# ten, a line a graph, in ratio to plain Rust, on a scale where each doubling takes the same height. A name stands
+# where its line ends, in the colour of the line, at least 18 from the next name.
 function x(count) { return 70 + log(count) / log(2) * 130 }
 function y(ratio) { return 110 - log(ratio) / log(2) * 55 }
 
 # text(AT, DOWN, ANCHOR, WORDS)
 function text(at, down, anchor, words) {
     printf "<text x=\"%.1f\" y=\"%.1f\" text-anchor=\"%s\">%s</text>\n", at, down, anchor, words
+}
+
+# spread(SOURCES): where the names stand, each beside the end of its line, moved apart where two are too near.
+function spread(sources, g, other, moved, gap, times) {
+    for (g = 1; g <= graphs; g++) down[g] = y(ratios[g, sources, 4])
+    for (times = 1; times <= 100; times++) for (g = 1; g <= graphs; g++) for (other = 1; other <= graphs; other++) {
+        gap = down[other] - down[g]
+        if (g == other || gap < 0 || (gap == 0 && other < g) || gap >= 18) continue
+        moved = (18 - gap) / 2
+        down[g] -= moved
+        down[other] += moved
+    }
 }
 
 function mark(at, down, g) {
@@ -22,12 +35,13 @@ function panel(sources, right, title, ratio, count, g, points, i) {
     }
     for (count = 1; count <= 4; count *= 2) text(x(count), 302, "middle", count)
     text(x(2), 322, "middle", "workers")
+    spread(sources)
     for (g = 1; g <= graphs; g++) {
         points = ""
         for (count = 1; count <= 4; count *= 2) points = points sprintf("%.1f,%.1f ", x(count), y(ratios[g, sources, count]))
         printf "<polyline points=\"%s\" fill=\"none\" stroke=\"%s\" stroke-width=\"2\"/>\n", points, colour[g]
         for (count = 1; count <= 4; count *= 2) mark(x(count), y(ratios[g, sources, count]), g)
-        text(340, y(ratios[g, sources, 4]) + 5, "start", name[g])
+        printf "<text x=\"340\" y=\"%.1f\" fill=\"%s\">%s</text>\n", down[g] + 5, colour[g], name[g]
     }
     print "</g>"
 }
