@@ -27,7 +27,8 @@ module _ {limit n : ℕ} {arcs : List ArcRec} {s : ℕ} {labels labels' : List �
         | inr past ↦ absurd (omega (arith, past, at_most, low))
       ]
 
-  label-up : (v : ℕ) → v < n → slice_index labels v < limit → slice_index labels' v ≡ slice_index labels v
+  -- so it is the other way
+  pub label-up : (v : ℕ) → v < n → slice_index labels v < limit → slice_index labels' v ≡ slice_index labels v
   label-up v below low =
       elim ((least'.least v below).least _ ((least.least v below).attained (omega (arith, low, few)))) [
         | inl less ↦ label-down v below (omega (arith, less, low))

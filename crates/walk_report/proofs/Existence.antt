@@ -20,11 +20,11 @@ use Rattle.route_walks.proofs.Facts.{attained-by_walk, contains-one, walk-of_att
 use Rattle.csr_graph.proofs.Facts.{no_arc}
 use Rattle.walk_report.specs.declared.hop.TheConstants.{NONE}
 use Rattle.walk_report.specs.Hop.{AreFromOneSource, AreHops}
-use Rattle.walk_report.specs.Parent.{AreFirstTails, IsParent, Leads}
+use Rattle.walk_report.specs.Parent.{IsParent, Leads}
 use Rattle.walk_report.specs.Search.{IsTightBelow}
 use Rattle.walk_report.specs.Existence.{HopsAndParentsExist}
 use Rattle.walk_report.proofs.LeastWalks.{first-step, hops-below-inf, label-le-cost, labels-up-to}
-use Rattle.walk_report.proofs.Tails.{parents-done}
+use Rattle.walk_report.proofs.Tails.{AreLeastTails, tails-done}
 
 -- a step is a tight arc that counts 1
 record IsStep (label : ℕ → ℕ) (arcs : List ArcRec) (step : ArcRec) : Type 0 where
@@ -325,12 +325,23 @@ hops_and_parents_exist law n arcs s labels few graph inside least =
     let hops = map (λ count. min count NONE) counts.0 in
     let first : ℕ → ℕ = λ v. (first-of label (slice_index hops) v arcs n).0 in
     let parents = map first (range_with_len 0 n) in
-    let tails : AreFirstTails n arcs label (slice_index hops) n parents =
+    let firsts : (v : ℕ) → v < n → IsFirst label (slice_index hops) v arcs n (slice_index parents v) =
+    λ v below.
+    let is = get_or-map-range_with_len first 0 n v v 0 below (omega arith) in
+    subst (IsFirst label (slice_index hops) v arcs n) (sym is) (first-of label (slice_index hops) v arcs n).1 in
+    let tails : AreLeastTails n arcs label (slice_index hops) (λ u. u < n) parents =
     record {
       count = length-map-range_with_len first 0 n;
-      first = λ v below.
-          let is = get_or-map-range_with_len first 0 n v v 0 below (omega arith) in
-          subst (IsFirst label (slice_index hops) v arcs n) (sym is) (first-of label (slice_index hops) v arcs n).1;
+      some = λ v below.
+          elim (firsts v below) [
+            | inl none ↦ inl none.0
+            | inr parent ↦ inr parent.leads
+          ];
+      least = λ v below u low leads.
+          elim (firsts v below) [
+            | inl none ↦ absurd (none.1 u low leads)
+            | inr parent ↦ parent.least u leads
+          ];
     } in
     let from : AreFromOneSource n arcs labels hops =
     record {
@@ -341,4 +352,4 @@ hops_and_parents_exist law n arcs s labels few graph inside least =
       least = labels-up-to INF least;
       exact = hops-below-inf least exact;
     } in
-    (hops, parents, exact, parents-done few graph from tails)
+    (hops, parents, exact, tails-done (λ u. u < n) few graph from (λ u below _. below) tails)

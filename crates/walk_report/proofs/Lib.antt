@@ -2,7 +2,9 @@ mod LeastWalks
 mod Searching
 mod Filling
 mod Tails
+mod Queued
 mod Printing
 mod Determined
 mod Agreeing
+mod Telling
 mod Existence

@@ -13,6 +13,11 @@ use Rattle.walk_report.specs.Parent.{AreParents, LeadBack}
 use Rattle.walk_report.specs.Printed.{printed_walk, GoesThrough, PrintedWalksAreWalks, PrintedWalksBelowAreWalks}
 use Rattle.walk_report.proofs.LeastWalks.{hops-below-inf}
 
+-- a printed walk has a vertex
+pub printed_walk-some : (parent : ℕ → ℕ) (h v : ℕ) → 0 < length (printed_walk parent h v)
+printed_walk-some parent zero v = omega arith
+printed_walk-some parent (suc h) v = omega (arith, length_push (printed_walk parent h (parent v)) v)
+
 -- where parents lead back, a printed walk goes through vertices
 pub printed_walk-within : {hops parents : List ℕ} → LeadBack hops parents
     → (h v : ℕ) → v < length hops → slice_index hops v ≡ h → h < NONE

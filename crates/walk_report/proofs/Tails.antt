@@ -1,8 +1,8 @@
--- The first tail that leads to a vertex is the least, where tails are passed in rising order.
-use Rattle.std.proofs.Common.{◌≡◌, ◌∙◌, ℕ, ◌+◌, ◌<◌, ◌≤◌, List, length, slice_index, set}
-use Rattle.std.proofs.Common.{replicate, sym, ap, refl, arith, inl, inr, below_more}
+-- The least tail that leads to a vertex is its parent, once all tails with a hop are passed.
+use Rattle.std.proofs.Common.{◌≡◌, ◌∙◌, ◌⊎◌, ℕ, ◌+◌, ◌<◌, ◌≤◌, List, length, slice_index, set}
+use Rattle.std.proofs.Common.{replicate, sym, subst, refl, arith, inl, inr}
 use Rattle.std.specs.List.{Contains}
-use Rattle.std.proofs.lemmas.Bool.{cases_eq, cases_lt}
+use Rattle.std.proofs.lemmas.Bool.{cases_eq}
 use Rattle.std.proofs.lemmas.List.{get_or-set_same, get_or-set_other, length-set, get_or-replicate, length-replicate}
 use Rattle.std.proofs.lemmas.List.Elements.{All-contains}
 use Rattle.route_walks.specs.declared.graph.ArcRec.{ArcRec}
@@ -12,98 +12,152 @@ use Rattle.csr_graph.specs.declared.target.Target.{Target}
 use Rattle.csr_graph.specs.Graph.{arc_to}
 use Rattle.walk_report.specs.declared.hop.TheConstants.{NONE}
 use Rattle.walk_report.specs.Hop.{AreFromOneSource}
-use Rattle.walk_report.specs.Parent.{IsLeading, AreFirstTails, AreParents, LeadBack}
-use Rattle.walk_report.proofs.Filling.{IsFilled}
+use Rattle.walk_report.specs.Parent.{IsLeading, Leads, AreLedFrom, AreParents, LeadBack}
 use Rattle.walk_report.proofs.LeastWalks.{some-leads, hop-lt}
 
--- at first no vertex has a parent
-pub tails-none : (n : ℕ) (arcs : List ArcRec) (label hop : ℕ → ℕ) → AreFirstTails n arcs label hop 0 (replicate n NONE)
-tails-none n arcs label hop = record {
-  count = length-replicate n NONE;
-  first = λ v below. inl (get_or-replicate n v NONE 0 below, λ u low. absurd (omega arith));
-}
+-- parents while a tail is passed: it is the new one of some vertices to which it leads, where the old one is higher
+pub record AreLed (n : ℕ) (arcs : List ArcRec) (label hop : ℕ → ℕ) (tail : ℕ) (old new : List ℕ) : Type 0 where
+  pub count : length new ≡ length old
+  pub vertices : length old ≡ n
+  pub lower : (v : ℕ) → slice_index new v ≤ slice_index old v
+  pub led : (v : ℕ) → (slice_index new v ≡ slice_index old v)
+      ⊎ ((slice_index new v ≡ tail) × Leads arcs label hop tail v)
 
--- a tail is the parent of a vertex to which it leads and to which no tail below does
-pub tails-put : {n : ℕ} {arcs : List ArcRec} {label hop : ℕ → ℕ} {tail : ℕ} {parents : List ℕ} → n ≤ MAX_VERTICES
-    → IsGraph n arcs → AreFirstTails n arcs label hop tail parents
+-- at first none has changed
+pub led-none : {n : ℕ} {arcs : List ArcRec} {label hop : ℕ → ℕ} {tail : ℕ} {parents : List ℕ} → length parents ≡ n
+    → AreLed n arcs label hop tail parents parents
+led-none count = record { count = refl; vertices = count; lower = λ v. omega arith; led = λ v. inl refl }
+
+-- the tail is below the parent of a vertex to which it leads
+pub led-put : {n : ℕ} {arcs : List ArcRec} {label hop : ℕ → ℕ} {tail : ℕ} {old new : List ℕ}
+    → AreLed n arcs label hop tail old new
     → (target : Target) → Contains arcs (arc_to tail target) × (target.head < n)
-    → IsLeading label hop (arc_to tail target) → slice_index parents target.head ≡ NONE
-    → AreFirstTails n arcs label hop tail (set parents target.head tail)
-tails-put {n = n} {arcs = arcs} {tail = tail} {parents = parents} few graph tails target at leading unset =
+    → IsLeading label hop (arc_to tail target) → tail < slice_index new target.head
+    → AreLed n arcs label hop tail old (set new target.head tail)
+led-put {n = n} {arcs = arcs} {label = label} {hop = hop} {tail = tail} {old = old} {new = new} led target at leading less =
     let head = target.head in
+    let here : slice_index (set new head tail) head ≡ tail =
+    get_or-set_same new head tail 0 (omega (arith, led.count, led.vertices, at.1)) in
+    let others : (v : ℕ) → (v ≡ head → ⊥) → slice_index (set new head tail) v ≡ slice_index new v =
+    λ v other. get_or-set_other new head v tail 0 other in
     record {
-      count = length-set parents head tail ∙ tails.count;
-      first = λ v below.
-          elim (cases_eq head v) [
-            | inr other ↦
-                rw (get_or-set_other parents head v tail 0 (λ is. other (sym is))) (tails.first v below)
+      count = length-set new head tail ∙ led.count;
+      vertices = led.vertices;
+      lower = λ v.
+          elim (cases_eq v head) [
+            | inl same ↦ rw same (omega (arith, here, less, led.lower head))
+            | inr other ↦ omega (arith, others v other, led.lower v)
+          ];
+      led = λ v.
+          elim (cases_eq v head) [
             | inl same ↦
-                rw (← same, get_or-set_same parents head tail 0 (omega (arith, tails.count, at.1)))
-                (inr (record {
-                  leads = record { weight = target.weight; within = at.0; leading = leading };
-                  least = λ other leads.
-                      elim (tails.first head at.1) [
-                        | inl none ↦
-                            elim (cases_lt other tail) [
-                              | inl low ↦ absurd (none.1 other low leads)
-                              | inr high ↦ high
-                            ]
-                        | inr parent ↦
-                            absurd (omega (arith, (All-contains (IsArcBelow n) arcs _ graph parent.leads.within).0))
-                      ];
-                }))
+                rw same
+                (inr (here, record { weight = target.weight; within = at.0; leading = leading }))
+            | inr other ↦ rw (others v other) (led.led v)
           ];
     }
 
--- a tail is passed once each vertex to which it leads has a parent
-pub tails-next : {n : ℕ} {arcs : List ArcRec} {label hop : ℕ → ℕ} {tail : ℕ} {parents : List ℕ}
-    → AreFirstTails n arcs label hop tail parents
-    → ((arc : ArcRec) → Contains arcs arc → arc.tail ≡ tail → IsFilled (IsLeading label hop) parents arc)
-    → AreFirstTails n arcs label hop (tail + 1) parents
-tails-next tails filled = record {
-  count = tails.count;
-  first = λ v below.
-      elim (tails.first v below) [
-        | inr parent ↦ inr parent
-        | inl none ↦
-            inl (none.0, below_more _ _ none.1 (λ leads. filled _ leads.within refl leads.leading none.0))
-      ];
+-- the tail is passed once no vertex to which it leads has a higher parent
+pub led-all : {n : ℕ} {arcs : List ArcRec} {label hop : ℕ → ℕ} {tail : ℕ} {old new : List ℕ}
+    → AreLed n arcs label hop tail old new
+    → ((arc : ArcRec) → Contains arcs arc → arc.tail ≡ tail → IsLeading label hop arc → slice_index new arc.head ≤ tail)
+    → AreLedFrom arcs label hop tail old new
+led-all led filled = record {
+  count = led.count;
+  lower = led.lower;
+  led = led.led;
+  reached = λ v leads. filled _ leads.within refl leads.leading;
 }
 
 -- a tail without a hop leads nowhere
-pub tails-past : {n : ℕ} {arcs : List ArcRec} {label hop : ℕ → ℕ} {tail : ℕ} {parents : List ℕ}
-    → AreFirstTails n arcs label hop tail parents → hop tail ≡ NONE → ((v : ℕ) → hop v ≤ NONE)
-    → AreFirstTails n arcs label hop (tail + 1) parents
-tails-past {hop = hop} tails none fits =
-    tails-next tails (λ arc within is leading.
-    absurd (omega (arith, leading.nearer, ap hop is, none, fits arc.head)))
+pub led-past : {arcs : List ArcRec} {label hop : ℕ → ℕ} {tail : ℕ} {parents : List ℕ}
+    → hop tail ≡ NONE → ((v : ℕ) → hop v ≤ NONE) → AreLedFrom arcs label hop tail parents parents
+led-past none fits = record {
+  count = refl;
+  lower = λ v. omega arith;
+  led = λ v. inl refl;
+  reached = λ v leads. absurd (omega (arith, leads.leading.nearer, none, fits v));
+}
 
--- with all tails passed, first tails are parents
-pub parents-done : {n : ℕ} {arcs : List ArcRec} {labels hops parents : List ℕ} → n ≤ MAX_VERTICES → IsGraph n arcs
-    → AreFromOneSource n arcs labels hops
-    → AreFirstTails n arcs (slice_index labels) (slice_index hops) n parents → AreParents n arcs labels hops parents
-parents-done {n = n} {arcs = arcs} {hops = hops} {parents = parents} few graph from tails = record {
+-- each of n vertices has NONE or a vertex that leads to it, and no tail that is passed and leads to it is lower
+pub record AreLeastTails (n : ℕ) (arcs : List ArcRec) (label hop : ℕ → ℕ) (IsPassed : ℕ → Type 0) (parents : List ℕ)
+    : Type 0 where
+  pub count : length parents ≡ n
+  pub some : (v : ℕ) → v < n
+      → (slice_index parents v ≡ NONE) ⊎ Leads arcs label hop (slice_index parents v) v
+  pub least : (v : ℕ) → v < n → (u : ℕ) → IsPassed u → Leads arcs label hop u v → slice_index parents v ≤ u
+
+-- at first no vertex has a parent
+pub tails-none : (n : ℕ) (arcs : List ArcRec) (label hop : ℕ → ℕ) (IsPassed : ℕ → Type 0) → ((u : ℕ) → IsPassed u → ⊥)
+    → AreLeastTails n arcs label hop IsPassed (replicate n NONE)
+tails-none n arcs label hop IsPassed nothing = record {
+  count = length-replicate n NONE;
+  some = λ v below. inl (get_or-replicate n v NONE 0 below);
+  least = λ v below u passed. absurd (nothing u passed);
+}
+
+-- one more tail is passed
+pub tails-next : {n : ℕ} {arcs : List ArcRec} {label hop : ℕ → ℕ} {tail : ℕ} {old new : List ℕ}
+    → (IsPassed IsPassed' : ℕ → Type 0) → ((u : ℕ) → IsPassed' u → IsPassed u ⊎ (u ≡ tail))
+    → AreLeastTails n arcs label hop IsPassed old → AreLedFrom arcs label hop tail old new
+    → AreLeastTails n arcs label hop IsPassed' new
+tails-next {arcs = arcs} {label = label} {hop = hop} {tail = tail} IsPassed IsPassed' more tails led = record {
+  count = led.count ∙ tails.count;
+  some = λ v below.
+      elim (led.led v) [
+        | inl same ↦ rw same (tails.some v below)
+        | inr put ↦ inr (rw put.0 put.1)
+      ];
+  least = λ v below u passed leads.
+      elim (more u passed) [
+        | inl before ↦ omega (arith, tails.least v below u before leads, led.lower v)
+        | inr same ↦
+            let here : Leads arcs label hop tail v = subst (λ (x : ℕ). Leads arcs label hop x v) same leads in
+            omega (arith, led.reached v here, same)
+      ];
+}
+
+-- with all tails passed that have a hop, the least tails are parents
+pub tails-done : {n : ℕ} {arcs : List ArcRec} {labels hops parents : List ℕ} (IsPassed : ℕ → Type 0)
+    → n ≤ MAX_VERTICES → IsGraph n arcs → AreFromOneSource n arcs labels hops
+    → ((u : ℕ) → u < n → slice_index hops u < NONE → IsPassed u)
+    → AreLeastTails n arcs (slice_index labels) (slice_index hops) IsPassed parents → AreParents n arcs labels hops parents
+tails-done {n = n} {arcs = arcs} {hops = hops} {parents = parents} IsPassed few graph from all tails = record {
   count = tails.count;
   source = λ v below zero_hop.
-      elim (tails.first v below) [
-        | inl none ↦ none.0
-        | inr parent ↦ absurd (omega (arith, parent.leads.leading.nearer))
+      elim (tails.some v below) [
+        | inl none ↦ none
+        | inr leads ↦ absurd (omega (arith, leads.leading.nearer, zero_hop))
       ];
   none = λ v below no_hop.
-      elim (tails.first v below) [
-        | inl none ↦ none.0
-        | inr parent ↦
+      elim (tails.some v below) [
+        | inl none ↦ none
+        | inr leads ↦
             let u = slice_index parents v in
-            let nearer : slice_index hops u + 1 ≡ slice_index hops v = parent.leads.leading.nearer in
-            let in_graph : u < n = (All-contains (IsArcBelow n) arcs _ graph parent.leads.within).0 in
-            absurd (omega (arith, hop-lt from.few graph from.least from.within from.exact u in_graph (omega arith)))
+            let nearer : slice_index hops u + 1 ≡ slice_index hops v = leads.leading.nearer in
+            let in_graph : u < n = (All-contains (IsArcBelow n) arcs _ graph leads.within).0 in
+            absurd
+            (omega (
+              arith,
+              hop-lt from.few graph from.least from.within from.exact u in_graph (omega (arith, nearer, no_hop)),
+              nearer,
+              no_hop,
+            ))
       ];
   parent = λ v below far some.
-      elim (tails.first v below) [
-        | inr parent ↦ parent
-        | inl none ↦
-            let found = some-leads from.few graph from.least from.within from.exact v below far some in
-            absurd (none.1 found.0 (All-contains (IsArcBelow n) arcs _ graph found.1.within).0 found.1)
+      let found = some-leads from.few graph from.least from.within from.exact v below far some in
+      let within = (All-contains (IsArcBelow n) arcs _ graph found.1.within).0 in
+      let low = tails.least v below found.0 (all found.0 within (omega (arith, found.1.leading.nearer, some))) found.1 in
+      elim (tails.some v below) [
+        | inl none ↦ absurd (omega (arith, none, low, within, few))
+        | inr leads ↦ record {
+          leads = leads;
+          least = λ other more.
+              tails.least v below other
+              (all other (All-contains (IsArcBelow n) arcs _ graph more.within).0
+              (omega (arith, more.leading.nearer, some)))
+              more;
+        }
       ];
 }
 

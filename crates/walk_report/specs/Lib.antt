@@ -3,3 +3,5 @@ pub mod Parent
 pub mod Printed
 pub mod Search
 pub mod Existence
+pub mod Told
+pub mod Kept

@@ -40,12 +40,14 @@ pub record LeadBack (hops parents : List ℕ) : Type 0 where
   pub nearer : (v : ℕ) → v < length hops → 0 < slice_index hops v → slice_index hops v < NONE
       → slice_index hops (slice_index parents v) + 1 ≡ slice_index hops v
 
--- each of n vertices has its parent, or has NONE, and then no vertex below `tail` leads to it
-pub record AreFirstTails (n : ℕ) (arcs : List ArcRec) (label hop : ℕ → ℕ) (tail : ℕ) (parents : List ℕ) : Type 0 where
-  pub count : length parents ≡ n
-  pub first : (v : ℕ) → v < n
-      → ((slice_index parents v ≡ NONE) × ((u : ℕ) → u < tail → ¬ Leads arcs label hop u v))
-      ⊎ IsParent arcs label hop v (slice_index parents v)
+-- parents after one more tail: it is the new parent where it leads and the old one is higher. Not part of what a caller is
+-- promised
+pub record AreLedFrom (arcs : List ArcRec) (label hop : ℕ → ℕ) (tail : ℕ) (old new : List ℕ) : Type 0 where
+  pub count : length new ≡ length old
+  pub lower : (v : ℕ) → slice_index new v ≤ slice_index old v
+  pub led : (v : ℕ) → (slice_index new v ≡ slice_index old v)
+      ⊎ ((slice_index new v ≡ tail) × Leads arcs label hop tail v)
+  pub reached : (v : ℕ) → Leads arcs label hop tail v → slice_index new v ≤ tail
 
 -- lists with the same arcs have the same hops and the same parents
 abbrev pub HopsAndParentsFollowTheArcs : Type 0

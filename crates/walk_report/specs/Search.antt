@@ -1,6 +1,6 @@
 -- The search for hops: what is true of the hops so far and of the queue. Not part of what a caller is
 -- promised.
-use Rattle.std.specs.Prelude.{◌≡◌, ℕ, ◌+◌, ◌<◌, ◌≤◌, ◌==◌, List, length, slice_index}
+use Rattle.std.specs.Prelude.{◌≡◌, ℕ, ◌+◌, ◌<◌, ◌≤◌, ◌==◌, ◌⊎◌, List, length, slice_index}
 use Rattle.std.specs.Prelude.{count_by, Contains}
 use Rattle.route_walks.specs.declared.graph.ArcRec.{ArcRec}
 use Rattle.walk_report.specs.declared.hop.TheConstants.{NONE}
@@ -43,3 +43,8 @@ pub record IsSearch (limit n : ℕ) (arcs : List ArcRec) (label : ℕ → ℕ)
   pub queued : (v : ℕ) → v < n → slice_index hops v < NONE
       → (k : ℕ) × (k < length queue) × (slice_index queue k ≡ v)
   pub visited : (k : ℕ) → k < next → IsVisited limit arcs label (slice_index hops) (slice_index queue k)
+
+-- a list of numbers of n vertices, which is NONE for each that is not in the queue
+pub record AreQueued (n : ℕ) (numbers queue : List ℕ) : Type 0 where
+  pub count : length numbers ≡ n
+  pub others : (v : ℕ) → v < n → Contains queue v ⊎ (slice_index numbers v ≡ NONE)

@@ -1,11 +1,11 @@
 //! Hops, by breadth-first search along tight arcs: those that give their head its least label.
 
-ghost use Rattle.std.specs.Prelude.{◌≡◌, ◌+◌, ◌<◌, ◌↔◌, length, slice_index, IsTrue, IfOk, OnOk};
+ghost use Rattle.std.specs.Prelude.{◌≡◌, ◌+◌, ◌<◌, ◌↔◌, [], length, replicate, slice_index, All, IsTrue, IfOk, OnOk};
 ghost use Rattle.route_walks.specs.Label.{AreLeastLabels};
 ghost use Rattle.route_walks.specs.Limit.{AreLeastLabelsUpTo};
 ghost use Rattle.route_walks.specs.Operators.{seeds_from};
 ghost use Rattle.walk_report.specs.Hop.{AreHops, AreHopsBelow, AreFromOneSource};
-ghost use Rattle.walk_report.specs.Search.{IsTightBelow, IsVisited, IsSearch};
+ghost use Rattle.walk_report.specs.Search.{AreQueued, IsTightBelow, IsVisited, IsSearch};
 
 use csr_graph::{Csr, Target};
 use route_walks::{ArcRec, INF, Memory};
@@ -48,23 +48,47 @@ pub fn hops_below(
 {
     let n = csr.n() as usize;
     let mut hops = vec![in alloc; NONE; n]?;
-    if limit == 0 {
-        // Not even the source is below it.
-        return Ok(hops);
-    }
     let mut queue = Vec::with_capacity(alloc, n)?;
-    hops[s as usize] = 0;
-    queue.push(s)?;
-    let mut next = 0;
-    while next < queue.len() {
-        visit(csr, labels, limit, next, &mut hops, &mut queue)?;
-        next += 1;
-    }
+    search(csr, labels, s, limit, &mut hops, &mut queue)?;
     Ok(hops)
 }
 
-/// Gives a hop to each vertex below the limit that has none and that a tight arc joins to the vertex at
-/// the place `next` of the queue, and puts it into the queue.
+/// Gives each vertex whose label is below the limit its hop, where no vertex has one yet, and puts it into the queue.
+/// Where memory is refused, each vertex that has a hop is in the queue.
+pub(crate) fn search(
+    csr: &Csr,
+    labels: &[u64],
+    s: u32,
+    limit: u64,
+    hops: &mut [u32],
+    queue: &mut Vec<u32>,
+) -> Result<(), Memory>
+    requires source { s < csr.now.n }
+    requires least { AreLeastLabelsUpTo limit csr.now.n csr.now.arcs (seeds_from s) labels.now }
+    requires blank { hops.old ≡ replicate csr.now.n NONE }
+    requires empty { queue.old.items ≡ [] }
+    ensures exact { OnOk result (AreHopsBelow limit csr.now.n csr.now.arcs s labels.now hops.new) }
+    ensures within { All (λ v. v < csr.now.n) queue.new.items }
+    ensures queued { AreQueued csr.now.n hops.new queue.new.items }
+{
+    // The proof alone needs this: it ensures that arcs lead to vertices.
+    let _ = csr.n();
+    if limit == 0 {
+        // Not even the source is below it.
+        return Ok(());
+    }
+    queue.push(s)?;
+    hops[s as usize] = 0;
+    let mut next = 0;
+    while next < queue.len() {
+        visit(csr, labels, limit, next, hops, queue)?;
+        next += 1;
+    }
+    Ok(())
+}
+
+/// Queues each vertex without a hop that a tight arc below the limit joins to the vertex at the place `next` of the
+/// queue, and gives it a hop.
 fn visit(
     csr: &Csr,
     labels: &[u64],
@@ -77,8 +101,8 @@ fn visit(
     requires place { next < length queue.old.items }
     requires search { IsSearch limit csr.now.n csr.now.arcs (slice_index labels.now) hops.old
         queue.old.items next }
-    ensures search { OnOk result (IsSearch limit csr.now.n csr.now.arcs (slice_index labels.now)
-        hops.new queue.new.items next) }
+    ensures search { IsSearch limit csr.now.n csr.now.arcs (slice_index labels.now) hops.new
+        queue.new.items next }
     ensures visited { OnOk result (IsVisited limit csr.now.arcs (slice_index labels.now)
         (slice_index hops.new) (slice_index queue.new.items next)) }
     ensures source { OnOk result (slice_index queue.new.items 0 ≡ slice_index queue.old.items 0) }
@@ -94,8 +118,9 @@ fn visit(
             weight,
         };
         if hops[head as usize] == NONE && is_tight(labels, limit, &arc) {
-            hops[head as usize] = hop;
+            // This comes first, since memory may be refused: a vertex with a hop is in the queue.
             queue.push(head)?;
+            hops[head as usize] = hop;
         }
     }
     Ok(())

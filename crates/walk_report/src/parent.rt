@@ -1,9 +1,9 @@
-//! Parents, by one pass over the arcs by rising tail: so the first tail that leads to a vertex is the
-//! least.
+//! Parents, by passes over the arcs of each vertex that has a hop: the least tail that leads to a vertex is its parent.
 
-ghost use Rattle.std.specs.Prelude.{◌≡◌, ◌+◌, ◌<◌, ◌↔◌, length, slice_index, IsTrue, IfOk};
+ghost use Rattle.std.specs.Prelude.{◌≡◌, ◌<◌, ◌↔◌, length, replicate, slice_index, All, IsTrue, IfOk};
 ghost use Rattle.walk_report.specs.Hop.{AreFromOneSource};
-ghost use Rattle.walk_report.specs.Parent.{AreParents, LeadBack, IsLeading, AreFirstTails};
+ghost use Rattle.walk_report.specs.Parent.{AreParents, LeadBack, IsLeading, AreLedFrom};
+ghost use Rattle.walk_report.specs.Search.{AreQueued};
 
 use crate::hop::NONE;
 use csr_graph::{Csr, Target};
@@ -28,15 +28,37 @@ pub fn parents(alloc: Global, csr: &Csr, labels: &[u64], hops: &[u32]) -> Result
     Ok(parents)
 }
 
-/// Makes `tail` the parent of each vertex to which it leads and that has none yet.
+/// Gives each vertex that has a hop its parent, where no vertex has one yet. Reads the rows of the given vertices
+/// alone: those that have a hop, in any order.
+pub(crate) fn parents_among(
+    csr: &Csr,
+    labels: &[u64],
+    hops: &[u32],
+    vertices: &[u32],
+    parents: &mut [u32],
+)
+    requires from_one_source { AreFromOneSource csr.now.n csr.now.arcs labels.now hops.now }
+    requires within { All (λ v. v < csr.now.n) vertices.now }
+    requires all { AreQueued csr.now.n hops.now vertices.now }
+    requires blank { parents.old ≡ replicate csr.now.n NONE }
+    ensures exact { AreParents csr.now.n csr.now.arcs labels.now hops.now parents.new }
+    ensures back { LeadBack hops.now parents.new }
+{
+    // The proof alone needs this: it ensures that arcs lead to vertices.
+    let _ = csr.n();
+    for tail in vertices {
+        lead_from(csr, labels, hops, *tail, parents);
+    }
+}
+
+/// Makes `tail` the parent of each vertex to which it leads and that has none yet, or a higher one.
 fn lead_from(csr: &Csr, labels: &[u64], hops: &[u32], tail: u32, parents: &mut [u32])
     requires vertex { tail < csr.now.n }
     requires labels { length labels.now ≡ csr.now.n }
     requires hops { length hops.now ≡ csr.now.n }
-    requires before { AreFirstTails csr.now.n csr.now.arcs (slice_index labels.now)
-        (slice_index hops.now) tail parents.old }
-    ensures { AreFirstTails csr.now.n csr.now.arcs (slice_index labels.now) (slice_index hops.now)
-        (tail + 1) parents.new }
+    requires parents { length parents.old ≡ csr.now.n }
+    ensures { AreLedFrom csr.now.arcs (slice_index labels.now) (slice_index hops.now) tail
+        parents.old parents.new }
 {
     // One without a hop leads nowhere, so only the rows of the others are read.
     if hops[tail as usize] == NONE {
@@ -44,7 +66,7 @@ fn lead_from(csr: &Csr, labels: &[u64], hops: &[u32], tail: u32, parents: &mut [
     }
     for &Target { head, weight } in csr.row(tail) {
         let arc = ArcRec { tail, head, weight };
-        if parents[head as usize] == NONE && is_leading(labels, hops, &arc) {
+        if tail < parents[head as usize] && is_leading(labels, hops, &arc) {
             parents[head as usize] = tail;
         }
     }

@@ -1,8 +1,9 @@
 //! The walk to a vertex, from its end to its beginning by parents.
 
-ghost use Rattle.std.specs.Prelude.{◌≡◌, ◌<◌, ◌↔◌, length, slice_index, IsNone, IfOk, IfSome, All};
+ghost use Rattle.std.specs.Prelude.{◌≡◌, ◌<◌, ◌↔◌, length, map, slice_index, IsNone, IfOk, IfSome, All};
 ghost use Rattle.walk_report.specs.Parent.{LeadBack};
 ghost use Rattle.walk_report.specs.Printed.{printed_walk};
+ghost use Rattle.walk_report.specs.Told.{walk_by, walks_in};
 
 use crate::hop::NONE;
 use route_walks::Memory;
@@ -36,4 +37,36 @@ pub fn walk_to(
         walk[k] = vertex;
     }
     Ok(Some(walk))
+}
+
+/// The walks to these vertices, in their order; no vertices where none leads.
+pub(crate) fn walks_by(
+    alloc: Global,
+    hops: &[u32],
+    parents: &[u32],
+    targets: &[u32],
+) -> Result<Vec<Vec<u32>>, Memory>
+    requires targets { All (λ t. t < length hops.now) targets.now }
+    requires back { LeadBack hops.now parents.now }
+    ensures { IfOk result (λ walks.
+        walks_in walks.items ≡ map (walk_by hops.now parents.now) targets.now) }
+{
+    let mut walks = Vec::with_capacity(alloc, targets.len())?;
+    for target in targets {
+        let walk = walk_or_none(alloc, hops, parents, *target)?;
+        walks.push(walk)?;
+    }
+    Ok(walks)
+}
+
+/// The walk to `v`; no vertices where none leads.
+fn walk_or_none(alloc: Global, hops: &[u32], parents: &[u32], v: u32) -> Result<Vec<u32>, Memory>
+    requires vertex { v < length hops.now }
+    requires back { LeadBack hops.now parents.now }
+    ensures { IfOk result (λ walk. walk.items ≡ walk_by hops.now parents.now v) }
+{
+    match walk_to(alloc, hops, parents, v)? {
+        Some(walk) => Ok(walk),
+        None => Ok(Vec::new(alloc)),
+    }
 }

@@ -1,5 +1,5 @@
 -- Each turn reaches the head of one more arc of the row.
-use Rattle.std.proofs.Common.{◌≡◌, ◌∙◌, ℕ, ◌<◌, length, slice_index, get_or, set, List, [], ◌∷◌, ◌++◌, sym, ap, arith}
+use Rattle.std.proofs.Common.{◌≡◌, ◌≢◌, ◌∙◌, ℕ, ◌<◌, length, slice_index, get_or, set, List, [], ◌∷◌, ◌++◌, sym, ap, arith}
 use Rattle.std.specs.List.{Contains}
 use Rattle.std.proofs.lemmas.List.{get_or_read, get_or-set_other, get_or_append_left, length_push}
 use Rattle.std.proofs.lemmas.List.Elements.{All-contains}
@@ -74,19 +74,20 @@ loop-head-preserved c =
     let u = c.index-u.result.now in
     let at = row_arcs c.args.csr.now rows u row c.row-row.ensures.targets k no_target (omega arith) in
     let Tight = IsTightBelow c.args.limit (slice_index c.args.labels.now) in
+    let HasHop : ℕ → Type 0 = λ hop. hop ≢ NONE in
     let inv = c.loop-head.invariant in
     elim c.if-hops-head.branch [
       | then-hops-head+then-is_tight+in_ok-push b ↦
           rw (b.hops-is, b.queue-is, b.in_ok-push.ensures.items) (
             reaches rows inv.0 (get_or row k no_target) at
                 (b.is_tight.ensures.0 b.if-is_tight.true) b.if-hops-head.true,
-            filled-put Tight c.loop-head.hops u row k _ (omega arith) (omega (arith, at.1, inv.0.search.vertices))
-                (omega (arith, search-small inv.0.search rows.vertices inv.0.place, inv.0.hop)) inv.1,
+            filled-put Tight HasHop c.loop-head.hops u row k _ (omega arith) (omega (arith, at.1, inv.0.search.vertices))
+                (λ is. absurd (omega (arith, is, search-small inv.0.search rows.vertices inv.0.place, inv.0.hop))) inv.1,
           )
       | else-hops-head b ↦
           rw (b.hops-is, b.queue-is) (
             inv.0,
-            filled-pass Tight c.loop-head.hops u row k (omega arith) inv.1
+            filled-pass Tight HasHop c.loop-head.hops u row k (omega arith) inv.1
                 (elim b.else-hops-head.branch [
                   | else-hops-head-via-then-hops-head+else-is_tight b' ↦
                       λ tight. absurd (false≢true (sym b'.if-is_tight.false ∙ b'.is_tight.ensures.1 tight))
@@ -100,7 +101,7 @@ returns-clause-visited c arc within tail tight =
     let graph = c.args.csr.now in
     let inv = c.loop-head.invariant in
     let filled =
-    filled-all (IsTightBelow c.args.limit (slice_index c.args.labels.now)) c.loop-head.hops c.index-u.result.now c.row-row.result.now
+    filled-all (IsTightBelow c.args.limit (slice_index c.args.labels.now)) (λ hop. hop ≢ NONE) c.loop-head.hops c.index-u.result.now c.row-row.result.now
     c.loop-head.head-index
     graph.arcs c.row-row.ensures.targets (omega arith) inv.1 arc within (tail ∙ inv.0.vertex) tight in
     let head : arc.head < graph.n =

@@ -1,5 +1,6 @@
-use Rattle.std.proofs.Common.{◌≡◌, ℕ, ◌+◌, ◌<◌, List, length, slice_index, take}
+use Rattle.std.proofs.Common.{◌≡◌, ◌≢◌, ℕ, ◌+◌, ◌<◌, List, length, slice_index, take}
 use Rattle.csr_graph.specs.Graph.{Graph}
+use Rattle.walk_report.specs.declared.hop.TheConstants.{NONE}
 use Rattle.walk_report.specs.Search.{IsTightBelow, IsSearch}
 use Rattle.walk_report.proofs.Filling.{AreFilled}
 use Rattle.walk_report.proofs.hop.visit.Given as goal
@@ -16,4 +17,4 @@ abbrev pub invariant-loop-head : goal.invariant-loop-head
 invariant-loop-head l =
     let label = slice_index l.labels in
     IsVisiting l.limit l.csr label l.hops l.queue.items l.next l.u l.hop (slice_index l.fn.queue.items 0)
-    × AreFilled (IsTightBelow l.limit label) l.hops l.u (take l.head-index l.row)
+    × AreFilled (IsTightBelow l.limit label) (λ hop. hop ≢ NONE) l.hops l.u (take l.head-index l.row)

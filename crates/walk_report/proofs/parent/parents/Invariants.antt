@@ -1,7 +1,7 @@
-use Rattle.std.proofs.Common.{slice_index}
-use Rattle.walk_report.specs.Parent.{AreFirstTails}
+use Rattle.std.proofs.Common.{◌<◌, slice_index}
+use Rattle.walk_report.proofs.Tails.{AreLeastTails}
 use Rattle.walk_report.proofs.parent.parents.Given as goal
 
 abbrev pub invariant-loop-tail : goal.invariant-loop-tail
 invariant-loop-tail l =
-    AreFirstTails l.csr.n l.csr.arcs (slice_index l.labels) (slice_index l.hops) l.tail l.parents.items
+    AreLeastTails l.csr.n l.csr.arcs (slice_index l.labels) (slice_index l.hops) (λ u. u < l.tail) l.parents.items

@@ -1,0 +1,74 @@
+//! Hops and parents that are blank again after each question.
+
+ghost use Rattle.std.specs.Prelude.{◌≡◌, ◌<◌, All, IfOk, length};
+ghost use Rattle.route_walks.specs.Limit.{AreLeastLabelsUpTo};
+ghost use Rattle.route_walks.specs.Operators.{seeds_from};
+ghost use Rattle.walk_report.specs.Kept.{AreBlank, AreKept};
+ghost use Rattle.walk_report.specs.Told.{AreWalksTo};
+
+use crate::hop::{NONE, search};
+use crate::parent::parents_among;
+use crate::printed::walks_by;
+use csr_graph::Csr;
+use route_walks::Memory;
+use std::alloc::Global;
+
+/// Hops and parents of all vertices, and the queue of a search. Vertices that aren't in the queue have neither.
+#[derive(Drop)]
+pub(crate) struct Lists {
+    pub hops: Vec<u32>,
+    pub parents: Vec<u32>,
+    pub queue: Vec<u32>,
+}
+
+impl Lists {
+    /// The lists of `n` vertices, none of which has a hop or a parent.
+    pub(crate) fn new(alloc: Global, n: u32) -> Result<Lists, Memory>
+        ensures { IfOk result (AreBlank n) }
+    {
+        let hops = vec![in alloc; NONE; n as usize]?;
+        let parents = vec![in alloc; NONE; n as usize]?;
+        let queue = Vec::new(alloc);
+        Ok(Lists {
+            hops,
+            parents,
+            queue,
+        })
+    }
+
+    /// The walks from a source to these targets, in lists that are blank before.
+    pub(crate) fn walks_to(
+        &mut self,
+        alloc: Global,
+        csr: &Csr,
+        labels: &[u64],
+        source: u32,
+        limit: u64,
+        targets: &[u32],
+    ) -> Result<Vec<Vec<u32>>, Memory>
+        requires blank { AreBlank csr.now.n self.old }
+        requires source { source < csr.now.n }
+        requires least { AreLeastLabelsUpTo limit csr.now.n csr.now.arcs (seeds_from source) labels.now }
+        requires targets { All (λ t. t < csr.now.n) targets.now }
+        ensures kept { AreKept csr.now.n self.new }
+        ensures walks { IfOk result (λ walks.
+            AreWalksTo limit csr.now.n csr.now.arcs source labels.now targets.now walks.items) }
+    {
+        // The proof alone needs this: it ensures that arcs lead to vertices.
+        let _ = csr.n();
+        search(csr, labels, source, limit, &mut self.hops, &mut self.queue)?;
+        parents_among(csr, labels, &self.hops, &self.queue, &mut self.parents);
+        walks_by(alloc, &self.hops, &self.parents, targets)
+    }
+
+    /// Takes hop and parent from each vertex in the queue, and empties the queue.
+    pub(crate) fn wipe(&mut self)
+        requires { AreKept (length self.old.hops.items) self.old }
+        ensures { AreBlank (length self.old.hops.items) self.new }
+    {
+        while let Some(v) = self.queue.pop() {
+            self.hops[v as usize] = NONE;
+            self.parents[v as usize] = NONE;
+        }
+    }
+}

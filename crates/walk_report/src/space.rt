@@ -1,0 +1,74 @@
+//! The walks of one question after another.
+
+ghost use Rattle.std.specs.Prelude.{◌≡◌, ◌<◌, All, IfOk};
+ghost use Rattle.route_walks.specs.Limit.{AreLeastLabelsUpTo};
+ghost use Rattle.route_walks.specs.Operators.{seeds_from};
+ghost use Rattle.walk_report.specs.Told.{AreWalksTo};
+
+use crate::lists::Lists;
+use csr_graph::Csr;
+use route_walks::Memory;
+use std::alloc::Global;
+use std::marker::Model;
+
+/// A space for the walks of one question after another in graphs of so many vertices (a workspace, as the `DfsSpace`
+/// of petgraph is). It takes 8 bytes a vertex, and 4 to 8 for each vertex that a question comes to.
+#[derive(Drop)]
+pub struct WalkSpace {
+    lists: Lists,
+}
+
+impl Model for WalkSpace {
+    ghost use Rattle.std.specs.Prelude.{ℕ, length};
+    ghost use Rattle.walk_report.specs.Kept.{AreBlank};
+
+    ghost Value = { ℕ };
+
+    ghost view = { λ s. length s.lists.hops.items };
+
+    ghost invariant = { λ s. AreBlank (length s.lists.hops.items) s.lists };
+}
+
+impl WalkSpace {
+    /// A space for graphs of `n` vertices.
+    pub fn new(alloc: Global, n: u32) -> Result<WalkSpace, Memory>
+        ensures { IfOk result (λ space. space ≡ n) }
+    {
+        let lists = Lists::new(alloc, n)?;
+        Ok(WalkSpace { lists })
+    }
+
+    /// The number of vertices of its graphs.
+    pub fn vertices(&self) -> usize
+        ensures { result ≡ self.now }
+    {
+        self.lists.hops.len()
+    }
+
+    /// The vertices of the printed walk to each of some targets, in their order, by labels that are least up to a
+    /// limit. No vertices where no walk leads to the target, or where its label is not below the limit. Takes time in
+    /// proportion to the vertices whose label is below the limit and their arcs, and to the walks.
+    pub fn walks_to(
+        &mut self,
+        alloc: Global,
+        csr: &Csr,
+        labels: &[u64],
+        source: u32,
+        limit: u64,
+        targets: &[u32],
+    ) -> Result<Vec<Vec<u32>>, Memory>
+        requires vertices { self.old ≡ csr.now.n }
+        requires source { source < csr.now.n }
+        requires least { AreLeastLabelsUpTo limit csr.now.n csr.now.arcs (seeds_from source) labels.now }
+        requires targets { All (λ t. t < csr.now.n) targets.now }
+        ensures vertices { self.new ≡ self.old }
+        ensures walks { IfOk result (λ walks.
+            AreWalksTo limit csr.now.n csr.now.arcs source labels.now targets.now walks.items) }
+    {
+        let walks = self
+            .lists
+            .walks_to(alloc, csr, labels, source, limit, targets);
+        self.lists.wipe();
+        walks
+    }
+}
