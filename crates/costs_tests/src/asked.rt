@@ -1,6 +1,8 @@
-//! Tables of networks with their costs, beside the plain way at random, and sources side by side.
+//! Tables of networks with their costs, beside the plain way at random, sources side by side, and what is kept from one
+//! call to the next.
 
 mod draws;
+mod kept;
 mod networks;
 mod refusals;
 mod sources;
@@ -32,6 +34,17 @@ pub(crate) fn six<H: Threads + Abort + Sync>(rt: &H, alloc: Global) -> Result<Ne
     ensures { IfOk result (λ network. network.n ≡ 6) }
 {
     network_of(rt, alloc, 6, &EXAMPLE_ARCS, Cost::Weight)
+}
+
+/// One vertex after the other, 3,000 of them.
+fn path<H: Threads + Abort + Sync>(rt: &H, alloc: Global) -> Result<Network, Fail>
+    ensures { IfOk result (λ network. network.n ≡ 3000) }
+{
+    let mut arcs = Vec::with_capacity(alloc, 2_999)?;
+    for v in 0..2_999_u32 {
+        arcs.push(ArcRec::new(v, v + 1, 1))?;
+    }
+    network_of(rt, alloc, 3_000, &arcs, Cost::Weight)
 }
 
 /// Asserts that these are the costs of a row of a table.

@@ -1,12 +1,13 @@
 //! Worked examples of hops, parents and walks.
 
-ghost use Rattle.std.specs.Prelude.{◌≡◌, ◌<◌, IfOk};
+ghost use Rattle.std.specs.Prelude.{◌≡◌, ◌<◌, true, All, IfOk};
 ghost use Rattle.route_walks.specs.Label.{AreLeastLabels};
 ghost use Rattle.route_walks.specs.Limit.{AreLeastLabelsUpTo};
 ghost use Rattle.route_walks.specs.Operators.{seeds_from};
 ghost use Rattle.walk_report.specs.Hop.{AreFromOneSource};
 
 mod refusals;
+mod spaces;
 
 use csr_graph::{Csr, MAX_ARCS, MAX_VERTICES};
 use route_walks::laws::least_up_to_a_limit;
@@ -19,7 +20,7 @@ use std::test::Fail;
 use walk_report::{NONE, hops, hops_below, parents, walk_to};
 
 /// The least distances from `s`.
-fn distances(alloc: Global, csr: &Csr, s: u32) -> Result<Vec<u64>, Memory>
+pub(crate) fn distances(alloc: Global, csr: &Csr, s: u32) -> Result<Vec<u64>, Memory>
     requires { s < csr.now.n }
     ensures { IfOk result (λ labels.
         AreLeastLabels csr.now.n csr.now.arcs (seeds_from s) labels.items) }
@@ -45,6 +46,13 @@ fn distances_below(alloc: Global, csr: &Csr, s: u32, limit: u64) -> Result<Vec<u
     Ok(labels)
 }
 
+/// Whether these are vertices of a graph of `n`.
+pub(crate) fn are_below(n: u32, targets: &[u32]) -> bool
+    ensures { result ≡ true → All (λ t. t < n) targets.now }
+{
+    targets.iter().all(|t| *t < n)
+}
+
 /// What is expected of a graph: for each vertex its hop, its parent and its walk, empty for none.
 #[derive(Clone, Copy)]
 struct Want<'a> {
@@ -53,7 +61,8 @@ struct Want<'a> {
     walks: &'a [&'a [u32]],
 }
 
-fn build(rt: &impl Abort, alloc: Global, n: u32, arcs: &[ArcRec]) -> Result<Csr, Fail>
+/// The rows of these arcs among `n` vertices.
+pub(crate) fn build(rt: &impl Abort, alloc: Global, n: u32, arcs: &[ArcRec]) -> Result<Csr, Fail>
     ensures { IfOk result (λ csr. csr.n ≡ n) }
 {
     let graph = is_graph(n, arcs);

@@ -11,6 +11,8 @@ pub mod Existence
 pub mod Queries
 pub mod Growing
 pub mod WalksBelow
+pub mod NearPairs
 pub mod Within
 pub mod Told
+pub mod Listed
 pub mod Short

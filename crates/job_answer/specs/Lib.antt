@@ -12,3 +12,5 @@ pub mod Parts
 pub mod Existence
 pub mod Sinks
 pub mod Solves
+pub mod NearPairs
+pub mod NearBlock

@@ -24,7 +24,7 @@ use crate::sink::{PIECE, Sink};
 use crate::watch::{Phase, Watch};
 use dimacs_text::{Ask, Job};
 use job_reader::{ReadWatch, read_job_from};
-use least_costs::{Start, Workers};
+use least_costs::{Start, Workers, Workspace};
 use obim_engine::Gate;
 use route_walks::laws::least_labels_follow_the_arcs;
 use std::alloc::Global;
@@ -33,6 +33,10 @@ use std::sync::Wait;
 use std::thread::Threads;
 use std::time::Clock;
 use walk_report::laws::hops_and_parents_follow_the_arcs;
+
+/// The number of sources from which on the pairs of a job are worth the room for searches by the thread that asks, and the
+/// time that reversing the rows takes.
+const MANY_SOURCES: usize = 32;
 
 /// Reads a job text to its end and writes its answer: exactly the bytes that the least labels of the
 /// job make, whatever the settings and the gate are. A fault of the text is found before anything is
@@ -151,7 +155,10 @@ fn answer_job<H: Threads + Wait + Clock + Sync, W: Write, G: Gate + Sync>(
         added,
     } = job;
     let threads = asked.settings.workers as usize;
-    let graphs = graphs_for(rt, alloc, asked.answer, n, arcs, added, threads)?;
+    let searches = has_many_sources(&ask);
+    let turns = searches && !lines.has_walks() && added.is_none();
+    let mut graphs = graphs_for(rt, alloc, asked.answer, n, arcs, added, threads)?;
+    reverse_if(turns, alloc, &mut graphs);
     let rows = graphs.network.rows();
     watch.see_rows(rows.n(), rows.arc_count());
     watch.end(rt, Phase::Rows);
@@ -159,12 +166,45 @@ fn answer_job<H: Threads + Wait + Clock + Sync, W: Write, G: Gate + Sync>(
         graphs: &graphs,
         lines,
     };
-    answer_question(rt, alloc, writer, kind, &ask, asked, gate, watch)
+    let mut kept = Some(Workspace::new().searching(searches));
+    answer_question(rt, alloc, writer, kind, &ask, asked, gate, &mut kept, watch)
+}
+
+/// Reverses the rows of the network, if it is so. No graph changes.
+fn reverse_if(turns: bool, alloc: Global, graphs: &mut Graphs)
+    ensures { graphs.new ≡ graphs.old }
+{
+    if turns {
+        graphs.network.reverse(alloc);
+    }
+}
+
+/// Tells if the pairs of a job have so many sources that searches by the thread that asks are worth their room.
+fn has_many_sources(ask: &Ask) -> bool {
+    match ask {
+        Ask::Pairs(pairs) => count_sources(pairs) >= MANY_SOURCES,
+        Ask::Absent | Ask::Sources(_) => false,
+    }
+}
+
+/// Counts the pairs that have another source than the one before.
+fn count_sources(pairs: &[(u32, u32)]) -> usize {
+    let mut count: usize = 0;
+    let mut last = u32::MAX;
+    for (source, _) in pairs {
+        if *source != last {
+            count = count.saturating_add(1);
+            last = *source;
+        }
+    }
+    count
 }
 
 /// Writes the answer to a question, by networks that are kept: exactly the bytes that answer a job of the same graph
 /// which asks the same. Walks come of the lines alone. Nothing is written after the answer, and the writer is flushed
 /// once, at its end.
+///
+/// What is kept from one question to the next is taken, and given back with the answer.
 pub fn answer_question<H: Threads + Wait + Clock + Sync, W: Write, G: Gate + Sync>(
     rt: &H,
     alloc: Global,
@@ -173,6 +213,7 @@ pub fn answer_question<H: Threads + Wait + Clock + Sync, W: Write, G: Gate + Syn
     ask: &Ask,
     asked: &Asked,
     gate: &G,
+    kept: &mut Option<Workspace>,
     watch: &mut impl Watch,
 ) -> Result<(), Fault>
     requires graphs { AreGraphs kind.graphs.now }
@@ -196,7 +237,7 @@ pub fn answer_question<H: Threads + Wait + Clock + Sync, W: Write, G: Gate + Syn
     least_labels_follow_the_arcs();
     hops_and_parents_follow_the_arcs();
     let asked = asked_for(asked, kind.graphs, ask);
-    write_text(rt, alloc, writer, kind, ask, &asked, gate, watch)
+    write_text(rt, alloc, writer, kind, ask, &asked, gate, kept, watch)
 }
 
 /// Whether a job asks for nothing: it has no section of queries, and the answer needs one.
@@ -231,6 +272,7 @@ fn write_text<H: Threads + Wait + Clock + Sync, W: Write, G: Gate + Sync>(
     ask: &Ask,
     asked: &Asked,
     gate: &G,
+    kept: &mut Option<Workspace>,
     watch: &mut impl Watch,
 ) -> Result<(), Fault>
     requires graphs { AreGraphs kind.graphs.now }
@@ -255,7 +297,7 @@ fn write_text<H: Threads + Wait + Clock + Sync, W: Write, G: Gate + Sync>(
         waiting: &mut waiting,
         piece: PIECE,
     };
-    put_text(rt, alloc, &mut sink, kind, ask, asked, gate, watch)?;
+    put_text(rt, alloc, &mut sink, kind, ask, asked, gate, kept, watch)?;
     sink.finish()
 }
 
@@ -268,6 +310,7 @@ fn put_text<H: Threads + Wait + Clock + Sync, W: Write, G: Gate + Sync>(
     ask: &Ask,
     asked: &Asked,
     gate: &G,
+    kept: &mut Option<Workspace>,
     watch: &mut impl Watch,
 ) -> Result<(), Fault>
     requires graphs { AreGraphs kind.graphs.now }
@@ -291,14 +334,18 @@ fn put_text<H: Threads + Wait + Clock + Sync, W: Write, G: Gate + Sync>(
                 graphs: kind.graphs,
                 lines: Lines::Each { walks: false },
             };
-            let mut workers = Workers::new(asked.settings, gate, None);
+            let mut workers = Workers::new(asked.settings, gate, kept.take());
             let start = Start::Everywhere;
-            put_solved(rt, alloc, sink, &kind, start, &mut workers, watch)
+            put_solved(rt, alloc, sink, &kind, start, &mut workers, watch)?;
+            *kept = Some(workers.into_kept());
+            Ok(())
         }
         (_, Ask::Sources(sources)) => {
-            put_sources(rt, alloc, sink, kind, sources, asked, gate, watch)
+            put_sources(rt, alloc, sink, kind, sources, asked, gate, kept, watch)
         }
-        (_, Ask::Pairs(pairs)) => put_pairs(rt, alloc, sink, kind, pairs, asked, gate, watch),
+        (_, Ask::Pairs(pairs)) => {
+            put_pairs(rt, alloc, sink, kind, pairs, asked, gate, kept, watch)
+        }
         (_, Ask::Absent) => unreachable!(),
     }
 }

@@ -21,12 +21,13 @@ use crate::graphs::{Graphs, Grown, teams_for};
 use crate::laws::{blocks_are_unique, lines_are_unique};
 use crate::line_walks::{LineWalks, walks_below};
 use crate::lines::{put_components, put_labels, put_raw, put_totals, put_within};
+use crate::near_block::{near_block, put_near};
 use crate::sink::{NoWriter, Sink, most_bytes};
 use crate::solves::{costs_after, costs_from};
 use crate::team_watch::{SolveCount, TeamWatch};
 use crate::watch::{Phase, Watch};
 use answer_lines::put_grown;
-use least_costs::{CostsBelow, Network, Part, Rounds, Runner, Start, Team, TeamGate, Workers};
+use least_costs::{CostsBelow, Network, Part, Rounds, Start, Team, TeamGate, Workers, Workspace};
 use obim_engine::{Gate, Settings};
 use route_walks::laws::least_labels_exist;
 use route_walks::{MAX_VERTICES, Memory};
@@ -73,6 +74,7 @@ pub fn put_sources<H: Threads + Wait + Clock + Sync, W: Write, G: Gate + Sync>(
     sources: &[u32],
     asked: &Asked,
     gate: &G,
+    kept: &mut Option<Workspace>,
     watch: &mut impl Watch,
 ) -> Result<(), Fault>
     requires graphs { AreGraphs kind.graphs.now }
@@ -93,8 +95,10 @@ pub fn put_sources<H: Threads + Wait + Clock + Sync, W: Write, G: Gate + Sync>(
         solves: SolveCount::new(),
     };
     let mut rounds = Rounds::new(alloc, sources.len(), teams, asked.settings.workers);
-    let mut workers = Workers::new(asked.settings, gate, None);
-    put_blocks(rt, alloc, sink, &tasks, &mut rounds, &mut workers, watch)
+    let mut workers = Workers::new(asked.settings, gate, kept.take());
+    put_blocks(rt, alloc, sink, &tasks, &mut rounds, &mut workers, watch)?;
+    *kept = Some(workers.into_kept());
+    Ok(())
 }
 
 /// Puts the block of each source in turn.
@@ -103,7 +107,7 @@ fn put_blocks<H: Threads + Wait + Clock + Sync, W: Write, G: Gate + Sync>(
     alloc: Global,
     sink: &mut Sink<'_, W>,
     tasks: &SourceTasks<'_>,
-    rounds: &mut Rounds<BlockText, Runner>,
+    rounds: &mut Rounds<BlockText, Workspace>,
     workers: &mut Workers<'_, G>,
     watch: &mut impl Watch,
 ) -> Result<(), Fault>
@@ -132,7 +136,7 @@ fn put_block_at<H: Threads + Wait + Clock + Sync, W: Write, G: Gate + Sync>(
     sink: &mut Sink<'_, W>,
     tasks: &SourceTasks<'_>,
     place: usize,
-    rounds: &mut Rounds<BlockText, Runner>,
+    rounds: &mut Rounds<BlockText, Workspace>,
     workers: &mut Workers<'_, G>,
     watch: &mut impl Watch,
 ) -> Result<(), Fault>
@@ -161,7 +165,7 @@ fn put_block_at<H: Threads + Wait + Clock + Sync, W: Write, G: Gate + Sync>(
 fn take_block<H: Threads + Wait + Clock + Sync, G: Gate + Sync>(
     rt: &H,
     alloc: Global,
-    rounds: &mut Rounds<BlockText, Runner>,
+    rounds: &mut Rounds<BlockText, Workspace>,
     tasks: &SourceTasks<'_>,
     gate: &G,
     place: usize,
@@ -176,7 +180,7 @@ fn take_block<H: Threads + Wait + Clock + Sync, G: Gate + Sync>(
         rt,
         alloc,
         tasks,
-        &|place: usize, team: Team, kept: &mut Option<Runner>| -> Option<BlockText>
+        &|place: usize, team: Team, kept: &mut Option<Workspace>| -> Option<BlockText>
             requires sync { IsSync H.row × IsSync G.row }
             requires tasks { AreSourceTasks tasks.now }
             ensures { IfSome result (IsBlockText tasks.entry.now place) }
@@ -199,7 +203,7 @@ fn make_block<H: Threads + Wait + Clock + Sync, G: Gate + Sync>(
     gate: &G,
     place: usize,
     team: Team,
-    kept: &mut Option<Runner>,
+    kept: &mut Option<Workspace>,
 ) -> Option<BlockText>
     requires { AreSourceTasks tasks.now }
     ensures { IfSome result (IsBlockText tasks.now place) }
@@ -214,7 +218,7 @@ fn make_block<H: Threads + Wait + Clock + Sync, G: Gate + Sync>(
     };
     let source = tasks.sources[place];
     let text = held_block(rt, alloc, &tasks.kind, source, &mut workers, &mut watch).ok();
-    *kept = workers.into_kept();
+    *kept = Some(workers.into_kept());
     text
 }
 
@@ -245,7 +249,8 @@ fn held_block<H: Threads + Wait + Clock + Sync, G: Gate + Sync>(
     Ok(BlockText { bytes })
 }
 
-/// Solves from a start, and puts the block of the costs. Where the network grows, what comes after it is put too.
+/// Solves from a start, and puts the block of the costs, or that of a list of near vertices. Where the network grows,
+/// what comes after it is put too.
 pub fn put_solved<H: Threads + Wait + Clock + Sync, W: Write, G: Gate + Sync>(
     rt: &H,
     alloc: Global,
@@ -269,6 +274,9 @@ pub fn put_solved<H: Threads + Wait + Clock + Sync, W: Write, G: Gate + Sync>(
     blocks_are_unique();
     let (graphs, lines) = (kind.graphs, kind.lines);
     let network = &graphs.network;
+    if let Some(near) = near_block(alloc, graphs, lines, start, workers) {
+        return put_near(rt, sink, network, lines, start, &near, watch);
+    }
     let goal = lines.goal();
     let costs = costs_from(rt, alloc, network, start, goal, workers, watch)?;
     put_block(alloc, sink, network, lines, start, &costs)?;

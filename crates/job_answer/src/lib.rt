@@ -33,6 +33,8 @@ mod graphs;
 pub mod laws;
 mod line_walks;
 mod lines;
+mod near_block;
+mod near_pairs;
 mod pairs;
 mod saving;
 mod sink;

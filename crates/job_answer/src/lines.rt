@@ -2,13 +2,13 @@
 
 ghost use Rattle.std.specs.Prelude.{◌≡◌, ◌≢◌, ◌<◌, ◌≤◌, ◌++◌, [], length, max};
 ghost use Rattle.std.specs.Prelude.{All, IfErr, IfSome, OnErr, OnOk};
-ghost use Rattle.answer_lines.specs.Lines.{components_text, distances_text};
+ghost use Rattle.answer_lines.specs.Lines.{components_text, distances_text, source_text};
 ghost use Rattle.answer_lines.specs.Raw.{raw_text};
 ghost use Rattle.answer_lines.specs.Totals.{totals_text};
 ghost use Rattle.job_answer.specs.LineWalks.{AreReachedWithin, HasWalkAt, text_by};
 ghost use Rattle.job_answer.specs.Outcome.{IsWritingFault};
 ghost use Rattle.job_answer.specs.Sinks.{Cuts, Is, IsSame, Puts};
-ghost use Rattle.job_answer.specs.Within.{line_within, text_within};
+ghost use Rattle.job_answer.specs.Within.{line_within, listed_text, text_within};
 
 use crate::fault::Fault;
 use crate::line_walks::{LineWalks, put_walk_line};
@@ -123,6 +123,28 @@ pub fn put_within<W: Write>(
     put_source(sink.waiting, source)?;
     for (v, label) in labels.iter().enumerate() {
         put_vertex(alloc, sink.waiting, v as u32, *label, bound, walks)?;
+        sink.send_if_full()?;
+    }
+    Ok(())
+}
+
+/// Puts the line of a source and those of these vertices, each with its label.
+pub fn put_listed<W: Write>(
+    sink: &mut Sink<'_, W>,
+    source: u32,
+    found: &[(u32, u64)],
+) -> Result<(), Fault>
+    requires source { source < MAX_VERTICES }
+    requires vertices { All (λ entry. entry.0 < MAX_VERTICES) found.now }
+    ensures same { IsSame sink.old sink.new }
+    ensures put { OnOk result (Puts W.contents (Is (source_text source ++ listed_text found.now)) sink.old sink.new) }
+    ensures prefix { OnErr result (Cuts W.contents (Is (source_text source ++ listed_text found.now)) sink.old sink.new) }
+    ensures few { found.now ≢ [] → OnOk result (length sink.new.waiting.now.items < max 1 sink.new.piece) }
+    ensures kinds { IfErr result IsWritingFault }
+{
+    put_source(sink.waiting, source)?;
+    for entry in found {
+        put_label(sink.waiting, entry.0, entry.1)?;
         sink.send_if_full()?;
     }
     Ok(())

@@ -23,7 +23,7 @@ use crate::walked_pairs::put_all_walked;
 use crate::watch::{Phase, Watch};
 use answer_lines::{put_grown, put_pair};
 use least_costs::laws::costs_are_labels;
-use least_costs::{PairCosts, Progress, Solver, Team, TeamGate};
+use least_costs::{PairCosts, Progress, Solver, Team, TeamGate, Workspace};
 use obim_engine::Gate;
 use route_walks::{INF, MAX_VERTICES, Memory};
 use std::alloc::Global;
@@ -50,6 +50,8 @@ impl<W: Watch> Progress for PairWatch<'_, W> {
 /// Puts the lines of each pair in turn: the least cost from its source to its target, with its walk where
 /// walks are asked for. Where the network grows, the same in the grown one comes after each pair's lines.
 ///
+/// Targets near their source are found without workers, if what is kept has room for that.
+///
 /// Without walks each source is solved once, however the pairs stand, and their costs are kept until all
 /// are known. With walks only pairs that stand side by side share the solve of their source, and no cost
 /// is kept from one source to the next.
@@ -61,6 +63,7 @@ pub fn put_pairs<H: Threads + Wait + Clock + Sync, W: Write, G: Gate + Sync>(
     pairs: &[(u32, u32)],
     asked: &Asked,
     gate: &G,
+    kept: &mut Option<Workspace>,
     watch: &mut impl Watch,
 ) -> Result<(), Fault>
     requires graphs { AreGraphs kind.graphs.now }
@@ -76,9 +79,9 @@ pub fn put_pairs<H: Threads + Wait + Clock + Sync, W: Write, G: Gate + Sync>(
 {
     let graphs = kind.graphs;
     if kind.lines.has_walks() {
-        return put_all_walked(rt, alloc, sink, graphs, pairs, asked, gate, watch);
+        return put_all_walked(rt, alloc, sink, graphs, pairs, asked, gate, kept, watch);
     }
-    let costs = costs_between(rt, alloc, graphs, pairs, asked, gate, watch)?;
+    let costs = costs_between(rt, alloc, graphs, pairs, asked, gate, kept, watch)?;
     put_lines(sink, graphs, pairs, &costs)
 }
 
@@ -90,6 +93,7 @@ fn costs_between<H: Threads + Wait + Clock + Sync, G: Gate + Sync>(
     pairs: &[(u32, u32)],
     asked: &Asked,
     gate: &G,
+    kept: &mut Option<Workspace>,
     watch: &mut impl Watch,
 ) -> Result<PairCosts, Fault>
     requires graphs { AreGraphs graphs.now }
@@ -110,10 +114,10 @@ fn costs_between<H: Threads + Wait + Clock + Sync, G: Gate + Sync>(
     watch.see_answered(0, pairs.len());
     let mut watch = PairWatch { watch };
     let costs = match &graphs.grown {
-        None => solver.between_grown(rt, alloc, pairs, None, &mut watch)?,
+        None => solver.between_grown(rt, alloc, pairs, None, kept, &mut watch)?,
         Some(grown) => {
             let grown = Some(&grown.network);
-            solver.between_grown(rt, alloc, pairs, grown, &mut watch)?
+            solver.between_grown(rt, alloc, pairs, grown, kept, &mut watch)?
         }
     };
     Ok(costs)

@@ -7,6 +7,7 @@ ghost use Rattle.job_answer.specs.Outcome.{IsWritingFault};
 ghost use Rattle.job_answer.specs.Solves.{AreCostsFor, EndsWithSource, IsForQueries};
 
 use crate::fault::Fault;
+use crate::graphs::Graphs;
 use crate::watch::{Phase, Watch};
 use least_costs::{CostsBelow, Network, Start, Workers};
 use obim_engine::{Gate, Goal};
@@ -61,6 +62,13 @@ pub fn costs_after<H: Threads + Wait + Clock + Sync, G: Gate + Sync>(
     watch.see_solves(1);
     watch.end(rt, Phase::Solving);
     Ok(costs)
+}
+
+/// Pairs, and the networks in which their costs are least.
+#[derive(Drop)]
+pub struct PairQueries<'a> {
+    pub graphs: &'a Graphs,
+    pub pairs: &'a [(u32, u32)],
 }
 
 /// One solve: its labels answer the queries from `first` up to `end`.

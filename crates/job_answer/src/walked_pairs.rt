@@ -21,12 +21,13 @@ use crate::fault::Fault;
 use crate::graphs::{Graphs, teams_for};
 use crate::laws::blocks_are_unique;
 use crate::line_walks::{LineWalks, put_walk_line, walks_below};
+use crate::near_pairs::{near_walks, put_found};
 use crate::sink::{NoWriter, Sink, most_bytes};
-use crate::solves::{Solve, costs_after, costs_from, next_source};
+use crate::solves::{PairQueries, Solve, costs_after, costs_from, next_source};
 use crate::team_watch::{SolveCount, TeamWatch};
 use crate::watch::{Phase, Watch};
 use answer_lines::{put_grown, put_pair};
-use least_costs::{Network, Part, Rounds, Runner, Start, Team, TeamGate, Workers};
+use least_costs::{Network, Part, Rounds, Start, Team, TeamGate, Workers, Workspace};
 use obim_engine::{Gate, Goal, Settings};
 use route_walks::laws::least_labels_exist;
 use route_walks::{MAX_VERTICES, Memory};
@@ -37,19 +38,14 @@ use std::thread::Threads;
 use std::time::Clock;
 use walk_report::laws::{hops_and_parents_exist, walks_below_agree};
 
-/// Pairs, and the networks in which their costs are least.
-#[derive(Drop)]
-pub struct PairQueries<'a> {
-    pub graphs: &'a Graphs,
-    pub pairs: &'a [(u32, u32)],
-}
-
 /// The pairs whose lines are asked for with walks. A task for those that stand side by side and have one source, at
 /// the place of the first, gives their lines.
 #[derive(Drop)]
 pub struct WalkTasks<'a> {
     pub queries: PairQueries<'a>,
     pub settings: &'a Settings,
+    /// True if a team's own thread searches before its workers are asked.
+    pub searches: bool,
     pub solves: SolveCount,
 }
 
@@ -75,6 +71,7 @@ pub fn put_all_walked<H: Threads + Wait + Clock + Sync, W: Write, G: Gate + Sync
     pairs: &[(u32, u32)],
     asked: &Asked,
     gate: &G,
+    kept: &mut Option<Workspace>,
     watch: &mut impl Watch,
 ) -> Result<(), Fault>
     requires pairs { All (IsPairWithin graphs.now.network.n) pairs.now }
@@ -89,12 +86,23 @@ pub fn put_all_walked<H: Threads + Wait + Clock + Sync, W: Write, G: Gate + Sync
     let tasks = WalkTasks {
         queries: PairQueries { graphs, pairs },
         settings: &asked.settings,
+        searches: does_search(kept),
         solves: SolveCount::new(),
     };
     let teams = teams_for(graphs, asked);
     let mut rounds = Rounds::new(alloc, pairs.len(), teams, asked.settings.workers);
-    let mut workers = Workers::new(asked.settings, gate, None);
-    put_all_lines(rt, alloc, sink, &tasks, &mut rounds, &mut workers, watch)
+    let mut workers = Workers::new(asked.settings, gate, kept.take());
+    put_all_lines(rt, alloc, sink, &tasks, &mut rounds, &mut workers, watch)?;
+    *kept = Some(workers.into_kept());
+    Ok(())
+}
+
+/// Tells if what is kept has room for searches.
+fn does_search(kept: &Option<Workspace>) -> bool {
+    match kept {
+        Some(kept) => kept.searches(),
+        None => false,
+    }
 }
 
 /// Puts the lines of each pair in turn.
@@ -103,7 +111,7 @@ fn put_all_lines<H: Threads + Wait + Clock + Sync, W: Write, G: Gate + Sync>(
     alloc: Global,
     sink: &mut Sink<'_, W>,
     tasks: &WalkTasks<'_>,
-    rounds: &mut Rounds<LinesText, Runner>,
+    rounds: &mut Rounds<LinesText, Workspace>,
     workers: &mut Workers<'_, G>,
     watch: &mut impl Watch,
 ) -> Result<(), Fault>
@@ -134,7 +142,7 @@ fn put_lines_at<H: Threads + Wait + Clock + Sync, W: Write, G: Gate + Sync>(
     sink: &mut Sink<'_, W>,
     tasks: &WalkTasks<'_>,
     first: usize,
-    rounds: &mut Rounds<LinesText, Runner>,
+    rounds: &mut Rounds<LinesText, Workspace>,
     workers: &mut Workers<'_, G>,
     watch: &mut impl Watch,
 ) -> Result<usize, Fault>
@@ -167,7 +175,7 @@ fn put_lines_at<H: Threads + Wait + Clock + Sync, W: Write, G: Gate + Sync>(
 fn take_lines<H: Threads + Wait + Clock + Sync, G: Gate + Sync>(
     rt: &H,
     alloc: Global,
-    rounds: &mut Rounds<LinesText, Runner>,
+    rounds: &mut Rounds<LinesText, Workspace>,
     tasks: &WalkTasks<'_>,
     gate: &G,
     place: usize,
@@ -182,7 +190,7 @@ fn take_lines<H: Threads + Wait + Clock + Sync, G: Gate + Sync>(
         rt,
         alloc,
         tasks,
-        &|place: usize, team: Team, kept: &mut Option<Runner>| -> Option<LinesText>
+        &|place: usize, team: Team, kept: &mut Option<Workspace>| -> Option<LinesText>
             requires sync { IsSync H.row × IsSync G.row }
             requires tasks { AreWalkTasks tasks.now }
             ensures { IfSome result (AreLines tasks.entry.now place) }
@@ -205,7 +213,7 @@ fn make_lines<H: Threads + Wait + Clock + Sync, G: Gate + Sync>(
     gate: &G,
     place: usize,
     team: Team,
-    kept: &mut Option<Runner>,
+    kept: &mut Option<Workspace>,
 ) -> Option<LinesText>
     requires { AreWalkTasks tasks.now }
     ensures { IfSome result (AreLines tasks.now place) }
@@ -214,12 +222,16 @@ fn make_lines<H: Threads + Wait + Clock + Sync, G: Gate + Sync>(
         return None;
     }
     let gate = TeamGate { gate, team };
-    let mut workers = Workers::new(team.settings(tasks.settings), &gate, kept.take());
+    let own = match kept.take() {
+        Some(own) => own,
+        None => Workspace::new().searching(tasks.searches),
+    };
+    let mut workers = Workers::new(team.settings(tasks.settings), &gate, Some(own));
     let mut watch = TeamWatch {
         solves: &tasks.solves,
     };
     let lines = held_lines(rt, alloc, &tasks.queries, place, &mut workers, &mut watch).ok();
-    *kept = workers.into_kept();
+    *kept = Some(workers.into_kept());
     lines
 }
 
@@ -256,7 +268,8 @@ fn held_lines<H: Threads + Wait + Clock + Sync, G: Gate + Sync>(
     })
 }
 
-/// Solves for some of the pairs, and puts their lines, each with its walk.
+/// Solves for some of the pairs, and puts their lines, each with its walk: by the thread that asks if their targets are
+/// near, and else by workers.
 fn put_solved_pairs<H: Threads + Wait + Clock + Sync, W: Write, G: Gate + Sync>(
     rt: &H,
     alloc: Global,
@@ -280,11 +293,46 @@ fn put_solved_pairs<H: Threads + Wait + Clock + Sync, W: Write, G: Gate + Sync>(
     let (graphs, pairs) = (queries.graphs, queries.pairs);
     let source = pairs[solve.first].0;
     let targets = targets_of(alloc, pairs, solve)?;
-    let walks = walks_to(rt, alloc, graphs, source, &targets, workers, watch)?;
-    let (walked, after) = (&walks.before, &walks.after);
-    put_walked(alloc, sink, queries, solve, walked, after)?;
+    match near_walks(alloc, graphs, source, &targets, workers) {
+        Some(found) => {
+            watch.see_solves(1);
+            watch.end(rt, Phase::Solving);
+            put_found(sink, queries, solve, &targets, &found)?;
+        }
+        None => put_by_workers(rt, alloc, sink, queries, solve, &targets, workers, watch)?,
+    }
     watch.end(rt, Phase::Writing);
     Ok(())
+}
+
+/// Solves for some of the pairs, which have these targets, by workers, and puts their lines, each with its walk.
+fn put_by_workers<H: Threads + Wait + Clock + Sync, W: Write, G: Gate + Sync>(
+    rt: &H,
+    alloc: Global,
+    sink: &mut Sink<'_, W>,
+    queries: &PairQueries<'_>,
+    solve: Solve,
+    targets: &[u32],
+    workers: &mut Workers<'_, G>,
+    watch: &mut impl Watch,
+) -> Result<(), Fault>
+    requires graphs { AreGraphs queries.now.graphs.now }
+    requires pairs { All (IsPairWithin queries.now.graphs.now.network.n) queries.now.pairs.now }
+    requires solve { IsForQueries queries.now.pairs.now solve }
+    requires targets { AreTargetsOf queries.now.pairs.now solve.first solve.end targets.now }
+    ensures same { IsSame sink.old sink.new }
+    ensures blocks { OnOk result (Puts W.contents (AreBlocks (IsWalkedBlock queries.now.graphs.now)
+        (slice_range queries.now.pairs.now solve.first solve.end)) sink.old sink.new) }
+    ensures prefix { OnErr result (Cuts W.contents (AreBlocks (IsWalkedBlock queries.now.graphs.now)
+        (drop solve.first queries.now.pairs.now)) sink.old sink.new) }
+    ensures kinds { IfErr result IsWritingFault }
+{
+    blocks_are_unique();
+    let (graphs, pairs) = (queries.graphs, queries.pairs);
+    let source = pairs[solve.first].0;
+    let walks = walks_to(rt, alloc, graphs, source, targets, workers, watch)?;
+    let (walked, after) = (&walks.before, &walks.after);
+    put_walked(alloc, sink, queries, solve, walked, after)
 }
 
 /// The targets of the pairs that a solve is for, in their order.

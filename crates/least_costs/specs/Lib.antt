@@ -1,3 +1,4 @@
+pub mod Near
 pub mod Network
 pub mod Faults
 pub mod Costs

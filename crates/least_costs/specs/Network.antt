@@ -1,6 +1,7 @@
 -- A network as contracts see it, and where walks begin in it.
-use Rattle.std.specs.Prelude.{◌≡◌, ℕ, ◌^◌, ◌<◌, ◌≤◌, List, ◌++◌, All, ⊤}
+use Rattle.std.specs.Prelude.{◌≡◌, ℕ, ◌^◌, ◌<◌, ◌≤◌, List, ◌++◌, All, IfSome, Option, ⊤}
 use Rattle.csr_graph.specs.Graph.{Graph}
+use Rattle.near_labels.specs.Meeting.{IsReversed}
 use Rattle.route_walks.specs.declared.graph.ArcRec.{ArcRec}
 use Rattle.route_walks.specs.declared.graph.Seed.{Seed}
 use Rattle.route_walks.specs.declared.graph.TheConstants.{MAX_VERTICES}
@@ -39,6 +40,11 @@ pub record IsNetwork (net : NetworkSeen) : Type 0 where
   pub ends : IsGraph net.n net.arcs
   pub light : AreLight net.arcs
   pub added_ends : IsGraph net.n net.added
+
+-- the rows of a network, and those of its reversed arcs, if they were made
+pub record AreRowsOf (net : NetworkSeen) (reversed : Option Graph) : Type 0 where
+  pub network : IsNetwork net
+  pub turned : IfSome reversed (IsReversed (graph_of net))
 
 -- it is the network of n vertices and these arcs, each of which costs what is said
 pub record IsNetworkOf (n : ℕ) (kind : Cost) (arcs : List ArcRec) (net : NetworkSeen) : Type 0 where

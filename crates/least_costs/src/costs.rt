@@ -2,7 +2,8 @@
 
 ghost use Rattle.std.specs.Prelude.{◌≡◌, ◌<◌, All, IfNone, IfOk, IfSome, length};
 ghost use Rattle.least_costs.specs.Costs.{AreCosts, AreCostsTo, AreLeastAt, AreLeastFrom, IsLeastCost, IsUnreached};
-ghost use Rattle.least_costs.specs.Network.{IsStartWithin};
+ghost use Rattle.least_costs.specs.Network.{IsStartWithin, seeds_at};
+ghost use Rattle.near_labels.specs.Noted.{AreLeastOf};
 
 use crate::network::Network;
 use crate::start::Start;
@@ -112,6 +113,30 @@ pub(crate) fn costs_at(
     let mut costs = Vec::with_capacity(alloc, vertices.len())?;
     for v in vertices {
         costs.push(cost_of(labels[*v as usize]))?;
+    }
+    Ok(costs)
+}
+
+/// The costs of some vertices, whose least labels stand in their order.
+pub(crate) fn costs_in_order(
+    alloc: Global,
+    network: &Network,
+    start: Start,
+    vertices: &[u32],
+    labels: &[u64],
+) -> Result<Vec<Option<u64>>, Memory>
+    requires start { IsStartWithin network.now.n start }
+    requires vertices { All (λ v. v < network.now.n) vertices.now }
+    requires least { AreLeastOf network.now.arcs (seeds_at network.now.n start) vertices.now labels.now }
+    ensures { IfOk result (λ costs. AreCostsTo network.now start vertices.now costs.items) }
+{
+    // A label of `INF` that is least means that there is no walk.
+    least_labels_exist();
+    inf_means_no_walk();
+    let _ = (network.n(), vertices.len());
+    let mut costs = Vec::with_capacity(alloc, labels.len())?;
+    for label in labels {
+        costs.push(cost_of(*label))?;
     }
     Ok(costs)
 }

@@ -11,11 +11,11 @@ use crate::costs::Costs;
 use crate::network::Network;
 use crate::plan::Plan;
 use crate::rounds::{Part, Rounds};
-use crate::runner::Runner;
 use crate::solver::Solver;
 use crate::start::Start;
 use crate::teams::{Team, TeamGate};
 use crate::workers::Workers;
+use crate::workspace::Workspace;
 use obim_engine::Gate;
 use route_walks::Memory;
 use std::alloc::Global;
@@ -43,7 +43,7 @@ pub struct Each<'a, G> {
     plan: Plan,
     // All workers, for a source that is solved in its turn.
     workers: Workers<'a, G>,
-    rounds: Rounds<Costs, Runner>,
+    rounds: Rounds<Costs, Workspace>,
     next: usize,
 }
 
@@ -114,7 +114,7 @@ impl<'a, G: Gate + Sync> Each<'a, G> {
 fn take_ahead<H: Threads + Wait + Clock + Sync, G: Gate + Sync>(
     rt: &H,
     alloc: Global,
-    rounds: &mut Rounds<Costs, Runner>,
+    rounds: &mut Rounds<Costs, Workspace>,
     asked: &Sources<'_>,
     plan: &Plan,
     gate: &G,
@@ -129,7 +129,7 @@ fn take_ahead<H: Threads + Wait + Clock + Sync, G: Gate + Sync>(
         rt,
         alloc,
         asked,
-        &|place: usize, team: Team, kept: &mut Option<Runner>| -> Option<Costs>
+        &|place: usize, team: Team, kept: &mut Option<Workspace>| -> Option<Costs>
             requires sync { IsSync H.row × IsSync G.row }
             requires sources { AreWithin asked.now.network.now asked.now.sources.now }
             ensures { IfSome result (IsFromPlace asked.entry.now place) }
@@ -148,7 +148,7 @@ fn solved_by<H: Threads + Wait + Clock + Sync, G: Gate + Sync>(
     gate: &G,
     place: usize,
     team: Team,
-    kept: &mut Option<Runner>,
+    kept: &mut Option<Workspace>,
 ) -> Option<Costs>
     requires sources { AreWithin asked.now.network.now asked.now.sources.now }
     ensures { IfSome result (IsFromPlace asked.now place) }
@@ -162,6 +162,6 @@ fn solved_by<H: Threads + Wait + Clock + Sync, G: Gate + Sync>(
     let costs = workers
         .costs_from(rt, alloc, asked.network, Start::At(source))
         .ok();
-    *kept = workers.into_kept();
+    *kept = Some(workers.into_kept());
     costs
 }

@@ -30,11 +30,13 @@
 #![tactic(auto)]
 
 mod below;
+mod budget;
 mod cost;
 mod costs;
 mod each;
 mod fault;
 pub mod laws;
+mod near;
 mod network;
 mod pairs;
 mod plan;
@@ -47,12 +49,14 @@ mod teams;
 mod walks;
 mod within;
 mod workers;
+mod workspace;
 
 pub use below::CostsBelow;
 pub use cost::Cost;
 pub use costs::Costs;
 pub use each::Each;
 pub use fault::NetworkFault;
+pub use near_labels::WalksFound;
 pub use network::{MOST_ARCS, Network};
 pub use pairs::PairCosts;
 pub use plan::{AtOnce, Plan};
@@ -65,3 +69,4 @@ pub use teams::{Team, TeamGate};
 pub use walks::Walks;
 pub use within::CostsWithin;
 pub use workers::Workers;
+pub use workspace::Workspace;

@@ -3,6 +3,7 @@
 ghost use Rattle.std.specs.Prelude.{◌≡◌, ◌+◌, ◌≤◌, ◌<◌, ◌^◌, ◌↔◌, ◌++◌, length, All};
 ghost use Rattle.std.specs.Prelude.{IfErr, IfNone, IfOk, IfSome, IsTrue};
 ghost use Rattle.csr_graph.specs.Graph.{IsInRows};
+ghost use Rattle.near_labels.specs.Meeting.{IsReversed};
 ghost use Rattle.route_walks.specs.Operators.{unit_weights};
 ghost use Rattle.route_walks.specs.Walk.{IsArcBelow, IsGraph, HaveSameArcs};
 ghost use Rattle.least_costs.specs.Faults.{IsFirstOutside, IsNetworkFault, IsGrowthFault};
@@ -20,24 +21,26 @@ use std::thread::Threads;
 pub const MOST_ARCS: usize = 1 << 30;
 
 /// A directed graph along whose arcs costs are least: made once, and asked as often as one likes. It keeps
-/// 8 bytes a vertex and 8 an arc, 16 if arcs are free both ways.
+/// 8 bytes a vertex and 8 an arc, 16 if arcs are free both ways; and as much again once its rows are reversed.
 #[derive(Debug, Drop)]
 pub struct Network {
     pub(crate) rows: Csr,
+    // The rows of the reversed arcs, if they were made.
+    reversed: Option<Csr>,
     cost: Cost,
     // Of the rows' arcs those that `with_arcs` added last.
     pub(crate) added: Vec<ArcRec>,
 }
 
 impl Model for Network {
-    ghost use Rattle.least_costs.specs.Network.{IsNetwork, NetworkSeen};
+    ghost use Rattle.least_costs.specs.Network.{AreRowsOf, NetworkSeen};
 
     ghost Value = { NetworkSeen };
 
     ghost view = { λ w. record { n = w.rows.n; cost = w.cost; arcs = w.rows.arcs; added = w.added.items } };
 
-    ghost invariant = { λ w. IsNetwork
-        (record { n = w.rows.n; cost = w.cost; arcs = w.rows.arcs; added = w.added.items }) };
+    ghost invariant = { λ w. AreRowsOf
+        (record { n = w.rows.n; cost = w.cost; arcs = w.rows.arcs; added = w.added.items }) w.reversed };
 }
 
 impl Network {
@@ -65,8 +68,12 @@ impl Network {
             None => {}
         }
         let rows = rows_of(rt, alloc, n, arcs, cost, threads)?;
-        let added = Vec::new(alloc);
-        Ok(Network { rows, cost, added })
+        Ok(Network {
+            rows,
+            reversed: None,
+            cost,
+            added: Vec::new(alloc),
+        })
     }
 
     /// The network with more arcs, each of which costs the same. Nothing of this one changes, and nothing is
@@ -93,7 +100,12 @@ impl Network {
             return Err(NetworkFault::Arcs);
         }
         let rows = grown_rows(rt, alloc, &self.rows, &added, threads)?;
-        Ok(Network { rows, cost, added })
+        Ok(Network {
+            rows,
+            reversed: None,
+            cost,
+            added,
+        })
     }
 
     /// The number of vertices.
@@ -109,6 +121,31 @@ impl Network {
         ensures { result.now ≡ graph_of self.now }
     {
         &self.rows
+    }
+
+    /// Makes the rows of the reversed arcs, so that pairs are searched from both ends. Takes the time and the memory of
+    /// the rows, and 12 bytes an arc for a while. Without them, as where memory is refused, the network serves as well.
+    pub fn reverse(&mut self, alloc: Global)
+        ensures { self.new ≡ self.old }
+    {
+        if self.reversed.is_none() {
+            self.reversed = match self.rows.reversed(alloc) {
+                Ok(reversed) => Some(reversed),
+                Err(_) => None,
+            };
+        }
+    }
+
+    /// Tells if the rows of the reversed arcs were made.
+    pub fn has_reversed(&self) -> bool {
+        self.reversed.is_some()
+    }
+
+    /// The rows of the reversed arcs, if they were made.
+    pub(crate) fn reversed(&self) -> Option<&Csr>
+        ensures { IfSome result (λ reversed. IsReversed (graph_of self.now) reversed.now) }
+    {
+        self.reversed.as_ref()
     }
 }
 

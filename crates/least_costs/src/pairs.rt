@@ -14,11 +14,11 @@ use crate::network::Network;
 use crate::plan::Plan;
 use crate::progress::{Progress, Unwatched};
 use crate::rounds::{Part, Rounds};
-use crate::runner::Runner;
 use crate::solver::Solver;
 use crate::start::Start;
 use crate::teams::{Team, TeamGate};
 use crate::workers::Workers;
+use crate::workspace::Workspace;
 use obim_engine::{Closed, Gate, Goal};
 use route_walks::Memory;
 use std::alloc::Global;
@@ -34,6 +34,8 @@ pub struct Pairs<'a> {
     pub grown: Option<&'a Network>,
     pub pairs: &'a [(u32, u32)],
     pub order: &'a [(u32, u32)],
+    /// True if the thread that asks, or that of a team, searches by itself before workers are asked.
+    pub searches: bool,
 }
 
 /// The costs of pairs; `None` if there is no walk.
@@ -61,18 +63,23 @@ impl<'a, G: Gate + Sync> Solver<'a, G> {
         requires within { ArePairsWithin self.now.network.now.n pairs.now }
         ensures { IfOk result (λ costs. ArePairCosts self.now.network.now pairs.now costs.items) }
     {
-        let found = self.between_grown(rt, alloc, pairs, None, &mut Unwatched)?;
+        let mut kept = Some(Workspace::new());
+        let found = self.between_grown(rt, alloc, pairs, None, &mut kept, &mut Unwatched)?;
         Ok(found.costs)
     }
 
     /// The same, and where a network is given that this one grew to by `with_arcs`, the costs there as well. Each
     /// source is solved once in each network; in the second only what the added arcs change is visited.
+    ///
+    /// What callers keep from one call to the next is taken, and given back where no memory is refused. Targets near
+    /// their source are found without workers, if it has room for that.
     pub fn between_grown<H: Threads + Wait + Clock + Sync>(
         &self,
         rt: &H,
         alloc: Global,
         pairs: &[(u32, u32)],
         grown: Option<&Network>,
+        kept: &mut Option<Workspace>,
         progress: &mut impl Progress,
     ) -> Result<PairCosts, Memory>
         requires few { length pairs.now < 2 ^ 32 }
@@ -87,14 +94,23 @@ impl<'a, G: Gate + Sync> Solver<'a, G> {
             grown,
             pairs,
             order: &order,
+            searches: does_search(kept),
         };
         let (plan, gate) = (&self.plan, &self.gate);
         let mut costs = vec![in alloc; None; pairs.len()]?;
         let mut after = room_after(alloc, &asked)?;
         fill_all(
-            rt, alloc, &asked, plan, gate, &mut costs, &mut after, progress,
+            rt, alloc, &asked, plan, gate, kept, &mut costs, &mut after, progress,
         )?;
         Ok(PairCosts { costs, after })
+    }
+}
+
+/// Tells if what is kept has room for searches.
+fn does_search(kept: &Option<Workspace>) -> bool {
+    match kept {
+        Some(kept) => kept.searches(),
+        None => false,
     }
 }
 
@@ -129,6 +145,7 @@ fn fill_all<H: Threads + Wait + Clock + Sync, G: Gate + Sync>(
     asked: &Pairs<'_>,
     plan: &Plan,
     gate: &G,
+    kept: &mut Option<Workspace>,
     costs: &mut [Option<u64>],
     after: &mut [Option<u64>],
     progress: &mut impl Progress,
@@ -147,27 +164,82 @@ fn fill_all<H: Threads + Wait + Clock + Sync, G: Gate + Sync>(
         plan.teams(asked.network),
         plan.settings.workers,
     );
-    let mut workers = Workers::new(plan.settings, gate, None);
+    let mut workers = Workers::new(plan.settings, gate, kept.take());
     let mut first = 0;
     while first < order.len() {
-        let found = match take_ahead(rt, alloc, &mut rounds, asked, plan, gate, first) {
-            Some(found) => found,
-            None => costs_of(rt, alloc, asked, first, &mut workers)?,
-        };
+        let found = costs_next(rt, alloc, asked, plan, &mut rounds, &mut workers, first)?;
         let own: &[Option<u64>] = &found.costs;
         fill(costs, order, first, own);
         fill_after(after, asked, first, &found);
         first += own.len();
         progress.see(rt, first, order.len(), solves, rounds.at_once());
     }
+    *kept = Some(workers.into_kept());
     Ok(())
+}
+
+/// The costs of the pairs of the source at a place: by the thread that asks if they are near, else as they were worked
+/// out before their turn, and else by all workers.
+fn costs_next<H: Threads + Wait + Clock + Sync, G: Gate + Sync>(
+    rt: &H,
+    alloc: Global,
+    asked: &Pairs<'_>,
+    plan: &Plan,
+    rounds: &mut Rounds<PairCosts, Workspace>,
+    workers: &mut Workers<'_, G>,
+    first: usize,
+) -> Result<PairCosts, Memory>
+    requires asked { AreAsked asked.now }
+    requires place { first < length asked.now.order.now }
+    requires made { AreMade (AreCostsFrom asked.now) rounds.old.made.items }
+    ensures costs { IfOk result (AreCostsFrom asked.now first) }
+    ensures left { AreMade (AreCostsFrom asked.now) rounds.new.made.items }
+{
+    if !rounds.was_tried(first)
+        && let Some(found) = costs_near(alloc, asked, first, &mut workers.kept)
+    {
+        return Ok(found);
+    }
+    match take_ahead(rt, alloc, rounds, asked, plan, workers.gate, first) {
+        Some(found) => Ok(found),
+        None => costs_of(rt, alloc, asked, first, workers),
+    }
+}
+
+/// The costs of the pairs of the source at a place, if their targets are near, and no arcs are added.
+fn costs_near(
+    alloc: Global,
+    asked: &Pairs<'_>,
+    first: usize,
+    kept: &mut Workspace,
+) -> Option<PairCosts>
+    requires asked { AreAsked asked.now }
+    requires place { first < length asked.now.order.now }
+    ensures { IfSome result (AreCostsFrom asked.now first) }
+{
+    let None = asked.grown else {
+        return None;
+    };
+    if !asked.searches {
+        return None;
+    }
+    let end = run_end(asked.order, first);
+    let Ok(targets) = targets_of(alloc, asked, first, end) else {
+        return None;
+    };
+    let source = asked.order[first].0;
+    let Some(costs) = kept.near.costs_to(alloc, asked.network, source, &targets) else {
+        return None;
+    };
+    let after = Vec::new(alloc);
+    Some(PairCosts { costs, after })
 }
 
 /// The costs of the pairs of the source at a place, if they were worked out before their turn.
 fn take_ahead<H: Threads + Wait + Clock + Sync, G: Gate + Sync>(
     rt: &H,
     alloc: Global,
-    rounds: &mut Rounds<PairCosts, Runner>,
+    rounds: &mut Rounds<PairCosts, Workspace>,
     asked: &Pairs<'_>,
     plan: &Plan,
     gate: &G,
@@ -182,7 +254,7 @@ fn take_ahead<H: Threads + Wait + Clock + Sync, G: Gate + Sync>(
         rt,
         alloc,
         asked,
-        &|place: usize, team: Team, kept: &mut Option<Runner>| -> Option<PairCosts>
+        &|place: usize, team: Team, kept: &mut Option<Workspace>| -> Option<PairCosts>
             requires sync { IsSync H.row × IsSync G.row }
             requires asked { AreAsked asked.now }
             ensures { IfSome result (AreCostsFrom asked.entry.now place) }
@@ -201,7 +273,7 @@ fn costs_by<H: Threads + Wait + Clock + Sync, G: Gate + Sync>(
     gate: &G,
     place: usize,
     team: Team,
-    kept: &mut Option<Runner>,
+    kept: &mut Option<Workspace>,
 ) -> Option<PairCosts>
     requires { AreAsked asked.now }
     ensures { IfSome result (AreCostsFrom asked.now place) }
@@ -210,10 +282,32 @@ fn costs_by<H: Threads + Wait + Clock + Sync, G: Gate + Sync>(
         return None;
     }
     let gate = TeamGate { gate, team };
-    let mut workers = Workers::new(team.settings(&plan.settings), &gate, kept.take());
-    let costs = costs_of(rt, alloc, asked, place, &mut workers).ok();
-    *kept = workers.into_kept();
+    let own = match kept.take() {
+        Some(own) => own,
+        None => Workspace::new().searching(asked.searches),
+    };
+    let mut workers = Workers::new(team.settings(&plan.settings), &gate, Some(own));
+    let costs = costs_by_team(rt, alloc, asked, place, &mut workers);
+    *kept = Some(workers.into_kept());
     costs
+}
+
+/// The costs of the pairs of the source at a place: by the team's own thread if they are near, and else by its workers.
+fn costs_by_team<H: Threads + Wait + Clock + Sync, G: Gate + Sync>(
+    rt: &H,
+    alloc: Global,
+    asked: &Pairs<'_>,
+    place: usize,
+    workers: &mut Workers<'_, G>,
+) -> Option<PairCosts>
+    requires asked { AreAsked asked.now }
+    requires place { place < length asked.now.order.now }
+    ensures { IfSome result (AreCostsFrom asked.now place) }
+{
+    match costs_near(alloc, asked, place, &mut workers.kept) {
+        Some(costs) => Some(costs),
+        None => costs_of(rt, alloc, asked, place, workers).ok(),
+    }
 }
 
 /// The costs of the pairs of the source at a place.

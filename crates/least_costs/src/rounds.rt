@@ -88,6 +88,11 @@ impl<P: Send + Drop, S: Send + Drop> Rounds<P, S> {
         self.most
     }
 
+    /// Tells if the task at a place was tried before its turn.
+    pub(crate) fn was_tried(&self, place: usize) -> bool {
+        place < self.end
+    }
+
     /// What the task at a place gives, if it was made. Where the place was not tried yet, it and some after it
     /// are done first: `after` tells the place of the task after one. `make` does a task, by the workers of a
     /// team, with what the team kept; `None` if it can't, and then fewer teams work from there on. The places

@@ -1,8 +1,11 @@
 //! Who solves one start after another?
 
-ghost use Rattle.std.specs.Prelude.{◌≡◌, IfOk};
+ghost use Rattle.std.specs.Prelude.{◌≡◌, ◌<◌, All, IfOk, IfSome};
+ghost use Rattle.route_walks.specs.declared.graph.TheConstants.{INF};
 ghost use Rattle.label_words.specs.Closed.{IsEnd};
 ghost use Rattle.obim_engine.specs.Goal.{HasReached, IsGoalWithin, IsServedBy};
+ghost use Rattle.near_labels.specs.Found.{AreWalksFound};
+ghost use Rattle.least_costs.specs.Near.{AreCostsWithin};
 ghost use Rattle.least_costs.specs.Network.{GrowsTo, IsStartWithin, graph_of, seeds_at};
 
 use crate::below::CostsBelow;
@@ -10,6 +13,8 @@ use crate::costs::Costs;
 use crate::network::Network;
 use crate::runner::{Runner, pause_after};
 use crate::start::Start;
+use crate::workspace::Workspace;
+use near_labels::WalksFound;
 use obim_engine::{Closed, Gate, Goal, Reached, Settings};
 use route_walks::Memory;
 use std::alloc::Global;
@@ -17,22 +22,27 @@ use std::sync::Wait;
 use std::thread::Threads;
 use std::time::Clock;
 
-/// Workers that solve one start after another, and keep their pool from one to the next.
+/// Workers that solve one start after another, and keep their pool from one to the next. Beside it they keep room for the
+/// searches that the thread that asks makes before it asks them.
 #[derive(Drop)]
 pub struct Workers<'a, G> {
     /// How many there are, and what they share.
     pub settings: Settings,
     /// Watches them.
     pub gate: &'a G,
-    kept: Option<Runner>,
+    pub(crate) kept: Workspace,
 }
 
 impl<'a, G: Gate + Sync> Workers<'a, G> {
-    /// Workers by these settings. They take the pool that others kept, if it is for as many workers.
-    pub fn new(settings: Settings, gate: &'a G, kept: Option<Runner>) -> Workers<'a, G>
+    /// Workers by these settings. They take what others kept, and of that the pool if it is for as many workers.
+    pub fn new(settings: Settings, gate: &'a G, kept: Option<Workspace>) -> Workers<'a, G>
         ensures settings { result.settings ≡ settings }
         ensures gate { result.gate.now ≡ gate.now }
     {
+        let kept = match kept {
+            Some(kept) => kept,
+            None => Workspace::new().searching(false),
+        };
         Workers {
             settings,
             gate,
@@ -40,8 +50,8 @@ impl<'a, G: Gate + Sync> Workers<'a, G> {
         }
     }
 
-    /// The pool that they kept. None after memory was refused.
-    pub fn into_kept(self) -> Option<Runner> {
+    /// Returns what they kept, for others after them.
+    pub fn into_kept(self) -> Workspace {
         self.kept
     }
 
@@ -59,7 +69,7 @@ impl<'a, G: Gate + Sync> Workers<'a, G> {
     {
         let mut runner = self.runner(alloc, network)?;
         let costs = runner.costs_from(rt, alloc, network, start, self.gate)?;
-        self.kept = Some(runner);
+        self.kept.pool = Some(runner);
         Ok(costs)
     }
 
@@ -129,6 +139,46 @@ impl<'a, G: Gate + Sync> Workers<'a, G> {
         Ok(CostsBelow::new(grown, start, reached))
     }
 
+    /// Returns the least labels of these targets from a source and the walks to them, if the thread that asks finds them by
+    /// itself. `None` where it doesn't search, or they aren't near, or memory is refused.
+    pub fn near_walks(
+        &mut self,
+        alloc: Global,
+        network: &Network,
+        source: u32,
+        targets: &[u32],
+    ) -> Option<WalksFound>
+        requires source { source < network.now.n }
+        requires targets { All (λ t. t < network.now.n) targets.now }
+        ensures { IfSome result (AreWalksFound network.now.n network.now.arcs source targets.now) }
+    {
+        if self.kept.searches {
+            self.kept.near.walks_to(alloc, network, source, targets)
+        } else {
+            None
+        }
+    }
+
+    /// Returns the vertices that cost at most a bound from a source, in rising order, each with its cost, if the thread that
+    /// asks finds them by itself. `None` where it doesn't search, or they aren't near, or memory is refused.
+    pub fn near_within(
+        &mut self,
+        alloc: Global,
+        network: &Network,
+        source: u32,
+        bound: u64,
+    ) -> Option<Vec<(u32, u64)>>
+        requires source { source < network.now.n }
+        requires bound { bound < INF }
+        ensures { IfSome result (AreCostsWithin network.now source bound) }
+    {
+        if self.kept.searches {
+            self.kept.near.within(alloc, network, source, bound)
+        } else {
+            None
+        }
+    }
+
     /// What a run from a start reaches in a network that goes no further than its goal.
     pub(crate) fn reach<H: Threads + Wait + Clock + Sync>(
         &mut self,
@@ -144,7 +194,7 @@ impl<'a, G: Gate + Sync> Workers<'a, G> {
     {
         let mut runner = self.runner(alloc, network)?;
         let reached = runner.reach(rt, alloc, network, start, goal, self.gate)?;
-        self.kept = Some(runner);
+        self.kept.pool = Some(runner);
         Ok(reached)
     }
 
@@ -168,13 +218,13 @@ impl<'a, G: Gate + Sync> Workers<'a, G> {
         let mut runner = self.runner(alloc, grown)?;
         let rest = pause_after(alloc, network, grown, start, closed)?;
         let reached = runner.resume(rt, alloc, grown, start, rest, goal, self.gate)?;
-        self.kept = Some(runner);
+        self.kept.pool = Some(runner);
         Ok(reached)
     }
 
     /// The pool that they kept, or another one.
     fn runner(&mut self, alloc: Global, network: &Network) -> Result<Runner, Memory> {
-        match self.kept.take() {
+        match self.kept.pool.take() {
             Some(runner) if runner.workers() == self.settings.workers => Ok(runner),
             _ => Runner::open(alloc, network, &self.settings),
         }

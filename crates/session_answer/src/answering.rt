@@ -14,6 +14,7 @@ use crate::terms::Terms;
 use dimacs_text::Ask;
 use job_answer::laws::answer_texts_by_lines_are_unique;
 use job_answer::{Asked, Fault, Lines};
+use least_costs::Workspace;
 use obim_engine::Gate;
 use request_reader::RequestReader;
 use route_walks::Memory;
@@ -87,7 +88,7 @@ fn answer_by<H: Threads + Wait + Clock + Sync, R: Read, W: Write, G: Gate + Sync
     let (at, end, has_ended) = (front.at, front.end, front.has_ended);
     let mut conversation = open_conversation(rt, alloc, front, terms.asked)?;
     let session = &conversation.session;
-    session.answer(rt, writer, &Ask::Absent, false, terms)?;
+    session.answer(rt, writer, &Ask::Absent, false, terms, &mut None)?;
     if has_ended {
         return Ok(());
     }
@@ -115,6 +116,7 @@ fn open_conversation<H: Threads + Sync>(
         requests: RequestReader::new(alloc, n, line),
         unfinished: Vec::new(alloc),
         in_comment: false,
+        kept: Some(Workspace::new()),
         alloc,
     })
 }

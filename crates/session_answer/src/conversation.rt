@@ -22,6 +22,7 @@ use crate::terms::Terms;
 use dimacs_text::{LineKind, begins_comment};
 use job_answer::Fault;
 use job_answer::laws::answer_texts_by_lines_are_unique;
+use least_costs::Workspace;
 use obim_engine::Gate;
 use request_reader::{Request, RequestReader};
 use std::alloc::{AllocError, Global};
@@ -40,6 +41,8 @@ pub(crate) struct Conversation {
     pub(crate) unfinished: Vec<u8>,
     /// The last line is a comment whose line feed hasn't come.
     pub(crate) in_comment: bool,
+    /// Kept from one request to the next. None after a request was refused memory.
+    pub(crate) kept: Option<Workspace>,
     pub(crate) alloc: Global,
 }
 
@@ -263,7 +266,10 @@ impl Conversation {
     {
         match request {
             None => Ok(Told::Whole),
-            Some(request) => self.session.reply(rt, writer, request, terms),
+            Some(request) => {
+                self.session
+                    .reply(rt, writer, request, terms, &mut self.kept)
+            },
         }
     }
 

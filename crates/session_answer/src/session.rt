@@ -23,6 +23,7 @@ use job_answer::{
     Answer, Asked, BlockKind, Fault, Figures, Graphs, answer_question, graphs_for, is_unasked,
     write_whole,
 };
+use least_costs::Workspace;
 use least_costs::laws::networks_grow;
 use obim_engine::Gate;
 use request_reader::Request;
@@ -89,6 +90,7 @@ impl Session {
         writer: &mut W,
         request: Request,
         terms: &Terms<'_, G>,
+        kept: &mut Option<Workspace>,
     ) -> Result<Told, Fault>
         requires graphs { AreGraphs self.old.graphs }
         requires bound { IsLinesAsked terms.now.lines }
@@ -123,11 +125,21 @@ impl Session {
                 let Job { ask, added, .. } = job;
                 let walks = walks_or(extent, terms.asked.walks);
                 let terms = terms.by(extent);
+                self.prepare(kept);
                 match added {
-                    None => self.reply_asked(rt, writer, &ask, walks, &terms),
-                    Some(arcs) => self.reply_grown(rt, writer, &arcs, &ask, walks, &terms),
+                    None => self.reply_asked(rt, writer, &ask, walks, &terms, kept),
+                    Some(arcs) => self.reply_grown(rt, writer, &arcs, &ask, walks, &terms, kept),
                 }
             }
+        }
+    }
+
+    /// Reverses the rows of the network, where searches from both ends gain more than that takes.
+    fn prepare(&mut self, kept: &mut Option<Workspace>)
+        ensures { self.new ≡ self.old }
+    {
+        if let Some(kept) = kept {
+            kept.prepare(self.alloc, &mut self.graphs.network);
         }
     }
 
@@ -139,6 +151,7 @@ impl Session {
         ask: &Ask,
         walks: bool,
         terms: &Terms<'_, G>,
+        kept: &mut Option<Workspace>,
     ) -> Result<Told, Fault>
         requires graphs { AreGraphs self.now.graphs }
         requires bound { IsLinesAsked terms.now.lines }
@@ -154,10 +167,10 @@ impl Session {
     {
         answer_texts_by_lines_are_unique();
         if !self.is_short(ask, walks, terms) {
-            self.answer(rt, writer, ask, walks, terms)?;
+            self.answer(rt, writer, ask, walks, terms, kept)?;
             return Ok(Told::Whole);
         }
-        let text = match self.answer_text(rt, ask, walks, terms) {
+        let text = match self.answer_text(rt, ask, walks, terms, kept) {
             Ok(text) => text,
             Err(Fault::Spawn) => return Err(Fault::Spawn),
             Err(_) => return Ok(Told::Nothing),
@@ -173,6 +186,7 @@ impl Session {
         ask: &Ask,
         walks: bool,
         terms: &Terms<'_, G>,
+        kept: &mut Option<Workspace>,
     ) -> Result<Vec<u8>, Fault>
         requires graphs { AreGraphs self.now.graphs }
         requires bound { IsLinesAsked terms.now.lines }
@@ -183,7 +197,7 @@ impl Session {
         ensures kinds { IfErr result IsWritingFault }
     {
         let mut text = Vec::new(self.alloc);
-        self.answer(rt, &mut text, ask, walks, terms)?;
+        self.answer(rt, &mut text, ask, walks, terms, kept)?;
         Ok(text)
     }
 
@@ -208,6 +222,7 @@ impl Session {
         ask: &Ask,
         walks: bool,
         terms: &Terms<'_, G>,
+        kept: &mut Option<Workspace>,
     ) -> Result<Told, Fault>
         requires graphs { AreGraphs self.old.graphs }
         requires bound { IsLinesAsked terms.now.lines }
@@ -231,7 +246,7 @@ impl Session {
         let Told::Whole = self.grow(rt, writer, arcs, terms)? else {
             return Ok(Told::Nothing);
         };
-        self.answer(rt, writer, ask, walks, terms)?;
+        self.answer(rt, writer, ask, walks, terms, kept)?;
         Ok(Told::Whole)
     }
 
@@ -243,6 +258,7 @@ impl Session {
         ask: &Ask,
         walks: bool,
         terms: &Terms<'_, G>,
+        kept: &mut Option<Workspace>,
     ) -> Result<(), Fault>
         requires graphs { AreGraphs self.now.graphs }
         requires bound { IsLinesAsked terms.now.lines }
@@ -256,7 +272,7 @@ impl Session {
         ensures kinds { IfErr result IsWritingFault }
     {
         answer_texts_by_lines_are_unique();
-        self.write_body(rt, writer, ask, walks, terms)?;
+        self.write_body(rt, writer, ask, walks, terms, kept)?;
         let mut ready = Vec::new(self.alloc);
         put_ready(&mut ready, self.graphs.network.n(), self.arcs as u64)?;
         write_whole(writer, &ready)
@@ -270,6 +286,7 @@ impl Session {
         ask: &Ask,
         walks: bool,
         terms: &Terms<'_, G>,
+        kept: &mut Option<Workspace>,
     ) -> Result<(), Fault>
         requires graphs { AreGraphs self.now.graphs }
         requires bound { IsLinesAsked terms.now.lines }
@@ -298,6 +315,7 @@ impl Session {
             ask,
             terms.asked,
             terms.gate,
+            kept,
             &mut figures,
         )
     }

@@ -6,6 +6,7 @@ use dimacs_text::Ask;
 use job_answer::{
     Answer, BlockKind, Fault, Figures, Lines, answer_question, graphs_for, is_unasked, write_whole,
 };
+use least_costs::Workspace;
 use obim_engine::OpenGate;
 use route_walks::{ArcRec, EXAMPLE_ARCS, Memory, refusable, tried_again};
 use session_answer::answer_session;
@@ -45,6 +46,7 @@ fn of_answer_question(rt: HostRuntime) -> Result<(), Fail> {
     let graphs = graphs_for(&rt, alloc, asked.answer, 6, arcs, None, 2)?;
     let lines = Lines::Each { walks: false };
     let mut out = Vec::with_capacity(alloc, ROOM)?;
+    let mut kept = Some(Workspace::new());
     let mut figures = Figures::new(&rt);
     let kind = BlockKind {
         graphs: &graphs,
@@ -54,7 +56,17 @@ fn of_answer_question(rt: HostRuntime) -> Result<(), Fail> {
     assert!(rt; !is_unasked(asked.answer, &ask));
     if let Err(fault) = refusable!(
         alloc,
-        answer_question(&rt, alloc, &mut out, kind, &ask, &asked, gate, &mut figures)
+        answer_question(
+            &rt,
+            alloc,
+            &mut out,
+            kind,
+            &ask,
+            &asked,
+            gate,
+            &mut kept,
+            &mut figures
+        )
     ) {
         assert!(rt; matches!(fault, Fault::Memory | Fault::Spawn), "{fault:?}");
         assert!(rt; JOINED.starts_with(&out));
@@ -63,7 +75,17 @@ fn of_answer_question(rt: HostRuntime) -> Result<(), Fail> {
             graphs: &graphs,
             lines,
         };
-        answer_question(&rt, alloc, &mut out, kind, &ask, &asked, gate, &mut figures)?;
+        answer_question(
+            &rt,
+            alloc,
+            &mut out,
+            kind,
+            &ask,
+            &asked,
+            gate,
+            &mut kept,
+            &mut figures,
+        )?;
     }
     assert!(rt; out.as_slice() == JOINED);
     Ok(())

@@ -6,10 +6,11 @@ ghost use Rattle.least_costs.specs.Each.{AreWithin};
 ghost use Rattle.least_costs.specs.Network.{GrowsTo};
 ghost use Rattle.least_costs.specs.Pairs.{GrowsInto};
 
-use crate::asked::{expect_costs, expect_within, six};
+use crate::asked::kept::{ask_in_vain, prepare};
+use crate::asked::{expect_costs, expect_within, path, six};
 use least_costs::{
     AtOnce, Cost, Costs, CostsBelow, CostsWithin, Network, NetworkFault, PairCosts, Plan, Runner,
-    Solver, Start, Unwatched, Workers,
+    Solver, Start, Unwatched, Workers, Workspace,
 };
 use obim_engine::{Goal, OpenGate};
 use route_walks::{ArcRec, EXAMPLE_ARCS, Memory, arcs, refusable};
@@ -404,35 +405,43 @@ fn pairs_by<H: Threads + Wait + Clock + Sync>(
     alloc: Global,
     network: &Network,
     grown: Option<&Network>,
+    keeps: bool,
+    kept: &mut Option<Workspace>,
     workers: u32,
 ) -> Result<PairCosts, Memory>
     requires six { network.now.n ≡ 6 }
     requires grown { GrowsInto network.now grown }
 {
     let solver = Solver::new(network, Plan::usual(workers));
-    if grown.is_some() {
-        return solver.between_grown(rt, alloc, &PAIRS, grown, &mut Unwatched);
+    if keeps {
+        return solver.between_grown(rt, alloc, &PAIRS, grown, kept, &mut Unwatched);
     }
     let costs = solver.between(rt, alloc, &PAIRS)?;
     let after = Vec::new(alloc);
     Ok(PairCosts { costs, after })
 }
 
-/// Asserts the costs of the pairs, by one more call where memory was refused.
+/// Asserts the costs of the pairs, by one more call where memory was refused, with what that left.
 fn expect_pairs<H: Threads + Wait + Clock + Abort + Sync>(
     rt: &H,
     alloc: Global,
     network: &Network,
     grown: Option<&Network>,
+    keeps: bool,
     workers: u32,
     after: &[Option<u64>],
 ) -> Result<(), Fail>
     requires six { network.now.n ≡ 6 }
     requires grown { GrowsInto network.now grown }
 {
-    let found = match refusable!(alloc, pairs_by(rt, alloc, network, grown, workers)) {
+    let mut kept = Some(Workspace::new());
+    let first = refusable!(
+        alloc,
+        pairs_by(rt, alloc, network, grown, keeps, &mut kept, workers)
+    );
+    let found = match first {
         Ok(found) => found,
-        Err(Memory) => pairs_by(rt, alloc, network, grown, workers)?,
+        Err(Memory) => pairs_by(rt, alloc, network, grown, keeps, &mut kept, workers)?,
     };
     assert!(rt; found.costs.as_slice() == [Some(0), Some(15)].as_slice());
     assert!(rt; found.after.as_slice() == after);
@@ -442,14 +451,78 @@ fn expect_pairs<H: Threads + Wait + Clock + Abort + Sync>(
 #[test]
 fn of_solver_between(rt: HostRuntime) -> Result<(), Fail> {
     let network = six(&rt, rt.alloc())?;
-    expect_pairs(&rt, rt.alloc(), &network, None, 1, &[])?;
-    expect_pairs(&rt, rt.alloc(), &network, None, 2, &[])
+    expect_pairs(&rt, rt.alloc(), &network, None, false, 1, &[])?;
+    expect_pairs(&rt, rt.alloc(), &network, None, false, 2, &[])
 }
 
 #[test]
 fn of_solver_between_grown(rt: HostRuntime) -> Result<(), Fail> {
-    let network = six(&rt, rt.alloc())?;
+    let mut network = six(&rt, rt.alloc())?;
     let grown = network.with_arcs(&rt, rt.alloc(), &SHORTER, 1)?;
     let after = &[Some(0), Some(4)];
-    expect_pairs(&rt, rt.alloc(), &network, Some(&grown), 1, after)
+    expect_pairs(&rt, rt.alloc(), &network, Some(&grown), true, 1, after)?;
+    network.reverse(rt.alloc());
+    expect_pairs(&rt, rt.alloc(), &network, None, true, 1, &[])
+}
+
+// A network without reversed rows serves as well.
+#[test]
+fn of_network_reverse(rt: HostRuntime) -> Result<(), Fail> {
+    let alloc = rt.alloc();
+    let mut network = six(&rt, alloc)?;
+    refusable!(alloc, network.reverse(alloc));
+    let solver = Solver::new(&network, Plan::usual(1));
+    let costs = solver.between(&rt, alloc, &PAIRS)?;
+    assert!(rt; costs.as_slice() == [Some(0), Some(15)].as_slice());
+    network.reverse(alloc);
+    assert!(rt; network.has_reversed());
+    Ok(())
+}
+
+// It waits for more searches in vain then, before it reverses the rows.
+#[test]
+fn of_workspace_prepare(rt: HostRuntime) -> Result<(), Fail> {
+    let alloc = rt.alloc();
+    let mut network = path(&rt, alloc)?;
+    let mut kept = Some(Workspace::new());
+    ask_in_vain(&rt, alloc, &network, &mut kept)?;
+    refusable!(alloc, prepare(alloc, &mut network, &mut kept));
+    if !network.has_reversed() {
+        ask_in_vain(&rt, alloc, &network, &mut kept)?;
+        prepare(alloc, &mut network, &mut kept);
+    }
+    assert!(rt; network.has_reversed());
+    Ok(())
+}
+
+// The same workers are asked once more, with the lists that the refusal left.
+#[test]
+fn of_workers_near_walks(rt: HostRuntime) -> Result<(), Fail> {
+    let alloc = rt.alloc();
+    let network = six(&rt, alloc)?;
+    let mut workers = Workers::new(Plan::usual(1).settings, &OpenGate, Some(Workspace::new()));
+    let found = refusable!(alloc, workers.near_walks(alloc, &network, 0, &[4]));
+    let walks = match found {
+        Some(walks) => Some(walks),
+        None => workers.near_walks(alloc, &network, 0, &[4]),
+    };
+    let walks = walks.expect(&rt, "a vertex near the source");
+    assert!(rt; walks.labels.as_slice() == [10].as_slice());
+    assert!(rt; walks.walks.len() == 1 && walks.walks[0].as_slice() == [0, 2, 4].as_slice());
+    Ok(())
+}
+
+#[test]
+fn of_workers_near_within(rt: HostRuntime) -> Result<(), Fail> {
+    let alloc = rt.alloc();
+    let network = six(&rt, alloc)?;
+    let mut workers = Workers::new(Plan::usual(1).settings, &OpenGate, Some(Workspace::new()));
+    let found = refusable!(alloc, workers.near_within(alloc, &network, 3, 2));
+    let within = match found {
+        Some(within) => Some(within),
+        None => workers.near_within(alloc, &network, 3, 2),
+    };
+    let within = within.expect(&rt, "a bound near the source");
+    assert!(rt; within.as_slice() == [(1, 0), (2, 0), (3, 0), (4, 0)].as_slice());
+    Ok(())
 }

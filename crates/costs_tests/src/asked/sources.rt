@@ -2,8 +2,8 @@
 
 ghost use Rattle.std.specs.Prelude.{◌≡◌, IfOk, IfSome};
 
-use crate::asked::{expect_costs, network_of, six};
-use least_costs::{AtOnce, Cost, Costs, Network, Plan, Solver};
+use crate::asked::{expect_costs, network_of, path, six};
+use least_costs::{AtOnce, Cost, Costs, Network, Plan, Solver, Unwatched};
 use obim_engine::{Gate, Settings};
 use route_walks::{ArcRec, Memory};
 use std::alloc::Global;
@@ -144,17 +144,6 @@ impl Gate for Counting {
     }
 }
 
-/// One vertex after the other, 3,000 of them.
-fn path<H: Threads + Abort + Sync>(rt: &H, alloc: Global) -> Result<Network, Fail>
-    ensures { IfOk result (λ network. network.n ≡ 3000) }
-{
-    let mut arcs = Vec::with_capacity(alloc, 2_999)?;
-    for v in 0..2_999_u32 {
-        arcs.push(ArcRec::new(v, v + 1, 1))?;
-    }
-    network_of(rt, alloc, 3_000, &arcs, Cost::Weight)
-}
-
 fn solver_that_counts(network: &Network) -> Solver<'_, Counting>
     ensures { result.network.now ≡ network.now }
 {
@@ -172,10 +161,22 @@ fn solver_that_counts(network: &Network) -> Solver<'_, Counting>
 fn few_visits_of_near_targets(rt: HostRuntime) -> Result<(), Fail> {
     let network = path(&rt, rt.alloc())?;
     let solver = solver_that_counts(&network);
+    let pairs = [(10, 13), (10, 12)];
+    let found = solver.between_grown(&rt, rt.alloc(), &pairs, None, &mut None, &mut Unwatched)?;
+    assert!(rt; found.costs.as_slice() == [Some(3), Some(2)].as_slice());
+    let visits = solver.gate.visits.load(Ordering::Relaxed);
+    assert!(rt; visits > 0 && visits <= 100, "{visits} visits");
+    Ok(())
+}
+
+// Where the thread that asks finds the targets, workers visit none.
+#[test]
+fn no_visits_of_targets_found_before(rt: HostRuntime) -> Result<(), Fail> {
+    let network = path(&rt, rt.alloc())?;
+    let solver = solver_that_counts(&network);
     let costs = solver.between(&rt, rt.alloc(), &[(10, 13), (10, 12)])?;
     assert!(rt; costs.as_slice() == [Some(3), Some(2)].as_slice());
-    let visits = solver.gate.visits.load(Ordering::Relaxed);
-    assert!(rt; visits <= 100, "{visits} visits");
+    assert!(rt; solver.gate.visits.load(Ordering::Relaxed) == 0);
     Ok(())
 }
 

@@ -1,10 +1,10 @@
 //! Each call that takes memory, with one allocation of it refused: `Memory` then, and made once more it gives the
 //! walks that were worked by hand. `tests/refusals` refuses each in turn; `tests/refusals.tsv` has the calls.
 
-use crate::reports::{build, distances, distances_below};
+use crate::reports::{are_below, build, distances, distances_below};
 use route_walks::{EXAMPLE_ARCS, Memory, tried_again};
 use std::test::Fail;
-use walk_report::{NONE, hops, hops_below, parents, walk_to};
+use walk_report::{NONE, WalkSpace, hops, hops_below, parents, walk_to};
 
 // Hops and parents of the six vertices from the first.
 const HOPS: [u32; 6] = [0, 3, 1, 4, 2, 5];
@@ -53,5 +53,34 @@ fn of_walk_to(rt: HostRuntime) -> Result<(), Fail> {
     let walk = tried_again!(rt, alloc, Memory, walk_to(alloc, &hops, &parents, 5));
     let want = Some([0, 2, 4, 1, 3, 5].as_slice());
     assert!(rt; walk.as_ref().map(|walk| walk.as_slice()) == want);
+    Ok(())
+}
+
+#[test]
+fn of_walk_space_new(rt: HostRuntime) -> Result<(), Fail> {
+    let space = tried_again!(rt, rt.alloc(), Memory, WalkSpace::new(rt.alloc(), 6));
+    assert_eq!(rt; space.vertices(), 6);
+    Ok(())
+}
+
+// The second call is made in the space that the refusal left.
+#[test]
+fn of_walk_space_walks_to(rt: HostRuntime) -> Result<(), Fail> {
+    let alloc = rt.alloc();
+    let csr = build(&rt, alloc, 6, &EXAMPLE_ARCS)?;
+    let labels = distances_below(alloc, &csr, 0, 13)?;
+    let targets = [3, 5, 0];
+    assert!(rt; are_below(6, &targets));
+    let mut space = WalkSpace::new(alloc, 6)?;
+    let walks = tried_again!(
+        rt,
+        alloc,
+        Memory,
+        space.walks_to(alloc, &csr, &labels, 0, 13, &targets)
+    );
+    assert_eq!(rt; walks.len(), 3);
+    assert_eq!(rt; walks[0].as_slice(), [0, 2, 4, 1, 3].as_slice());
+    assert!(rt; walks[1].is_empty());
+    assert_eq!(rt; walks[2].as_slice(), [0].as_slice());
     Ok(())
 }

@@ -20,7 +20,7 @@ returns-in_err-graphs-clause-says g c =
 
 pub returns-clause-reply : goal.returns-clause-reply
 returns-clause-reply g c =
-    c.answer_question.ensures.reply (content_of c.args.job) c.in_ok-graphs.ensures.graphs refl
+    c.answer_question.ensures.reply (content_of c.args.job) (rw c.reverse_if.ensures c.in_ok-graphs.ensures.graphs) refl
 
 pub returns-clause-says : goal.returns-clause-says
 returns-clause-says g c =
@@ -30,4 +30,4 @@ returns-clause-says g c =
     (asked-if kind job (sym c.is_unasked.ensures ∙ c.if-is_unasked.false))
     (untold-if _ _ c.has_no_sources.ensures c.if-has_no_sources.false)
     c.answer_question.ensures.kinds
-    (c.answer_question.ensures.prefix job c.in_ok-graphs.ensures.graphs refl)
+    (c.answer_question.ensures.prefix job (rw c.reverse_if.ensures c.in_ok-graphs.ensures.graphs) refl)

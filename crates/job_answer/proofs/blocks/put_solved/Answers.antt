@@ -23,10 +23,10 @@ pub returns-in_err-after-clause-prefix : goal.returns-in_err-after-clause-prefix
 returns-in_err-after-clause-prefix g c =
     let graphs = c.args.kind.now.graphs.now in
     let lines = c.args.kind.now.lines in
-    let grown = c.in-Some.grown in
+    let grown = c.in-Some-grown.grown in
     let growth : Growth = record { count = grown.count; arcs = grown.network.arcs } in
     let block : List ArcRec → List ℕ → Type 0 = IsStartBlock lines c.args.start graphs.network.n in
-    rw c.in-Some.is
+    rw c.in-Some-grown.is
     (at-err _
     (second-cut g.W.Write.contents (block graphs.network.arcs) (IsRest grown.count (block grown.network.arcs))
     (AreBothTexts block graphs.network.arcs growth) _ _ _
@@ -38,11 +38,11 @@ pub returns-in_err-put_grown_block-clause-prefix : goal.returns-in_err-put_grown
 returns-in_err-put_grown_block-clause-prefix g c =
     let graphs = c.args.kind.now.graphs.now in
     let lines = c.args.kind.now.lines in
-    let grown = c.in-Some.grown in
+    let grown = c.in-Some-grown.grown in
     let growth : Growth = record { count = grown.count; arcs = grown.network.arcs } in
     let block : List ArcRec → List ℕ → Type 0 = IsStartBlock lines c.args.start graphs.network.n in
-    let grows : HasGrown graphs.network grown = rw c.in-Some.is at c.requires.graphs.grows in
-    rw c.in-Some.is
+    let grows : HasGrown graphs.network grown = rw c.in-Some-grown.is at c.requires.graphs.grows in
+    rw c.in-Some-grown.is
     (at-err _
     (second-cut g.W.Write.contents (block graphs.network.arcs) (IsRest grown.count (block grown.network.arcs))
     (AreBothTexts block graphs.network.arcs growth) _ _ _
@@ -54,11 +54,11 @@ pub returns-clause-block : goal.returns-clause-block
 returns-clause-block g c =
     let graphs = c.args.kind.now.graphs.now in
     let lines = c.args.kind.now.lines in
-    let grown = c.in-Some.grown in
+    let grown = c.in-Some-grown.grown in
     let growth : Growth = record { count = grown.count; arcs = grown.network.arcs } in
     let block : List ArcRec → List ℕ → Type 0 = IsStartBlock lines c.args.start graphs.network.n in
-    let grows : HasGrown graphs.network grown = rw c.in-Some.is at c.requires.graphs.grows in
-    rw c.in-Some.is
+    let grows : HasGrown graphs.network grown = rw c.in-Some-grown.is at c.requires.graphs.grows in
+    rw c.in-Some-grown.is
     (puts-then g.W.Write.contents (block graphs.network.arcs) (IsRest grown.count (block grown.network.arcs))
     (AreBothTexts block graphs.network.arcs growth) _ _ _ (both-join block graphs.network.arcs growth)
     c.in_ok-put_block.ensures.block (rw grows.to.vertices at c.in_ok-put_grown_block.ensures.block))

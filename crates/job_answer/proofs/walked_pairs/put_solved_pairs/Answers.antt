@@ -1,31 +1,13 @@
 use Rattle.std.proofs.Common.{refl}
-use Rattle.job_answer.specs.Solves.{IsWalked, IsWalkedAfter}
-use Rattle.job_answer.proofs.Queries.{each-told, targets-within}
+use Rattle.job_answer.proofs.Queries.{targets-within}
 use Rattle.job_answer.proofs.Sinks.{at-err, cuts-nothing}
 use Rattle.job_answer.proofs.walked_pairs.put_solved_pairs.Goals as goal
 
-pub walks_to-requires-clause-targets : goal.walks_to-requires-clause-targets
-walks_to-requires-clause-targets g c κs within =
+pub near_walks-requires-clause-targets : goal.near_walks-requires-clause-targets
+near_walks-requires-clause-targets g c κs within =
     rw c.deref.ensures.value
     (targets-within c.args.queries.now.graphs.now.network.n c.args.queries.now.pairs.now c.args.solve.first c.args.solve.end
     c.in_ok-targets.targets.items c.requires.pairs c.in_ok-targets.ensures c.requires.solve.within)
 
-pub put_walked-requires-clause-walked : goal.put_walked-requires-clause-walked
-put_walked-requires-clause-walked g c =
-    let graphs = c.args.queries.now.graphs.now in
-    each-told (λ pair. IsWalked graphs.network.n graphs.network.arcs pair c.in_ok-walks.walks.before)
-    c.args.queries.now.pairs.now c.args.solve c.in_ok-targets.targets.items c.requires.solve c.in_ok-targets.ensures
-    (rw c.deref.ensures.value at c.in_ok-walks.ensures.before)
-
-pub put_walked-requires-clause-after : goal.put_walked-requires-clause-after
-put_walked-requires-clause-after g c =
-    let graphs = c.args.queries.now.graphs.now in
-    each-told (λ pair. IsWalkedAfter graphs.grown pair c.in_ok-walks.walks.after)
-    c.args.queries.now.pairs.now c.args.solve c.in_ok-targets.targets.items c.requires.solve c.in_ok-targets.ensures
-    (rw c.deref.ensures.value at c.in_ok-walks.ensures.after)
-
 pub returns-in_err-targets-clause-prefix : goal.returns-in_err-targets-clause-prefix
 returns-in_err-targets-clause-prefix g c = at-err _ (cuts-nothing g.W.Write.contents _ _ _ refl)
-
-pub returns-in_err-walks-clause-prefix : goal.returns-in_err-walks-clause-prefix
-returns-in_err-walks-clause-prefix g c = at-err _ (cuts-nothing g.W.Write.contents _ _ _ refl)

@@ -1,23 +1,18 @@
 use Rattle.std.proofs.Common.{arith}
 use Rattle.least_costs.specs.Pairs.{AreCostsFrom}
 use Rattle.least_costs.proofs.Filling.{all_filled, all_filled_after}
-use Rattle.least_costs.proofs.pairs.fill_all.Goals.{in-Some, in-None+in_ok-found-in-None}
 use Rattle.least_costs.proofs.pairs.fill_all.Goals as goal
 
 pub loop-first-preserved : goal.loop-first-preserved
 loop-first-preserved g c =
     let asked = c.args.asked.now in
-    let found : AreCostsFrom asked c.loop-first.first c.match-take_ahead.found =
-    elim c.match-take_ahead.branch [
-      | in-Some w ↦ rw w.found-is w.in-Some.ensures.costs
-      | in-None+in_ok-found-in-None w ↦ rw w.found-is w.in_ok-found-in-None.ensures
-    ] in
+    let found : AreCostsFrom asked c.loop-first.first c.in_ok-found.found = c.in_ok-found.ensures.costs in
     record {
       before =
           c.fill.ensures.filled asked.network.now asked.pairs.now (rw c.deref-own.ensures.value found.costs)
           c.loop-first.invariant.before;
       after = rw c.deref-own.ensures.value c.fill_after.ensures;
-      made = c.take_ahead.ensures.left;
+      made = c.in_ok-found.ensures.left;
     }
 
 pub returns-clause-costs : goal.returns-clause-costs

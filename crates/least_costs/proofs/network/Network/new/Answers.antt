@@ -10,10 +10,13 @@ invariant_of-result g c =
     let rows = c.in_ok-rows.rows in
     let light = rw c.deref.ensures.value at c.in-None.ensures.light in
     record {
-      few = c.in_ok-rows.ensures.in_rows.vertices;
-      ends = c.in_ok-rows.ensures.in_rows.ends;
-      light =
-          over-same (λ (arc : ArcRec). arc.weight < 2 ^ 32) rows.arcs _ c.in_ok-rows.ensures.arcs
-          (light-along c.args.cost c.args.arcs.items light);
-      added_ends = subst (IsGraph rows.n) (sym c.new-added.ensures.items) (All-nil (IsArcBelow rows.n));
+      network = record {
+        few = c.in_ok-rows.ensures.in_rows.vertices;
+        ends = c.in_ok-rows.ensures.in_rows.ends;
+        light =
+            over-same (λ (arc : ArcRec). arc.weight < 2 ^ 32) rows.arcs _ c.in_ok-rows.ensures.arcs
+            (light-along c.args.cost c.args.arcs.items light);
+        added_ends = subst (IsGraph rows.n) (sym c.new.ensures.items) (All-nil (IsArcBelow rows.n));
+      };
+      turned = tt;
     }

@@ -20,13 +20,16 @@ invariant_of-result g c =
     let ends = graph-along before.n cost added (rw c.n.ensures.vertices at c.in-None.ensures.none) in
     let light = light-along cost added c.in-None.ensures.light in
     record {
-      few = c.in_ok-rows.ensures.in_rows.vertices;
-      ends = c.in_ok-rows.ensures.in_rows.ends;
-      light =
-          over-same (λ (arc : ArcRec). arc.weight < 2 ^ 32) rows.arcs _ c.in_ok-rows.ensures.arcs
-          (All-append (λ (arc : ArcRec). arc.weight < 2 ^ 32) before.arcs _ c.self.invariant.light
-          (rw (c.deref.ensures.value, exact) light));
-      added_ends = rw (c.in_ok-rows.ensures.vertices, exact) ends;
+      network = record {
+        few = c.in_ok-rows.ensures.in_rows.vertices;
+        ends = c.in_ok-rows.ensures.in_rows.ends;
+        light =
+            over-same (λ (arc : ArcRec). arc.weight < 2 ^ 32) rows.arcs _ c.in_ok-rows.ensures.arcs
+            (All-append (λ (arc : ArcRec). arc.weight < 2 ^ 32) before.arcs _ c.self.invariant.network.light
+            (rw (c.deref.ensures.value, exact) light));
+        added_ends = rw (c.in_ok-rows.ensures.vertices, exact) ends;
+      };
+      turned = tt;
     }
 
 pub returns-clause-grown : goal.returns-clause-grown

@@ -25,7 +25,7 @@ returns-in-None-clause-reply g c graph holds =
       appended = written.appended;
     })
     (λ none. none) what)
-    (c.reply_asked.ensures.answered graph (subst (λ (k : Answer). HoldsGraph k graph c.args.self.now) (sym same) holds)))
+    (c.reply_asked.ensures.answered graph (subst (λ (k : Answer). HoldsGraph k graph c.prepare.new.self) (sym same) (rw c.prepare.ensures holds))))
 
 pub returns-clause-reply : goal.returns-clause-reply
 returns-clause-reply g c graph holds =
@@ -57,4 +57,4 @@ returns-clause-reply g c graph holds =
       appended = written.appended;
     })
     (λ none. none) what)
-    (c.reply_grown.ensures.reply graph (subst (λ (k : Answer). HoldsGraph k graph c.args.self.now) (sym same) holds)))
+    (c.reply_grown.ensures.reply graph (subst (λ (k : Answer). HoldsGraph k graph c.prepare.new.self) (sym same) (rw c.prepare.ensures holds))))

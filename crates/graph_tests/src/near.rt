@@ -1,0 +1,310 @@
+//! Searches near a source beside the plain program and the walks of a whole run, one after another in the same lists.
+
+ghost use Rattle.near_labels.specs.Meeting.{IsReversed};
+ghost use Rattle.std.specs.Prelude.{◌≡◌, ◌<◌};
+
+mod refusals;
+
+use crate::reports::{are_below, build, distances};
+use csr_graph::Csr;
+use near_labels::{SearchSpace, WalksFound};
+use route_walks::{ArcRec, EXAMPLE_ARCS, INF, Memory, arcs};
+use std::alloc::Global;
+use std::process::Abort;
+use std::test::Fail;
+use walk_report::{WalkSpace, hops, parents, walk_to};
+
+/// A graph with parallel arcs, arcs both ways that cost nothing, a circle, a loop, a vertex that no arc enters, and the
+/// greatest weights.
+const TANGLED: [ArcRec; 12] = arcs![
+    (0, 1, 3),
+    (0, 1, 2),
+    (1, 2, 0),
+    (2, 1, 0),
+    (2, 3, 4),
+    (1, 3, 5),
+    (3, 0, 1),
+    (3, 3, 0),
+    (2, 5, 4294967295),
+    (3, 5, 4294967294),
+    (4, 5, 4294967295),
+    (4, 0, 0),
+];
+
+/// A question that is asked of a source.
+#[derive(Clone, Copy)]
+enum Question {
+    /// The labels of these vertices.
+    Labels(&'static [u32]),
+    /// The labels of all vertices, and the walks to them.
+    Walks,
+    /// The vertices within a bound.
+    Within(u64),
+    /// The cost to one vertex, by a search from both ends.
+    Cost(u32),
+}
+
+use Question::{Cost, Labels, Walks, Within};
+
+const QUESTIONS: [Question; 24] = [
+    Labels(&[0]),
+    Labels(&[1]),
+    Labels(&[2]),
+    Labels(&[3]),
+    Labels(&[4]),
+    Labels(&[5]),
+    Labels(&ALL),
+    Labels(&[5, 0, 3, 3]),
+    Labels(&[]),
+    Cost(0),
+    Cost(1),
+    Cost(2),
+    Cost(3),
+    Cost(4),
+    Cost(5),
+    Walks,
+    Within(0),
+    Within(2),
+    Within(5),
+    Within(6),
+    Within(10),
+    Within(14),
+    Within(4294967297),
+    Within(INF - 1),
+];
+
+/// A number of visits that is enough for each search.
+const ENOUGH: u32 = 100;
+
+/// The numbers of visits that are allowed, in turn.
+const VISITS: [u32; 8] = [0, ENOUGH, 1, ENOUGH, 2, ENOUGH, 3, ENOUGH];
+
+const ALL: [u32; 6] = [0, 1, 2, 3, 4, 5];
+
+/// The lists of all searches.
+#[derive(Drop)]
+struct Room {
+    forward: SearchSpace,
+    backward: SearchSpace,
+    walks: WalkSpace,
+}
+
+/// Makes the lists for graphs of `n` vertices.
+fn room_of(alloc: Global, n: u32) -> Result<Room, Memory> {
+    Ok(Room {
+        forward: SearchSpace::new(alloc, n)?,
+        backward: SearchSpace::new(alloc, n)?,
+        walks: WalkSpace::new(alloc, n)?,
+    })
+}
+
+/// The labels and the walks that are expected from a source: one for each vertex, empty for no walk.
+#[derive(Clone, Copy)]
+struct Want<'a> {
+    source: u32,
+    labels: &'a [u64],
+    walks: &'a [&'a [u32]],
+}
+
+/// The walks to all vertices, by hops and parents of the whole graph.
+fn walks_from(rt: &impl Abort, alloc: Global, csr: &Csr, s: u32) -> Result<Vec<Vec<u32>>, Fail>
+    requires { s < csr.now.n }
+{
+    let labels = distances(alloc, csr, s)?;
+    let hops = hops(alloc, csr, &labels, s)?;
+    let parents = parents(alloc, csr, &labels, &hops)?;
+    let mut walks = Vec::new(alloc);
+    for v in ALL {
+        assert!(rt; (v as usize) < hops.len());
+        let walk = walk_to(alloc, &hops, &parents, v)?;
+        walks.push(walk.unwrap_or(Vec::new(alloc)))?;
+    }
+    Ok(walks)
+}
+
+/// Tells whether these are the vertices whose labels are at most the bound, in rising order, each with its label.
+fn are_within(found: &[(u32, u64)], labels: &[u64], bound: u64) -> bool {
+    let mut rest = found.iter();
+    for (v, label) in ALL.iter().zip(labels) {
+        if *label <= bound && rest.next() != Some(&(*v, *label)) {
+            return false;
+        }
+    }
+    rest.next().is_none()
+}
+
+/// Tells whether these are the labels of the targets.
+fn are_labels(found: &[u64], targets: &[u32], want: &Want) -> bool {
+    let mut each = found.iter().zip(targets);
+    found.len() == targets.len()
+        && each.all(|(label, target)| want.labels.get(*target as usize) == Some(label))
+}
+
+/// Tells whether these are the labels of all vertices, and the walks to them.
+fn are_walks(found: &WalksFound, want: &Want) -> bool {
+    let mut each = found.walks.iter().zip(want.walks);
+    found.labels.as_slice() == want.labels
+        && found.walks.len() == want.walks.len()
+        && each.all(|(walk, want)| walk.as_slice() == *want)
+}
+
+/// Tells whether the answer to a question is what is expected; `None` where there is no answer. Takes no memory of its
+/// own.
+fn is_right(
+    rt: &impl Abort,
+    alloc: Global,
+    room: &mut Room,
+    csr: &Csr,
+    reversed: &Csr,
+    want: &Want,
+    question: Question,
+) -> Option<bool>
+    requires { IsReversed csr.now reversed.now }
+{
+    let (n, s) = (csr.n(), want.source);
+    let count = n as usize;
+    let (forward, backward) = (&mut room.forward, &mut room.backward);
+    assert!(rt; s < n && forward.vertices() == count && backward.vertices() == count);
+    assert!(rt; room.walks.vertices() == count && are_below(n, &ALL));
+    match question {
+        Labels(targets) => {
+            assert!(rt; are_below(n, targets));
+            let found = forward.labels_to(alloc, csr, s, targets)?;
+            Some(are_labels(&found, targets, want))
+        }
+        Walks => {
+            let found = forward.walks_to(&mut room.walks, alloc, csr, s, &ALL)?;
+            Some(are_walks(&found, want))
+        }
+        Within(bound) => {
+            assert!(rt; bound < INF);
+            let found = forward.within(alloc, csr, s, bound)?;
+            Some(are_within(&found, want.labels, bound))
+        }
+        Cost(v) => {
+            assert!(rt; v < n);
+            let found = forward.cost_between(backward, csr, reversed, s, v)?;
+            Some(want.labels.get(v as usize) == Some(&found))
+        }
+    }
+}
+
+/// Asserts that each answer is what is expected, and that there is one where enough visits are allowed. Returns how
+/// often there is none.
+fn expect_answers(
+    rt: &impl Abort,
+    alloc: Global,
+    room: &mut Room,
+    csr: &Csr,
+    reversed: &Csr,
+    want: &Want,
+    question: Question,
+) -> u32
+    requires { IsReversed csr.now reversed.now }
+{
+    let mut unanswered = 0_u32;
+    for visits in VISITS {
+        room.forward.allow(visits, usize::MAX);
+        match is_right(rt, alloc, room, csr, reversed, want, question) {
+            Some(right) => assert!(rt; right, "from {} by {visits} visits", want.source),
+            None => {
+                assert!(rt; visits < ENOUGH, "from {}", want.source);
+                unanswered = unanswered.saturating_add(1);
+            }
+        }
+    }
+    unanswered
+}
+
+/// Asserts the answers to all questions of a source. Returns how often there is none.
+fn expect_from(
+    rt: &impl Abort,
+    alloc: Global,
+    room: &mut Room,
+    csr: &Csr,
+    reversed: &Csr,
+    s: u32,
+) -> Result<u32, Fail>
+    requires source { s < csr.now.n }
+    requires reversed { IsReversed csr.now reversed.now }
+{
+    let labels = distances(alloc, csr, s)?;
+    let walks = walks_from(rt, alloc, csr, s)?;
+    let walks: Vec<&[u32]> = walks.iter().map(|walk| walk.as_slice()).collect(alloc)?;
+    let want = Want {
+        source: s,
+        labels: &labels,
+        walks: &walks,
+    };
+    let mut unanswered = 0_u32;
+    for question in QUESTIONS {
+        let more = expect_answers(rt, alloc, room, csr, reversed, &want, question);
+        unanswered = unanswered.saturating_add(more);
+    }
+    Ok(unanswered)
+}
+
+/// Asserts the answers of a graph of six vertices.
+fn expect_graph(rt: &impl Abort, alloc: Global, arcs: &[ArcRec]) -> Result<(), Fail> {
+    let csr = build(rt, alloc, 6, arcs)?;
+    let reversed = csr.reversed(alloc)?;
+    let mut room = room_of(alloc, 6)?;
+    for s in 0..6 {
+        let unanswered = expect_from(rt, alloc, &mut room, &csr, &reversed, s)?;
+        assert!(rt; unanswered > 0 || csr.row(s).is_empty(), "from {s}");
+    }
+    Ok(())
+}
+
+#[test]
+fn one_search_after_another(rt: HostRuntime) -> Result<(), Fail> {
+    expect_graph(&rt, rt.alloc(), &EXAMPLE_ARCS)?;
+    expect_graph(&rt, rt.alloc(), &TANGLED)
+}
+
+/// The labels and the walks from the first of the six vertices.
+const FROM_0: Want<'static> = Want {
+    source: 0,
+    labels: &[0, 10, 10, 12, 10, 15],
+    walks: &[
+        &[0],
+        &[0, 2, 4, 1],
+        &[0, 2],
+        &[0, 2, 4, 1, 3],
+        &[0, 2, 4],
+        &[0, 2, 4, 1, 3, 5],
+    ],
+};
+
+/// Asserts that a search by few visits finds what is expected after many that gave up.
+fn expect_after_many(
+    rt: &impl Abort,
+    alloc: Global,
+    room: &mut Room,
+    csr: &Csr,
+    reversed: &Csr,
+    question: Question,
+)
+    requires { IsReversed csr.now reversed.now }
+{
+    room.forward.allow(1, usize::MAX);
+    for _ in 0..100_u32 {
+        let right = is_right(rt, alloc, room, csr, reversed, &FROM_0, question);
+        assert!(rt; right.is_none());
+    }
+    room.forward.allow(20, usize::MAX);
+    let right = is_right(rt, alloc, room, csr, reversed, &FROM_0, question);
+    assert!(rt; right == Some(true));
+}
+
+#[test]
+fn searches_that_give_up_leave_nothing(rt: HostRuntime) -> Result<(), Fail> {
+    let alloc = rt.alloc();
+    let csr = build(&rt, alloc, 6, &EXAMPLE_ARCS)?;
+    let reversed = csr.reversed(alloc)?;
+    let mut room = room_of(alloc, 6)?;
+    for question in [Labels(&ALL), Cost(5), Walks, Within(14)] {
+        expect_after_many(&rt, alloc, &mut room, &csr, &reversed, question);
+    }
+    Ok(())
+}

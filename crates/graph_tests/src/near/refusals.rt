@@ -1,0 +1,53 @@
+//! Each call that takes memory, with one allocation of it refused: it finds nothing then, and made once more in the same
+//! lists it gives what was worked by hand. `tests/refusals` refuses each in turn; `tests/refusals.tsv` has the calls.
+
+use crate::near::Question::{Cost, Labels, Walks, Within};
+use crate::near::{ALL, ENOUGH, FROM_0, Question, is_right, room_of};
+use crate::reports::build;
+use near_labels::SearchSpace;
+use route_walks::{EXAMPLE_ARCS, Memory, refusable, tried_again};
+use std::alloc::Global;
+use std::process::Abort;
+use std::test::Fail;
+
+/// Asserts that the answer is right, by one more call where there is none.
+fn expect_again(rt: &impl Abort, alloc: Global, question: Question) -> Result<(), Fail> {
+    let csr = build(rt, alloc, 6, &EXAMPLE_ARCS)?;
+    let reversed = csr.reversed(alloc)?;
+    let mut room = room_of(alloc, 6)?;
+    room.forward.allow(ENOUGH, usize::MAX);
+    let found = refusable!(
+        alloc,
+        is_right(rt, alloc, &mut room, &csr, &reversed, &FROM_0, question)
+    );
+    let right = match found {
+        Some(right) => Some(right),
+        None => is_right(rt, alloc, &mut room, &csr, &reversed, &FROM_0, question),
+    };
+    assert!(rt; right == Some(true));
+    Ok(())
+}
+
+#[test]
+fn of_search_space_new(rt: HostRuntime) -> Result<(), Fail> {
+    let space = tried_again!(rt, rt.alloc(), Memory, SearchSpace::new(rt.alloc(), 6));
+    assert!(rt; space.vertices() == 6);
+    Ok(())
+}
+
+// The search from both ends, which takes no allocator and has no row, is refused memory here too.
+#[test]
+fn of_search_space_labels_to(rt: HostRuntime) -> Result<(), Fail> {
+    expect_again(&rt, rt.alloc(), Labels(&ALL))?;
+    expect_again(&rt, rt.alloc(), Cost(5))
+}
+
+#[test]
+fn of_search_space_walks_to(rt: HostRuntime) -> Result<(), Fail> {
+    expect_again(&rt, rt.alloc(), Walks)
+}
+
+#[test]
+fn of_search_space_within(rt: HostRuntime) -> Result<(), Fail> {
+    expect_again(&rt, rt.alloc(), Within(12))
+}

@@ -1,0 +1,93 @@
+//! The block of a source whose vertices within the bound are near, without workers.
+
+ghost use Rattle.std.specs.Prelude.{◌≡◌, None, IfErr, IfSome, OnErr, OnOk};
+ghost use Rattle.least_costs.specs.Network.{IsStartWithin};
+ghost use Rattle.job_answer.specs.NearBlock.{IsNearBlock};
+ghost use Rattle.job_answer.specs.Outcome.{IsWritingFault};
+ghost use Rattle.job_answer.specs.Sinks.{Cuts, IsSame, Puts};
+ghost use Rattle.job_answer.specs.Solves.{IsStartBlock, IsStartLines};
+
+use crate::asked::Lines;
+use crate::fault::Fault;
+use crate::graphs::Graphs;
+use crate::laws::{blocks_are_unique, lines_are_unique};
+use crate::lines::put_listed;
+use crate::sink::Sink;
+use crate::watch::{Phase, Watch};
+use least_costs::{Network, Start, Workers};
+use obim_engine::Gate;
+use route_walks::laws::{least_labels_are_unique, least_labels_exist};
+use std::alloc::Global;
+use std::io::Write;
+use std::time::Clock;
+
+/// The vertices that cost at most a bound from a source, in rising order, each with its label. The block of the source
+/// has their lines and no others.
+#[derive(Drop)]
+pub(crate) struct NearBlock {
+    pub source: u32,
+    pub found: Vec<(u32, u64)>,
+}
+
+/// The vertices of the block of a start, if the thread that asks finds them by itself. `None` where the block has other
+/// lines than those within a bound without walks, or arcs are added.
+pub(crate) fn near_block<G: Gate + Sync>(
+    alloc: Global,
+    graphs: &Graphs,
+    lines: Lines,
+    start: Start,
+    workers: &mut Workers<'_, G>,
+) -> Option<NearBlock>
+    requires lines { IsStartLines start lines }
+    requires start { IsStartWithin graphs.now.network.n start }
+    ensures alone { IfSome result (λ _. graphs.now.grown ≡ None) }
+    ensures near { IfSome result (IsNearBlock lines start graphs.now.network) }
+{
+    let Start::At(source) = start else {
+        return None;
+    };
+    let Lines::Within {
+        walks: false,
+        bound,
+    } = lines
+    else {
+        return None;
+    };
+    if graphs.grown.is_some() {
+        return None;
+    }
+    let found = workers.near_within(alloc, &graphs.network, source, bound)?;
+    Some(NearBlock { source, found })
+}
+
+/// Puts the block of a start by a list of its vertices.
+pub(crate) fn put_near<C: Clock, W: Write>(
+    clock: &C,
+    sink: &mut Sink<'_, W>,
+    network: &Network,
+    lines: Lines,
+    start: Start,
+    near: &NearBlock,
+    watch: &mut impl Watch,
+) -> Result<(), Fault>
+    requires start { IsStartWithin network.now.n start }
+    requires near { IsNearBlock lines start network.now near.now }
+    ensures same { IsSame sink.old sink.new }
+    ensures block { OnOk result (Puts W.contents (IsStartBlock lines start network.now.n network.now.arcs)
+        sink.old sink.new) }
+    ensures prefix { OnErr result (Cuts W.contents (IsStartBlock lines start network.now.n network.now.arcs)
+        sink.old sink.new) }
+    ensures kinds { IfErr result IsWritingFault }
+{
+    lines_are_unique();
+    blocks_are_unique();
+    // Whatever the least labels are: the list has those within the bound.
+    least_labels_exist();
+    least_labels_are_unique();
+    let _ = network.n();
+    watch.see_solves(1);
+    watch.end(clock, Phase::Solving);
+    put_listed(sink, near.source, &near.found)?;
+    watch.end(clock, Phase::Writing);
+    Ok(())
+}

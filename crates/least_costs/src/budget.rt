@@ -1,0 +1,56 @@
+//! The limit of a search, past which workers are asked. No cost depends on it.
+
+use crate::network::Network;
+
+/// A search visits at most one vertex for so many of the network. That takes some hundredths of what workers take for a
+/// whole run.
+const VERTICES_A_VISIT: u32 = 32;
+
+/// A search of so few visits takes next to no time.
+const FEW: u32 = 512;
+
+/// The limit of one search.
+#[derive(Clone, Copy, Debug)]
+pub(crate) struct Limit {
+    pub(crate) visits: u32,
+    pub(crate) arcs: usize,
+}
+
+/// The number of visits of a search. After one that finds nothing the next goes half as far, and after one that finds
+/// twice as far.
+#[derive(Clone, Copy, Debug)]
+pub(crate) struct Budget {
+    visits: u32,
+    most: u32,
+}
+
+impl Budget {
+    /// The budget in a network of `n` vertices.
+    pub(crate) fn of(n: u32) -> Budget {
+        let most = (n / VERTICES_A_VISIT).max(FEW);
+        Budget { visits: most, most }
+    }
+
+    /// The limit of the next search in a network: twice as many arcs as so many vertices have.
+    pub(crate) fn limit(self, network: &Network) -> Limit {
+        let rows = network.rows();
+        let each = rows.arc_count() / (rows.n() as usize).max(1);
+        let arcs = each
+            .saturating_add(1)
+            .saturating_mul(2)
+            .saturating_mul(self.visits as usize);
+        Limit {
+            visits: self.visits,
+            arcs,
+        }
+    }
+
+    /// Takes note of whether a search found what it was asked for.
+    pub(crate) fn learn(&mut self, found: bool) {
+        self.visits = if found {
+            self.visits.saturating_mul(2).min(self.most)
+        } else {
+            (self.visits / 2).max(FEW)
+        };
+    }
+}

@@ -1,0 +1,306 @@
+//! Costs to vertices near the source, found before workers are asked.
+
+ghost use Rattle.std.specs.Prelude.{◌≡◌, ◌<◌, All, IfSome, length};
+ghost use Rattle.route_walks.specs.declared.graph.TheConstants.{INF};
+ghost use Rattle.route_walks.specs.Label.{IsLeast};
+ghost use Rattle.route_walks.specs.Operators.{seeds_from};
+ghost use Rattle.near_labels.specs.Found.{AreWalksFound};
+ghost use Rattle.least_costs.specs.Costs.{AreCostsTo};
+ghost use Rattle.least_costs.specs.Near.{AreCostsWithin, AreLabelsTo};
+ghost use Rattle.least_costs.specs.declared.start.Start.TheVariants.{At};
+
+use crate::budget::{Budget, Limit};
+use crate::costs::costs_in_order;
+use crate::network::Network;
+use crate::start::Start;
+use near_labels::{SearchSpace, WalksFound};
+use std::alloc::Global;
+use walk_report::WalkSpace;
+
+/// The rows are worth reversing once searches to one target have visited as many vertices as this part of the network.
+const SPENT_IN: u64 = 4;
+
+/// A search that finds nothing counts as so much of the network, since workers are asked then.
+const VAIN_IN: u64 = 16;
+
+/// Visits so few are never worth it.
+const FEW_SPENT: u64 = 4096;
+
+/// Room for searches by the thread that asks. What is near is found in the time of what is visited, without a pass over
+/// all vertices; for what isn't, workers are asked. No cost depends on it.
+#[derive(Drop)]
+pub(crate) struct Near {
+    forward: Option<SearchSpace>,
+    backward: Option<SearchSpace>,
+    walks: Option<WalkSpace>,
+    one_end: Budget,
+    both_ends: Budget,
+    /// The number of vertices that searches from one end, to one target, have visited.
+    spent: u64,
+}
+
+impl Near {
+    /// Room that the first question makes.
+    pub(crate) fn new() -> Near {
+        Near {
+            forward: None,
+            backward: None,
+            walks: None,
+            one_end: Budget::of(0),
+            both_ends: Budget::of(0),
+            spent: 0,
+        }
+    }
+
+    /// Tells if searches from both ends are worth the time that reversing the rows takes.
+    pub(crate) fn wants_reversed(&self, network: &Network) -> bool {
+        self.spent >= FEW_SPENT.max(u64::from(network.n()) / SPENT_IN)
+    }
+
+    /// Counts anew what searches from one end visit.
+    pub(crate) fn forget_spent(&mut self) {
+        self.spent = 0;
+    }
+
+    /// The costs of these targets from a source, if they are near: from both ends where there is one target, and the
+    /// network has reversed rows.
+    pub(crate) fn costs_to(
+        &mut self,
+        alloc: Global,
+        network: &Network,
+        source: u32,
+        targets: &[u32],
+    ) -> Option<Vec<Option<u64>>>
+        requires source { source < network.now.n }
+        requires targets { All (λ t. t < network.now.n) targets.now }
+        ensures { IfSome result (λ costs. AreCostsTo network.now (At source) targets.now costs.items) }
+    {
+        let labels = if targets.len() == 1 && network.has_reversed() {
+            self.label_between(alloc, network, source, targets)
+        } else {
+            self.labels_to(alloc, network, source, targets)
+        };
+        match labels {
+            Some(labels) => {
+                costs_in_order(alloc, network, Start::At(source), targets, &labels).ok()
+            }
+            None => None,
+        }
+    }
+
+    /// The least labels of these targets from a source, and the walks to them, if they are near.
+    pub(crate) fn walks_to(
+        &mut self,
+        alloc: Global,
+        network: &Network,
+        source: u32,
+        targets: &[u32],
+    ) -> Option<WalksFound>
+        requires source { source < network.now.n }
+        requires targets { All (λ t. t < network.now.n) targets.now }
+        ensures { IfSome result (AreWalksFound network.now.n network.now.arcs source targets.now) }
+    {
+        self.prepare(alloc, network);
+        fit_walks(&mut self.walks, alloc, network.n());
+        let (forward, walks) = (&mut self.forward, &mut self.walks);
+        let limit = self.one_end.limit(network);
+        let found = walks_by(forward, walks, alloc, network, source, targets, limit);
+        self.one_end.learn(found.is_some());
+        found
+    }
+
+    /// The vertices that cost at most a bound from a source, in rising order, each with its cost, if they are near.
+    pub(crate) fn within(
+        &mut self,
+        alloc: Global,
+        network: &Network,
+        source: u32,
+        bound: u64,
+    ) -> Option<Vec<(u32, u64)>>
+        requires source { source < network.now.n }
+        requires bound { bound < INF }
+        ensures { IfSome result (AreCostsWithin network.now source bound) }
+    {
+        self.prepare(alloc, network);
+        let limit = self.one_end.limit(network);
+        let found = within_by(&mut self.forward, alloc, network, source, bound, limit);
+        self.one_end.learn(found.is_some());
+        found
+    }
+
+    /// The least labels of these targets from a source, by a search from there.
+    fn labels_to(
+        &mut self,
+        alloc: Global,
+        network: &Network,
+        source: u32,
+        targets: &[u32],
+    ) -> Option<Vec<u64>>
+        requires source { source < network.now.n }
+        requires targets { All (λ t. t < network.now.n) targets.now }
+        ensures { IfSome result (AreLabelsTo network.now.arcs source targets.now) }
+    {
+        self.prepare(alloc, network);
+        let limit = self.one_end.limit(network);
+        let labels = labels_by(&mut self.forward, alloc, network, source, targets, limit);
+        self.one_end.learn(labels.is_some());
+        if targets.len() == 1 {
+            self.spend(network, labels.is_some());
+        }
+        labels
+    }
+
+    /// The least label of one target from a source, by a search from both ends.
+    fn label_between(
+        &mut self,
+        alloc: Global,
+        network: &Network,
+        source: u32,
+        targets: &[u32],
+    ) -> Option<Vec<u64>>
+        requires source { source < network.now.n }
+        requires targets { All (λ t. t < network.now.n) targets.now }
+        requires one { length targets.now ≡ 1 }
+        ensures { IfSome result (AreLabelsTo network.now.arcs source targets.now) }
+    {
+        self.prepare(alloc, network);
+        fit(&mut self.backward, alloc, network.n());
+        let (forward, backward) = (&mut self.forward, &mut self.backward);
+        let limit = self.both_ends.limit(network);
+        let label = label_by_both(forward, backward, network, source, targets[0], limit);
+        self.both_ends.learn(label.is_some());
+        match label {
+            Some(label) => vec![in alloc; label; 1].ok(),
+            None => None,
+        }
+    }
+
+    /// Counts what the last search from one end has visited.
+    fn spend(&mut self, network: &Network, found: bool) {
+        let visited = match &self.forward {
+            Some(space) if found => u64::from(space.visits()),
+            _ => u64::from(network.n()) / VAIN_IN,
+        };
+        self.spent = self.spent.saturating_add(visited);
+    }
+
+    /// Makes room for this network, unless it has room for as many vertices.
+    fn prepare(&mut self, alloc: Global, network: &Network) {
+        let n = network.n();
+        if fit(&mut self.forward, alloc, n) {
+            self.one_end = Budget::of(n);
+            self.both_ends = Budget::of(n);
+        }
+    }
+}
+
+/// Makes room for `n` vertices, unless it has room for as many. Returns true if it made room.
+fn fit(space: &mut Option<SearchSpace>, alloc: Global, n: u32) -> bool {
+    match space {
+        Some(space) if space.vertices() == n as usize => false,
+        _ => {
+            *space = SearchSpace::new(alloc, n).ok();
+            true
+        }
+    }
+}
+
+/// Makes room for the walks among `n` vertices, unless it has room for as many.
+fn fit_walks(space: &mut Option<WalkSpace>, alloc: Global, n: u32) {
+    match space {
+        Some(space) if space.vertices() == n as usize => {}
+        _ => *space = WalkSpace::new(alloc, n).ok(),
+    }
+}
+
+/// The least labels of these targets and the walks to them, by a search within the limit.
+fn walks_by(
+    space: &mut Option<SearchSpace>,
+    walks: &mut Option<WalkSpace>,
+    alloc: Global,
+    network: &Network,
+    source: u32,
+    targets: &[u32],
+    limit: Limit,
+) -> Option<WalksFound>
+    requires source { source < network.now.n }
+    requires targets { All (λ t. t < network.now.n) targets.now }
+    ensures { IfSome result (AreWalksFound network.now.n network.now.arcs source targets.now) }
+{
+    let n = network.n() as usize;
+    match (space, walks) {
+        (Some(space), Some(walks)) if space.vertices() == n && walks.vertices() == n => {
+            space.allow(limit.visits, limit.arcs);
+            space.walks_to(walks, alloc, &network.rows, source, targets)
+        }
+        _ => None,
+    }
+}
+
+/// The least labels of these targets, by a search within the limit.
+fn labels_by(
+    space: &mut Option<SearchSpace>,
+    alloc: Global,
+    network: &Network,
+    source: u32,
+    targets: &[u32],
+    limit: Limit,
+) -> Option<Vec<u64>>
+    requires source { source < network.now.n }
+    requires targets { All (λ t. t < network.now.n) targets.now }
+    ensures { IfSome result (AreLabelsTo network.now.arcs source targets.now) }
+{
+    match space {
+        Some(space) if space.vertices() == network.n() as usize => {
+            space.allow(limit.visits, limit.arcs);
+            space.labels_to(alloc, &network.rows, source, targets)
+        }
+        _ => None,
+    }
+}
+
+/// The vertices that cost at most a bound, by a search within the limit.
+fn within_by(
+    space: &mut Option<SearchSpace>,
+    alloc: Global,
+    network: &Network,
+    source: u32,
+    bound: u64,
+    limit: Limit,
+) -> Option<Vec<(u32, u64)>>
+    requires source { source < network.now.n }
+    requires bound { bound < INF }
+    ensures { IfSome result (AreCostsWithin network.now source bound) }
+{
+    match space {
+        Some(space) if space.vertices() == network.n() as usize => {
+            space.allow(limit.visits, limit.arcs);
+            space.within(alloc, &network.rows, source, bound)
+        }
+        _ => None,
+    }
+}
+
+/// The least label of a target, by a search from both ends within the limit.
+fn label_by_both(
+    forward: &mut Option<SearchSpace>,
+    backward: &mut Option<SearchSpace>,
+    network: &Network,
+    source: u32,
+    target: u32,
+    limit: Limit,
+) -> Option<u64>
+    requires source { source < network.now.n }
+    requires target { target < network.now.n }
+    ensures { IfSome result (IsLeast network.now.arcs (seeds_from source) target) }
+{
+    let n = network.n() as usize;
+    match (forward, backward, network.reversed()) {
+        (Some(forward), Some(backward), Some(reversed))
+            if forward.vertices() == n && backward.vertices() == n => {
+            forward.allow(limit.visits, limit.arcs);
+            forward.cost_between(backward, &network.rows, reversed, source, target)
+        }
+        _ => None,
+    }
+}

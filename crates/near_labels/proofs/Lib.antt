@@ -1,0 +1,4 @@
+pub mod Noting
+pub mod Lowering
+pub mod Bounded
+pub mod Meeting

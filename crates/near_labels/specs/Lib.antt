@@ -1,0 +1,4 @@
+pub mod Aim
+pub mod Found
+pub mod Meeting
+pub mod Noted

@@ -1,0 +1,82 @@
+//! The labels that a search is asked for, and the limit up to which labels must be least to have them.
+
+ghost use Rattle.std.specs.Prelude.{◌≡◌, ◌<◌, ◌≤◌, All, length, slice_index};
+ghost use Rattle.near_labels.specs.Aim.{IsServedBy, targets_of};
+
+/// The labels that a search is asked for.
+#[derive(Clone, Copy, Debug)]
+pub(crate) enum Aim<'a> {
+    /// Those of these vertices.
+    Costs(&'a [u32]),
+    /// Those of these vertices, and of each vertex on a walk of least cost to one of them.
+    Walks(&'a [u32]),
+    /// All that are at most this bound.
+    Within(u64),
+}
+
+impl<'a> Aim<'a> {
+    /// The vertices that are named.
+    pub(crate) fn targets(&self) -> &'a [u32]
+        ensures { result.now ≡ targets_of self.now }
+    {
+        match *self {
+            Aim::Costs(targets) => targets,
+            Aim::Walks(targets) => targets,
+            Aim::Within(_) => &[],
+        }
+    }
+
+    /// The least limit that serves these labels.
+    pub(crate) fn limit_of(&self, labels: &[u64]) -> u64
+        requires { All (λ t. t < length labels.now) (targets_of self.now) }
+        ensures { IsServedBy self.now labels.now result }
+    {
+        match *self {
+            Aim::Costs(targets) => farthest(labels, targets),
+            Aim::Walks(targets) => farthest(labels, targets).saturating_add(1),
+            Aim::Within(bound) => bound.saturating_add(1),
+        }
+    }
+
+    /// Tells if what is asked for is known, where no label below `next` waits. The targets before the place `seen` are
+    /// known already. A hint.
+    pub(crate) fn is_reached(&self, labels: &[u64], seen: &mut usize, next: u64) -> bool
+        requires { All (λ t. t < length labels.now) (targets_of self.now) }
+    {
+        let (targets, known) = match *self {
+            Aim::Within(bound) => return next > bound,
+            Aim::Costs(targets) => (targets, next),
+            // One that has just the label of the next vertex may have a walk of fewer arcs.
+            Aim::Walks(_) if next == 0 => return false,
+            Aim::Walks(targets) => (targets, next - 1),
+        };
+        *seen = first_above(labels, targets, *seen, known);
+        *seen >= targets.len()
+    }
+}
+
+/// The first place from `from` on of a target whose label is above this one.
+fn first_above(labels: &[u64], targets: &[u32], from: usize, label: u64) -> usize
+    requires { All (λ t. t < length labels.now) targets.now }
+{
+    let mut place = from;
+    while place < targets.len() {
+        if labels[targets[place] as usize] > label {
+            break;
+        }
+        place += 1;
+    }
+    place
+}
+
+/// The greatest label of the targets; 0 where there are none.
+fn farthest(labels: &[u64], targets: &[u32]) -> u64
+    requires { All (λ t. t < length labels.now) targets.now }
+    ensures { All (λ t. slice_index labels.now t ≤ result) targets.now }
+{
+    let mut most = 0;
+    for target in targets {
+        most = labels[*target as usize].max(most);
+    }
+    most
+}

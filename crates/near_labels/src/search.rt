@@ -1,0 +1,99 @@
+//! A search from one end: the lowest label first, as far as the aim.
+
+ghost use Rattle.std.specs.Prelude.{◌≡◌, ◌<◌, true, [], All, IfSome, length};
+ghost use Rattle.route_walks.specs.Limit.{AreLeastLabelsUpTo};
+ghost use Rattle.route_walks.specs.Operators.{seeds_from};
+ghost use Rattle.label_words.specs.Paused.{IsPause};
+ghost use Rattle.near_labels.specs.Aim.{IsServedBy, targets_of};
+ghost use Rattle.near_labels.specs.Noted.{AreNoted, IsBlank, rest_of};
+
+use crate::aim::Aim;
+use crate::state::State;
+use csr_graph::Csr;
+use label_words::laws::pauses_are_least_up_to;
+use std::cmp::Reverse;
+
+/// Searches from the source of a blank state until labels serve the aim. Returns the limit up to which they are least;
+/// `None` where the visits that are allowed don't do, or memory is refused.
+pub(crate) fn search(state: &mut State, csr: &Csr, source: u32, aim: Aim<'_>) -> Option<u64>
+    requires count { length state.old.labels.items ≡ csr.now.n }
+    requires blank { IsBlank state.old.labels.items state.old.marks.items }
+    requires none { state.old.noted.items ≡ [] }
+    requires source { source < csr.now.n }
+    requires targets { All (λ t. t < csr.now.n) (targets_of aim) }
+    ensures count { length state.new.labels.items ≡ csr.now.n }
+    ensures noted { AreNoted state.new.labels.items state.new.marks.items state.new.noted.items }
+    ensures least { IfSome result (λ limit.
+        AreLeastLabelsUpTo limit csr.now.n csr.now.arcs (seeds_from source) state.new.labels.items) }
+    ensures served { IfSome result (IsServedBy aim.entry state.new.labels.items) }
+{
+    if !begin(state, csr, source, &[]) || !go_on(state, csr, source, &aim) {
+        return None;
+    }
+    limit_reached(state, csr, source, &aim)
+}
+
+/// Gives the source the label 0, and lets it wait. `other` are the labels of a search from the other end, if there is
+/// one.
+pub(crate) fn begin(state: &mut State, csr: &Csr, source: u32, other: &[u64]) -> bool
+    requires count { length state.old.labels.items ≡ csr.now.n }
+    requires blank { IsBlank state.old.labels.items state.old.marks.items }
+    requires none { state.old.noted.items ≡ [] }
+    requires source { source < csr.now.n }
+    ensures count { length state.new.labels.items ≡ csr.now.n }
+    ensures noted { AreNoted state.new.labels.items state.new.marks.items state.new.noted.items }
+    ensures pause { result ≡ true →
+        IsPause csr.now (seeds_from source) (rest_of state.new.labels.items state.new.marks.items) }
+{
+    // That the graph is in rows tells what its ends are.
+    let _vertices = csr.n();
+    state.lower(source, 0, other)
+}
+
+/// Visits the vertices that wait, the lowest label first, until no lower label than the next one is asked for.
+fn go_on(state: &mut State, csr: &Csr, source: u32, aim: &Aim<'_>) -> bool
+    requires noted { AreNoted state.old.labels.items state.old.marks.items state.old.noted.items }
+    requires pause { IsPause csr.now (seeds_from source) (rest_of state.old.labels.items state.old.marks.items) }
+    requires targets { All (λ t. t < csr.now.n) (targets_of aim.now) }
+    ensures count { length state.new.labels.items ≡ length state.old.labels.items }
+    ensures noted { AreNoted state.new.labels.items state.new.marks.items state.new.noted.items }
+    ensures pause { result ≡ true →
+        IsPause csr.now (seeds_from source) (rest_of state.new.labels.items state.new.marks.items) }
+{
+    let n = csr.n();
+    let mut seen = 0;
+    for _ in 0..state.visits {
+        if state.relaxed > state.arcs {
+            return true;
+        }
+        let Some(Reverse((label, u))) = state.queue.pop() else {
+            return true;
+        };
+        if aim.is_reached(&state.labels, &mut seen, label) {
+            return true;
+        }
+        if u < n && state.marks[u as usize] && !state.visit(csr, source, u, &[]) {
+            return false;
+        }
+    }
+    true
+}
+
+/// The limit up to which labels are least, if it serves the aim: no vertex waits whose label is below it.
+fn limit_reached(state: &State, csr: &Csr, source: u32, aim: &Aim<'_>) -> Option<u64>
+    requires noted { AreNoted state.now.labels.items state.now.marks.items state.now.noted.items }
+    requires pause { IsPause csr.now (seeds_from source) (rest_of state.now.labels.items state.now.marks.items) }
+    requires targets { All (λ t. t < csr.now.n) (targets_of aim.now) }
+    ensures least { IfSome result (λ limit.
+        AreLeastLabelsUpTo limit csr.now.n csr.now.arcs (seeds_from source) state.now.labels.items) }
+    ensures served { IfSome result (IsServedBy aim.now state.now.labels.items) }
+{
+    pauses_are_least_up_to();
+    let _ = (csr.n(), source);
+    let limit = aim.limit_of(&state.labels);
+    if state.is_unmarked_below(limit) {
+        Some(limit)
+    } else {
+        None
+    }
+}

@@ -1,0 +1,233 @@
+//! Room for one search after another.
+
+ghost use Rattle.std.specs.Prelude.{◌≡◌, ◌+◌, ◌<◌, ◌≤◌, All, IfOk, IfSome, length, min, slice_index};
+ghost use Rattle.route_walks.specs.declared.graph.TheConstants.{INF};
+ghost use Rattle.route_walks.specs.Label.{IsLeast};
+ghost use Rattle.route_walks.specs.Limit.{AreLeastLabelsUpTo};
+ghost use Rattle.route_walks.specs.Operators.{seeds_from};
+ghost use Rattle.near_labels.specs.Found.{AreWalksFound};
+ghost use Rattle.near_labels.specs.Meeting.{IsReversed};
+ghost use Rattle.near_labels.specs.Noted.{AreLeastOf, AreNoted, AreThoseWithin};
+
+use crate::aim::Aim;
+use crate::both_ends::cost_from_both;
+use crate::listing::{labels_of, listed};
+use crate::search::search;
+use crate::state::State;
+use crate::walks::{WalksFound, walks_below};
+use csr_graph::Csr;
+use route_walks::Memory;
+use route_walks::laws::least_up_to_a_limit;
+use std::alloc::Global;
+use std::marker::Model;
+use walk_report::WalkSpace;
+
+/// Room for searches in graphs of so many vertices, one after another. It takes 9 bytes a vertex, and about 30 for each
+/// vertex that a search reaches. Contracts see the number of vertices.
+#[derive(Drop)]
+pub struct SearchSpace {
+    state: State,
+}
+
+impl Model for SearchSpace {
+    ghost use Rattle.std.specs.Prelude.{◌≡◌, ℕ, [], length};
+    ghost use Rattle.near_labels.specs.Noted.{IsBlank};
+
+    ghost Value = { ℕ };
+
+    ghost view = { λ s. length s.state.labels.items };
+
+    ghost invariant = { λ s. IsBlank s.state.labels.items s.state.marks.items × (s.state.noted.items ≡ []) };
+}
+
+impl SearchSpace {
+    /// Makes room for searches in graphs of `n` vertices. Takes time in proportion to them.
+    pub fn new(alloc: Global, n: u32) -> Result<SearchSpace, Memory>
+        ensures { IfOk result (λ space. space ≡ n) }
+    {
+        let state = State::new(alloc, n)?;
+        Ok(SearchSpace { state })
+    }
+
+    /// The number of vertices.
+    pub fn vertices(&self) -> usize
+        ensures { result ≡ self.now }
+    {
+        self.state.labels.len()
+    }
+
+    /// Sets how many vertices the next search visits, and how many arcs it relaxes, before it gives up; none at first.
+    /// Which searches give up is in no contract.
+    pub fn allow(&mut self, visits: u32, arcs: usize)
+        ensures { self.new ≡ self.old }
+    {
+        self.state.visits = visits;
+        self.state.arcs = arcs;
+        self.state.made = 0;
+    }
+
+    /// The number of visits since `allow` was called.
+    pub fn visits(&self) -> u32 {
+        self.state.made
+    }
+
+    /// Returns the least labels of these targets from the source, in their order; `None` where the visits that are
+    /// allowed don't do, or memory is refused. Takes the time of the vertices that are nearer than the farthest target.
+    pub fn labels_to(
+        &mut self,
+        alloc: Global,
+        csr: &Csr,
+        source: u32,
+        targets: &[u32],
+    ) -> Option<Vec<u64>>
+        requires vertices { self.old ≡ csr.now.n }
+        requires source { source < csr.now.n }
+        requires targets { All (λ t. t < csr.now.n) targets.now }
+        ensures vertices { self.new ≡ self.old }
+        ensures least { IfSome result (λ labels.
+            AreLeastOf csr.now.arcs (seeds_from source) targets.now labels.items) }
+    {
+        let reached = search(&mut self.state, csr, source, Aim::Costs(targets));
+        let labels = match reached {
+            Some(limit) => least_of(alloc, csr, source, &self.state.labels, limit, targets),
+            None => None,
+        };
+        self.state.wipe();
+        labels
+    }
+
+    /// Returns the least labels of these targets and the walks to them, those that `walk_report` prints; `None` where the
+    /// visits that are allowed don't do, or memory is refused. Takes some three times as long as `labels_to`.
+    pub fn walks_to(
+        &mut self,
+        walks: &mut WalkSpace,
+        alloc: Global,
+        csr: &Csr,
+        source: u32,
+        targets: &[u32],
+    ) -> Option<WalksFound>
+        requires vertices { self.old ≡ csr.now.n }
+        requires vertices_of_walks { walks.old ≡ csr.now.n }
+        requires source { source < csr.now.n }
+        requires targets { All (λ t. t < csr.now.n) targets.now }
+        ensures vertices { self.new ≡ self.old }
+        ensures vertices_of_walks { walks.new ≡ walks.old }
+        ensures walks { IfSome result (AreWalksFound csr.now.n csr.now.arcs source targets.now) }
+    {
+        let reached = search(&mut self.state, csr, source, Aim::Walks(targets));
+        let found = match reached {
+            Some(limit) => {
+                let labels = &self.state.labels;
+                walks_below(walks, alloc, csr, labels, source, limit, targets)
+            }
+            None => None,
+        };
+        self.state.wipe();
+        found
+    }
+
+    /// Returns the vertices whose least label from the source is at most the bound, in rising order, each with its label;
+    /// `None` where the visits that are allowed don't do, or memory is refused. Takes the time of the vertices within
+    /// the bound.
+    pub fn within(
+        &mut self,
+        alloc: Global,
+        csr: &Csr,
+        source: u32,
+        bound: u64,
+    ) -> Option<Vec<(u32, u64)>>
+        requires vertices { self.old ≡ csr.now.n }
+        requires source { source < csr.now.n }
+        requires bound { bound < INF }
+        ensures vertices { self.new ≡ self.old }
+        ensures within { IfSome result (λ found.
+            AreThoseWithin bound csr.now.n csr.now.arcs (seeds_from source) found.items) }
+    {
+        let reached = search(&mut self.state, csr, source, Aim::Within(bound));
+        let list = match reached {
+            Some(limit) => list_within(&mut self.state, alloc, csr, source, limit, bound),
+            None => None,
+        };
+        self.state.wipe();
+        list
+    }
+
+    /// Returns the least cost from the source to the target, `INF` if there is no walk; `None` where the visits that are
+    /// allowed don't do, or memory is refused. Searches from the source here, and from the target in the other space,
+    /// over the reversed graph.
+    pub fn cost_between(
+        &mut self,
+        backward: &mut SearchSpace,
+        csr: &Csr,
+        reversed: &Csr,
+        source: u32,
+        target: u32,
+    ) -> Option<u64>
+        requires vertices { self.old ≡ csr.now.n }
+        requires vertices_backward { backward.old ≡ csr.now.n }
+        requires reversed { IsReversed csr.now reversed.now }
+        requires source { source < csr.now.n }
+        requires target { target < csr.now.n }
+        ensures vertices { self.new ≡ self.old }
+        ensures vertices_backward { backward.new ≡ backward.old }
+        ensures least { IfSome result (λ cost. IsLeast csr.now.arcs (seeds_from source) target cost) }
+    {
+        let cost = cost_from_both(
+            &mut self.state,
+            &mut backward.state,
+            csr,
+            reversed,
+            source,
+            target,
+        );
+        self.state.wipe();
+        backward.state.wipe();
+        cost
+    }
+}
+
+/// The labels of these vertices, which are least: none is above the limit up to which all labels are.
+fn least_of(
+    alloc: Global,
+    csr: &Csr,
+    source: u32,
+    labels: &[u64],
+    limit: u64,
+    vertices: &[u32],
+) -> Option<Vec<u64>>
+    requires vertices { All (λ v. v < csr.now.n) vertices.now }
+    requires least { AreLeastLabelsUpTo limit csr.now.n csr.now.arcs (seeds_from source) labels.now }
+    requires near { All (λ v. slice_index labels.now v ≤ limit) vertices.now }
+    ensures { IfSome result (λ found. AreLeastOf csr.now.arcs (seeds_from source) vertices.now found.items) }
+{
+    least_up_to_a_limit();
+    // Whose labels they are, and up to where they are least, is for the contract alone.
+    let _ = (csr.n(), source, limit);
+    labels_of(alloc, labels, vertices)
+}
+
+/// The vertices within the bound, of those that a search has noted. Labels are least up to a limit past the bound.
+fn list_within(
+    state: &mut State,
+    alloc: Global,
+    csr: &Csr,
+    source: u32,
+    limit: u64,
+    bound: u64,
+) -> Option<Vec<(u32, u64)>>
+    requires noted { AreNoted state.old.labels.items state.old.marks.items state.old.noted.items }
+    requires least { AreLeastLabelsUpTo limit csr.now.n csr.now.arcs (seeds_from source) state.old.labels.items }
+    requires past { min (bound + 1) INF ≤ limit }
+    requires bound { bound < INF }
+    ensures count { length state.new.labels.items ≡ length state.old.labels.items }
+    ensures noted { AreNoted state.new.labels.items state.new.marks.items state.new.noted.items }
+    ensures within { IfSome result (λ found.
+        AreThoseWithin bound csr.now.n csr.now.arcs (seeds_from source) found.items) }
+{
+    least_up_to_a_limit();
+    let _ = (csr.n(), source, limit);
+    if !state.sort_noted() {
+        return None;
+    }
+    listed(alloc, &state.labels, &state.noted, bound)
+}

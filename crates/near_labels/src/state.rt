@@ -1,0 +1,244 @@
+//! Labels and marks of all vertices, and which of them a search has come to.
+
+ghost use Rattle.std.specs.Prelude.{◌≡◌, ◌<◌, ◌≤◌, true, false, [], ◌∷◌, All, Contains, length, slice_index, slice_set, IfOk};
+ghost use Rattle.route_walks.specs.declared.graph.TheConstants.{INF};
+ghost use Rattle.route_walks.specs.Operators.{seeds_from};
+ghost use Rattle.std.specs.List.Sorted.{IsNonDecreasing};
+ghost use Rattle.label_words.specs.Paused.{IsPause, AreUnmarkedBelow};
+ghost use Rattle.near_labels.specs.Noted.{AreNoted, IsBlank, rest_of};
+ghost use Rattle.near_labels.specs.Meeting.{IsLeastMeeting};
+
+use csr_graph::{Csr, Target};
+use route_walks::{INF, Memory, offer};
+use std::alloc::Global;
+use std::cmp::Reverse;
+use std::collections::BinaryHeap;
+
+/// Labels and marks, the vertices that aren't blank, and those that wait, the lowest label first. In what order they
+/// come is a hint.
+#[derive(Drop)]
+pub(crate) struct State {
+    pub labels: Vec<u64>,
+    pub marks: Vec<bool>,
+    pub noted: Vec<u32>,
+    pub queue: BinaryHeap<Reverse<(u64, u32)>>,
+    /// The number of visits that a search makes before it gives up, and of arcs that it relaxes.
+    pub visits: u32,
+    pub arcs: usize,
+    /// The number of visits that the last search made, and of arcs that it relaxed.
+    pub made: u32,
+    pub relaxed: usize,
+    /// The least sum of a label that fell and of the other side's label of that vertex. A hint.
+    pub met: u64,
+}
+
+impl State {
+    /// No vertex of `n` has come up.
+    pub(crate) fn new(alloc: Global, n: u32) -> Result<State, Memory>
+        ensures count { IfOk result (λ state. length state.labels.items ≡ n) }
+        ensures blank { IfOk result (λ state. IsBlank state.labels.items state.marks.items) }
+        ensures noted { IfOk result (λ state. state.noted.items ≡ []) }
+    {
+        let labels = vec![in alloc; INF; n as usize]?;
+        let marks = vec![in alloc; false; n as usize]?;
+        Ok(State {
+            labels,
+            marks,
+            noted: Vec::new(alloc),
+            queue: BinaryHeap::new(alloc),
+            visits: 0,
+            arcs: 0,
+            made: 0,
+            relaxed: 0,
+            met: INF,
+        })
+    }
+
+    /// Notes `v`, if it is blank. False where memory is refused.
+    #[inline(always)]
+    fn note(&mut self, v: u32) -> bool
+        requires noted { AreNoted self.old.labels.items self.old.marks.items self.old.noted.items }
+        requires vertex { v < length self.old.labels.items }
+        ensures labels { self.new.labels ≡ self.old.labels }
+        ensures marks { self.new.marks ≡ self.old.marks }
+        ensures noted { AreNoted self.new.labels.items self.new.marks.items self.new.noted.items }
+        ensures within { result ≡ true → Contains self.new.noted.items v }
+    {
+        if self.labels[v as usize] == INF {
+            match self.noted.push(v) {
+                Ok(()) => true,
+                Err(_) => false,
+            }
+        } else {
+            true
+        }
+    }
+
+    /// Sees what a label of `v` makes with the other side's label, if there is another side.
+    #[inline(always)]
+    fn meet(&mut self, v: u32, label: u64, other: &[u64])
+        ensures labels { self.new.labels ≡ self.old.labels }
+        ensures marks { self.new.marks ≡ self.old.marks }
+        ensures noted { self.new.noted ≡ self.old.noted }
+    {
+        if let Some(back) = other.get(v as usize) {
+            self.met = label.saturating_add(*back).min(self.met);
+        }
+    }
+
+    /// Lowers the label of `v`, marks it, and lets it wait. False, and no label and no mark changes, where memory is
+    /// refused. Looks at the other side's labels, if there are any.
+    #[inline(always)]
+    pub(crate) fn lower(&mut self, v: u32, label: u64, other: &[u64]) -> bool
+        requires noted { AreNoted self.old.labels.items self.old.marks.items self.old.noted.items }
+        requires vertex { v < length self.old.labels.items }
+        ensures labels { result ≡ true → self.new.labels.items ≡ slice_set self.old.labels.items v label }
+        ensures marks { result ≡ true → self.new.marks.items ≡ slice_set self.old.marks.items v true }
+        ensures kept_labels { result ≡ false → self.new.labels.items ≡ self.old.labels.items }
+        ensures kept_marks { result ≡ false → self.new.marks.items ≡ self.old.marks.items }
+        ensures noted { AreNoted self.new.labels.items self.new.marks.items self.new.noted.items }
+    {
+        self.meet(v, label, other);
+        if !self.note(v) {
+            return false;
+        }
+        match self.queue.push(Reverse((label, v))) {
+            Ok(()) => {}
+            Err(_) => return false,
+        }
+        let place = v as usize;
+        self.labels[place] = label;
+        self.marks[place] = true;
+        true
+    }
+
+    /// Relaxes the arcs that leave `u`, which isn't marked then. False where memory is refused. Looks at the other side's
+    /// labels, if there are any.
+    pub(crate) fn visit(&mut self, csr: &Csr, source: u32, u: u32, other: &[u64]) -> bool
+        requires noted { AreNoted self.old.labels.items self.old.marks.items self.old.noted.items }
+        requires pause { IsPause csr.now (seeds_from source) (rest_of self.old.labels.items self.old.marks.items) }
+        requires vertex { u < csr.now.n }
+        ensures noted { AreNoted self.new.labels.items self.new.marks.items self.new.noted.items }
+        ensures pause { result ≡ true →
+            IsPause csr.now (seeds_from source) (rest_of self.new.labels.items self.new.marks.items) }
+        ensures count { length self.new.labels.items ≡ length self.old.labels.items }
+    {
+        // The source is for the contract alone.
+        let _ = source;
+        let place = u as usize;
+        let d = self.labels[place];
+        let row = csr.row(u);
+        self.made = self.made.saturating_add(1);
+        self.relaxed = self.relaxed.saturating_add(row.len());
+        for &Target { head, weight } in row {
+            let label = offer(d, weight);
+            if label < self.labels[head as usize] && !self.lower(head, label, other) {
+                return false;
+            }
+        }
+        self.marks[place] = false;
+        true
+    }
+
+    /// Tells if no vertex with a label below the limit is marked. Looks at the noted vertices alone.
+    pub(crate) fn is_unmarked_below(&self, limit: u64) -> bool
+        requires { AreNoted self.now.labels.items self.now.marks.items self.now.noted.items }
+        ensures { result ≡ true → AreUnmarkedBelow limit (rest_of self.now.labels.items self.now.marks.items) }
+    {
+        for v in &self.noted {
+            let place = *v as usize;
+            if self.marks[place] && self.labels[place] < limit {
+                return false;
+            }
+        }
+        true
+    }
+
+    /// Visits the next vertex that waits, if one does. False where memory is refused.
+    pub(crate) fn step(&mut self, csr: &Csr, source: u32, other: &[u64]) -> bool
+        requires noted { AreNoted self.old.labels.items self.old.marks.items self.old.noted.items }
+        requires pause { IsPause csr.now (seeds_from source) (rest_of self.old.labels.items self.old.marks.items) }
+        ensures noted { AreNoted self.new.labels.items self.new.marks.items self.new.noted.items }
+        ensures pause { result ≡ true →
+            IsPause csr.now (seeds_from source) (rest_of self.new.labels.items self.new.marks.items) }
+        ensures count { length self.new.labels.items ≡ length self.old.labels.items }
+    {
+        let Some(Reverse((_, u))) = self.queue.pop() else {
+            return true;
+        };
+        if u < csr.n() && self.marks[u as usize] {
+            self.visit(csr, source, u, other)
+        } else {
+            true
+        }
+    }
+
+    /// The lowest label that waits, or one below it; `INF` where none does. A hint.
+    pub(crate) fn next_label(&self) -> u64 {
+        match self.queue.peek() {
+            Some(Reverse((label, _))) => *label,
+            None => INF,
+        }
+    }
+
+    /// The lowest label of a marked vertex; `INF` where there is none. Looks at the noted vertices alone.
+    pub(crate) fn lowest_marked(&self) -> u64
+        requires { AreNoted self.now.labels.items self.now.marks.items self.now.noted.items }
+        ensures { AreUnmarkedBelow result (rest_of self.now.labels.items self.now.marks.items) }
+    {
+        let mut lowest = INF;
+        for v in &self.noted {
+            let place = *v as usize;
+            if self.marks[place] {
+                lowest = self.labels[place].min(lowest);
+            }
+        }
+        lowest
+    }
+
+    /// The least that the label of a vertex and the other side's label make; `INF` where none makes less. Looks at what was
+    /// noted alone.
+    pub(crate) fn least_meeting(&self, other: &[u64]) -> u64
+        requires noted { AreNoted self.now.labels.items self.now.marks.items self.now.noted.items }
+        requires count { length other.now ≡ length self.now.labels.items }
+        ensures { IsLeastMeeting (length self.now.labels.items) (slice_index self.now.labels.items) (slice_index other.now) result }
+    {
+        let mut least = INF;
+        for v in &self.noted {
+            let place = *v as usize;
+            least = self.labels[place].saturating_add(other[place]).min(least);
+        }
+        least
+    }
+
+    /// Puts the vertices that are noted into rising order. False where memory is refused.
+    pub(crate) fn sort_noted(&mut self) -> bool
+        requires { AreNoted self.old.labels.items self.old.marks.items self.old.noted.items }
+        ensures labels { self.new.labels ≡ self.old.labels }
+        ensures marks { self.new.marks ≡ self.old.marks }
+        ensures noted { AreNoted self.new.labels.items self.new.marks.items self.new.noted.items }
+        ensures rising { result ≡ true → IsNonDecreasing self.new.noted.items }
+    {
+        match self.noted.sort() {
+            Ok(()) => true,
+            Err(_) => false,
+        }
+    }
+
+    /// Wipes the vertices that were noted: all are blank then.
+    pub(crate) fn wipe(&mut self)
+        requires { AreNoted self.old.labels.items self.old.marks.items self.old.noted.items }
+        ensures count { length self.new.labels.items ≡ length self.old.labels.items }
+        ensures blank { IsBlank self.new.labels.items self.new.marks.items }
+        ensures noted { self.new.noted.items ≡ [] }
+    {
+        self.queue.clear();
+        self.met = INF;
+        self.relaxed = 0;
+        while let Some(v) = self.noted.pop() {
+            let place = v as usize;
+            self.labels[place] = INF;
+            self.marks[place] = false;
+        }
+    }
+}

@@ -1,0 +1,50 @@
+//! The walks to vertices near the source.
+
+ghost use Rattle.std.specs.Prelude.{◌≡◌, ◌+◌, ◌<◌, ◌≤◌, All, IfSome, min, slice_index};
+ghost use Rattle.route_walks.specs.declared.graph.TheConstants.{INF};
+ghost use Rattle.route_walks.specs.Limit.{AreLeastLabelsUpTo};
+ghost use Rattle.route_walks.specs.Operators.{seeds_from};
+ghost use Rattle.near_labels.specs.Found.{AreWalksFound};
+
+use crate::listing::labels_of;
+use csr_graph::Csr;
+use std::alloc::Global;
+use walk_report::WalkSpace;
+
+/// The least labels of some vertices, and the walks to them, in their order.
+#[derive(Debug, Drop)]
+pub struct WalksFound {
+    /// `INF` if there is no walk.
+    pub labels: Vec<u64>,
+    /// The vertices of each walk, the source first; none if there is no walk.
+    pub walks: Vec<Vec<u32>>,
+}
+
+/// The walks to these targets, by labels that are least up to a limit. That is above the label of each target that is
+/// reached.
+pub(crate) fn walks_below(
+    space: &mut WalkSpace,
+    alloc: Global,
+    csr: &Csr,
+    labels: &[u64],
+    source: u32,
+    limit: u64,
+    targets: &[u32],
+) -> Option<WalksFound>
+    requires vertices { space.old ≡ csr.now.n }
+    requires source { source < csr.now.n }
+    requires least { AreLeastLabelsUpTo limit csr.now.n csr.now.arcs (seeds_from source) labels.now }
+    requires targets { All (λ t. t < csr.now.n) targets.now }
+    requires past { All (λ t. min (slice_index labels.now t + 1) INF ≤ limit) targets.now }
+    ensures vertices { space.new ≡ space.old }
+    ensures walks { IfSome result (AreWalksFound csr.now.n csr.now.arcs source targets.now) }
+{
+    let _ = csr.n();
+    let Ok(walks) = space.walks_to(alloc, csr, labels, source, limit, targets) else {
+        return None;
+    };
+    match labels_of(alloc, labels, targets) {
+        Some(labels) => Some(WalksFound { labels, walks }),
+        None => None,
+    }
+}
