@@ -1,6 +1,6 @@
 # Draws the most memory by phase, from the README's table of memory: for distances and levels, and for components, a
 # bar a phase, what arcs take and after it what vertices take, in MB. The graph is the second of the README's table of
-# times. The worklist and added arcs are not drawn.
+# times. The worklist and added arcs are not drawn. Components have no pairs.
 function text(at, down, anchor, words) {
     printf "<text x=\"%.1f\" y=\"%d\" text-anchor=\"%s\">%s</text>\n", at, down, anchor, words
 }
@@ -42,7 +42,8 @@ section == "## Limits" && $3 ~ /^[0-9]+/ {
 }
 
 END {
-    height = 2 * (phases * 24 + 34) + 16
+    for (i = 1; i <= phases; i++) of_pairs += name[i] ~ /many pairs/
+    height = 2 * (phases * 24 + 34) - of_pairs * 24 + 16
     printf "<svg xmlns=\"http://www.w3.org/2000/svg\" viewBox=\"0 0 900 %d\" font-family=\"sans-serif\" font-size=\"14\">\n", height
     printf "<rect width=\"900\" height=\"%d\" fill=\"white\"/>\n", height
     box(left + 300, 8, 14, 14, "#1b6ca8"); text(left + 320, 20, "start", "arcs")
@@ -50,7 +51,8 @@ END {
     for (components = 0; components <= 1; components++) {
         top = components * (phases * 24 + 34)
         printf "<text x=\"10\" y=\"%d\" font-weight=\"bold\">%s</text>\n", top + 20, components ? "components" : "distances, levels"
-        for (i = 1; i <= phases; i++) bar(top + 30 + (i - 1) * 24, i, components ? for_components[i] : for_arc[i], components ? for_vertices[i] : for_vertex[i])
+        line = 0
+        for (i = 1; i <= phases; i++) if (!components || name[i] !~ /many pairs/) bar(top + 30 + line++ * 24, i, components ? for_components[i] : for_arc[i], components ? for_vertices[i] : for_vertex[i])
     }
     print "</svg>"
 }
