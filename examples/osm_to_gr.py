@@ -3,33 +3,47 @@
 
 A map is XML as the website, Overpass or osmium write it, also packed by gzip or bzip2; without MAP.osm it comes on
 standard input. The roads of a profile become arcs between their nodes, and nodes.txt says in line 3 which node vertex 3
-is, and its latitude and longitude. Needs to_gr.py beside it.
+is, and its latitude and longitude. Needs to_gr.py, osm_turns.py and osm_parts.py beside it.
 
     --profile car|foot   whose roads (car)
     --weight UNIT        lengths in metres or decimetres, times in seconds or deciseconds (decimetres)
     --nodes FILE         in place of nodes.txt
+    --ways FILE          a line for each arc, in the order of the graph: the number of its way, a tab, and the name of
+                         the way, or its ref where it has no name
+    --places FILE        a line for each node that arcs join: NODE LATITUDE LONGITUDE START END JOINED. Routes from the
+                         node begin at vertex START, and routes to it end at END; JOINED is yes where one can come from
+                         the largest part of the map and go there, and else no. nearest.py reads it
+    --turns              keeps turn restrictions with a node as via, and writes places.txt if no --places names another
+                         file. A node then can have several vertices, and START and END differ
 
 Weights are rounded to the nearest whole number, and to 1 where that would be 0 between two places. The tables below say
 which roads a profile takes and how fast it is; docs/MAPS.md has them in words. What was left out and why is counted on
 standard error. Nodes and ways may stand in any order: nodes wait in a temporary file, 24 bytes each, and memory grows
-with the nodes of roads alone.
+with the nodes of roads alone, and with --places with the arcs too.
+
+A tab or a line break in a name is written as a blank, and such names are counted. With --turns the arcs of no cost
+that end at END have way 0 and no name.
 
 A map that is no such XML, was cut off, or has no road is refused, with its line where it has one. Then the status is 1,
-and neither file is written.
+and no file is written.
 """
 
-import gzip
 import math
+import os
 import re
+import shlex
 import struct
 import sys
 import tempfile
 import zlib
 from array import array
 from collections import Counter, namedtuple
+from itertools import repeat
 from xml.parsers import expat
 
 sys.dont_write_bytecode = True
+from osm_parts import largest_part
+from osm_turns import ROLES, Restrictions, Turns
 from to_gr import Arguments, Refused, run, unpacked, write_graph
 
 # Which highways, in km/h; which of them only where a tag of the profile's own, not `access`, gives leave; which tags say
@@ -67,8 +81,9 @@ MAXSPEED = re.compile(r"([0-9]{1,3}(?:\.[0-9]+)?) ?(km/h|kmh|mph|knots|)")
 KMH = {"": 1, "km/h": 1, "kmh": 1, "mph": 1.609344, "knots": 1.852}
 UNITS = {"metres": (1, False), "decimetres": (10, False), "seconds": (1, True), "deciseconds": (10, True)}
 EARTH = 6371008.8  # the mean radius, in metres
+BLANKS = str.maketrans("\t\n\r", "   ")  # what a line of --ways cannot have
 
-Road = namedtuple("Road", "speed forward back size")
+Road = namedtuple("Road", "way name speed forward back size")
 
 
 class LeftOut(Exception):
@@ -115,15 +130,18 @@ def is_deleted(attributes):
 class Map:
     """The roads of a map. Of other ways only counts are kept, and nodes wait in a temporary file."""
 
-    def __init__(self, profile):
-        self.profile = profile
+    def __init__(self, options):
+        self.profile = PROFILES[options.profile]
         self.roads = []
         self.refs = array("I")  # the nodes of the roads one after the other, by their numbers
         self.numbers = {}  # of nodes that roads name, from 0
+        self.names, self.mended = {} if options.ways else None, 0  # of roads, where they are wanted
         self.left_out, self.speeds_not_read = Counter(), Counter()
         self.nodes = tempfile.TemporaryFile()
-        self.way, self.tags, self.remark, self.depth = None, {}, None, 0
-        self.is_relation, self.restrictions = False, 0  # of turns, which a graph of nodes can't have
+        self.way, self.refs_of_way, self.members = None, [], None
+        self.tags, self.remark, self.depth = {}, None, 0
+        self.restrictions = Restrictions(self.profile.access[:-1]) if options.turns else None
+        self.restriction_count = 0
 
     def start(self, element, attributes):
         self.depth += 1
@@ -131,13 +149,15 @@ class Map:
             raise ValueError(f"the file is of {element}, and not of osm")
         if element == "node":
             self.add_node(attributes)
-        elif element == "way":
-            self.way, self.tags = (None if is_deleted(attributes) else []), {}
+        elif element == "way" and not is_deleted(attributes):
+            self.way, self.refs_of_way, self.tags = int(attributes["id"]), [], {}
         elif element == "nd" and self.way is not None:
-            self.way.append(int(attributes["ref"]))
-        elif element == "relation":
-            self.is_relation, self.tags = not is_deleted(attributes), {}
-        elif element == "tag" and (self.way is not None or self.is_relation):
+            self.refs_of_way.append(int(attributes["ref"]))
+        elif element == "relation" and not is_deleted(attributes):
+            self.members, self.tags = [], {}
+        elif element == "member" and self.members is not None and attributes.get("role") in ROLES:
+            self.members.append((attributes["type"], int(attributes["ref"]), attributes["role"]))
+        elif element == "tag" and (self.way is not None or self.members is not None):
             self.tags[attributes["k"]] = attributes["v"].strip()
         elif element == "remark":
             self.remark = ""
@@ -148,15 +168,30 @@ class Map:
             if "highway" in self.tags:
                 self.add_way()
             self.way = None
-        elif element == "relation":
-            self.restrictions += self.is_relation and self.tags.get("type") == "restriction"
-            self.is_relation = False
+        elif element == "relation" and self.members is not None:
+            if self.tags.get("type") == "restriction":
+                self.add_restriction()
+            self.members = None
         elif element == "remark":
             raise ValueError(f"the map was cut off: {' '.join(self.remark.split())}")
 
     def text(self, text):
         if self.remark is not None:
             self.remark += text
+
+    def add_restriction(self):
+        self.restriction_count += 1
+        if self.restrictions:
+            self.restrictions.add(self.tags, self.members)
+
+    def name(self):
+        """The name of a road by its tags, or None where no names are wanted."""
+        if self.names is None:
+            return None
+        name = self.tags.get("name") or self.tags.get("ref", "")
+        mended = name.translate(BLANKS)
+        self.mended += mended != name
+        return self.names.setdefault(mended, mended)
 
     def add_node(self, attributes):
         if is_deleted(attributes):
@@ -180,8 +215,8 @@ class Map:
                 speed = limit
             else:
                 self.speeds_not_read[self.tags["maxspeed"]] += 1
-        self.refs.extend(self.numbers.setdefault(node, len(self.numbers)) for node in self.way)
-        self.roads.append(Road(speed, forward, back, len(self.way)))
+        self.refs.extend(self.numbers.setdefault(node, len(self.numbers)) for node in self.refs_of_way)
+        self.roads.append(Road(self.way, self.name(), speed, forward, back, len(self.refs_of_way)))
 
     def places(self):
         """The latitudes and longitudes of the nodes by their numbers, nan where the map lacks one."""
@@ -196,10 +231,19 @@ class Map:
         return latitudes, longitudes
 
 
-def read_map(stream, name, profile):
-    if b"OSMHeader" in stream.peek(32)[:32]:
-        raise Refused(f"{name}: this is PBF, and not XML: osmium cat -f osm MAP.osm.pbf | osm_to_gr.py")
-    found = Map(profile)
+def check_kind(stream, name):
+    """Refuses a map in the format PBF, by its first bytes or by its name."""
+    is_named = name.lower().endswith(".pbf")
+    if not is_named and b"OSMHeader" not in stream.peek(32)[:32]:
+        return
+    source = name if is_named else "MAP.osm.pbf"
+    target = re.sub(r"(\.osm)?\.pbf$", ".osm", source, flags=re.IGNORECASE)
+    raise Refused(f"{name}: this is PBF, and not XML: osmium cat {shlex.quote(source)} -o {shlex.quote(target)}")
+
+
+def read_map(stream, name, options):
+    check_kind(stream, name)
+    found = Map(options)
     parser = expat.ParserCreate()
     parser.buffer_text = True
     parser.StartElementHandler, parser.EndElementHandler = found.start, found.end
@@ -212,7 +256,9 @@ def read_map(stream, name, profile):
         raise Refused(f"{name}:{parser.CurrentLineNumber}: an element without {fault.args[0]}") from None
     except (ValueError, OverflowError, struct.error) as fault:
         raise Refused(f"{name}:{parser.CurrentLineNumber}: {fault}") from None
-    except (EOFError, zlib.error, gzip.BadGzipFile) as fault:
+    except (EOFError, zlib.error, OSError) as fault:
+        if getattr(fault, "errno", None) is not None:
+            raise
         raise Refused(f"{name}: the packed file is damaged: {fault}") from None
     return found
 
@@ -246,10 +292,115 @@ def report(found, lacking):
     say(f"{roads + others} ways with highway: {roads} roads, {others} left out{reasons}")
     if found.speeds_not_read:
         say(f"{sum(found.speeds_not_read.values())} maxspeed not read: {most(found.speeds_not_read)}")
-    if found.restrictions and found.profile is CAR:
-        say(f"{found.restrictions} turn restrictions not kept")
+    if found.mended:
+        say(f"names with a tab or a line break, which became a blank: {found.mended}")
+    if found.restrictions:
+        kept, others = len(found.restrictions.kept), sum(found.restrictions.left_out.values())
+        reasons = f": {most(found.restrictions.left_out)}" if others else ""
+        say(f"{found.restriction_count} turn restrictions: {kept} kept, {others} left out{reasons}")
+    elif found.restriction_count and found.profile is CAR:
+        say(f"{found.restriction_count} turn restrictions not kept (see --turns)")
     if lacking:
         say(f"nodes of roads that the map lacks: {lacking} of {len(found.numbers)}")
+
+
+class Graph:
+    """The graph of a map. Its vertices are the nodes that arcs join, and then those that keep turn restrictions."""
+
+    def __init__(self, found):
+        self.found = found
+        self.latitudes, self.longitudes = found.places()
+        self.lacking = sum(map(math.isnan, self.latitudes))
+        self.vertices = array("I", [0]) * len(self.latitudes)  # by the numbers of nodes; 0 where no arc joins one
+        many, count = 0, 0
+        for road, one, other in self.stretches():
+            self.vertices[one] = self.vertices[other] = 1
+            many += road.forward + road.back
+        for node, is_joined in enumerate(self.vertices):
+            count += is_joined
+            self.vertices[node] = count if is_joined else 0
+        self.turns = Turns(self.vertices, count)
+        if found.restrictions:
+            self.turns.settle(found.restrictions, found, self.road_arcs)
+        self.many = many + self.turns.many()
+
+    def stretches(self):
+        return stretches(self.found.roads, self.found.refs, self.latitudes)
+
+    def road_arcs(self):
+        """Each arc of a road as (road, node, node)."""
+        for road, one, other in self.stretches():
+            if road.forward:
+                yield road, one, other
+            if road.back:
+                yield road, other, one
+
+    def arcs(self):
+        """Each arc of a road as (road, tails, head): the vertices where it begins, and the one where it ends."""
+        vertices, heads, tails = self.vertices, self.turns.heads, self.turns.tails
+        for number, (road, one, other) in enumerate(self.road_arcs()):
+            more = tails.get(number)
+            yield road, (vertices[one], *more) if more else (vertices[one],), heads.get(number) or vertices[other]
+
+    def weights(self, unit):
+        """The weight of each arc of a road."""
+        scale, is_time = UNITS[unit]
+        for road, one, other in self.stretches():
+            here, there = ((self.latitudes[node], self.longitudes[node]) for node in (one, other))
+            exact = length(here, there) * scale / (road.speed / 3.6 if is_time else 1)
+            yield from repeat(max(round(exact), int(here != there)), road.forward + road.back)
+
+    def lines(self, unit):
+        for (_, tails, head), weight in zip(self.arcs(), self.weights(unit)):
+            for tail in tails:
+                yield f"a {tail} {head} {weight}\n"
+        for tail, head in self.turns.closing:
+            yield f"a {tail} {head} 0\n"
+
+    def way_lines(self):
+        for road, tails, _ in self.arcs():
+            for _ in tails:
+                yield f"{road.way}\t{road.name}\n"
+        for _ in self.turns.closing:
+            yield "0\t\n"
+
+    def node_lines(self):
+        nodes = list(self.found.numbers) if self.turns.nodes else ()
+        for node, i in self.found.numbers.items():
+            if self.vertices[i]:
+                yield f"{node} {self.latitudes[i]} {self.longitudes[i]}\n"
+        for i in self.turns.nodes:
+            yield f"{nodes[i]} {self.latitudes[i]} {self.longitudes[i]}\n"
+
+    def joined(self):
+        """Of each node, by its number, whether a route leads from it to the largest part, and one back."""
+        tails, heads = array("I"), array("I")
+        for _, own, head in self.arcs():
+            tails.extend(own)
+            heads.extend(repeat(head, len(own)))
+        for tail, head in self.turns.closing:
+            tails.append(tail)
+            heads.append(head)
+        leads_there, is_reached = largest_part(self.turns.count, tails, heads)
+        ends = self.turns.ends
+        return bytes(leads_there[start] & is_reached[ends.get(i, start)] for i, start in enumerate(self.vertices))
+
+    def place_lines(self, joined):
+        for node, i in self.found.numbers.items():
+            if start := self.vertices[i]:
+                end, word = self.turns.ends.get(i, start), "yes" if joined[i] else "no"
+                yield f"{node} {self.latitudes[i]} {self.longitudes[i]} {start} {end} {word}\n"
+
+
+def check_files(parser, options):
+    """Refuses to write a file over the map, or two over one another."""
+    taken = {os.path.realpath(options.map): "map"} if options.map else {}
+    for option in ("nodes", "ways", "places"):
+        name = getattr(options, option)
+        if not name or name.startswith("/dev/"):
+            continue
+        if taken.setdefault(os.path.realpath(name), option) != option:
+            parser.error(f"--{option} would write over {name}")
 
 
 def parse():
@@ -258,51 +409,37 @@ def parse():
     parser.add_argument("--profile", choices=PROFILES, default="car")
     parser.add_argument("--weight", choices=UNITS, default="decimetres")
     parser.add_argument("--nodes", default="nodes.txt")
-    return parser.parse_args()
-
-
-def number_vertices(found, latitudes):
-    """The numbers of the nodes that arcs join, from 1 in the order in which roads name them, and how many arcs."""
-    vertices, arcs = array("I", [0]) * len(latitudes), 0
-    for road, one, other in stretches(found.roads, found.refs, latitudes):
-        vertices[one] = vertices[other] = 1
-        arcs += road.forward + road.back
-    count = 0
-    for node, is_joined in enumerate(vertices):
-        count += is_joined
-        vertices[node] = count if is_joined else 0
-    return vertices, count, arcs
-
-
-def weigh(found, latitudes, longitudes, unit):
-    """Each arc as (node, node, weight)."""
-    scale, is_time = UNITS[unit]
-    for road, one, other in stretches(found.roads, found.refs, latitudes):
-        here, there = ((latitudes[node], longitudes[node]) for node in (one, other))
-        exact = length(here, there) * scale / (road.speed / 3.6 if is_time else 1)
-        weight = max(round(exact), int(here != there))
-        if road.forward:
-            yield one, other, weight
-        if road.back:
-            yield other, one, weight
+    parser.add_argument("--ways")
+    parser.add_argument("--places")
+    parser.add_argument("--turns", action="store_true")
+    options = parser.parse_args()
+    if options.turns and options.profile == "foot":
+        parser.error("--turns keeps what holds for a car, and not on foot: leave it out")
+    if options.turns and not options.places:
+        options.places = "places.txt"
+    check_files(parser, options)
+    return options
 
 
 def convert():
     options = parse()
     name = options.map or "standard input"
     with open(options.map or 0, "rb") as stream:
-        found = read_map(stream, name, PROFILES[options.profile])
-    latitudes, longitudes = found.places()
-    lacking = sum(map(math.isnan, latitudes))
-    report(found, lacking)
-    vertices, count, many = number_vertices(found, latitudes)
-    if not many:
-        cure = ": in Overpass ask for (._;>;)" if lacking else ""
+        found = read_map(stream, name, options)
+    graph = Graph(found)
+    report(found, graph.lacking)
+    if not graph.many:
+        cure = ": in Overpass ask for (._;>;)" if graph.lacking else ""
         raise Refused(f"{name}: no road of profile {options.profile} whose nodes are in the map{cure}")
-    weighed = weigh(found, latitudes, longitudes, options.weight)
-    arcs = (f"a {vertices[one]} {vertices[other]} {weight}\n" for one, other, weight in weighed)
-    lines = (f"{node} {latitudes[i]} {longitudes[i]}\n" for node, i in found.numbers.items() if vertices[i])
-    write_graph(count, many, arcs, options.nodes, lines)
+    beside = [(options.nodes, graph.node_lines())]
+    if options.ways:
+        beside.append((options.ways, graph.way_lines()))
+    if options.places:
+        joined = graph.joined()
+        places = len(graph.vertices) - graph.vertices.count(0)
+        say(f"places that are joined to the largest part: {sum(joined)} of {places}")
+        beside.append((options.places, graph.place_lines(joined)))
+    write_graph(graph.turns.count, graph.many, graph.lines(options.weight), beside)
 
 
 if __name__ == "__main__":

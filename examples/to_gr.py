@@ -392,20 +392,33 @@ def finished_only(name, encoding="utf-8"):
             yield out
         if not is_device:
             os.replace(unfinished, path)
-    except BaseException:
+    except BaseException as fault:
+        if isinstance(fault, OSError) and fault.filename == unfinished:
+            fault.filename = name
         if not is_device:
             with contextlib.suppress(FileNotFoundError):
                 os.remove(unfinished)
         raise
 
 
-def write_graph(count, many, arcs, beside, lines):
-    """Writes a graph to standard output, and a file beside it that is there only once the graph is written."""
-    if sys.stdout is None:
-        raise Refused("standard output is closed")
-    with finished_only(beside) as out:
+def write_lines(out, name, lines):
+    try:
         out.writelines(lines)
         out.flush()
+    except OSError as fault:
+        with contextlib.suppress(OSError):
+            out.close()  # which would fail again later, and not say of which file
+        fault.filename = fault.filename or name
+        raise
+
+
+def write_graph(count, many, arcs, beside):
+    """Writes a graph to standard output, and files beside it, as (name, lines), that are there once all is written."""
+    if sys.stdout is None:
+        raise Refused("standard output is closed")
+    with contextlib.ExitStack() as files:
+        for name, lines in beside:
+            write_lines(files.enter_context(finished_only(name)), name, lines)
         print("p sp", count, many)
         sys.stdout.writelines(arcs)
         sys.stdout.flush()
@@ -579,7 +592,7 @@ def convert():
             many = f"names in another Unicode form: {len(numbers.composed)}, now in NFC"
             say("to_gr.py", [f"{name}: {many}; spellings joined to another: {numbers.joined}"])
         lines = (f"{each}\n" for each in numbers.names)
-        write_graph(len(numbers.names), len(arcs) // 3, arc_lines(arcs), options.names, lines)
+        write_graph(len(numbers.names), len(arcs) // 3, arc_lines(arcs), [(options.names, lines)])
 
 
 if __name__ == "__main__":

@@ -1,0 +1,318 @@
+#!/usr/bin/env python3
+"""Compares graphs that osm_to_gr.py makes of random maps, with --turns and without, with what the maps mean.
+
+turns.py [MANY] draws MANY maps, 200 where none is given, with turn restrictions right and wrong, and prints the first
+difference. The least cost of each pair of nodes is compared with that of a search from arc to arc of the map. So are
+each arc's way and name, which places are joined, how many restrictions are kept, and the nearest places.
+"""
+
+import contextlib
+import heapq
+import io
+import math
+import os
+import random
+import sys
+import tempfile
+from xml.sax.saxutils import quoteattr
+
+sys.dont_write_bytecode = True
+sys.path.insert(0, os.path.join(os.path.dirname(os.path.abspath(__file__)), "..", "examples"))
+import nearest
+import osm_to_gr
+import to_gr
+
+NAMES = ["", "Elm Street", "大阪通り", "A\tB", " Mill\nLane ", "C\rD", '"&<'] + ["Main Street"] * 3
+KINDS = ["no_left_turn", "no_right_turn", "no_straight_on", "no_u_turn", "only_straight_on", "only_left_turn"] * 3
+KINDS += ["no_entry", "no_exit", "give_way"]
+# Tags beside the value that make a restriction another one, or none of a car.
+BESIDE = [{}] * 12 + [
+    {"except": "bus; motorcar"}, {"except": "psv"}, {"day_on": "Monday"}, {"restriction:motorcar": "none"},
+    {"restriction:motor_vehicle": "only_right_turn"}, {"restriction:hgv": "no_u_turn"},
+]
+INSTEAD = [{"restriction:conditional": "no_u_turn @ (Mo-Fr)"}, {"restriction:hgv": "no_u_turn"}]
+
+
+class Drawn:
+    """A random map of a few nodes: `places` by node, `ways` as (way, name, nodes, oneway), and restrictions."""
+
+    def __init__(self, chance):
+        # Few digits, so that places can be the same.
+        digits = chance.choice([2, 3])
+        nodes = chance.sample(range(1, 1000), chance.randrange(3, 9))
+        self.places = {node: [first + round(chance.random() / 50, digits) for first in (50, 8)] for node in nodes}
+        numbers = chance.sample(range(1, 1000), len(nodes) + chance.choice([0, 1, 2, 4, 8]))
+        self.ways = [self.draw_way(chance, number, nodes, at) for at, number in enumerate(numbers)]
+        if chance.random() < 0.2:
+            self.places.pop(chance.choice(nodes))
+        # Most stand at two nodes, so that several meet.
+        nodes = chance.sample(nodes, 2) * 3 + nodes
+        self.relations = [self.draw_restriction(chance, nodes) for _ in range(chance.randrange(1, 20))]
+
+    def draw_way(self, chance, number, nodes, at):
+        """A way between neighbours of a list, so that routes have several arcs; a node can come twice."""
+        at = [at % len(nodes)]
+        for _ in range(chance.choice([1, 1, 1, 1, 1, 3])):
+            at.append((at[-1] + chance.choice([1, 1, 1, 1, 1, 2, 2, -1, 0])) % len(nodes))
+        refs = [nodes[i] for i in at]
+        highway = "footway" if chance.random() < 0.1 else "residential"
+        return number, chance.choice(NAMES), refs, chance.choice(["no", "no", "yes", "-1"]), highway
+
+    def draw_restriction(self, chance, nodes):
+        """The tags and the members of one, mostly at an end that two ways share."""
+        via = chance.choice(nodes)
+        near = [way[0] for way in self.ways if via in (way[2][0], way[2][-1]) and way[4] != "footway"]
+        if not near or chance.random() < 0.1:
+            near = [way[0] for way in self.ways]
+        tags = {"restriction": chance.choice(KINDS), **chance.choice(BESIDE)}
+        if chance.random() < 0.05:
+            tags = chance.choice(INSTEAD)
+        members = [("way", chance.choice(near), "from"), ("node", via, "via"), ("way", chance.choice(near), "to")]
+        if tags.get("restriction") in ("no_entry", "no_exit") or chance.random() < 0.05:
+            members.append(("way", chance.choice(near), chance.choice(["from", "to"])))
+        if chance.random() < 0.1:
+            other = chance.choice([("way", near[0], "via"), ("node", via, "to"), ("way", 1000, "from")])
+            members[chance.randrange(3)] = other
+        return tags, members
+
+    def text(self, chance):
+        """The map as XML, its elements in any order."""
+        elements = [f'<node id="{node}" lat="{place[0]}" lon="{place[1]}"/>' for node, place in self.places.items()]
+        chance.shuffle(elements)
+        ways, rest = [], []
+        for number, name, refs, oneway, highway in self.ways:
+            tags = {"highway": highway, "name": name, "oneway": oneway}
+            body = "".join(f'<nd ref="{node}"/>' for node in refs)
+            ways.append(f'<way id="{number}">{body}{tags_text(tags)}</way>')
+        for number, (tags, members) in enumerate(self.relations, 1):
+            body = "".join(f'<member type="{kind}" ref="{ref}" role="{role}"/>' for kind, ref, role in members)
+            rest.append(f'<relation id="{number}">{body}{tags_text({"type": "restriction", **tags})}</relation>')
+        parts = [elements, ways, rest]
+        chance.shuffle(parts)
+        return "\n".join(["<osm>", *parts[0], *parts[1], *parts[2], "</osm>"])
+
+
+def tags_text(tags):
+    escapes = {"\t": "&#9;", "\n": "&#10;", "\r": "&#13;"}
+    return "".join(f"<tag k={quoteattr(key)} v={quoteattr(value, escapes)}/>" for key, value in tags.items())
+
+
+def metres(one, other):
+    """The length of the great circle, by the chord."""
+    points = []
+    for place in (one, other):
+        lat, lon = map(math.radians, place)
+        points.append((math.cos(lat) * math.cos(lon), math.cos(lat) * math.sin(lon), math.sin(lat)))
+    return 2 * 6371008.8 * math.asin(min(1, math.dist(*points) / 2))
+
+
+class Model:
+    """What a map means: `arcs` as (way, name, tail, head, weight), and which may follow which."""
+
+    def __init__(self, drawn):
+        self.arcs = []
+        for number, name, refs, oneway, highway in drawn.ways:
+            if highway == "residential":
+                self.add_road(number, name, refs, oneway, drawn.places)
+        self.roads = {way[0]: way[2] for way in drawn.ways if way[4] == "residential"}
+        self.bans = [ban for ban in (self.ban(*relation) for relation in drawn.relations) if ban]
+
+    def add_road(self, number, name, refs, oneway, places):
+        name = "".join(" " if letter in "\t\n\r" else letter for letter in name.strip())
+        for tail, head in zip(refs, refs[1:]):
+            if tail == head or tail not in places or head not in places:
+                continue
+            weight = max(round(10 * metres(places[tail], places[head])), int(places[tail] != places[head]))
+            if oneway != "-1":
+                self.arcs.append((number, name, tail, head, weight))
+            if oneway != "yes":
+                self.arcs.append((number, name, head, tail, weight))
+
+    def ban(self, tags, members):
+        """The ways from, the node and the ways to of a restriction for a car, and whether it commands; else None."""
+        value = tags.get("restriction:motorcar") or tags.get("restriction:motor_vehicle") or tags.get("restriction", "")
+        if "motorcar" in tags.get("except", "") or "day_on" in tags or value in ("none", "give_way", ""):
+            return None
+        if any(member[0] == "way" and member[2] == "via" for member in members):
+            return None
+        sources = {ref for kind, ref, role in members if (kind, role) == ("way", "from")}
+        vias = {ref for kind, ref, role in members if (kind, role) == ("node", "via")}
+        targets = {ref for kind, ref, role in members if (kind, role) == ("way", "to")}
+        if not sources or len(vias) != 1 or not targets:
+            return None
+        if len(sources) > 1 and value != "no_entry" or len(targets) > 1 and value != "no_exit":
+            return None
+        return self.ban_of_roads(value.startswith("only"), sources, vias.pop(), targets)
+
+    def ban_of_roads(self, commands, sources, via, targets):
+        sources, targets = sources & self.roads.keys(), targets & self.roads.keys()
+        ends = [(self.roads[way][0], self.roads[way][-1]) for way in sources | targets]
+        if not sources or not targets or not all(via in each for each in ends):
+            return None
+        if commands and not any(arc[0] in targets and arc[2] == via for arc in self.arcs):
+            return None
+        return commands, sources, via, targets
+
+    def may_follow(self, one, other):
+        """Whether no restriction stands between two arcs that meet."""
+        for commands, sources, via, targets in self.bans:
+            if one[0] in sources and one[3] == via and (other[0] in targets) != commands:
+                return False
+        return True
+
+    def costs(self, source, is_free=False):
+        """The least cost of each node that a route from a node reaches, by a search from arc to arc."""
+        best, costs = {}, {source: 0}
+        queue = [(arc[4], i) for i, arc in enumerate(self.arcs) if arc[2] == source]
+        heapq.heapify(queue)
+        while queue:
+            cost, i = heapq.heappop(queue)
+            if i in best:
+                continue
+            best[i] = cost
+            here = self.arcs[i]
+            costs[here[3]] = min(cost, costs.get(here[3], cost))
+            for k, other in enumerate(self.arcs):
+                if other[2] == here[3] and k not in best and (is_free or self.may_follow(here, other)):
+                    heapq.heappush(queue, (cost + other[4], k))
+        return costs
+
+
+class Written:
+    """What the script wrote of a map, and what it said."""
+
+    def __init__(self, name, *arguments):
+        names = [f"{name}{''.join(arguments)}.{each}" for each in ("nodes", "places", "ways")]
+        sys.argv = ["osm_to_gr.py", name, *arguments, "--nodes", names[0], "--places", names[1], "--ways", names[2]]
+        out, error = io.StringIO(), io.StringIO()
+        with contextlib.redirect_stdout(out), contextlib.redirect_stderr(error):
+            osm_to_gr.convert()
+        nodes, places, ways = map(lines_of, names)
+        self.said, self.places_file = error.getvalue(), names[1]
+        self.vertices = [None] + [int(line.split(" ")[0]) for line in nodes]
+        self.places = [line.split(" ") for line in places]
+        self.ways = [line.split("\t") for line in ways]
+        head, *lines = out.getvalue().splitlines()
+        self.arcs = [tuple(map(int, line.split(" ")[1:])) for line in lines]
+        if head != f"p sp {len(nodes)} {len(lines)}" or len(ways) != len(lines):
+            raise AssertionError(f"{head!r} of {len(nodes)} nodes, {len(lines)} arcs and {len(ways)} ways")
+
+    def costs(self, source):
+        """The least costs of the vertices that walks from one reach."""
+        costs, queue = {}, [(0, source)]
+        while queue:
+            cost, vertex = heapq.heappop(queue)
+            if vertex in costs:
+                continue
+            costs[vertex] = cost
+            for tail, head, weight in self.arcs:
+                if tail == vertex:
+                    heapq.heappush(queue, (cost + weight, head))
+        return costs
+
+
+def lines_of(name):
+    """The lines of a file, which each end with a line feed."""
+    with open(name, encoding="utf-8", newline="\n") as lines:
+        return lines.read().split("\n")[:-1]
+
+
+def check_arcs(model, written):
+    """Each arc of a way stands in the graph, and the others join vertices of one node."""
+    wanted, found = set(model.arcs), set()
+    for (tail, head, weight), (way, name) in zip(written.arcs, written.ways):
+        arc = (int(way), name, written.vertices[tail], written.vertices[head], weight)
+        if arc[0]:
+            found.add(arc)
+        elif (name, weight) != ("", 0) or arc[2] != arc[3]:
+            raise AssertionError(f"arc {tail} {head} {weight} of no way")
+    if found != wanted:
+        raise AssertionError(f"arcs {found ^ wanted} are not on both sides")
+
+
+def check_costs(model, written, is_free):
+    """The least costs of all pairs, and which places are joined."""
+    starts, ends = ({int(place[0]): int(place[at]) for place in written.places} for at in (3, 4))
+    if set(starts) != {node for arc in model.arcs for node in arc[2:4]}:
+        raise AssertionError(f"places {sorted(starts)}")
+    costs = {vertex: written.costs(vertex) for vertex in range(1, len(written.vertices))}
+    for source, start in starts.items():
+        if written.vertices[start] != source or written.vertices[ends[source]] != source:
+            raise AssertionError(f"place {source} is at other vertices")
+        wanted = model.costs(source, is_free)
+        found = {target: costs[start][end] for target, end in ends.items() if end in costs[start]}
+        if found != wanted:
+            raise AssertionError(f"from node {source}: {found}, wanted {wanted}")
+    parts = {vertex: {other for other in own if vertex in costs[other]} for vertex, own in costs.items()}
+    largest = max(parts.values(), key=lambda part: (len(part), -min(part)))
+    for node, _, _, start, end, word in written.places:
+        is_joined = any(vertex in costs[int(start)] and int(end) in costs[vertex] for vertex in largest)
+        if word != ("yes" if is_joined else "no"):
+            raise AssertionError(f"place {node} is joined: {word}")
+
+
+def check_nearest(chance, written):
+    """The nearest places, and of those that are joined, from here and there."""
+    places = nearest.Places(written.places_file)
+    for _ in range(3):
+        here = (50 + chance.uniform(-0.01, 0.03), chance.choice([8, -172]) + chance.uniform(-0.01, 0.03))
+        away = [metres(here, (float(place[1]), float(place[2]))) for place in written.places]
+        for is_any in (True, False):
+            least = min(length for length, place in zip(away, written.places) if is_any or place[5] == "yes")
+            line, said = places.answer(here, is_any)
+            start, end, node, length = line.split()
+            at = next(i for i, place in enumerate(written.places) if place[3] == start)
+            place = written.places[at]
+            is_right = (place[0], place[4]) == (node, end) and (is_any or place[5] == "yes")
+            is_near = abs(away[at] - least) < 0.01 and abs(int(length) - least) < 0.6
+            is_said = bool(said) == (least > min(away)) or 0 < least - min(away) < 0.01
+            if not (is_right and is_near and is_said):
+                raise AssertionError(f"nearest to {here}: {line}{said}, wanted {least} m")
+
+
+def check(chance, name, drawn):
+    """Compares both graphs of a map with it, and gives whether restrictions change a cost."""
+    model = Model(drawn)
+    with open(name, "w", encoding="utf-8") as out:
+        out.write(drawn.text(chance))
+    try:
+        free, bound = Written(name), Written(name, "--turns")
+    except to_gr.Refused as fault:
+        if model.arcs or "no road of profile car" not in str(fault):
+            raise
+        return False
+    for written, is_free in ((free, True), (bound, False)):
+        check_arcs(model, written)
+        check_costs(model, written, is_free)
+        check_nearest(chance, written)
+    others = len(drawn.relations) - len(model.bans)
+    if f" turn restrictions: {len(model.bans)} kept, {others} left out" not in bound.said:
+        raise AssertionError(f"{len(model.bans)} restrictions are to be kept: {bound.said}")
+    blanks = sum(has_blank(way) for way in drawn.ways)
+    if f"became a blank: {blanks}\n" not in f"{bound.said}became a blank: 0\n":
+        raise AssertionError(f"names with a blank: {bound.said}")
+    return any(model.costs(node) != model.costs(node, True) for node in drawn.places)
+
+
+def has_blank(way):
+    return way[4] == "residential" and not {"\t", "\n", "\r"}.isdisjoint(way[1].strip())
+
+
+def main():
+    many = int(sys.argv[1]) if len(sys.argv) > 1 else 200
+    changed = 0
+    with tempfile.TemporaryDirectory() as folder:
+        for seed in range(many):
+            chance = random.Random(seed)
+            drawn = Drawn(chance)
+            try:
+                changed += check(chance, os.path.join(folder, "map.osm"), drawn)
+            except (AssertionError, to_gr.Refused, ValueError) as fault:
+                print(f"map {seed}: {fault!r}"[:3000])
+                return
+    if changed < many // 8:
+        print(f"restrictions changed costs in {changed} maps only")
+
+
+if __name__ == "__main__":
+    main()
