@@ -1,5 +1,5 @@
 //! `answer` over readers and writers that fail, its faults, figures and
-//! visits. Whole jobs and their answers, by all settings, stand in `tests/answers`.
+//! visits. Whole jobs and their answers, by all settings, stand in `tests/answers.txt`.
 
 mod added;
 mod at_once;
@@ -14,10 +14,10 @@ mod streams;
 use callers::{append_answer, left_after_fault};
 use dimacs_text::LineKind;
 use gates::Meeting;
-use job_answer::{
-    Answer, Asked, Counter, Fault, Figures, answer, answer_bytes, answer_watched, status,
-};
+use job_answer::{Answer, Asked, Fault, Lines, answer, answer_bytes, answer_watched, status};
+use job_messages::{Counter, Figures};
 use obim_engine::{Gate, OpenGate, Recorder, Settings};
+use route_walks::INF;
 use std::alloc::Global;
 use std::process::Abort;
 use std::sync::Wait;
@@ -279,21 +279,40 @@ fn flushes_of_answers(rt: HostRuntime) -> Result<(), Fail> {
     Ok(())
 }
 
-// Of each row the answer, walks or not, the limit, and whether it can be asked for.
-const ASKED: [(Answer, bool, u64, bool); 5] = [
-    (Answer::Levels, true, 0, true),
-    (Answer::Components, true, 0, false),
-    (Answer::Components, false, 0, true),
-    (Answer::Levels, false, 1 << 36, true),
-    (Answer::Levels, false, (1 << 36) + 1, false),
+// Of each row the answer, the lines, the limit, and whether it can be asked for.
+const ASKED: [(Answer, Lines, u64, bool); 9] = [
+    (Answer::Levels, Lines::Each { walks: true }, 0, true),
+    (Answer::Components, Lines::Each { walks: true }, 0, false),
+    (Answer::Components, Lines::Each { walks: false }, 0, true),
+    (Answer::Levels, Lines::Totals, 1 << 36, true),
+    (Answer::Levels, Lines::Raw, (1 << 36) + 1, false),
+    (Answer::Components, WALKS_WITHIN, 0, false),
+    (Answer::Distances, WALKS_WITHIN, 0, true),
+    (Answer::Distances, WITHIN_ALL, 0, false),
+    (Answer::Components, Lines::Raw, 0, true),
 ];
+
+/// The greatest bound there is.
+const WALKS_WITHIN: Lines = Lines::Within {
+    walks: true,
+    bound: INF - 1,
+};
+
+const WITHIN_ALL: Lines = Lines::Within {
+    walks: false,
+    bound: INF,
+};
 
 #[test]
 fn limits_of_what_is_asked(rt: HostRuntime) {
     let settings = Settings::new(1, 0, 1).expect(&rt, "settings within their limits");
-    for (answer, walks, limit, can_be) in ASKED {
-        let asked = Asked::new(answer, settings, walks, limit);
+    for (answer, lines, limit, can_be) in ASKED {
+        let asked = Asked::by_lines(answer, settings, lines, limit);
         assert_eq!(rt; asked.is_some(), can_be, "a limit of {limit}");
+        if let Lines::Each { walks } = lines {
+            let asked = Asked::new(answer, settings, walks, limit);
+            assert_eq!(rt; asked.is_some(), can_be, "a limit of {limit}");
+        }
     }
 }
 

@@ -59,7 +59,7 @@ fn words_ask_for_options(rt: HostRuntime) -> Result<(), Fail> {
 fn is_asked(options: &Options, row: &Row) -> bool {
     let settings = options.asked.settings;
     options.asked.answer == row.answer
-        && options.lines == row.lines
+        && options.asked.lines == row.lines
         && settings.workers == row.workers
         && settings.buckets == row.buckets
 }

@@ -187,9 +187,9 @@ operands_in rows = unwrap_or (all_of (codes "operand") rows) []
 -- The options, of the values that each argument was given: `first_of` is its first value.
 pub record AsksFor (rows : List Row) (options : Options) : Type 0 where
   pub answer : NamesKind (first_of (codes "answer") rows) options.asked.answer
-  pub walks : IsFlag (first_of (codes "walks") rows) options.asked.walks
+  pub walks : IsFlag (first_of (codes "walks") rows) (has_walks options.asked.lines)
   pub lines : AsksLines (first_of (codes "within") rows) (first_of (codes "labels") rows)
-      (first_of (codes "totals") rows) options.asked.answer options.asked.walks options.lines
+      (first_of (codes "totals") rows) options.asked.answer (has_walks options.asked.lines) options.asked.lines
   pub settings : AsksSettings (first_of (codes "workers") rows) (first_of (codes "shift") rows)
       (first_of (codes "chunk") rows) options.asked.settings
   -- one worker works alone in a small graph, unless a number of them is asked for

@@ -1,4 +1,4 @@
-//! Which arguments has the command, as clap sees it?
+//! The command and its arguments, as `clap` takes them.
 
 ghost use Rattle.std.specs.Prelude.{◌≡◌, codes, false, IfOk};
 ghost use Rattle.clap.specs.Words.{app_of, rule_of, with_rule};
@@ -10,7 +10,7 @@ use crate::values::{AT_ONCE, CHUNK, KINDS, LABELS, SHIFT, WORKERS};
 use clap::{Arg, ArgAction, Command};
 use std::alloc::{AllocError, Global};
 
-/// What `--version` prints after the program's name.
+/// The version that `--version` prints after the program's name.
 const VERSION: &str = "0.1.0";
 
 const USAGE: &str = "obim_query [OPTIONS] < JOB";
@@ -78,7 +78,7 @@ Example:
 Status: 0 answered, 1 the command line is refused, 2 the text is refused,
 3 memory is refused, 4 reading or writing failed, 5 a thread is refused.";
 
-/// What the help says of each setting.
+/// The help's sentence on each setting.
 #[derive(Drop)]
 pub(crate) struct Limits {
     workers: String,

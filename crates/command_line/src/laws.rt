@@ -1,4 +1,4 @@
-//! Which laws hold of command lines? Each is the contract of a function that does nothing.
+//! Laws of command lines. Each is the contract of a function that does nothing.
 
 ghost use Rattle.command_line.specs.Laws.{WordsAskForOne};
 

@@ -8,7 +8,7 @@
 //! ```text
 //! let options = parse_options(rt.alloc(), &["obim_query", "-a", "levels", "--within", "3"])?;
 //! options.asked.answer;      // Answer::Levels
-//! options.lines;             // those of the vertices that at most 3 arcs lead to
+//! options.asked.lines;       // those of the vertices that at most 3 arcs lead to
 //! options.asked.settings;    // two workers, and buckets that get wider as costs rise
 //! ```
 //!

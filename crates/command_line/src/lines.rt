@@ -1,4 +1,4 @@
-//! Which lines does the block of a source have?
+//! The lines that a command line asks for.
 
 ghost use Rattle.std.specs.Prelude.{codes};
 ghost use Rattle.clap.specs.Words.{first_value, found_of};

@@ -1,4 +1,4 @@
-//! What does the command line ask for?
+//! The options that the words of a command line ask for.
 
 ghost use Rattle.std.specs.Prelude.{◌↔◌, map, IfErr, IfOk, IsTrue};
 ghost use Rattle.clap.specs.Words.{found_of, rows_of};
@@ -18,12 +18,12 @@ use job_answer::{Asked, MAX_BYTES};
 use std::alloc::Global;
 use std::convert::AsStr;
 
-/// What the arguments of a command line ask for, of which the first is the program's name.
+/// Finds the options that the arguments of a command line ask for. The first argument is the program's name.
 ///
 /// # Errors
 ///
-/// `Refusal::Text` where they ask for the help or the version, `Refusal::Line` where something is wrong with them, of
-/// which it names the first, and `Refusal::Memory` where the system refuses memory.
+/// `Refusal::Text` if they ask for the help or the version. `Refusal::Line` if something is wrong with them: it names the
+/// first fault. `Refusal::Memory` if the system refuses memory.
 pub fn parse_options<'a, S: AsStr>(alloc: Global, arguments: &'a [S]) -> Result<Options, Refusal>
     ensures asked { IfOk result (WordsAskFor (map S.text arguments.entry.now)) }
     ensures text { IfErr result (λ refusal. IsText refusal → AskForText (map S.text arguments.entry.now)) }
@@ -36,7 +36,7 @@ pub fn parse_options<'a, S: AsStr>(alloc: Global, arguments: &'a [S]) -> Result<
     }
 }
 
-/// What the values ask for that clap found.
+/// Finds the options that the values of `clap` ask for.
 fn options_in(alloc: Global, matches: &ArgMatches) -> Result<Options, Misuse>
     ensures { Finds (AsksFor (rows_of (found_of matches.now))) result }
 {
@@ -55,12 +55,11 @@ fn options_in(alloc: Global, matches: &ArgMatches) -> Result<Options, Misuse>
             "--stats and --progress are for jobs, not for --session"
         )?));
     }
-    let Some(asked) = Asked::new(answer, settings, walks, MAX_BYTES) else {
+    let Some(asked) = Asked::by_lines(answer, settings, lines, MAX_BYTES) else {
         return Err(Misuse::Line(format!(in alloc; "--walks needs distances or levels")?));
     };
     Ok(Options {
         asked: asked.with_at_once(at_once).with_saving(saves),
-        lines,
         session,
         stats,
         progress,

@@ -1,4 +1,4 @@
-//! Why does a command line ask for no answer?
+//! Refusals of a command line.
 
 ghost use Rattle.std.specs.Prelude.{◌≡◌, ◌≢◌};
 ghost use Rattle.clap.specs.Words.{kind_of};
@@ -13,7 +13,7 @@ use clap::error::ErrorKind;
 use std::alloc::{AllocError, Global};
 use std::convert::AsStr;
 
-/// Why a command line asks for no answer.
+/// The reason why a command line asks for no answer.
 #[derive(Drop)]
 pub enum Refusal {
     /// It asks for a text: the help or the version.
@@ -43,7 +43,7 @@ impl From<Misuse> for Refusal {
     }
 }
 
-/// Why clap gave no matches: a text is asked for, or its words in a sentence of ours.
+/// Turns an error of `clap` into a refusal: the text that is asked for, or a sentence.
 pub(crate) fn refused_by<S: AsStr>(alloc: Global, error: Error, arguments: &[S]) -> Refusal
     ensures text { IsText result → IsTextKind (kind_of error) }
     ensures line { IsLine result → kind_of error ≢ OutOfMemory }
@@ -85,7 +85,7 @@ fn negative_in<S: AsStr>(arguments: &[S]) -> Option<(Numbers, &str)> {
     None
 }
 
-/// Whether the text is a minus sign and digits.
+/// Tells whether the text is a minus sign and digits.
 fn is_negative(text: &str) -> bool {
     match text.strip_prefix("-") {
         Some(digits) => !digits.is_empty() && digits.bytes().all(|byte| byte.is_ascii_digit()),
@@ -104,7 +104,7 @@ fn numbers_of(text: &str) -> Option<Numbers> {
     }
 }
 
-/// What clap says is wrong, and what to do: clap's tip of a similar argument, or a look at the help.
+/// Gives clap's fault, and what to do: clap's tip of a similar argument, or a look at the help.
 fn sentence_of(alloc: Global, error: &Error) -> Result<String, AllocError> {
     let text = format!(in alloc; "{error}")?;
     let wrong = wrong_in(&text);
@@ -114,7 +114,7 @@ fn sentence_of(alloc: Global, error: &Error) -> Result<String, AllocError> {
     }
 }
 
-/// What clap says is wrong: its first line, without the words that begin and end each.
+/// Gives clap's fault: its first line, without the words that begin and end each.
 fn wrong_in(text: &str) -> &str {
     let first = first_line(text);
     let wrong = first.strip_prefix("error: ").unwrap_or(first);

@@ -1,4 +1,4 @@
-//! What do the values of the options ask for?
+//! The values of options.
 
 ghost use Rattle.std.specs.Prelude.{◌≡◌, ℕ, [], codes, map, option_map, unwrap_or, MatchOption};
 ghost use Rattle.clap.specs.Words.{first_value, found_of, matched_of, raw_values};
@@ -51,16 +51,16 @@ pub(crate) const CHUNK: Numbers = Numbers {
 /// The greatest value of `--within`. `INF`, which is one more, is no cost.
 pub(crate) const MAX_COST: u64 = INF - 1;
 
-/// How many vertices a chunk of two workers has, if nothing else is asked for: they gain more by sharing seldom.
+/// The number of vertices in a chunk of two workers, if none is asked for. They gain more by sharing seldom.
 pub(crate) const CHUNK_OF_TWO: usize = 128;
 
-/// How many vertices a chunk of more workers has, if nothing else is asked for.
+/// The number of vertices in a chunk of more workers, if none is asked for.
 pub(crate) const SHARED_CHUNK: usize = 64;
 
-/// Why the values of the options ask for no answer.
+/// The reason why values of options ask for no answer.
 #[derive(Drop)]
 pub(crate) enum Misuse {
-    /// What is wrong with them, in a sentence.
+    /// Their fault, in a sentence.
     Line(String),
     /// The system refused memory.
     Memory,
@@ -74,14 +74,14 @@ impl From<AllocError> for Misuse {
     }
 }
 
-/// Whether a flag is there.
+/// Tells whether a flag is there.
 pub(crate) fn has_flag(matches: &ArgMatches, flag: &str) -> bool
     ensures { IsFlag (first_value (found_of matches.now) flag.now) result }
 {
     matches.get_str(flag) == Some("true")
 }
 
-/// Whether the operand `-`, which is standard input, is there. Each other operand is refused.
+/// Tells whether the operand `-`, which is standard input, is there. Refuses each other operand.
 pub(crate) fn has_hyphen(alloc: Global, matches: &ArgMatches) -> Result<bool, Misuse>
     ensures { Finds (AreHyphens (unwrap_or
         (option_map raw_values (matched_of (found_of matches.now) (codes "operand"))) [])) result }
@@ -134,7 +134,7 @@ impl Numbers {
         }
     }
 
-    /// Why the text is none of these numbers.
+    /// Says why the text is none of these numbers.
     pub(crate) fn refuse(self, alloc: Global, text: &str) -> Result<String, AllocError> {
         let option = self.option;
         format!(in alloc; "invalid value '{text}' for '--{option}': a number from {self}")
@@ -177,7 +177,7 @@ pub(crate) fn settings_in(alloc: Global, matches: &ArgMatches) -> Result<Setting
     }
 }
 
-/// Whether the number of workers is left to the program, which then has one work alone in a small graph.
+/// Tells whether the number of workers is left to the program, which then has one work alone in a small graph.
 pub(crate) fn saves_workers(matches: &ArgMatches) -> bool
     ensures { IsAuto (first_value (found_of matches.now) (codes "workers")) result }
 {
@@ -246,7 +246,7 @@ pub(crate) fn answer_in(alloc: Global, matches: &ArgMatches) -> Result<Answer, M
     }
 }
 
-/// Whether labels are written as bytes, and not as text.
+/// Tells whether labels are written as bytes, and not as text.
 pub(crate) fn has_raw_labels(alloc: Global, matches: &ArgMatches) -> Result<bool, Misuse>
     ensures { Finds (NamesLabels (first_value (found_of matches.now) (codes "labels"))) result }
 {

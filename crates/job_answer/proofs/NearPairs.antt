@@ -4,7 +4,7 @@ use Rattle.std.proofs.Common.{◌+◌, None, get_or}
 use Rattle.std.specs.Prelude.{◌==◌, All, slice_index_or}
 use Rattle.std.specs.declared.vec.Vec.{Vec}
 use Rattle.std.specs.declared.alloc.Global.{Global}
-use Rattle.std.proofs.lemmas.List.{get_or-map}
+use Rattle.std.proofs.lemmas.List.{get_or-map, get_or_read}
 use Rattle.std.proofs.lemmas.List.Elements.{All-get_or}
 use Rattle.std.proofs.lemmas.Bool.{cases_lt}
 use Rattle.std.proofs.lemmas.Bool.Decides.{nat_tests}
@@ -65,26 +65,28 @@ found-block exist led n arcs source t label walk few graph within below is =
           rw told.label (ap (λ part. pair_text source t label ++ part) line);
     }
 
--- the walk at a place, as it is read
-pub walk-read : (walks : List (Vec ℕ Global)) (k : ℕ) (walk : Vec ℕ Global) → k < length walks → walk ≡ get_or walks k walk
-    → slice_index_or (walks_in walks) k [] ≡ walk.items
-walk-read walks k walk here read =
-    get_or-map (λ (vector : Vec ℕ Global). vector.items) walks k walk [] here ∙ sym (ap (λ (vector : Vec ℕ Global). vector.items) read)
-
--- what was found for the pairs of a solve gives the lines of each
+-- what was found for the pairs of a solve gives the lines of each, by the label and the walk that are read at its place
 pub found-lines : LeastLabelsExist → HopsAndParentsExist → (graphs : Graphs) (pairs : List (ℕ × ℕ)) (solve : Solve)
-    (targets : List ℕ) (found : WalksFound) (k label : ℕ) (walk : List ℕ)
+    (targets : List ℕ) (found : WalksFound) (k label : ℕ) (vector : Vec ℕ Global) (walk : List ℕ)
     → IsNetwork graphs.network → graphs.grown ≡ None → All (IsPairWithin graphs.network.n) pairs
     → IsForQueries pairs solve → AreTargetsOf pairs solve.first solve.end targets
     → AreWalksFound graphs.network.n graphs.network.arcs (pair_at pairs solve.first).0 targets found
-    → k < length targets → label ≡ slice_index found.labels.items k → slice_index_or (walks_in found.walks.items) k [] ≡ walk
+    → k < length targets → label ≡ get_or found.labels.items k label → vector ≡ get_or found.walks.items k vector
+    → walk ≡ vector.items
     → IsWalkedBlock graphs (pair_at pairs (solve.first + k))
     (found_text (pair_at pairs (solve.first + k)).0 (pair_at pairs (solve.first + k)).1 label walk)
-found-lines exist led graphs pairs solve targets found k label walk is alone within for aims are here label-is walk-is =
+found-lines exist led graphs pairs solve targets found k label vector walk is alone within for aims are here reads too same =
     let n = graphs.network.n in
     let arcs = graphs.network.arcs in
     let place = solve.first + k in
     let pair = pair_at pairs place in
+    let walks = found.walks.items in
+    let in-walks : k < length walks = omega (arith, here, are.walks) in
+    let label-is : label ≡ slice_index found.labels.items k =
+    get_or_read found.labels.items k label (omega (arith, here, are.labels)) reads 0 in
+    let walk-is : slice_index_or (walks_in walks) k [] ≡ walk =
+    get_or-map (λ (v : Vec ℕ Global). v.items) walks k vector [] in-walks
+    ∙ sym (ap (λ (v : Vec ℕ Global). v.items) (get_or_read walks k vector in-walks too vector)) ∙ sym same in
     let last : place < solve.end = omega (arith, here, aims.count) in
     let ends = All-get_or (IsPairWithin n) pairs place (0, 0) (omega (arith, last, for.within)) within in
     let source : (pair_at pairs solve.first).0 ≡ pair.0 = one_source pairs solve place for (omega arith) last in

@@ -32,7 +32,8 @@ use Rattle.job_answer.specs.AnswerText.{AreWalksFrom, vertex_lines, vertex_text}
 use Rattle.job_answer.specs.LineWalks.{AreReachedWithin, AreWalksBelow, AreWalksFor, HasVertexLines, bound_of, has_walks}
 use Rattle.job_answer.specs.LineWalks.{text_by}
 use Rattle.job_answer.proofs.Starts.{whole-costs}
-use Rattle.job_answer.specs.Solves.{AreCostsFor, IsLinesAsked, IsStartLines, goal_of}
+use Rattle.job_answer.specs.Choices.{IsLinesAsked}
+use Rattle.job_answer.specs.Solves.{AreCostsFor, IsStartLines, goal_of}
 use Rattle.job_answer.specs.Within.{IsLinesBlock, line_within, lines_within, text_within}
 
 -- ---- lines within a bound, as texts
@@ -227,7 +228,7 @@ module _ (exist : LeastLabelsExist) (led : HopsAndParentsExist) (agree : WalksBe
     least = some-least.1;
     written =
         ap (λ (text : List ℕ). source_text source ++ text)
-        (labels-alike bound limit n arcs source labels some-least.0 served low (omega (arith, asked)) up some-least.1);
+        (labels-alike bound limit n arcs source labels some-least.0 served low (omega (arith, asked bound refl)) up some-least.1);
   }
   told (lines.Within false bound) (Some walks) lined asked served found = absurd found
   told (lines.Within true bound) None lined asked served found = absurd found
@@ -240,7 +241,7 @@ module _ (exist : LeastLabelsExist) (led : HopsAndParentsExist) (agree : WalksBe
         walked = are;
         written =
             ap (λ (text : List ℕ). source_text source ++ text)
-            (walks-alike bound limit n arcs source labels some-least.0 served low (omega (arith, asked)) up some-least.1
+            (walks-alike bound limit n arcs source labels some-least.0 served low (omega (arith, asked bound refl)) up some-least.1
             agree graph walks hops parents are found);
       }
   told lines.Raw walks lined asked served found = absurd lined

@@ -1,15 +1,24 @@
 -- What may be asked, which fault the program makes of one below it, and which status a fault has.
-use Rattle.std.specs.Prelude.{◌≡◌, ◌≢◌, ℕ, ◌^◌, ◌≤◌, Bool, true}
+use Rattle.std.specs.Prelude.{◌≡◌, ◌≢◌, ℕ, ◌^◌, ◌<◌, ◌≤◌, true}
+use Rattle.std.specs.Option.{ForSome}
+use Rattle.route_walks.specs.declared.graph.TheConstants.{INF}
 use Rattle.job_reader.specs.declared.fault.ReadFault.{ReadFault}
 use Rattle.job_reader.specs.declared.fault.ReadFault.TheVariants as refused
 use Rattle.job_answer.specs.declared.asked.Answer.{Answer}
 use Rattle.job_answer.specs.declared.asked.Answer.TheVariants.{Components}
+use Rattle.job_answer.specs.declared.asked.Lines.{Lines}
 use Rattle.job_answer.specs.declared.fault.Fault.{Fault}
 use Rattle.job_answer.specs.declared.fault.Fault.TheVariants as fault
+use Rattle.job_answer.specs.LineWalks.{bound_in, has_walks}
 
--- what may be asked: walks but of components, and a limit of at most 2^36 bytes
-pub record IsAsked (kind : Answer) (walks : Bool) (limit : ℕ) : Type 0 where
-  pub walked : walks ≡ true → kind ≢ Components
+-- a bound is a cost
+abbrev pub IsLinesAsked : Lines → Type 0
+IsLinesAsked lines = ForSome (bound_in lines) (λ bound. bound < INF)
+
+-- what may be asked: walks but of components, a bound that is a cost, and a limit of at most 2^36 bytes
+pub record IsAsked (kind : Answer) (lines_are : Lines) (limit : ℕ) : Type 0 where
+  pub walked : has_walks lines_are ≡ true → kind ≢ Components
+  pub bounded : IsLinesAsked lines_are
   pub few : limit ≤ 2 ^ 36
 
 -- the exit status of the program after a fault

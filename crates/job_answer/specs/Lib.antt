@@ -12,5 +12,6 @@ pub mod Parts
 pub mod Existence
 pub mod Sinks
 pub mod Solves
+pub mod InNetworks
 pub mod NearPairs
 pub mod NearBlock

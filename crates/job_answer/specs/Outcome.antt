@@ -7,13 +7,11 @@ use Rattle.dimacs_text.specs.Faults.{IsFirstFault}
 use Rattle.job_answer.specs.declared.asked.Answer.{Answer}
 use Rattle.job_answer.specs.declared.asked.Answer.TheVariants as answer
 use Rattle.job_answer.specs.declared.asked.Lines.{Lines}
-use Rattle.job_answer.specs.declared.asked.Lines.TheVariants as lines
 use Rattle.job_answer.specs.declared.fault.Fault.{Fault}
 use Rattle.job_answer.specs.declared.fault.Fault.TheVariants as fault
 use Rattle.job_reader.specs.Request.{IsFaulty, IsRequest}
 use Rattle.job_reader.specs.Taken.{TakesAtMost, TakesOneMore}
 use Rattle.job_answer.specs.Bytes.{Writes, WritesPrefix}
-use Rattle.job_answer.specs.AnswerText.{IsAnswerText}
 use Rattle.job_answer.specs.Within.{HasNoSources, IsAnswerTextBy}
 
 -- the whole text was taken, it is a job's, and the job's answer was written and nothing else
@@ -54,10 +52,10 @@ pub record IsBegunBy (limit : ℕ) (kind : Answer) (lines : Lines)
   pub reply : IsReplyBegun kind lines job given_from given_to
 
 -- the text is a job's, and the bytes are the job's answer
-pub record IsAnswerOf (kind : Answer) (walks : Bool) (text bytes : List ℕ) : Type 0 where
+pub record IsAnswerOf (kind : Answer) (lines : Lines) (text bytes : List ℕ) : Type 0 where
   pub job : Content
   pub is_job : IsJobText text job
-  pub is_answer : IsAnswerText kind walks job bytes
+  pub is_answer : IsAnswerTextBy kind lines job bytes
 
 -- the whole text was taken, and it is a job's without a section of queries
 pub record IsRequestUnasked (limit : ℕ) (kind : Answer) (before after : Option (List ℕ)) : Type 0 where
@@ -77,6 +75,12 @@ pub record IsTextUnasked (kind : Answer) (text : List ℕ) : Type 0 where
   pub job : Content
   pub is_job : IsJobText text job
   pub unasked : IsUnasked kind job
+
+-- the text is a job's with pairs, though a bound asks for sources
+pub record IsTextOfPairs (kind : Answer) (lines : Lines) (text : List ℕ) : Type 0 where
+  pub job : Content
+  pub is_job : IsJobText text job
+  pub pairs : HasNoSources kind lines job.question
 
 -- What is so once a call has ended with a fault: how much of the text was taken, what the fault says of the text,
 -- and what was written of the answer.
@@ -117,8 +121,8 @@ module _ (limit : ℕ) (kind : Answer) (lines : Lines)
   row_of fault.Spawn = system_row fault.Spawn HasBegun
   row_of fault.Write = system_row fault.Write HasBegun
 
-  -- what a call says that reads a job text and writes its answer by some lines
-  pub record IsReplyBy (result : Result (Unit {0}) Fault) : Type 0 where
+  -- what a call says that reads a job text and writes its answer
+  pub record IsReply (result : Result (Unit {0}) Fault) : Type 0 where
     -- the whole text was read, it is a job's, and exactly its answer was written
     pub answered : OnOk result (IsAnsweredBy limit kind lines taken_from taken_to given_from given_to)
     -- at a fault what the table says
@@ -126,20 +130,14 @@ module _ (limit : ℕ) (kind : Answer) (lines : Lines)
     pub says : IfErr result (λ fault. (row_of fault).says)
     pub written : IfErr result (λ fault. (row_of fault).written)
 
--- the same where the blocks of sources have the lines of each vertex
-abbrev pub IsReply : ℕ → Answer → Bool → Option (List ℕ) → Option (List ℕ) → Option (List ℕ) → Option (List ℕ)
-    → Result (Unit {0}) Fault → Type 0
-IsReply limit kind walks taken_from taken_to given_from given_to result =
-    IsReplyBy limit kind (lines.Each walks) taken_from taken_to given_from given_to result
-
 -- what a fault says of a text in memory, and of the limit; no writer can fail there
-abbrev pub IsTrueOfBytes : ℕ → Answer → List ℕ → Fault → Type 0
-IsTrueOfBytes limit kind text fault.TooLong = limit < length text
-IsTrueOfBytes limit kind text (fault.Text line what) = IsFirstFault text line what
-IsTrueOfBytes limit kind text fault.NoAsk = IsTextUnasked kind text
-IsTrueOfBytes limit kind text fault.NoSources = ⊥
-IsTrueOfBytes limit kind text fault.Write = ⊥
-IsTrueOfBytes limit kind text _ = ⊤
+abbrev pub IsTrueOfBytes : ℕ → Answer → Lines → List ℕ → Fault → Type 0
+IsTrueOfBytes limit kind lines text fault.TooLong = limit < length text
+IsTrueOfBytes limit kind lines text (fault.Text line what) = IsFirstFault text line what
+IsTrueOfBytes limit kind lines text fault.NoAsk = IsTextUnasked kind text
+IsTrueOfBytes limit kind lines text fault.NoSources = IsTextOfPairs kind lines text
+IsTrueOfBytes limit kind lines text fault.Write = ⊥
+IsTrueOfBytes limit kind lines text _ = ⊤
 
 -- the faults of working out blocks and writing them
 abbrev pub IsWritingFault : Fault → Type 0

@@ -19,6 +19,7 @@ use Rattle.job_answer.specs.declared.walked_pairs.Walked.{Walked}
 use Rattle.job_answer.specs.declared.asked.Lines.{Lines}
 use Rattle.job_answer.specs.declared.asked.Lines.TheVariants as lines
 use Rattle.job_answer.specs.AnswerText.{Growth, IsComponentsBlock, IsGrownText, IsPairBlock, pair_walk_text}
+use Rattle.job_answer.specs.Choices.{IsLinesAsked}
 use Rattle.job_answer.specs.LineWalks.{HasWalkAt}
 use Rattle.job_answer.specs.Within.{IsLinesBlock}
 
@@ -40,13 +41,6 @@ goal_of (lines.Each walks) = goal.EachVertex
 goal_of (lines.Within walks bound) = goal.Within bound
 goal_of lines.Raw = goal.EachVertex
 goal_of lines.Totals = goal.EachVertex
-
--- a bound is a cost
-abbrev pub IsLinesAsked : Lines → Type 0
-IsLinesAsked (lines.Each walks) = ⊤
-IsLinesAsked (lines.Within walks bound) = bound < INF
-IsLinesAsked lines.Raw = ⊤
-IsLinesAsked lines.Totals = ⊤
 
 -- lines that may be asked for from a start: from everywhere a line of each vertex, since components have no costs
 abbrev pub IsStartLines : Start → Lines → Type 0

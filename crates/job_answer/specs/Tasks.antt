@@ -9,22 +9,18 @@ use Rattle.job_answer.specs.declared.walked_pairs.LinesText.{LinesText}
 use Rattle.job_answer.specs.declared.walked_pairs.WalkTasks.{WalkTasks}
 use Rattle.job_answer.specs.AnswerText.{AreBlocks, IsGrownPair}
 use Rattle.job_answer.specs.Graphs.{AreGraphs, growth_of}
-use Rattle.job_answer.specs.Solves.{IsLinesAsked}
-use Rattle.job_answer.specs.Within.{IsGrownLines}
+use Rattle.job_answer.specs.InNetworks.{IsBlockIn}
 
 -- ---- sources: a task for each gives its block
 
 -- the networks in which costs are least, and sources that are vertices of them
 pub record AreSourceTasks (of : SourceTasks) : Type 0 where
   pub are : AreGraphs of.kind.graphs.now
-  pub lines : IsLinesAsked of.kind.lines
   pub within : All (λ source. source < of.kind.graphs.now.network.n) of.sources.now
 
 -- the text is the block of a source
 abbrev pub IsSourceBlock : SourceTasks → ℕ → List ℕ → Type 0
-IsSourceBlock of =
-    IsGrownLines of.kind.lines of.kind.graphs.now.network.n of.kind.graphs.now.network.arcs
-    (growth_of of.kind.graphs.now.grown)
+IsSourceBlock of = IsBlockIn of.kind.graphs.now of.kind.lines
 
 -- the text is the block of the source at a place
 abbrev pub IsBlockText : SourceTasks → ℕ → BlockText → Type 0

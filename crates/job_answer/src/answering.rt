@@ -1,27 +1,26 @@
-//! How do the bytes of a job text become the bytes of its answer?
+//! From the bytes of a job text to the bytes of its answer.
 
 ghost use Rattle.std.specs.Prelude.{◌≡◌, ◌↔◌, false, IfOk, IfErr, IsTrue, OnErr, OnOk};
 ghost use Rattle.dimacs_text.specs.Jobs.{Content, content_of, question_of, IsQuestionWithin, IsWithinLimits};
 ghost use Rattle.job_answer.specs.AnswerText.{growth_for};
 ghost use Rattle.job_answer.specs.Bytes.{Writes, WritesPrefix};
-ghost use Rattle.job_answer.specs.Graphs.{AreGraphs, AreGraphsFor, growth_of};
-ghost use Rattle.job_answer.specs.Outcome.{IsAnswerOf, IsReply, IsReplyFault, IsReplyBy, IsTrueOfBytes};
+ghost use Rattle.job_answer.specs.Graphs.{AreGraphs, AreGraphsFor};
+ghost use Rattle.job_answer.specs.InNetworks.{IsTextIn};
+ghost use Rattle.job_answer.specs.Outcome.{IsAnswerOf, IsReply, IsReplyFault, IsTrueOfBytes};
 ghost use Rattle.job_answer.specs.Outcome.{IsWritingFault, is_unasked};
-ghost use Rattle.job_answer.specs.LineWalks.{has_walks};
 ghost use Rattle.job_answer.specs.Sinks.{Cuts, IsSame, Puts};
-ghost use Rattle.job_answer.specs.Solves.{IsLinesAsked};
-ghost use Rattle.job_answer.specs.Within.{HasNoSources, IsAnswerTextBy, IsTextBy};
+ghost use Rattle.job_answer.specs.Within.{HasNoSources, IsAnswerTextBy};
 
 use crate::asked::{Answer, Asked, Lines};
-use crate::blocks::{BlockKind, put_solved, put_sources};
+use crate::block_kind::BlockKind;
+use crate::blocks::{put_solved, put_sources};
 use crate::fault::Fault;
-use crate::figures::Figures;
 use crate::graphs::{Graphs, graphs_for};
 use crate::laws::{blocks_are_unique, lines_are_unique};
 use crate::pairs::put_pairs;
 use crate::saving::asked_for;
 use crate::sink::{PIECE, Sink};
-use crate::watch::{Phase, Watch};
+use crate::watch::{NoWatch, Phase, Watch};
 use dimacs_text::{Ask, Job};
 use job_reader::{ReadWatch, read_job_from};
 use least_costs::{Start, Workers, Workspace};
@@ -34,13 +33,18 @@ use std::thread::Threads;
 use std::time::Clock;
 use walk_report::laws::hops_and_parents_follow_the_arcs;
 
-/// The number of sources from which on the pairs of a job are worth the room for searches by the thread that asks, and the
-/// time that reversing the rows takes.
+/// The least number of sources at which pairs of a job are searched by the thread that asks. Its searches take room,
+/// and reversing the rows takes time.
 const MANY_SOURCES: usize = 32;
 
 /// Reads a job text to its end and writes its answer: exactly the bytes that the least labels of the
 /// job make, whatever the settings and the gate are. A fault of the text is found before anything is
 /// written.
+///
+/// Within a bound the block of a source has the lines of those vertices alone that cost at most the bound. They stand
+/// in rising order, and the source is solved no further. A job with pairs has no answer then. In short the labels from
+/// a source are written as bytes, or as one line of totals; a pair has its line. The answer of components, which have
+/// no costs, is the same by all lines.
 pub fn answer<H: Threads + Wait + Clock + Sync, R: Read, W: Write, G: Gate + Sync>(
     rt: &H,
     alloc: Global,
@@ -49,15 +53,14 @@ pub fn answer<H: Threads + Wait + Clock + Sync, R: Read, W: Write, G: Gate + Syn
     asked: &Asked,
     gate: &G,
 ) -> Result<(), Fault>
-    ensures { IsReply asked.now.limit asked.now.answer asked.now.walks
+    ensures { IsReply asked.now.limit asked.now.answer asked.now.lines
         (R.remaining reader.old) (R.remaining reader.new)
         (W.contents writer.old) (W.contents writer.new) result }
 {
-    let mut figures = Figures::new(rt);
-    answer_watched(rt, alloc, reader, writer, asked, gate, &mut figures)
+    answer_watched(rt, alloc, reader, writer, asked, gate, &mut NoWatch)
 }
 
-/// The same, which tells how far it is.
+/// Does what `answer` does, and tells how far it is.
 pub fn answer_watched<H: Threads + Wait + Clock + Sync, R: Read, W: Write, G: Gate + Sync>(
     rt: &H,
     alloc: Global,
@@ -67,42 +70,17 @@ pub fn answer_watched<H: Threads + Wait + Clock + Sync, R: Read, W: Write, G: Ga
     gate: &G,
     watch: &mut (impl ReadWatch + Watch),
 ) -> Result<(), Fault>
-    ensures { IsReply asked.now.limit asked.now.answer asked.now.walks
-        (R.remaining reader.old) (R.remaining reader.new)
-        (W.contents writer.old) (W.contents writer.new) result }
-{
-    let walks = asked.walks;
-    let lines = Lines::Each { walks };
-    answer_by(rt, alloc, reader, writer, asked, lines, gate, watch)
-}
-
-/// The same by other lines: within a bound the block of a source has the lines of those vertices alone that cost at
-/// most the bound, in rising order, and the source is solved no further. A job with pairs has no answer then. In short
-/// the labels from a source stand as bytes, or one line says what they come to; a pair has its line. The answer of
-/// components, which have no costs, is the same by all lines.
-pub fn answer_by<H: Threads + Wait + Clock + Sync, R: Read, W: Write, G: Gate + Sync>(
-    rt: &H,
-    alloc: Global,
-    reader: &mut R,
-    writer: &mut W,
-    asked: &Asked,
-    lines: Lines,
-    gate: &G,
-    watch: &mut (impl ReadWatch + Watch),
-) -> Result<(), Fault>
-    requires walks { has_walks lines ≡ asked.now.walks }
-    requires bound { IsLinesAsked lines }
-    ensures { IsReplyBy asked.now.limit asked.now.answer lines
+    ensures { IsReply asked.now.limit asked.now.answer asked.now.lines
         (R.remaining reader.old) (R.remaining reader.new)
         (W.contents writer.old) (W.contents writer.new) result }
 {
     let threads = asked.settings.workers as usize;
     let job = read_job_from(rt, alloc, reader, asked.limit, threads, watch)?;
     watch.end(rt, Phase::Reading);
-    answer_job(rt, alloc, writer, asked, lines, job, gate, watch)
+    answer_job(rt, alloc, writer, asked, job, gate, watch)
 }
 
-/// What `answer` does, over memory: the bytes of the answer to the text. No fault is `Write` or `NoSources`.
+/// Gives the bytes of the answer to a text in memory. No fault is `Write`.
 pub fn answer_bytes<H: Threads + Wait + Clock + Sync, G: Gate + Sync>(
     rt: &H,
     alloc: Global,
@@ -111,8 +89,8 @@ pub fn answer_bytes<H: Threads + Wait + Clock + Sync, G: Gate + Sync>(
     gate: &G,
 ) -> Result<Vec<u8>, Fault>
     ensures answered { IfOk result
-        (λ bytes. IsAnswerOf asked.now.answer asked.now.walks text.now bytes.items) }
-    ensures says { IfErr result (IsTrueOfBytes asked.now.limit asked.now.answer text.now) }
+        (λ bytes. IsAnswerOf asked.now.answer asked.now.lines text.now bytes.items) }
+    ensures says { IfErr result (IsTrueOfBytes asked.now.limit asked.now.answer asked.now.lines text.now) }
 {
     let mut reader = text;
     let mut bytes = Vec::new(alloc);
@@ -130,22 +108,20 @@ fn answer_job<H: Threads + Wait + Clock + Sync, W: Write, G: Gate + Sync>(
     alloc: Global,
     writer: &mut W,
     asked: &Asked,
-    lines: Lines,
     job: Job,
     gate: &G,
     watch: &mut impl Watch,
 ) -> Result<(), Fault>
     requires limits { IsWithinLimits (content_of job) }
-    requires bound { IsLinesAsked lines }
-    ensures reply { OnOk result (Writes (IsAnswerTextBy asked.now.answer lines (content_of job))
+    ensures reply { OnOk result (Writes (IsAnswerTextBy asked.now.answer asked.now.lines (content_of job))
         (W.contents writer.old) (W.contents writer.new)) }
-    ensures says { IfErr result (IsReplyFault asked.now.answer lines (content_of job)
+    ensures says { IfErr result (IsReplyFault asked.now.answer asked.now.lines (content_of job)
         (W.contents writer.old) (W.contents writer.new)) }
 {
     if is_unasked(asked.answer, &job.ask) {
         return Err(Fault::NoAsk);
     }
-    if has_no_sources(asked.answer, lines, &job.ask) {
+    if has_no_sources(asked.answer, asked.lines, &job.ask) {
         return Err(Fault::NoSources);
     }
     let Job {
@@ -156,7 +132,7 @@ fn answer_job<H: Threads + Wait + Clock + Sync, W: Write, G: Gate + Sync>(
     } = job;
     let threads = asked.settings.workers as usize;
     let searches = has_many_sources(&ask);
-    let turns = searches && !lines.has_walks() && added.is_none();
+    let turns = searches && !asked.lines.has_walks() && added.is_none();
     let mut graphs = graphs_for(rt, alloc, asked.answer, n, arcs, added, threads)?;
     reverse_if(turns, alloc, &mut graphs);
     let rows = graphs.network.rows();
@@ -164,7 +140,7 @@ fn answer_job<H: Threads + Wait + Clock + Sync, W: Write, G: Gate + Sync>(
     watch.end(rt, Phase::Rows);
     let kind = BlockKind {
         graphs: &graphs,
-        lines,
+        lines: asked.lines,
     };
     let mut kept = Some(Workspace::new().searching(searches));
     answer_question(rt, alloc, writer, kind, &ask, asked, gate, &mut kept, watch)
@@ -217,7 +193,6 @@ pub fn answer_question<H: Threads + Wait + Clock + Sync, W: Write, G: Gate + Syn
     watch: &mut impl Watch,
 ) -> Result<(), Fault>
     requires graphs { AreGraphs kind.graphs.now }
-    requires bound { IsLinesAsked kind.lines }
     requires question { IsQuestionWithin kind.graphs.now.network.n (question_of ask.now) }
     requires asked { is_unasked asked.now.answer (question_of ask.now) ≡ false }
     requires sources { ¬ (HasNoSources asked.now.answer kind.lines (question_of ask.now)) }
@@ -240,7 +215,7 @@ pub fn answer_question<H: Threads + Wait + Clock + Sync, W: Write, G: Gate + Syn
     write_text(rt, alloc, writer, kind, ask, &asked, gate, kept, watch)
 }
 
-/// Whether a job asks for nothing: it has no section of queries, and the answer needs one.
+/// Tells whether a job asks for nothing: it has no section of queries, and the answer needs one.
 pub fn is_unasked(answer: Answer, ask: &Ask) -> bool
     ensures { result ≡ is_unasked answer (question_of ask.now) }
 {
@@ -253,7 +228,7 @@ pub fn is_unasked(answer: Answer, ask: &Ask) -> bool
     }
 }
 
-/// Whether the job has pairs, though a bound asks for sources.
+/// Tells whether the job has pairs, though a bound asks for sources.
 fn has_no_sources(answer: Answer, lines: Lines, ask: &Ask) -> bool
     ensures { IsTrue result ↔ HasNoSources answer lines (question_of ask.now) }
 {
@@ -276,16 +251,13 @@ fn write_text<H: Threads + Wait + Clock + Sync, W: Write, G: Gate + Sync>(
     watch: &mut impl Watch,
 ) -> Result<(), Fault>
     requires graphs { AreGraphs kind.graphs.now }
-    requires bound { IsLinesAsked kind.lines }
     requires question { IsQuestionWithin kind.graphs.now.network.n (question_of ask.now) }
     requires asked { is_unasked asked.now.answer (question_of ask.now) ≡ false }
     requires sources { ¬ (HasNoSources asked.now.answer kind.lines (question_of ask.now)) }
-    ensures text { OnOk result (Writes (IsTextBy asked.now.answer kind.entry.lines kind.entry.graphs.now.network.n
-        kind.entry.graphs.now.network.arcs (growth_of kind.entry.graphs.now.grown) (question_of ask.now))
-        (W.contents writer.old) (W.contents writer.new)) }
-    ensures prefix { OnErr result (WritesPrefix (IsTextBy asked.now.answer kind.entry.lines kind.entry.graphs.now.network.n
-        kind.entry.graphs.now.network.arcs (growth_of kind.entry.graphs.now.grown) (question_of ask.now))
-        (W.contents writer.old) (W.contents writer.new)) }
+    ensures text { OnOk result (Writes (IsTextIn kind.entry.graphs.now asked.now.answer kind.entry.lines
+        (question_of ask.now)) (W.contents writer.old) (W.contents writer.new)) }
+    ensures prefix { OnErr result (WritesPrefix (IsTextIn kind.entry.graphs.now asked.now.answer kind.entry.lines
+        (question_of ask.now)) (W.contents writer.old) (W.contents writer.new)) }
     ensures kinds { IfErr result IsWritingFault }
 {
     // So what is a prefix of this text is one of the text that another run would write.
@@ -314,16 +286,13 @@ fn put_text<H: Threads + Wait + Clock + Sync, W: Write, G: Gate + Sync>(
     watch: &mut impl Watch,
 ) -> Result<(), Fault>
     requires graphs { AreGraphs kind.graphs.now }
-    requires bound { IsLinesAsked kind.lines }
     requires question { IsQuestionWithin kind.graphs.now.network.n (question_of ask.now) }
     requires asked { is_unasked asked.now.answer (question_of ask.now) ≡ false }
     requires sources { ¬ (HasNoSources asked.now.answer kind.lines (question_of ask.now)) }
     ensures same { IsSame sink.old sink.new }
-    ensures text { OnOk result (Puts W.contents (IsTextBy asked.now.answer kind.entry.lines
-        kind.entry.graphs.now.network.n kind.entry.graphs.now.network.arcs (growth_of kind.entry.graphs.now.grown)
+    ensures text { OnOk result (Puts W.contents (IsTextIn kind.entry.graphs.now asked.now.answer kind.entry.lines
         (question_of ask.now)) sink.old sink.new) }
-    ensures prefix { OnErr result (Cuts W.contents (IsTextBy asked.now.answer kind.entry.lines
-        kind.entry.graphs.now.network.n kind.entry.graphs.now.network.arcs (growth_of kind.entry.graphs.now.grown)
+    ensures prefix { OnErr result (Cuts W.contents (IsTextIn kind.entry.graphs.now asked.now.answer kind.entry.lines
         (question_of ask.now)) sink.old sink.new) }
     ensures kinds { IfErr result IsWritingFault }
 {

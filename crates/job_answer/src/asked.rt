@@ -1,7 +1,7 @@
-//! What may be asked of a job text?
+//! The questions that may be asked of a job text.
 
 ghost use Rattle.std.specs.Prelude.{◌≡◌, ◌↔◌, false, IsSome, IsTrue, IfSome};
-ghost use Rattle.job_answer.specs.Choices.{IsAsked};
+ghost use Rattle.job_answer.specs.Choices.{IsAsked, IsLinesAsked};
 ghost use Rattle.job_answer.specs.declared.asked.Lines.TheVariants as lines;
 ghost use Rattle.job_answer.specs.LineWalks.{bound_in, bound_of, has_walks, is_raw, is_totals};
 ghost use Rattle.job_answer.specs.Solves.{goal_of};
@@ -10,7 +10,7 @@ use least_costs::AtOnce;
 use obim_engine::{Goal, Settings};
 use route_walks::INF;
 
-/// Which labels are asked for.
+/// The kind of labels.
 #[derive(Clone, Copy, Debug, PartialEq, Eq)]
 pub enum Answer {
     /// The least cost of a walk from each source.
@@ -21,7 +21,7 @@ pub enum Answer {
     Components,
 }
 
-/// Which lines the block of a source has.
+/// The lines that the block of a source has.
 #[derive(Clone, Copy, Debug, PartialEq, Eq)]
 pub enum Lines {
     /// One of each vertex, and its walk after it where walks are asked for.
@@ -49,8 +49,8 @@ impl Lines {
         }
     }
 
-    /// Whether walks are asked for.
-    pub(crate) fn has_walks(self) -> bool
+    /// Tells whether walks are asked for.
+    pub fn has_walks(self) -> bool
         ensures { result ≡ has_walks self }
     {
         match self {
@@ -59,7 +59,7 @@ impl Lines {
         }
     }
 
-    /// Whether each vertex has its line and nothing else.
+    /// Tells whether each vertex has its line and nothing else.
     pub(crate) fn is_plain(self) -> bool
         ensures { IsTrue result ↔ (self ≡ lines.Each false) }
     {
@@ -73,6 +73,16 @@ impl Lines {
         match self {
             Lines::Each { .. } | Lines::Raw | Lines::Totals => INF,
             Lines::Within { bound, .. } => bound,
+        }
+    }
+
+    /// Tells whether the bound, if there is one, is a cost: less than `INF`.
+    fn has_cost(self) -> bool
+        ensures { IsTrue result ↔ IsLinesAsked self }
+    {
+        match self {
+            Lines::Each { .. } | Lines::Raw | Lines::Totals => true,
+            Lines::Within { bound, .. } => bound < INF,
         }
     }
 
@@ -93,93 +103,97 @@ pub const MAX_AT_ONCE: u32 = 64;
 /// The most bytes of a job text that are ever read: 2^36.
 pub const MAX_BYTES: u64 = 68719476736;
 
-/// What is asked of a job text.
+/// A question to a job text, or to all requests of a session.
 #[derive(Clone, Copy, Debug, PartialEq, Eq)]
 pub struct Asked {
-    /// Which labels.
+    /// The kind of labels.
     pub answer: Answer,
-    /// How to work them out.
+    /// The lines that the block of a source has. A pair has its line, with its walk if these lines have walks.
+    /// Components have the lines of all vertices, and no walks.
+    pub lines: Lines,
+    /// The settings by which labels are worked out.
     pub settings: Settings,
-    /// Whether a walk is written for each label that has one. Components have none.
-    pub walks: bool,
-    /// How many bytes of text are read at most. A longer text is refused.
+    /// The most bytes of text that are read. A longer text is refused.
     pub limit: u64,
-    /// How many sources are solved at the same time.
+    /// The number of sources that are solved at the same time.
     pub at_once: AtOnce,
-    /// Whether one worker works alone where the graph is so small that more of them gain less than they take. No answer
-    /// depends on it.
+    /// One worker works alone where the graph is so small that more of them gain less than they take. No answer depends
+    /// on it.
     pub saves: bool,
-    ghost within: { IsAsked answer walks limit },
+    ghost within: { IsAsked answer lines limit },
 }
 
 impl Asked {
-    /// What is asked, or `None` where walks are asked for with components, or where the limit is above
-    /// 2^36 bytes.
+    /// The lines of all vertices, with walks or without. `None` if walks are asked for with components, or if the limit
+    /// is above 2^36 bytes.
     pub fn new(answer: Answer, settings: Settings, walks: bool, limit: u64) -> Option<Asked>
-        ensures within { IsSome result ↔ IsAsked answer walks limit }
+        ensures within { IsSome result ↔ IsAsked answer (lines.Each walks) limit }
         ensures answer { IfSome result (λ asked. asked.answer ≡ answer) }
+        ensures lines { IfSome result (λ asked. asked.lines ≡ lines.Each walks) }
         ensures settings { IfSome result (λ asked. asked.settings ≡ settings) }
-        ensures walks { IfSome result (λ asked. asked.walks ≡ walks) }
         ensures limit { IfSome result (λ asked. asked.limit ≡ limit) }
         ensures at_once { IfSome result (λ asked. asked.at_once ≡ AtOnce.Auto) }
     {
-        if limit > MAX_BYTES {
+        Asked::by_lines(answer, settings, Lines::Each { walks }, limit)
+    }
+
+    /// Any lines. `None` if they have walks, which components have not, if a bound is no cost (`INF` or more), or if
+    /// the limit is above 2^36 bytes.
+    pub fn by_lines(answer: Answer, settings: Settings, lines: Lines, limit: u64) -> Option<Asked>
+        ensures within { IsSome result ↔ IsAsked answer lines limit }
+        ensures answer { IfSome result (λ asked. asked.answer ≡ answer) }
+        ensures lines { IfSome result (λ asked. asked.lines ≡ lines) }
+        ensures settings { IfSome result (λ asked. asked.settings ≡ settings) }
+        ensures limit { IfSome result (λ asked. asked.limit ≡ limit) }
+        ensures at_once { IfSome result (λ asked. asked.at_once ≡ AtOnce.Auto) }
+    {
+        if limit > MAX_BYTES || !lines.has_cost() {
             return None;
         }
-        if walks && matches!(answer, Answer::Components) {
+        if lines.has_walks() && matches!(answer, Answer::Components) {
             return None;
         }
         Some(Asked {
             answer,
+            lines,
             settings,
-            walks,
             limit,
             at_once: AtOnce::Auto,
             saves: false,
         })
     }
 
-    /// The same with this number of sources at the same time.
+    /// This number of sources at the same time.
     pub fn with_at_once(self, at_once: AtOnce) -> Asked
         ensures answer { result.answer ≡ self.answer }
+        ensures lines { result.lines ≡ self.lines }
         ensures settings { result.settings ≡ self.settings }
-        ensures walks { result.walks ≡ self.walks }
         ensures limit { result.limit ≡ self.limit }
         ensures at_once { result.at_once ≡ at_once }
     {
-        Asked {
-            answer: self.answer,
-            settings: self.settings,
-            walks: self.walks,
-            limit: self.limit,
-            at_once,
-            saves: self.saves,
-        }
+        let mut asked = self;
+        asked.at_once = at_once;
+        asked
     }
 
-    /// The same with other settings.
+    /// Other settings.
     pub fn with_settings(self, settings: Settings) -> Asked
         ensures answer { result.answer ≡ self.answer }
+        ensures lines { result.lines ≡ self.lines }
         ensures settings { result.settings ≡ settings }
-        ensures walks { result.walks ≡ self.walks }
         ensures limit { result.limit ≡ self.limit }
         ensures at_once { result.at_once ≡ self.at_once }
     {
-        Asked {
-            answer: self.answer,
-            settings,
-            walks: self.walks,
-            limit: self.limit,
-            at_once: self.at_once,
-            saves: self.saves,
-        }
+        let mut asked = self;
+        asked.settings = settings;
+        asked
     }
 
-    /// The same, where one worker works alone in a small graph, or all of them in every graph.
+    /// One worker works alone in a small graph, or all of them in every graph.
     pub fn with_saving(self, saves: bool) -> Asked
         ensures answer { result.answer ≡ self.answer }
+        ensures lines { result.lines ≡ self.lines }
         ensures settings { result.settings ≡ self.settings }
-        ensures walks { result.walks ≡ self.walks }
         ensures limit { result.limit ≡ self.limit }
         ensures at_once { result.at_once ≡ self.at_once }
         ensures saves { result.saves ≡ saves }

@@ -1,23 +1,26 @@
-//! Which blocks answer sources and components?
+//! The blocks that answer sources and components.
 
 ghost use Rattle.std.specs.Prelude.{◌≡◌, ◌<◌, ◌≤◌, length, slice_index, All, IfErr, IfOk, IfSome, OnErr, OnOk};
 ghost use Rattle.std.specs.Thread.{IsSync};
 ghost use Rattle.least_costs.specs.Rounds.{AreMade};
 ghost use Rattle.job_answer.specs.AnswerText.{AreBlocks};
-ghost use Rattle.job_answer.specs.Graphs.{AreGraphs, growth_of};
+ghost use Rattle.job_answer.specs.Choices.{IsLinesAsked};
+ghost use Rattle.job_answer.specs.Graphs.{AreGraphs};
+ghost use Rattle.job_answer.specs.InNetworks.{AreBlocksIn, IsBlockIn, IsStartIn};
 ghost use Rattle.least_costs.specs.Network.{IsStartWithin};
 ghost use Rattle.job_answer.specs.Outcome.{IsWritingFault};
 ghost use Rattle.job_answer.specs.Sinks.{Cuts, IsSame, Puts};
-ghost use Rattle.job_answer.specs.Solves.{AreCostsFor, IsGrownStart, IsLinesAsked, IsRest};
+ghost use Rattle.job_answer.specs.Solves.{AreCostsFor, IsRest};
 ghost use Rattle.job_answer.specs.Solves.{IsStartBlock, IsStartLines, goal_of};
 ghost use Rattle.job_answer.specs.Tasks.{AreSourceTasks, IsBlockText, IsSourceBlock};
 ghost use Rattle.job_answer.specs.LineWalks.{AreWalksFor, HasVertexLines, has_walks};
-ghost use Rattle.job_answer.specs.Within.{AreLinesBlocks, IsGrownLines, IsLinesBlock};
+ghost use Rattle.job_answer.specs.Within.{IsLinesBlock};
 ghost use Rattle.least_costs.specs.declared.start.Start.TheVariants.{At};
 
 use crate::asked::{Asked, Lines};
+use crate::block_kind::BlockKind;
 use crate::fault::Fault;
-use crate::graphs::{Graphs, Grown, teams_for};
+use crate::graphs::{Grown, teams_for};
 use crate::laws::{blocks_are_unique, lines_are_unique};
 use crate::line_walks::{LineWalks, walks_below};
 use crate::lines::{put_components, put_labels, put_raw, put_totals, put_within};
@@ -37,13 +40,6 @@ use std::sync::Wait;
 use std::thread::Threads;
 use std::time::Clock;
 use walk_report::laws::{hops_and_parents_exist, walks_below_agree};
-
-/// In which networks the costs of a block are least, and which lines the block of a source has.
-#[derive(Drop)]
-pub struct BlockKind<'a> {
-    pub graphs: &'a Graphs,
-    pub lines: Lines,
-}
 
 /// The sources whose blocks are asked for. A task for each gives its block.
 #[derive(Drop)]
@@ -78,13 +74,12 @@ pub fn put_sources<H: Threads + Wait + Clock + Sync, W: Write, G: Gate + Sync>(
     watch: &mut impl Watch,
 ) -> Result<(), Fault>
     requires graphs { AreGraphs kind.graphs.now }
-    requires lines { IsLinesAsked kind.lines }
     requires sources { All (λ source. source < kind.graphs.now.network.n) sources.now }
     ensures same { IsSame sink.old sink.new }
-    ensures blocks { OnOk result (Puts W.contents (AreLinesBlocks kind.entry.lines kind.entry.graphs.now.network.n
-        kind.entry.graphs.now.network.arcs (growth_of kind.entry.graphs.now.grown) sources.now) sink.old sink.new) }
-    ensures prefix { OnErr result (Cuts W.contents (AreLinesBlocks kind.entry.lines kind.entry.graphs.now.network.n
-        kind.entry.graphs.now.network.arcs (growth_of kind.entry.graphs.now.grown) sources.now) sink.old sink.new) }
+    ensures blocks { OnOk result (Puts W.contents (AreBlocksIn kind.entry.graphs.now kind.entry.lines sources.now)
+        sink.old sink.new) }
+    ensures prefix { OnErr result (Cuts W.contents (AreBlocksIn kind.entry.graphs.now kind.entry.lines sources.now)
+        sink.old sink.new) }
     ensures kinds { IfErr result IsWritingFault }
 {
     let teams = teams_for(kind.graphs, asked);
@@ -232,11 +227,9 @@ fn held_block<H: Threads + Wait + Clock + Sync, G: Gate + Sync>(
     watch: &mut impl Watch,
 ) -> Result<BlockText, Fault>
     requires graphs { AreGraphs kind.now.graphs.now }
-    requires lines { IsLinesAsked kind.now.lines }
     requires source { source < kind.now.graphs.now.network.n }
     requires team { workers.old.settings.workers ≡ workers.old.gate.now.team.workers }
-    ensures { IfOk result (λ text. IsGrownLines kind.now.lines kind.now.graphs.now.network.n
-        kind.now.graphs.now.network.arcs (growth_of kind.now.graphs.now.grown) source text.bytes.items) }
+    ensures { IfOk result (λ text. IsBlockIn kind.now.graphs.now kind.now.lines source text.bytes.items) }
 {
     let (mut nobody, mut bytes) = (NoWriter, Vec::new(alloc));
     let mut sink = Sink {
@@ -264,10 +257,10 @@ pub fn put_solved<H: Threads + Wait + Clock + Sync, W: Write, G: Gate + Sync>(
     requires lines { IsStartLines start kind.now.lines }
     requires start { IsStartWithin kind.now.graphs.now.network.n start }
     ensures same { IsSame sink.old sink.new }
-    ensures block { OnOk result (Puts W.contents (IsGrownStart kind.now.lines kind.now.graphs.now.network.n
-        kind.now.graphs.now.network.arcs (growth_of kind.now.graphs.now.grown) start) sink.old sink.new) }
-    ensures prefix { OnErr result (Cuts W.contents (IsGrownStart kind.now.lines kind.now.graphs.now.network.n
-        kind.now.graphs.now.network.arcs (growth_of kind.now.graphs.now.grown) start) sink.old sink.new) }
+    ensures block { OnOk result (Puts W.contents (IsStartIn kind.now.graphs.now kind.now.lines start)
+        sink.old sink.new) }
+    ensures prefix { OnErr result (Cuts W.contents (IsStartIn kind.now.graphs.now kind.now.lines start)
+        sink.old sink.new) }
     ensures kinds { IfErr result IsWritingFault }
 {
     lines_are_unique();

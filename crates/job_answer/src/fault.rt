@@ -1,4 +1,4 @@
-//! Why is there no answer, and with which status does the program end?
+//! Faults, and the status with which the program ends after each.
 
 ghost use Rattle.std.specs.Prelude.{◌≡◌};
 ghost use Rattle.job_answer.specs.declared.fault.Fault.TheVariants as fault;
@@ -9,7 +9,7 @@ use job_reader::ReadFault;
 use std::alloc::AllocError;
 use thiserror::Error;
 
-/// Why there is no answer, or only a prefix of one.
+/// The reason why there is no answer, or only a prefix of one.
 #[derive(Clone, Copy, Debug, PartialEq, Eq, Error)]
 pub enum Fault {
     /// The reader failed. Nothing was written.

@@ -1,4 +1,4 @@
-//! Which networks does an answer kind make of a job's arcs, before and after the added ones?
+//! The networks of an answer kind: of a job's arcs, and of these and the added ones.
 
 ghost use Rattle.std.specs.Prelude.{◌≡◌, ◌≤◌, ◌^◌, None, length, IfOk, IfSome};
 ghost use Rattle.least_costs.specs.Network.{IsNetworkOf};
@@ -26,7 +26,7 @@ pub struct Graphs {
 /// A network after its added arcs.
 #[derive(Drop)]
 pub struct Grown {
-    /// How many arcs the job adds.
+    /// The number of arcs that the job adds.
     pub count: u32,
     pub network: Network,
 }
@@ -90,14 +90,14 @@ pub fn plan_of(asked: &Asked) -> Plan
     }
 }
 
-/// How many tasks are done at the same time in these networks.
+/// Gives the number of tasks that are done at the same time in these networks.
 pub fn teams_for(graphs: &Graphs, asked: &Asked) -> usize
     ensures { result ≤ asked.now.settings.workers }
 {
     plan_of(asked).teams(&graphs.network)
 }
 
-/// What an arc costs in the network of an answer kind.
+/// Gives the cost of an arc in the network of an answer kind.
 fn cost_for(answer: Answer) -> Cost
     ensures { result ≡ cost_for answer }
 {

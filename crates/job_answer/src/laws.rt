@@ -1,4 +1,4 @@
-//! Which laws hold of answers? Each is the contract of a function that does nothing.
+//! Laws of answers. Each is the contract of a function that does nothing.
 
 ghost use Rattle.job_answer.specs.AnswerText.{AnswerTextsAreUnique, BlocksAreUnique};
 ghost use Rattle.job_answer.specs.Costs.{AnswersSayCosts, AnswersSayPairCosts, AnswersSayComponents};
@@ -39,7 +39,7 @@ pub fn answer_texts_are_unique()
     blocks_are_unique();
 }
 
-/// The same by whichever lines blocks of sources have.
+/// A job has only one answer text of a kind, by whichever lines blocks of sources have.
 pub fn answer_texts_by_lines_are_unique()
     ensures { AnswerTextsByLinesAreUnique }
 {
@@ -56,7 +56,8 @@ pub fn asked_jobs_have_answers()
     hops_and_parents_exist();
 }
 
-/// So it has by any lines, unless they are within a bound, which asks for sources, and it has pairs.
+/// A job within the limits has an answer text by any lines, unless they are within a bound, which asks for sources, and
+/// it has pairs.
 pub fn asked_jobs_have_answers_by_lines()
     ensures { AskedJobsHaveAnswersByLines }
 {
@@ -65,9 +66,9 @@ pub fn asked_jobs_have_answers_by_lines()
     hops_and_parents_exist();
 }
 
-/// In an answer of distances or levels the line of a vertex says `inf` where no walk at all leads there
-/// from the source, and else what the cheapest walk costs. Where walks are asked for, the line after it has
-/// the vertices of such a walk, with no more arcs than another of that cost.
+/// In an answer of distances or levels the line of a vertex says `inf` if no walk at all leads there from the source.
+/// Else it says what the cheapest walk costs. If walks are asked for, the line after it has the vertices of such a
+/// walk, with no more arcs than another of that cost.
 pub fn answers_say_costs()
     ensures { AnswersSayCosts }
 {
@@ -75,8 +76,8 @@ pub fn answers_say_costs()
     printed_walks_are_walks();
 }
 
-/// In such an answer within a bound exactly those vertices have a line to which a walk leads that costs no more than
-/// the bound, and it says what the cheapest one costs, and which it is where walks are asked for.
+/// Within a bound exactly those vertices have a line to which a walk leads that costs no more than the bound. It says
+/// what the cheapest one costs, and which one that is if walks are asked for.
 pub fn answers_say_costs_within()
     ensures { AnswersSayCostsWithin }
 {
@@ -84,7 +85,8 @@ pub fn answers_say_costs_within()
     printed_walks_are_walks();
 }
 
-/// The same of a pair: its line says the cost from its source to its target.
+/// In an answer of pairs the line of a pair says `inf` or the cost from its source to its target, with its walk if
+/// walks are asked for.
 pub fn answers_say_pair_costs()
     ensures { AnswersSayPairCosts }
 {
@@ -114,9 +116,9 @@ pub fn totals_add_up()
     least_labels_are_unique();
 }
 
-/// Where the sources or the pairs of a job are cut in two, the answers of the two parts by some lines, one after the
-/// other, are the answer of the job by the same lines; so a job can be cut anywhere, and into any number of parts.
-/// Each part has the graph and the added arcs.
+/// If the sources or the pairs of a job are cut in two, the answers of the two parts, one after the other, are the
+/// answer of the job by the same lines. So a job can be cut anywhere, and into any number of parts. Each part has the
+/// graph and the added arcs.
 pub fn answers_of_parts_join()
     ensures { AnswersOfPartsJoin }
 {}

@@ -1,11 +1,13 @@
 //! Bytes in, bytes out: the answer of a job.
 //!
-//! `answer` reads a job text from any reader and writes its answer to any writer. Its contract says that
-//! the bytes written are exactly those that the least labels of the job make, for all settings and
-//! however the workers' steps interleave, and what was read and written at each fault. `answer_bytes`
-//! is the same from bytes to bytes, `answer_watched` tells how far it is besides, and `answer_by` can have the
-//! lines alone of vertices within a bound. `answer_question` answers one question by networks that a caller keeps
-//! (`graphs_for`), so that many questions can be asked of one graph.
+//! `answer` reads a job text from any reader and writes its answer to any writer. By its contract the bytes written are
+//! exactly those that the least labels of the job make, for all settings and however the workers' steps interleave. It
+//! says too what was read and written at each fault. `answer_bytes` answers a text in memory, and `answer_watched`
+//! shows how far it is. `Asked` says which labels and which lines: of all vertices, of those within a bound, or in
+//! short.
+//!
+//! `answer_question` answers one question by networks that a caller keeps (`graphs_for`), so that many questions can be
+//! asked of one graph.
 //!
 //! The answer to a text in memory, by two workers:
 //!
@@ -18,17 +20,17 @@
 //! ```
 //!
 //! It stands on `job_reader`, which reads a job by several threads, on `dimacs_text` for what a job is, and on
-//! `answer_lines`, which writes lines; on `csr_graph` for the rows, on `obim_engine`, whose workers give the labels,
-//! on `least_costs`, whose teams solve several sources at the same time, on `walk_report` for the walks, and on
-//! `route_walks`, which says what least labels are; on `thiserror` for the texts of faults.
+//! `answer_lines`, which writes lines. The labels come from the workers of `obim_engine`, over the rows of `csr_graph`,
+//! and from the teams of `least_costs`, which solve several sources at the same time. Walks come from `walk_report`,
+//! and near ones from `near_labels`. `route_walks` says what least labels are, and `thiserror` makes the texts of
+//! faults.
 #![tactic(auto)]
 
 mod answering;
 mod asked;
+mod block_kind;
 mod blocks;
-mod counter;
 mod fault;
-mod figures;
 mod graphs;
 pub mod laws;
 mod line_walks;
@@ -43,14 +45,12 @@ mod team_watch;
 mod walked_pairs;
 mod watch;
 
-pub use answering::{answer, answer_by, answer_bytes, answer_question, answer_watched, is_unasked};
+pub use answering::{answer, answer_bytes, answer_question, answer_watched, is_unasked};
 pub use asked::{Answer, Asked, Lines, MAX_AT_ONCE, MAX_BYTES};
-pub use blocks::BlockKind;
-pub use counter::Counter;
+pub use block_kind::BlockKind;
 pub use fault::{Fault, status};
-pub use figures::Figures;
 pub use graphs::{Graphs, Grown, graphs_for};
 pub use job_reader::ReadWatch;
 pub use least_costs::AtOnce;
 pub use sink::write_whole;
-pub use watch::{Phase, Watch};
+pub use watch::{NoWatch, Phase, Watch};

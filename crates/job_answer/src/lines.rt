@@ -1,4 +1,4 @@
-//! How are the lines of a block put?
+//! The lines of a block.
 
 ghost use Rattle.std.specs.Prelude.{◌≡◌, ◌≢◌, ◌<◌, ◌≤◌, ◌++◌, [], length, max};
 ghost use Rattle.std.specs.Prelude.{All, IfErr, IfSome, OnErr, OnOk};

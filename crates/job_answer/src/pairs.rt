@@ -1,4 +1,4 @@
-//! Which lines answer pairs?
+//! The lines that answer pairs.
 
 ghost use Rattle.std.specs.Prelude.{◌≡◌, ◌<◌, ◌≤◌, ◌^◌, ◌++◌, None, length, slice_index_or};
 ghost use Rattle.std.specs.Prelude.{All, IfErr, IfOk, OnErr, OnOk, false};
@@ -6,15 +6,15 @@ ghost use Rattle.least_costs.specs.Costs.{label_of};
 ghost use Rattle.least_costs.specs.Pairs.{ArePairCosts};
 ghost use Rattle.dimacs_text.specs.Jobs.{IsPairWithin};
 ghost use Rattle.answer_lines.specs.Lines.{pair_text};
-ghost use Rattle.job_answer.specs.AnswerText.{ArePairBlocks};
 ghost use Rattle.job_answer.specs.Graphs.{AreGraphs, growth_of};
+ghost use Rattle.job_answer.specs.InNetworks.{ArePairsIn};
 ghost use Rattle.job_answer.specs.LineWalks.{has_walks};
 ghost use Rattle.job_answer.specs.Outcome.{IsWritingFault};
 ghost use Rattle.job_answer.specs.Sinks.{Cuts, IsSame, Puts};
 ghost use Rattle.job_answer.specs.Solves.{AreCostsAfter, HasCostAfter, with_growth};
 
 use crate::asked::Asked;
-use crate::blocks::BlockKind;
+use crate::block_kind::BlockKind;
 use crate::fault::Fault;
 use crate::graphs::{Graphs, plan_of};
 use crate::laws::blocks_are_unique;
@@ -70,10 +70,9 @@ pub fn put_pairs<H: Threads + Wait + Clock + Sync, W: Write, G: Gate + Sync>(
     requires count { length pairs.now ≤ 2 ^ 20 }
     requires pairs { All (IsPairWithin kind.graphs.now.network.n) pairs.now }
     ensures same { IsSame sink.old sink.new }
-    ensures blocks { OnOk result (Puts W.contents (ArePairBlocks (has_walks kind.entry.lines) kind.entry.graphs.now.network.n
-        kind.entry.graphs.now.network.arcs (growth_of kind.entry.graphs.now.grown) pairs.now) sink.old sink.new) }
-    ensures prefix { OnErr result (Cuts W.contents (ArePairBlocks (has_walks kind.entry.lines)
-        kind.entry.graphs.now.network.n kind.entry.graphs.now.network.arcs (growth_of kind.entry.graphs.now.grown)
+    ensures blocks { OnOk result (Puts W.contents (ArePairsIn kind.entry.graphs.now (has_walks kind.entry.lines)
+        pairs.now) sink.old sink.new) }
+    ensures prefix { OnErr result (Cuts W.contents (ArePairsIn kind.entry.graphs.now (has_walks kind.entry.lines)
         pairs.now) sink.old sink.new) }
     ensures kinds { IfErr result IsWritingFault }
 {
@@ -135,10 +134,8 @@ fn put_lines<W: Write>(
     requires costs { ArePairCosts graphs.now.network pairs.now costs.now.costs.items }
     requires after { AreCostsAfter graphs.now.grown pairs.now costs.now.after.items }
     ensures same { IsSame sink.old sink.new }
-    ensures blocks { OnOk result (Puts W.contents (ArePairBlocks false graphs.now.network.n graphs.now.network.arcs
-        (growth_of graphs.now.grown) pairs.now) sink.old sink.new) }
-    ensures prefix { OnErr result (Cuts W.contents (ArePairBlocks false graphs.now.network.n graphs.now.network.arcs
-        (growth_of graphs.now.grown) pairs.now) sink.old sink.new) }
+    ensures blocks { OnOk result (Puts W.contents (ArePairsIn graphs.now false pairs.now) sink.old sink.new) }
+    ensures prefix { OnErr result (Cuts W.contents (ArePairsIn graphs.now false pairs.now) sink.old sink.new) }
     ensures kinds { IfErr result IsWritingFault }
 {
     blocks_are_unique();

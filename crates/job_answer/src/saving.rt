@@ -9,18 +9,18 @@ use crate::graphs::Graphs;
 use dimacs_text::Ask;
 use obim_engine::{MAX_CHUNK, Settings};
 
-/// How many vertices and arcs one worker goes over, those of each of several sources or pairs, before another one would
-/// gain what its start costs: some 100 microseconds a question.
+/// The number of vertices and arcs at which a second worker gains what its start costs, some 100 microseconds a
+/// question. Those of each of several sources or pairs count.
 const FEW: usize = 1 << 14;
 
-/// The same of a single one, which workers share: each step of one takes longer there, so they gain later.
+/// That number for a single source or pair, which workers share: each step takes longer there, so they gain later.
 const FEW_SHARED: usize = 1 << 17;
 
-/// The same where there are two workers, which gain the least.
+/// That number for two workers, which gain the least.
 const FEW_SHARED_BY_TWO: usize = 3 << 18;
 
-/// What is asked of these graphs: where workers are saved, by one of them if there is so little to do that no other
-/// gains what it takes.
+/// Gives the question with the settings by which it is answered: by one worker, if workers are saved and there is so
+/// little to do that no other gains what it takes.
 pub(crate) fn asked_for(asked: &Asked, graphs: &Graphs, ask: &Ask) -> Asked
     ensures answer { result.answer ≡ asked.now.answer }
 {
@@ -30,7 +30,7 @@ pub(crate) fn asked_for(asked: &Asked, graphs: &Graphs, ask: &Ask) -> Asked
     *asked
 }
 
-/// Whether one worker goes over so few vertices and arcs that no other gains what it takes.
+/// Tells whether one worker goes over so few vertices and arcs that no other gains what it takes.
 fn is_little(asked: &Asked, graphs: &Graphs, ask: &Ask) -> bool {
     let rows = graphs.network.rows();
     let size = rows.arc_count().saturating_add(rows.n() as usize);

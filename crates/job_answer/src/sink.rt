@@ -1,4 +1,4 @@
-//! Where do the bytes of an answer wait, and when are they written?
+//! A sink, in which the bytes of an answer wait until they are written.
 
 ghost use Rattle.std.specs.Prelude.{◌≡◌, ◌<◌, ◌≤◌, [], Some, length, max, IfOk, IfErr, OnOk, OnErr};
 ghost use Rattle.std.specs.Io.KnownBytes.{Appends, Keeps, WriteAppends};
@@ -19,9 +19,9 @@ pub const PIECE: usize = 1 << 16;
 #[derive(Drop)]
 pub struct Sink<'a, W> {
     pub writer: &'a mut W,
-    /// What waits: more is put at its end.
+    /// The bytes that wait. More are put at the end.
     pub waiting: &'a mut Vec<u8>,
-    /// How many bytes make a piece.
+    /// The number of bytes that make a piece.
     pub piece: usize,
 }
 
@@ -77,7 +77,7 @@ impl<'a, W: Write> Sink<'a, W> {
     }
 }
 
-/// How many bytes a text may have that is made before its turn, so that memory doesn't grow with walks.
+/// Gives the most bytes of a text that is made before its turn, so that memory doesn't grow with walks.
 pub fn most_bytes(graphs: &Graphs) -> usize {
     let once = (graphs.network.n() as usize).saturating_mul(MOST_A_VERTEX);
     match &graphs.grown {

@@ -1,4 +1,4 @@
-//! Which solves does an answer need, and which of its queries does each one answer?
+//! The solves that an answer needs, and the queries that each one answers.
 
 ghost use Rattle.std.specs.Prelude.{◌≡◌, ◌<◌, length, IfErr, IfOk};
 ghost use Rattle.obim_engine.specs.Goal.{IsGoalWithin};

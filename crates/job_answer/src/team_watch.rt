@@ -1,10 +1,9 @@
-//! What do teams that solve side by side tell of themselves?
+//! A count of what teams solve side by side.
 
-use crate::watch::{Phase, Watch};
+use crate::watch::Watch;
 use std::sync::atomic::{AtomicUsize, Ordering};
-use std::time::Clock;
 
-/// How often teams worked out labels, until the caller's thread asks: also for what was not kept.
+/// A count of the times that teams worked out labels, also for what was not kept.
 #[derive(Drop)]
 pub struct SolveCount {
     count: AtomicUsize,
@@ -17,7 +16,7 @@ impl SolveCount {
         }
     }
 
-    /// What was counted since it was asked last.
+    /// Gives the count since the last call, and begins anew.
     pub fn take(&self) -> usize {
         self.count.swap(0, Ordering::Relaxed)
     }
@@ -30,13 +29,7 @@ pub struct TeamWatch<'a> {
 }
 
 impl Watch for TeamWatch<'_> {
-    fn see_rows(&mut self, _vertices: u32, _arcs: usize) {}
-
     fn see_solves(&mut self, count: usize) {
         self.solves.count.fetch_add(count, Ordering::Relaxed);
     }
-
-    fn see_teams(&mut self, _teams: usize) {}
-
-    fn end<C: Clock>(&mut self, _clock: &C, _phase: Phase) {}
 }

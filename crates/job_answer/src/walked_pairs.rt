@@ -1,4 +1,4 @@
-//! Which lines answer pairs with walks?
+//! The lines that answer pairs with walks.
 
 ghost use Rattle.std.specs.Prelude.{◌≡◌, ◌+◌, ◌<◌, ◌≤◌, ◌++◌, drop, length, max, slice_index, slice_range, take};
 ghost use Rattle.std.specs.Prelude.{All, IfErr, IfOk, IfSome, OnErr, OnOk, true};
@@ -7,8 +7,9 @@ ghost use Rattle.least_costs.specs.Rounds.{AreMade};
 ghost use Rattle.route_walks.specs.Limit.{AreLeastLabelsUpTo};
 ghost use Rattle.route_walks.specs.Operators.{seeds_from};
 ghost use Rattle.dimacs_text.specs.Jobs.{IsPairWithin};
-ghost use Rattle.job_answer.specs.AnswerText.{AreBlocks, ArePairBlocks};
+ghost use Rattle.job_answer.specs.AnswerText.{AreBlocks};
 ghost use Rattle.job_answer.specs.Graphs.{AreGraphs, growth_of};
+ghost use Rattle.job_answer.specs.InNetworks.{ArePairsIn};
 ghost use Rattle.job_answer.specs.LineWalks.{HasWalkAt};
 ghost use Rattle.job_answer.specs.Outcome.{IsWritingFault};
 ghost use Rattle.job_answer.specs.Sinks.{Cuts, IsSame, Puts};
@@ -52,7 +53,7 @@ pub struct WalkTasks<'a> {
 /// The lines of such pairs, in memory.
 #[derive(Drop)]
 pub struct LinesText {
-    /// How many pairs the lines are for.
+    /// The number of pairs that the lines are for.
     pub count: usize,
     pub bytes: Vec<u8>,
 }
@@ -77,16 +78,14 @@ pub fn put_all_walked<H: Threads + Wait + Clock + Sync, W: Write, G: Gate + Sync
     requires pairs { All (IsPairWithin graphs.now.network.n) pairs.now }
     requires graphs { AreGraphs graphs.now }
     ensures same { IsSame sink.old sink.new }
-    ensures blocks { OnOk result (Puts W.contents (ArePairBlocks true graphs.now.network.n graphs.now.network.arcs
-        (growth_of graphs.now.grown) pairs.now) sink.old sink.new) }
-    ensures prefix { OnErr result (Cuts W.contents (ArePairBlocks true graphs.now.network.n graphs.now.network.arcs
-        (growth_of graphs.now.grown) pairs.now) sink.old sink.new) }
+    ensures blocks { OnOk result (Puts W.contents (ArePairsIn graphs.now true pairs.now) sink.old sink.new) }
+    ensures prefix { OnErr result (Cuts W.contents (ArePairsIn graphs.now true pairs.now) sink.old sink.new) }
     ensures kinds { IfErr result IsWritingFault }
 {
     let tasks = WalkTasks {
         queries: PairQueries { graphs, pairs },
         settings: &asked.settings,
-        searches: does_search(kept),
+        searches: matches!(kept, Some(kept) if kept.searches()),
         solves: SolveCount::new(),
     };
     let teams = teams_for(graphs, asked);
@@ -95,14 +94,6 @@ pub fn put_all_walked<H: Threads + Wait + Clock + Sync, W: Write, G: Gate + Sync
     put_all_lines(rt, alloc, sink, &tasks, &mut rounds, &mut workers, watch)?;
     *kept = Some(workers.into_kept());
     Ok(())
-}
-
-/// Tells if what is kept has room for searches.
-fn does_search(kept: &Option<Workspace>) -> bool {
-    match kept {
-        Some(kept) => kept.searches(),
-        None => false,
-    }
 }
 
 /// Puts the lines of each pair in turn.

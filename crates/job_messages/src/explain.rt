@@ -1,4 +1,4 @@
-//! What `--explain` prints on standard error after a fault.
+//! Lines that `--explain` prints on standard error after a fault.
 
 use crate::guess::guess;
 use dimacs_text::{Explanation, LineKind, MAX_KEPT};
@@ -57,18 +57,18 @@ fn say<H: Eprint>(rt: &H, words: Words) {
     let _ = eprintln!(rt; "obim_query: why: {words}");
 }
 
-/// What one of the lines says.
+/// One of the lines.
 #[derive(Clone, Copy)]
 enum Words<'a> {
     /// The line itself, or that there is none.
     Line(&'a Explanation),
-    /// What belongs there, and in place of which field.
+    /// The text that belongs there, and in place of which field.
     Expected(&'a Explanation),
-    /// Where in its section the line is.
+    /// The line's place in its section.
     Place(&'a Explanation),
-    /// Why the system refused.
+    /// The system's reason.
     System(&'a io::Error),
-    /// How long a text may be.
+    /// The most bytes of a text.
     Limit,
     Advice(&'static str),
 }

@@ -1,7 +1,8 @@
-//! What `--progress` prints on standard error while a job is answered.
+//! Lines that `--progress` prints on standard error while a job is answered.
 
+use crate::figures::Figures;
 use dimacs_text::Explanation;
-use job_answer::{Figures, Phase, ReadWatch, Watch};
+use job_answer::{Phase, ReadWatch, Watch};
 use std::fmt;
 use std::time::{Clock, Duration};
 
@@ -14,7 +15,7 @@ const LINES_AT_A_PACE: u32 = 10;
 /// Milliseconds between lines that replace one another, at a terminal.
 const TERMINAL_PACE: u64 = 200;
 
-/// Where progress is shown.
+/// The place where progress is shown.
 #[derive(Clone, Copy, PartialEq)]
 pub enum Shown {
     Nowhere,
@@ -28,17 +29,17 @@ pub enum Shown {
 #[derive(Drop)]
 pub struct Progress<'a, H> {
     rt: &'a H,
-    /// What was counted and how long each part took.
+    /// The figures so far.
     pub figures: Figures,
-    /// Why the text is refused, if it is.
+    /// The explanation of the fault, if the text is refused.
     pub explanation: Option<Explanation>,
     shown: Shown,
     bytes: u64,
     lines: u32,
-    /// When the job began, and its first query was solved, by the clock.
+    /// The times by the clock at which the job began, and at which its first query was solved.
     began: Duration,
     began_queries: Option<Duration>,
-    /// When the next line is due.
+    /// The time at which the next line is due.
     next: Duration,
 }
 
@@ -60,7 +61,7 @@ impl<'a, H: Eprint + Clock> Progress<'a, H> {
         progress
     }
 
-    /// How long it is from one line to the next.
+    /// Gives the time from one line to the next.
     fn pace(&self) -> Duration {
         if self.shown == Shown::Terminal {
             return Duration::from_millis(TERMINAL_PACE);
@@ -161,19 +162,19 @@ impl<H: Eprint + Clock> Watch for Progress<'_, H> {
     }
 }
 
-/// How far a job is.
+/// A step of a job, and how far it is.
 #[derive(Clone, Copy)]
 enum Step {
     /// The bytes of it that were read, and no problem line yet.
     Bytes(u64),
-    /// How many of the arcs of its graph were read, and how many there are.
+    /// The number of arcs of its graph that were read, and of all.
     Arcs(usize, usize),
-    /// How many of its queries were answered, and how many there are.
+    /// The number of its queries that were answered, and of all.
     Answered(usize, usize),
 }
 
 impl Step {
-    /// How much longer this step may take, if it goes on as it did since it began.
+    /// Estimates how much longer this step takes, if it goes on as it did since it began.
     fn left(self, spent: Duration) -> Option<Duration> {
         let (done, all) = match self {
             Step::Bytes(_) => return None,

@@ -1,6 +1,8 @@
-//! What `--stats` prints on standard error after the answer.
+//! Lines that `--stats` prints on standard error after the answer.
 
-use job_answer::{Asked, Counter, Figures};
+use crate::counter::Counter;
+use crate::figures::Figures;
+use job_answer::Asked;
 use obim_engine::{Buckets, Settings};
 
 /// More buckets than these cost time: each is looked into again as workers go on to the next.
@@ -60,8 +62,7 @@ fn hundredths(visits: u64, figures: &Figures) -> u64 {
     visits.saturating_mul(100) / each.max(1)
 }
 
-/// Whether a shift was given that makes too many buckets, or so few that vertices are visited again and
-/// again.
+/// Tells whether a shift was given that makes too many buckets, or so few that vertices are visited again and again.
 fn misfits(settings: &Settings, buckets: u64, rate: u64) -> bool {
     settings.buckets != Buckets::Widening && (buckets > MANY || buckets < FEW && rate > OFTEN)
 }

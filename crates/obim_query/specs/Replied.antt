@@ -6,8 +6,7 @@ use Rattle.clap.specs.Words.{Text}
 use Rattle.job_answer.specs.declared.asked.Asked.{Asked}
 use Rattle.job_answer.specs.declared.fault.Fault.{Fault}
 use Rattle.job_answer.specs.Choices.{status_of}
-use Rattle.job_answer.specs.declared.asked.Lines.{Lines}
-use Rattle.job_answer.specs.Outcome.{IsAnsweredBy, IsBegunBy, IsReplyBy}
+use Rattle.job_answer.specs.Outcome.{IsAnsweredBy, IsBegunBy, IsReply}
 use Rattle.session_answer.specs.Conversations.{IsAnsweredSession}
 use Rattle.session_answer.specs.Cuts.{EndsBy, IsCutSession}
 use Rattle.command_line.specs.declared.options.Options.{Options}
@@ -25,26 +24,26 @@ abbrev pub IsSystemStatus : ℕ → Type 0
 IsSystemStatus status = (status ≡ 3) ⊎ (status ≡ 4) ⊎ (status ≡ 5)
 
 -- The status of a reply to a job, of which these bytes were taken and to which these were given.
-pub record StatusSays (asked : Asked) (lines : Lines) (taken_from taken_to given_from given_to : Option (List ℕ)) (status : ℕ)
+pub record StatusSays (asked : Asked) (taken_from taken_to given_from given_to : Option (List ℕ)) (status : ℕ)
     : Type 0 where
   -- at 0 the whole text was taken, and exactly its answer was written
   pub answered : status ≡ 0
-      → IsAnsweredBy asked.limit asked.answer lines taken_from taken_to given_from given_to
+      → IsAnsweredBy asked.limit asked.answer asked.lines taken_from taken_to given_from given_to
   -- at 2, where the text is refused, nothing was written
   pub refused : status ≡ 2 → Keeps given_from given_to
   -- where the system failed, nothing was written, or a prefix of the answer to the whole text
   pub cut : IsSystemStatus status → Keeps given_from given_to
-      ⊎ IsBegunBy asked.limit asked.answer lines taken_from taken_to given_from given_to
+      ⊎ IsBegunBy asked.limit asked.answer asked.lines taken_from taken_to given_from given_to
   -- and there is no other status: 1 is the command line's
   pub only : (status ≡ 0) ⊎ (status ≡ 2) ⊎ IsSystemStatus status
 
 -- The reply, of which the status tells: which fault it was, and what that one says.
-pub record HasReplied (asked : Asked) (lines : Lines) (taken_from taken_to given_from given_to : Option (List ℕ)) (status : ℕ)
+pub record HasReplied (asked : Asked) (taken_from taken_to given_from given_to : Option (List ℕ)) (status : ℕ)
     : Type 0 where
   pub result : Result (Unit {0}) Fault
-  pub reply : IsReplyBy asked.limit asked.answer lines taken_from taken_to given_from given_to result
+  pub reply : IsReply asked.limit asked.answer asked.lines taken_from taken_to given_from given_to result
   pub status_is : status ≡ status_after result
-  pub says : StatusSays asked lines taken_from taken_to given_from given_to status
+  pub says : StatusSays asked taken_from taken_to given_from given_to status
 
 -- A job may come from standard input: that is no terminal, or the words have `-`.
 abbrev pub MayCome : Bool → Options → Type 0
@@ -57,17 +56,17 @@ pub record HasAnswered (words : List Text) (is_terminal : Bool) (taken_from take
   pub asked : WordsAskFor words options
   pub job : MayCome is_terminal options
   pub one : options.session ≡ false
-  pub replied : HasReplied options.asked options.lines taken_from taken_to given_from given_to status
+  pub replied : HasReplied options.asked taken_from taken_to given_from given_to status
 
 -- The replies of a session, of which the status tells whether all were given.
-pub record HasServed (asked : Asked) (lines : Lines) (taken_from taken_to given_from given_to : Option (List ℕ)) (status : ℕ)
+pub record HasServed (asked : Asked) (taken_from taken_to given_from given_to : Option (List ℕ)) (status : ℕ)
     : Type 0 where
   pub result : Result (Unit {0}) Fault
   -- all was taken, it is a graph and then requests, and exactly their replies were written
   pub replied : OnOk result
-      (IsAnsweredSession asked.limit asked.answer lines asked.walks taken_from taken_to given_from given_to)
+      (IsAnsweredSession asked.limit asked.answer asked.lines taken_from taken_to given_from given_to)
   -- at a fault a prefix of the replies was written
-  pub cut : OnErr result (IsCutSession asked.answer lines asked.walks taken_from taken_to given_from given_to)
+  pub cut : OnErr result (IsCutSession asked.answer asked.lines taken_from taken_to given_from given_to)
   -- which is the text's, or the system's
   pub says : IfErr result (EndsBy asked.limit taken_from taken_to)
   pub status_is : status ≡ status_after result
@@ -79,7 +78,7 @@ pub record HasConversed (words : List Text) (is_terminal : Bool)
   pub asked : WordsAskFor words options
   pub job : MayCome is_terminal options
   pub more : options.session ≡ true
-  pub served : HasServed options.asked options.lines taken_from taken_to given_from given_to status
+  pub served : HasServed options.asked taken_from taken_to given_from given_to status
 
 -- the status of a text that is asked for: 0, or 4 if it can't be printed
 abbrev pub IsTextStatus : ℕ → Type 0

@@ -1,15 +1,15 @@
-//! Where do the bytes of a job come from, and why did no more come?
+//! Standard input, which notes why a read failed.
 
 use std::io::{self, Read};
 
-/// How many bytes of the stack lie between what started the process and what `main` calls.
+/// The bytes of the stack between what started the process and what `main` calls.
 const APART: usize = 1 << 14;
 
 /// A reader that notes why it failed.
 #[derive(Drop)]
 pub(crate) struct Input<R> {
     pub(crate) inner: R,
-    /// What the system said of a read that failed.
+    /// The system's error of a read that failed.
     pub(crate) failure: Option<io::Error>,
     /// Nobody reads this. It keeps what `main` calls away from the part of the stack that starting a process writes to. At
     /// the first allocation glibc 2.36 reads the system's setting of large pages into memory there that it doesn't clear,

@@ -1,18 +1,17 @@
-//! Which job, and where do its bytes go: the program.
+//! The program: which job, and where do its bytes go?
 //!
 //! `obim_query` reads a job from standard input and writes its answer to standard output. What it
 //! writes, and what a fault leaves, is the contract of `answer` of `job_answer`, and of a session that of
 //! `answer_session`; this crate prints help and faults, and gives the status.
 //!
-//! It stands on `command_line` for what is asked for, on `job_answer` and `session_answer` for the answers, on
-//! `job_messages` and `dimacs_text` for what is told besides, on `obim_engine`, whose workers pass an open gate, and on
-//! `clap`, which prints its help.
+//! It stands on `command_line` for what is asked for, and on `job_answer` and `session_answer` for the answers. For
+//! standard error it stands on `job_messages` and `dimacs_text`, for an open gate on `obim_engine`, and for its help on
+//! `clap`.
 #![tactic(auto)]
 
 ghost use Rattle.std.specs.Prelude.{◌≡◌, map};
 ghost use Rattle.job_answer.specs.Choices.{status_of};
-ghost use Rattle.job_answer.specs.Outcome.{IsReplyBy};
-ghost use Rattle.job_answer.specs.Solves.{IsLinesAsked};
+ghost use Rattle.job_answer.specs.Outcome.{IsReply};
 ghost use Rattle.obim_query.specs.Replied.{HasReplied, HasRun, HasServed, IsStatusOf, IsTextStatus};
 
 mod input;
@@ -21,8 +20,8 @@ mod output;
 use command_line::{Options, Refusal, parse_options};
 use dimacs_text::Explanation;
 use input::Input;
-use job_answer::{Counter, Fault, Phase, Watch, answer_by, status};
-use job_messages::{Progress, Shown, print_explanation, print_stats};
+use job_answer::{Fault, Phase, Watch, answer_watched, status};
+use job_messages::{Counter, Progress, Shown, print_explanation, print_stats};
 use obim_engine::OpenGate;
 use output::Output;
 use session_answer::answer_session;
@@ -41,13 +40,13 @@ const USAGE: u8 = 1;
 /// The status of a text that is refused.
 const REFUSED: u8 = 2;
 
-/// Why there is no answer where standard input is a terminal, which nobody types a job at by chance.
+/// The refusal to read a job from a terminal, at which nobody types one by chance.
 const NO_JOB: &str = "no job: obim_query [OPTIONS] < JOB, or - to type it (see obim_query --help)";
 
-/// What a terminal is told after the fault of a text.
+/// The line after the fault of a text, at a terminal.
 const HINT: &str = "--explain says more";
 
-/// Which streams are a terminal.
+/// The streams that are a terminal.
 #[derive(Clone, Copy)]
 struct Terminals {
     input: bool,
@@ -128,7 +127,7 @@ fn print_clap<H: Print + Eprint>(rt: &H, text: &clap::Error) -> u8
     }
 }
 
-/// Where progress is shown.
+/// Gives the place where progress is shown.
 fn shown_at(options: &Options, is_terminal: bool) -> Shown {
     if !options.progress {
         Shown::Nowhere
@@ -147,8 +146,7 @@ fn answer_job<H: AllocGlobal + Eprint + Threads + Wait + Clock + Sync, R: Read, 
     options: &Options,
     is_terminal: bool,
 ) -> u8
-    requires bound { IsLinesAsked options.now.lines }
-    ensures { HasReplied options.now.asked options.now.lines (R.remaining input.old.inner) (R.remaining input.new.inner)
+    ensures { HasReplied options.now.asked (R.remaining input.old.inner) (R.remaining input.new.inner)
         (W.contents output.old.inner) (W.contents output.new.inner) result }
 {
     let mut progress = Progress::new(rt, shown_at(options, is_terminal));
@@ -173,12 +171,10 @@ fn serve<H: AllocGlobal + Eprint + Threads + Wait + Clock + Sync, R: Read, W: Wr
     options: &Options,
     is_terminal: bool,
 ) -> u8
-    requires bound { IsLinesAsked options.now.lines }
-    ensures { HasServed options.now.asked options.now.lines (R.remaining input.old.inner) (R.remaining input.new.inner)
+    ensures { HasServed options.now.asked (R.remaining input.old.inner) (R.remaining input.new.inner)
         (W.contents output.old.inner) (W.contents output.new.inner) result }
 {
-    let (asked, lines, gate) = (&options.asked, options.lines, &OpenGate);
-    match answer_session(rt, rt.alloc(), input, output, asked, lines, gate) {
+    match answer_session(rt, rt.alloc(), input, output, &options.asked, &OpenGate) {
         Ok(()) => 0,
         Err(unread) if output.has_no_reader => status(&unread),
         Err(fault) => {
@@ -196,17 +192,15 @@ fn reply<H: AllocGlobal + Eprint + Threads + Wait + Clock + Sync, R: Read, W: Wr
     options: &Options,
     progress: &mut Progress<H>,
 ) -> Result<(), Fault>
-    requires bound { IsLinesAsked options.now.lines }
-    ensures { IsReplyBy options.now.asked.limit options.now.asked.answer options.now.lines
+    ensures { IsReply options.now.asked.limit options.now.asked.answer options.now.asked.lines
         (R.remaining reader.old) (R.remaining reader.new)
         (W.contents writer.old) (W.contents writer.new) result }
 {
     if options.stats || options.progress {
         return answer_with_figures(rt, reader, writer, options, progress);
     }
-    let (asked, lines) = (&options.asked, options.lines);
-    let gate = &OpenGate;
-    answer_by(rt, rt.alloc(), reader, writer, asked, lines, gate, progress)
+    let (asked, gate) = (&options.asked, &OpenGate);
+    answer_watched(rt, rt.alloc(), reader, writer, asked, gate, progress)
 }
 
 /// Answers, and prints how far it is and figures after the answer, as they are asked for.
@@ -217,14 +211,13 @@ fn answer_with_figures<H: AllocGlobal + Eprint + Threads + Wait + Clock + Sync, 
     options: &Options,
     progress: &mut Progress<H>,
 ) -> Result<(), Fault>
-    requires bound { IsLinesAsked options.now.lines }
-    ensures { IsReplyBy options.now.asked.limit options.now.asked.answer options.now.lines
+    ensures { IsReply options.now.asked.limit options.now.asked.answer options.now.asked.lines
         (R.remaining reader.old) (R.remaining reader.new)
         (W.contents writer.old) (W.contents writer.new) result }
 {
-    let (asked, lines, alloc) = (&options.asked, options.lines, rt.alloc());
+    let (asked, alloc) = (&options.asked, rt.alloc());
     let counter = Counter::open(alloc, asked.settings.workers)?;
-    let replied = answer_by(rt, alloc, reader, writer, asked, lines, &counter, progress);
+    let replied = answer_watched(rt, alloc, reader, writer, asked, &counter, progress);
     progress.clear();
     replied?;
     progress.end(rt, Phase::Writing);

@@ -1,4 +1,4 @@
-//! Where do the bytes of an answer go, and does anybody still read them?
+//! Standard output, which notes why a write failed, and that nobody reads it any more.
 
 use std::io::{self, ErrorKind, Write};
 
@@ -8,7 +8,7 @@ pub(crate) struct Output<W> {
     pub(crate) inner: W,
     /// A write failed since the other end of the pipe is closed, as `head` closes it.
     pub(crate) has_no_reader: bool,
-    /// What the system said of a write that failed.
+    /// The system's error of a write that failed.
     pub(crate) failure: Option<io::Error>,
 }
 

@@ -22,7 +22,6 @@ use Rattle.session_answer.specs.Conversations.{HasHeard, HasRepliedTo, Replies, 
 use Rattle.session_answer.specs.Cuts.{AreCutAfterBytes, AreCutAfterLines, AreRepliesCut}
 use Rattle.session_answer.specs.Replies.{AreReplies, IsAnswerIn, IsBodyIf, IsBodyIn, IsReplyFor, IsReplyTo}
 use Rattle.session_answer.specs.Replies.{added_line, graph_after, grown_by, job_of, lines_by, lines_for, out_of_memory}
-use Rattle.session_answer.specs.Replies.{walks_or}
 use Rattle.session_answer.specs.declared.conversation.Conversation.{Conversation}
 use Rattle.session_answer.specs.declared.session.Session.{Session}
 use Rattle.session_answer.proofs.ReplyLemmas.{no_bytes}
@@ -60,11 +59,11 @@ text_cut IsText unique bytes before after is_bytes cut = record {
 }
 
 -- where nothing was given, a prefix of any text was
-pub nothing_cut : (IsText : List ℕ → Type 0) (kind : Answer) (by : Lines) (all_walks : Bool) (graph : Content)
+pub nothing_cut : (IsText : List ℕ → Type 0) (kind : Answer) (by : Lines) (graph : Content)
     (session : Session) (before after : Option (List ℕ))
-    → Replies kind by all_walks graph [] session before after
+    → Replies kind by graph [] session before after
     → WritesPrefix IsText before after
-nothing_cut IsText kind by all_walks graph session before after is = record {
+nothing_cut IsText kind by graph session before after is = record {
   given = [];
   is_prefix = λ text one. (text, refl);
   appended = subst (λ (text : List ℕ). Appends before after text) is.replied is.written;
@@ -111,82 +110,82 @@ second_cut IsSecond IsWhole first before middle after split one cut = record {
 -- ---- there is one text of each reply
 
 module _ (law : AnswerTextsByLinesAreUnique) (kind : Answer) where
-  one_body : (by : Lines) (walks : Bool) (graph : Content) (question : Question)
-      → IsOneText (IsBodyIn kind by walks graph question)
-  one_body by walks graph question = by_asked (is_unasked kind question)
+  one_body : (by : Lines) (graph : Content) (question : Question)
+      → IsOneText (IsBodyIn kind by graph question)
+  one_body by graph question = by_asked (is_unasked kind question)
     where
-      by_asked : (unasked : Bool) → IsOneText (IsBodyIf unasked kind (lines_for by walks question) (job_of graph question))
+      by_asked : (unasked : Bool) → IsOneText (IsBodyIf unasked kind (lines_for by question) (job_of graph question))
       by_asked true first second one two = one ∙ sym two
       by_asked false first second one two =
-          law kind (lines_for by walks question) (job_of graph question) first second one two
+          law kind (lines_for by question) (job_of graph question) first second one two
 
-  pub one_answer : (by : Lines) (walks : Bool) (graph : Content) (question : Question)
-      → IsOneText (IsAnswerIn kind by walks graph question)
-  one_answer by walks graph question first second one two =
+  pub one_answer : (by : Lines) (graph : Content) (question : Question)
+      → IsOneText (IsAnswerIn kind by graph question)
+  one_answer by graph question first second one two =
       one.written
       ∙ ap (λ (body : List ℕ). body ++ ready_text graph.n (length graph.arcs))
-      (one_body by walks graph question one.body two.body one.is_body two.is_body)
+      (one_body by graph question one.body two.body one.is_body two.is_body)
       ∙ sym two.written
 
-  one_reply : (by : Lines) (walks : Bool) (graph asked : Content) → IsOneText (IsReplyTo kind by walks graph asked)
-  one_reply by walks graph asked first second one two =
+  one_reply : (by : Lines) (graph asked : Content) → IsOneText (IsReplyTo kind by graph asked)
+  one_reply by graph asked first second one two =
       one.written
       ∙ ap (λ (answer : List ℕ). added_line asked.added ++ answer)
-      (one_answer by walks (grown_by graph asked.added) asked.question one.answer two.answer one.is_answer two.is_answer)
+      (one_answer by (grown_by graph asked.added) asked.question one.answer two.answer one.is_answer two.is_answer)
       ∙ sym two.written
 
 module _ (law : AnswerTextsByLinesAreUnique) (kind : Answer) (by : Lines) where
-  one_reply_for : (all_walks : Bool) (graph : Content) (outcome : Outcome)
-      → IsOneText (IsReplyFor kind by all_walks graph outcome)
-  one_reply_for all_walks graph (whole job extent) first second one two =
-      one_reply law kind (lines_by extent by) (walks_or extent all_walks) graph job first second one two
-  one_reply_for all_walks graph (wrong line what) first second one two = one ∙ sym two
-  one_reply_for all_walks graph (no_memory line) first second one two = one ∙ sym two
+  one_reply_for : (graph : Content) (outcome : Outcome)
+      → IsOneText (IsReplyFor kind by graph outcome)
+  one_reply_for graph (whole job extent) first second one two =
+      one_reply law kind (lines_by extent by) graph job first second one two
+  one_reply_for graph (wrong line what) first second one two = one ∙ sym two
+  one_reply_for graph (no_memory line) first second one two = one ∙ sym two
 
-  one_of_all : (all_walks : Bool) (graph : Content) (outcomes : List Outcome)
-      → IsOneText (AreReplies kind by all_walks graph outcomes)
-  one_of_all all_walks graph [] first second one two = one ∙ sym two
-  one_of_all all_walks graph (outcome ∷ outcomes) first second one two =
+  one_of_all : (graph : Content) (outcomes : List Outcome)
+      → IsOneText (AreReplies kind by graph outcomes)
+  one_of_all graph [] first second one two = one ∙ sym two
+  one_of_all graph (outcome ∷ outcomes) first second one two =
       one.2
       ∙ ap (λ (reply : List ℕ). reply ++ one.1)
-      (one_reply_for all_walks graph outcome one.0 two.0 one.3 two.3)
+      (one_reply_for graph outcome one.0 two.0 one.3 two.3)
       ∙ ap (λ (rest : List ℕ). two.0 ++ rest)
-      (one_of_all all_walks (graph_after graph outcome) outcomes one.1 two.1 one.4 two.4)
+      (one_of_all (graph_after graph outcome) outcomes one.1 two.1 one.4 two.4)
       ∙ sym two.2
 
   -- ---- an answer
 
   -- the answer was given whole, and then a prefix of how large the graph is
-  pub ready_cut : (walks : Bool) (graph : Content) (question : Question) (body : List ℕ)
+  pub ready_cut : (graph : Content) (question : Question) (body : List ℕ)
       (before middle after : Option (List ℕ))
-      → IsBodyIn kind by walks graph question body
+      → IsBodyIn kind by graph question body
       → Appends before middle body
       → WritesPrefix (λ text. text ≡ ready_text graph.n (length graph.arcs)) middle after
-      → WritesPrefix (IsAnswerIn kind by walks graph question) before after
-  ready_cut walks graph question body before middle after is_body one cut =
-      second_cut (λ text. text ≡ ready_text graph.n (length graph.arcs)) (IsAnswerIn kind by walks graph question) body
+      → WritesPrefix (IsAnswerIn kind by graph question) before after
+  ready_cut graph question body before middle after is_body one cut =
+      second_cut (λ text. text ≡ ready_text graph.n (length graph.arcs)) (IsAnswerIn kind by graph question) body
       before middle after
       (λ text is. (
         ready_text graph.n (length graph.arcs),
         refl,
         is.written
             ∙ ap (λ (some : List ℕ). some ++ ready_text graph.n (length graph.arcs))
-            (one_body law kind by walks graph question is.body body is.is_body is_body),
+            (one_body law kind by graph question is.body body is.is_body is_body),
       ))
       one cut
 
   -- ---- replies
 
-  split_replies : (all_walks : Bool) (graph : Content) (some more : List Outcome) (text : List ℕ)
-      → AreReplies kind by all_walks graph (some ++ more) text
+  split_replies : (graph : Content) (some more : List Outcome) (text : List ℕ)
+      → AreReplies kind by graph (some ++ more) text
       → (first : List ℕ)
       × (rest : List ℕ)
-      × AreReplies kind by all_walks graph some first
-      × AreReplies kind by all_walks (graph_of graph some) more rest
+      × AreReplies kind by graph some first
+      × AreReplies kind by (graph_of graph some) more rest
       × (text ≡ first ++ rest)
-  split_replies all_walks graph [] more text is = ([], text, refl, is, refl)
-  split_replies all_walks graph (outcome ∷ some) more text is =
-      let parts = split_replies all_walks (graph_after graph outcome) some more is.1 is.4 in (
+  split_replies graph [] more text is = ([], text, refl, is, refl)
+  split_replies graph (outcome ∷ some) more text is =
+      let parts = split_replies (graph_after graph outcome) some more is.1 is.4 in (
         is.0 ++ parts.0,
         parts.1,
         (is.0, parts.0, refl, is.3, parts.2),
@@ -197,67 +196,67 @@ module _ (law : AnswerTextsByLinesAreUnique) (kind : Answer) (by : Lines) where
       )
 
   -- a prefix of the line that refuses a request
-  pub refusal_cut : (all_walks : Bool) (graph : Content) (line : ℕ) (before after : Option (List ℕ))
+  pub refusal_cut : (graph : Content) (line : ℕ) (before after : Option (List ℕ))
       → GivesPrefix before after (refusal_text line out_of_memory)
-      → WritesPrefix (AreReplies kind by all_walks graph (no_memory line ∷ [])) before after
-  refusal_cut all_walks graph line before after cut =
+      → WritesPrefix (AreReplies kind by graph (no_memory line ∷ [])) before after
+  refusal_cut graph line before after cut =
       first_cut (λ text. text ≡ refusal_text line out_of_memory)
-      (AreReplies kind by all_walks graph (no_memory line ∷ [])) before after
+      (AreReplies kind by graph (no_memory line ∷ [])) before after
       (λ text is. (is.0, is.1, is.3, is.2))
       (only_cut (refusal_text line out_of_memory) (refusal_text line out_of_memory) before after refl cut)
 
   -- a prefix of the first replies is one of all
-  pub front_cut : (all_walks : Bool) (graph : Content) (some more : List Outcome) (before after : Option (List ℕ))
-      → WritesPrefix (AreReplies kind by all_walks graph some) before after
-      → WritesPrefix (AreReplies kind by all_walks graph (some ++ more)) before after
-  front_cut all_walks graph some more before after cut =
-      first_cut (AreReplies kind by all_walks graph some) (AreReplies kind by all_walks graph (some ++ more)) before after
+  pub front_cut : (graph : Content) (some more : List Outcome) (before after : Option (List ℕ))
+      → WritesPrefix (AreReplies kind by graph some) before after
+      → WritesPrefix (AreReplies kind by graph (some ++ more)) before after
+  front_cut graph some more before after cut =
+      first_cut (AreReplies kind by graph some) (AreReplies kind by graph (some ++ more)) before after
       (λ text is.
-      let parts = split_replies all_walks graph some more text is in
+      let parts = split_replies graph some more text is in
       (parts.0, parts.1, parts.2, parts.4))
       cut
 
   -- the first replies were given whole, and then a prefix of the next ones
-  pub after_cut : (all_walks : Bool) (graph : Content) (some more : List Outcome) (session : Session)
+  pub after_cut : (graph : Content) (some more : List Outcome) (session : Session)
       (before middle after : Option (List ℕ))
-      → Replies kind by all_walks graph some session before middle
-      → WritesPrefix (AreReplies kind by all_walks (graph_of graph some) more) middle after
-      → WritesPrefix (AreReplies kind by all_walks graph (some ++ more)) before after
-  after_cut all_walks graph some more session before middle after one cut =
-      second_cut (AreReplies kind by all_walks (graph_of graph some) more)
-      (AreReplies kind by all_walks graph (some ++ more)) one.text before middle after
+      → Replies kind by graph some session before middle
+      → WritesPrefix (AreReplies kind by (graph_of graph some) more) middle after
+      → WritesPrefix (AreReplies kind by graph (some ++ more)) before after
+  after_cut graph some more session before middle after one cut =
+      second_cut (AreReplies kind by (graph_of graph some) more)
+      (AreReplies kind by graph (some ++ more)) one.text before middle after
       (λ text is.
-      let parts = split_replies all_walks graph some more text is in (
+      let parts = split_replies graph some more text is in (
         parts.1,
         parts.3,
         parts.4
             ∙ ap (λ (front : List ℕ). front ++ parts.1)
-            (one_of_all all_walks graph some parts.0 one.text parts.2 one.replied),
+            (one_of_all graph some parts.0 one.text parts.2 one.replied),
       ))
       one.written cut
 
   -- whole replies are a prefix of themselves
-  whole_cut : (all_walks : Bool) (graph : Content) (outcomes : List Outcome) (session : Session)
+  whole_cut : (graph : Content) (outcomes : List Outcome) (session : Session)
       (before after : Option (List ℕ))
-      → Replies kind by all_walks graph outcomes session before after
-      → WritesPrefix (AreReplies kind by all_walks graph outcomes) before after
-  whole_cut all_walks graph outcomes session before after is = record {
+      → Replies kind by graph outcomes session before after
+      → WritesPrefix (AreReplies kind by graph outcomes) before after
+  whole_cut graph outcomes session before after is = record {
     given = is.text;
     is_prefix = λ text other.
-        ([], one_of_all all_walks graph outcomes text is.text other is.replied ∙ sym (append-nil is.text));
+        ([], one_of_all graph outcomes text is.text other is.replied ∙ sym (append-nil is.text));
     appended = is.written;
   }
 
   -- ---- lines and bytes
 
   -- the requests that a reader tells of are those that all lines begin with
-  pub cut_after_lines : (all_walks : Bool) (graph : Content) (first : ℕ) (reader : RequestReader) (ls : List (List ℕ))
+  pub cut_after_lines : (graph : Content) (first : ℕ) (reader : RequestReader) (ls : List (List ℕ))
       (outcomes : List Outcome) (before after : Option (List ℕ))
       → HasRequests reader first ls outcomes
       → vertices_of reader ≡ graph.n
-      → WritesPrefix (AreReplies kind by all_walks graph outcomes) before after
-      → AreCutAfterLines kind by all_walks graph first ls before after
-  cut_after_lines all_walks graph first reader ls outcomes before after requests vertices cut more =
+      → WritesPrefix (AreReplies kind by graph outcomes) before after
+      → AreCutAfterLines kind by graph first ls before after
+  cut_after_lines graph first reader ls outcomes before after requests vertices cut more =
       let begins = begins_with reader first ls outcomes requests more in
       record {
         outcomes = outcomes;
@@ -268,55 +267,55 @@ module _ (law : AnswerTextsByLinesAreUnique) (kind : Answer) (by : Lines) where
         replied = cut;
       }
 
-  pub replied_cut : (all_walks : Bool) (graph : Content) (first : ℕ) (conversation : Conversation) (ls : List (List ℕ))
+  pub replied_cut : (graph : Content) (first : ℕ) (conversation : Conversation) (ls : List (List ℕ))
       (before after : Option (List ℕ))
-      → HasRepliedTo kind by all_walks graph first conversation ls before after
-      → AreCutAfterLines kind by all_walks graph first ls before after
-  replied_cut all_walks graph first conversation ls before after is =
-      cut_after_lines all_walks graph first conversation.requests ls is.outcomes before after is.requests is.vertices
-      (whole_cut all_walks graph is.outcomes conversation.session before after is.replied)
+      → HasRepliedTo kind by graph first conversation ls before after
+      → AreCutAfterLines kind by graph first ls before after
+  replied_cut graph first conversation ls before after is =
+      cut_after_lines graph first conversation.requests ls is.outcomes before after is.requests is.vertices
+      (whole_cut graph is.outcomes conversation.session before after is.replied)
 
-  pub heard_cut : (all_walks : Bool) (graph : Content) (first : ℕ) (conversation : Conversation) (heard : List ℕ)
+  pub heard_cut : (graph : Content) (first : ℕ) (conversation : Conversation) (heard : List ℕ)
       (before after : Option (List ℕ))
-      → HasHeard kind by all_walks graph first conversation heard before after
-      → AreCutAfterBytes kind by all_walks graph first heard before after
-  heard_cut all_walks graph first conversation heard before after is more =
+      → HasHeard kind by graph first conversation heard before after
+      → AreCutAfterBytes kind by graph first heard before after
+  heard_cut graph first conversation heard before after is more =
       let kept = is.begun in
-      subst (λ (ls : List (List ℕ)). AreRepliesCut kind by all_walks graph first ls before after)
+      subst (λ (ls : List (List ℕ)). AreRepliesCut kind by graph first ls before after)
       (sym
       (ap (λ (bytes : List ℕ). lines (bytes ++ more)) is.parts
       ∙ ap (λ (bytes : List ℕ). lines bytes) (append_assoc is.whole kept more)
       ∙ is.ended (kept ++ more)))
-      (replied_cut all_walks graph first conversation (lines is.whole) before after is.replied (lines (kept ++ more)))
+      (replied_cut graph first conversation (lines is.whole) before after is.replied (lines (kept ++ more)))
 
 -- ---- more lines and bytes
 
 -- no line follows
-pub cut_here : (kind : Answer) (by : Lines) (all_walks : Bool) (graph : Content) (first : ℕ) (ls all : List (List ℕ))
+pub cut_here : (kind : Answer) (by : Lines) (graph : Content) (first : ℕ) (ls all : List (List ℕ))
     (before after : Option (List ℕ))
     → ls ≡ all
-    → AreCutAfterLines kind by all_walks graph first ls before after
-    → AreRepliesCut kind by all_walks graph first all before after
-cut_here kind by all_walks graph first ls all before after same cut =
-    subst (λ (some : List (List ℕ)). AreRepliesCut kind by all_walks graph first some before after)
+    → AreCutAfterLines kind by graph first ls before after
+    → AreRepliesCut kind by graph first all before after
+cut_here kind by graph first ls all before after same cut =
+    subst (λ (some : List (List ℕ)). AreRepliesCut kind by graph first some before after)
     (append-nil ls ∙ same) (cut [])
 
 -- more bytes came
-pub cut_longer : (kind : Answer) (by : Lines) (all_walks : Bool) (graph : Content) (first : ℕ) (bytes next : List ℕ)
+pub cut_longer : (kind : Answer) (by : Lines) (graph : Content) (first : ℕ) (bytes next : List ℕ)
     (before after : Option (List ℕ))
-    → AreCutAfterBytes kind by all_walks graph first bytes before after
-    → AreCutAfterBytes kind by all_walks graph first (bytes ++ next) before after
-cut_longer kind by all_walks graph first bytes next before after cut more =
-    subst (λ (all : List ℕ). AreRepliesCut kind by all_walks graph first (lines all) before after)
+    → AreCutAfterBytes kind by graph first bytes before after
+    → AreCutAfterBytes kind by graph first (bytes ++ next) before after
+cut_longer kind by graph first bytes next before after cut more =
+    subst (λ (all : List ℕ). AreRepliesCut kind by graph first (lines all) before after)
     (sym (append_assoc bytes next more)) (cut (next ++ more))
 
 -- more of the bytes that came last
-pub cut_in_all : (kind : Answer) (by : Lines) (all_walks : Bool) (graph : Content) (first : ℕ) (heard bytes : List ℕ)
+pub cut_in_all : (kind : Answer) (by : Lines) (graph : Content) (first : ℕ) (heard bytes : List ℕ)
     (count : ℕ) (before after : Option (List ℕ))
-    → AreCutAfterBytes kind by all_walks graph first (heard ++ take count bytes) before after
-    → AreCutAfterBytes kind by all_walks graph first (heard ++ bytes) before after
-cut_in_all kind by all_walks graph first heard bytes count before after cut =
-    subst (λ (all : List ℕ). AreCutAfterBytes kind by all_walks graph first all before after)
+    → AreCutAfterBytes kind by graph first (heard ++ take count bytes) before after
+    → AreCutAfterBytes kind by graph first (heard ++ bytes) before after
+cut_in_all kind by graph first heard bytes count before after cut =
+    subst (λ (all : List ℕ). AreCutAfterBytes kind by graph first all before after)
     (append_assoc heard (take count bytes) (drop count bytes)
     ∙ ap (λ (all : List ℕ). heard ++ all) (take-append-drop count bytes))
-    (cut_longer kind by all_walks graph first (heard ++ take count bytes) (drop count bytes) before after cut)
+    (cut_longer kind by graph first (heard ++ take count bytes) (drop count bytes) before after cut)

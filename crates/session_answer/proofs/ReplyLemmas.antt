@@ -52,28 +52,28 @@ graph_both graph (outcome ∷ some) more = graph_both (graph_after graph outcome
 
 -- ---- replies to some requests, and then to more
 
-pub replies_both : (kind : Answer) (by : Lines) (all_walks : Bool) (graph : Content) (some more : List Outcome)
+pub replies_both : (kind : Answer) (by : Lines) (graph : Content) (some more : List Outcome)
     (text next : List ℕ)
-    → AreReplies kind by all_walks graph some text → AreReplies kind by all_walks (graph_of graph some) more next
-    → AreReplies kind by all_walks graph (some ++ more) (text ++ next)
-replies_both kind by all_walks graph [] more text next none replied =
-    subst (λ (front : List ℕ). AreReplies kind by all_walks graph more (front ++ next)) (sym none) replied
-replies_both kind by all_walks graph (outcome ∷ some) more text next (first, rest, parts, reply, later) replied = (
+    → AreReplies kind by graph some text → AreReplies kind by (graph_of graph some) more next
+    → AreReplies kind by graph (some ++ more) (text ++ next)
+replies_both kind by graph [] more text next none replied =
+    subst (λ (front : List ℕ). AreReplies kind by graph more (front ++ next)) (sym none) replied
+replies_both kind by graph (outcome ∷ some) more text next (first, rest, parts, reply, later) replied = (
   first,
   rest ++ next,
   ap (λ (front : List ℕ). front ++ next) parts ∙ append_assoc first rest next,
   reply,
-  replies_both kind by all_walks (graph_after graph outcome) some more rest next later replied,
+  replies_both kind by (graph_after graph outcome) some more rest next later replied,
 )
 
-pub replies_then : (kind : Answer) (by : Lines) (all_walks : Bool) (graph : Content) (some more : List Outcome)
+pub replies_then : (kind : Answer) (by : Lines) (graph : Content) (some more : List Outcome)
     (between session : Session) (first second third : Option (List ℕ))
-    → Replies kind by all_walks graph some between first second
-    → Replies kind by all_walks (graph_of graph some) more session second third
-    → Replies kind by all_walks graph (some ++ more) session first third
-replies_then kind by all_walks graph some more between session first second third one two = record {
+    → Replies kind by graph some between first second
+    → Replies kind by (graph_of graph some) more session second third
+    → Replies kind by graph (some ++ more) session first third
+replies_then kind by graph some more between session first second third one two = record {
   text = one.text ++ two.text;
-  replied = replies_both kind by all_walks graph some more one.text two.text one.replied two.replied;
+  replied = replies_both kind by graph some more one.text two.text one.replied two.replied;
   written = appends-then first second third one.text two.text one.written two.written;
   holds = subst (λ left. HoldsGraph kind left session) (sym (graph_both graph some more)) two.holds;
 }
@@ -95,50 +95,50 @@ if_ok P Q (Ok x) weaker is = weaker x is
 if_ok P Q (Err fault) weaker is = tt
 
 -- what a request comes to: its reply was given, or nothing
-pub reply_told : {E : Type 0} (kind : Answer) (by : Lines) (all_walks : Bool) (graph : Content) (outcome : Outcome)
+pub reply_told : {E : Type 0} (kind : Answer) (by : Lines) (graph : Content) (outcome : Outcome)
     (session : Session) (before after : Option (List ℕ)) (result : Result Told E)
     → IfOk result
-    (λ t. IsTold t (Writes (IsReplyFor kind by all_walks graph outcome) before after) (Appends before after []))
+    (λ t. IsTold t (Writes (IsReplyFor kind by graph outcome) before after) (Appends before after []))
     → IfOk result (λ t. IsTold t (HoldsGraph kind (graph_after graph outcome) session) (HoldsGraph kind graph session))
     → IfOk result
     (λ t.
-    IsTold t (Replies kind by all_walks graph (outcome ∷ []) session before after)
-    (Replies kind by all_walks graph [] session before after))
-reply_told kind by all_walks graph outcome session before after (Ok told.Whole) written holds = record {
+    IsTold t (Replies kind by graph (outcome ∷ []) session before after)
+    (Replies kind by graph [] session before after))
+reply_told kind by graph outcome session before after (Ok told.Whole) written holds = record {
   text = written.text;
   replied = (written.text, [], sym (append-nil written.text), written.is_text, refl);
   written = written.appended;
   holds = holds;
 }
-reply_told kind by all_walks graph outcome session before after (Ok told.Nothing) none holds = record {
+reply_told kind by graph outcome session before after (Ok told.Nothing) none holds = record {
   text = [];
   replied = refl;
   written = none;
   holds = holds;
 }
-reply_told kind by all_walks graph outcome session before after (Err fault) written holds = tt
+reply_told kind by graph outcome session before after (Err fault) written holds = tt
 
 -- the reply to a question
-pub plain_reply : (kind : Answer) (lines : Lines) (walks : Bool) (graph asked : Content) (text : List ℕ)
-    → asked.added ≡ None → IsAnswerIn kind lines walks graph asked.question text
-    → IsReplyTo kind lines walks graph asked text
-plain_reply kind lines walks graph asked text none is =
-    let here : IsAnswerIn kind lines walks (grown_by graph None) asked.question text =
+pub plain_reply : (kind : Answer) (lines : Lines) (graph asked : Content) (text : List ℕ)
+    → asked.added ≡ None → IsAnswerIn kind lines graph asked.question text
+    → IsReplyTo kind lines graph asked text
+plain_reply kind lines graph asked text none is =
+    let here : IsAnswerIn kind lines (grown_by graph None) asked.question text =
     record { body = is.body; is_body = is.is_body; written = is.written } in
     record {
       answer = text;
-      is_answer = subst (λ added. IsAnswerIn kind lines walks (grown_by graph added) asked.question text) (sym none) here;
+      is_answer = subst (λ added. IsAnswerIn kind lines (grown_by graph added) asked.question text) (sym none) here;
       written = ap (λ added. added_line added ++ text) (sym none);
     }
 
 -- the reply to added arcs
-pub grown_reply : (kind : Answer) (lines : Lines) (walks : Bool) (graph asked : Content) (arcs : List ArcRec)
+pub grown_reply : (kind : Answer) (lines : Lines) (graph asked : Content) (arcs : List ArcRec)
     (text : List ℕ)
-    → asked.added ≡ Some arcs → IsGrownReply kind lines walks graph arcs asked.question text
-    → IsReplyTo kind lines walks graph asked text
-grown_reply kind lines walks graph asked arcs text some is = record {
+    → asked.added ≡ Some arcs → IsGrownReply kind lines graph arcs asked.question text
+    → IsReplyTo kind lines graph asked text
+grown_reply kind lines graph asked arcs text some is = record {
   answer = is.0;
-  is_answer = subst (λ added. IsAnswerIn kind lines walks (grown_by graph added) asked.question is.0) (sym some) is.1;
+  is_answer = subst (λ added. IsAnswerIn kind lines (grown_by graph added) asked.question is.0) (sym some) is.1;
   written = is.2 ∙ ap (λ added. added_line added ++ is.0) (sym some);
 }
 
@@ -153,26 +153,16 @@ refusable_last (Some (Wrong line kind)) reader first all outcomes asked is = abs
 refusable_last (Some (NoMemory line)) reader first all outcomes asked is = absurd asked
 
 -- the reply that refuses it
-pub refused_reply : (kind : Answer) (by : Lines) (all_walks : Bool) (graph : Content) (line : ℕ) (session : Session)
+pub refused_reply : (kind : Answer) (by : Lines) (graph : Content) (line : ℕ) (session : Session)
     (before after : Option (List ℕ))
     → HoldsGraph kind graph session → Appends before after (refusal_text line out_of_memory)
-    → Replies kind by all_walks graph (no_memory line ∷ []) session before after
-refused_reply kind by all_walks graph line session before after holds told = record {
+    → Replies kind by graph (no_memory line ∷ []) session before after
+refused_reply kind by graph line session before after holds told = record {
   text = refusal_text line out_of_memory;
   replied = (refusal_text line out_of_memory, [], sym (append-nil (refusal_text line out_of_memory)), refl, refl);
   written = told;
   holds = holds;
 }
-
--- an answer of the same kind and lines
-pub same_answer : (kind other : Answer) (lines by : Lines) (walks w : Bool) (graph : Content) (question : Question)
-    (text : List ℕ)
-    → other ≡ kind → by ≡ lines → w ≡ walks → IsAnswerIn other by w graph question text
-    → IsAnswerIn kind lines walks graph question text
-same_answer kind other lines by walks w graph question text same_kind same_lines same_walks is =
-    subst (λ (k : Answer). IsAnswerIn k lines walks graph question text) same_kind
-    (subst (λ (l : Lines). IsAnswerIn other l walks graph question text) same_lines
-    (subst (λ x. IsAnswerIn other by x graph question text) same_walks is))
 
 within_of : (n : ℕ) (request : Request) → IsAskedWithin n request → IsRequestWithin n request
 within_of n (Asked job extent) (limits, vertices, none, bound) = (

@@ -22,40 +22,40 @@ use Rattle.session_answer.specs.Replies.{HoldsGraph, IsAnswerIn}
 use Rattle.session_answer.proofs.ReplyLemmas.{no_bytes}
 
 -- these bytes came, then more were taken, and all of them were heard
-pub record HasTaken (kind : Answer) (by : Lines) (all_walks : Bool) (graph : Content) (first : ℕ)
+pub record HasTaken (kind : Answer) (by : Lines) (graph : Content) (first : ℕ)
     (conversation : Conversation) (heard : List ℕ) (taken_from taken_to before after : Option (List ℕ)) : Type 0 where
   pub so_far : List ℕ
   pub taken : Consumes taken_from taken_to so_far
-  pub all : HasHeard kind by all_walks graph first conversation (heard ++ so_far) before after
+  pub all : HasHeard kind by graph first conversation (heard ++ so_far) before after
 
-pub more_taken : (kind : Answer) (by : Lines) (all_walks : Bool) (graph : Content) (first : ℕ)
+pub more_taken : (kind : Answer) (by : Lines) (graph : Content) (first : ℕ)
     (old new : Conversation) (heard next : List ℕ) (taken_from between taken_to before middle after : Option (List ℕ))
-    → HasTaken kind by all_walks graph first old heard taken_from between before middle
+    → HasTaken kind by graph first old heard taken_from between before middle
     → Consumes between taken_to next
-    → ((bytes : List ℕ) → HasHeard kind by all_walks graph first old bytes before middle
-    → HasHeard kind by all_walks graph first new (bytes ++ next) before after)
-    → HasTaken kind by all_walks graph first new heard taken_from taken_to before after
-more_taken kind by all_walks graph first old new heard next taken_from between taken_to before middle after is takes
+    → ((bytes : List ℕ) → HasHeard kind by graph first old bytes before middle
+    → HasHeard kind by graph first new (bytes ++ next) before after)
+    → HasTaken kind by graph first new heard taken_from taken_to before after
+more_taken kind by graph first old new heard next taken_from between taken_to before middle after is takes
     hears = record {
       so_far = is.so_far ++ next;
       taken = Consumes-trans taken_from between taken_to is.so_far next is.taken takes;
       all =
-          subst (λ bytes. HasHeard kind by all_walks graph first new bytes before after) (append_assoc heard is.so_far next)
+          subst (λ bytes. HasHeard kind by graph first new bytes before after) (append_assoc heard is.so_far next)
           (hears (heard ++ is.so_far) is.all);
     }
 
 -- at the end of what the reader gives
-pub all_taken : {T : Type 0} (kind : Answer) (by : Lines) (all_walks : Bool) (graph : Content) (first : ℕ)
+pub all_taken : {T : Type 0} (kind : Answer) (by : Lines) (graph : Content) (first : ℕ)
     (conversation : Conversation) (heard buffer : List ℕ) (count : ℕ)
     (taken_from between taken_to before middle after : Option (List ℕ)) (result : Result T Fault)
-    → HasTaken kind by all_walks graph first conversation heard taken_from between before middle
+    → HasTaken kind by graph first conversation heard taken_from between before middle
     → Consumes between taken_to (take count buffer) → count ≡ 0 → IsAtEnd taken_to
-    → ((bytes : List ℕ) → HasHeard kind by all_walks graph first conversation bytes before middle
-    → OnOk result (AreAnswered kind by all_walks graph first bytes before after))
-    → OnOk result (HasConversed kind by all_walks graph first heard taken_from taken_to before after)
-all_taken kind by all_walks graph first conversation heard buffer count taken_from between taken_to before middle after
+    → ((bytes : List ℕ) → HasHeard kind by graph first conversation bytes before middle
+    → OnOk result (AreAnswered kind by graph first bytes before after))
+    → OnOk result (HasConversed kind by graph first heard taken_from taken_to before after)
+all_taken kind by graph first conversation heard buffer count taken_from between taken_to before middle after
     (Err fault) is takes none ended answers = tt
-all_taken kind by all_walks graph first conversation heard buffer count taken_from between taken_to before middle after
+all_taken kind by graph first conversation heard buffer count taken_from between taken_to before middle after
     (Ok done) is takes none ended answers = record {
       more = is.so_far;
       whole = record {
@@ -69,13 +69,13 @@ all_taken kind by all_walks graph first conversation heard buffer count taken_fr
     }
 
 -- before the first byte after the graph
-pub begins_heard : (kind : Answer) (by : Lines) (all_walks : Bool) (graph : Content) (first : ℕ)
+pub begins_heard : (kind : Answer) (by : Lines) (graph : Content) (first : ℕ)
     (conversation : Conversation) (written : Option (List ℕ))
     → conversation.in_comment ≡ false → conversation.unfinished.items ≡ []
     → HasRequests conversation.requests first [] []
     → vertices_of conversation.requests ≡ graph.n → HoldsGraph kind graph conversation.session
-    → HasHeard kind by all_walks graph first conversation [] written written
-begins_heard kind by all_walks graph first conversation written outside none requests vertices holds = record {
+    → HasHeard kind by graph first conversation [] written written
+begins_heard kind by graph first conversation written outside none requests vertices holds = record {
   whole = [];
   begun = [];
   parts = refl;
@@ -91,12 +91,12 @@ begins_heard kind by all_walks graph first conversation written outside none req
 }
 
 -- the input ends with the graph
-pub session_ended : (limit : ℕ) (kind : Answer) (by : Lines) (all_walks : Bool) (front : Front) (buffer : List ℕ)
+pub session_ended : (limit : ℕ) (kind : Answer) (by : Lines) (front : Front) (buffer : List ℕ)
     (taken_from taken_to given_from given_to : Option (List ℕ))
     → HasFront limit front buffer taken_from taken_to → front.has_ended ≡ true
-    → Writes (IsAnswerIn kind by false (content_of front.graph) absent) given_from given_to
-    → IsAnsweredSession limit kind by all_walks taken_from taken_to given_from given_to
-session_ended limit kind by all_walks front buffer taken_from taken_to given_from given_to has ended writes =
+    → Writes (IsAnswerIn kind by (content_of front.graph) absent) given_from given_to
+    → IsAnsweredSession limit kind by taken_from taken_to given_from given_to
+session_ended limit kind by front buffer taken_from taken_to given_from given_to has ended writes =
     let last = has.ended ended in
     let nothing : front.end - front.at ≡ 0 = omega (arith, last.1) in
     record {
@@ -127,17 +127,17 @@ session_ended limit kind by all_walks front buffer taken_from taken_to given_fro
     }
 
 -- requests come after it
-pub session_whole : {T : Type 0} (limit : ℕ) (kind : Answer) (by : Lines) (all_walks : Bool) (front : Front) (buffer : List ℕ)
+pub session_whole : {T : Type 0} (limit : ℕ) (kind : Answer) (by : Lines) (front : Front) (buffer : List ℕ)
     (taken_from between taken_to given_from middle given_to : Option (List ℕ)) (result : Result T Fault)
     → HasFront limit front buffer taken_from between → front.has_ended ≡ false
-    → Writes (IsAnswerIn kind by false (content_of front.graph) absent) given_from middle
+    → Writes (IsAnswerIn kind by (content_of front.graph) absent) given_from middle
     → OnOk result
-    (HasConversed kind by all_walks (content_of front.graph) front.line
+    (HasConversed kind by (content_of front.graph) front.line
     (take (front.end - front.at) (drop front.at buffer)) between taken_to middle given_to)
-    → OnOk result (IsAnsweredSession limit kind by all_walks taken_from taken_to given_from given_to)
-session_whole limit kind by all_walks front buffer taken_from between taken_to given_from middle given_to (Err fault) has goes_on
+    → OnOk result (IsAnsweredSession limit kind by taken_from taken_to given_from given_to)
+session_whole limit kind by front buffer taken_from between taken_to given_from middle given_to (Err fault) has goes_on
     writes conversed = tt
-session_whole limit kind by all_walks front buffer taken_from between taken_to given_from middle given_to (Ok done) has goes_on
+session_whole limit kind by front buffer taken_from between taken_to given_from middle given_to (Ok done) has goes_on
     writes conversed =
     let heard = take (front.end - front.at) (drop front.at buffer) in
     let more = conversed.more in

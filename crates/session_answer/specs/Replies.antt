@@ -31,11 +31,11 @@ use Rattle.session_answer.specs.declared.session.Told.TheVariants as told
 abbrev pub job_of : Content → Question → Content
 job_of graph question = record { n = graph.n; arcs = graph.arcs; question = question; added = None }
 
--- The lines of an answer: those that are asked for where sources are, and of pairs the walks where they are wanted.
-abbrev pub lines_for : Lines → Bool → Question → Lines
-lines_for lines walks absent = by.Each false
-lines_for lines walks (from_sources sources) = lines
-lines_for lines walks (of_pairs pairs) = by.Each walks
+-- The lines of an answer: those that are asked for where sources are. A pair has its line, and its walk if they have walks.
+abbrev pub lines_for : Lines → Question → Lines
+lines_for lines absent = by.Each false
+lines_for lines (from_sources sources) = lines
+lines_for lines (of_pairs pairs) = by.Each (has_walks lines)
 
 -- the answer of a job, and nothing if it asks for nothing
 abbrev pub IsBodyIf : Bool → Answer → Lines → Content → List ℕ → Type 0
@@ -43,15 +43,15 @@ IsBodyIf true kind lines job text = text ≡ []
 IsBodyIf false kind lines job text = IsAnswerTextBy kind lines job text
 
 -- the answer to a question in a graph, and nothing where there is no question
-abbrev pub IsBodyIn : Answer → Lines → Bool → Content → Question → List ℕ → Type 0
-IsBodyIn kind lines walks graph question text =
-    IsBodyIf (is_unasked kind question) kind (lines_for lines walks question) (job_of graph question) text
+abbrev pub IsBodyIn : Answer → Lines → Content → Question → List ℕ → Type 0
+IsBodyIn kind lines graph question text =
+    IsBodyIf (is_unasked kind question) kind (lines_for lines question) (job_of graph question) text
 
 -- the same, and then how large the graph is
-pub record IsAnswerIn (kind : Answer) (lines : Lines) (walks : Bool) (graph : Content) (question : Question)
+pub record IsAnswerIn (kind : Answer) (lines : Lines) (graph : Content) (question : Question)
     (text : List ℕ) : Type 0 where
   pub body : List ℕ
-  pub is_body : IsBodyIn kind lines walks graph question body
+  pub is_body : IsBodyIn kind lines graph question body
   pub written : text ≡ body ++ ready_text graph.n (length graph.arcs)
 
 -- the arcs of a graph, and those that are added
@@ -69,17 +69,17 @@ added_line None = []
 added_line (Some arcs) = grown_text (length arcs)
 
 -- The reply to a request: how many arcs it adds, and the answer to its question in the graph with them.
-pub record IsReplyTo (kind : Answer) (lines : Lines) (walks : Bool) (graph asked : Content) (text : List ℕ) : Type 0
+pub record IsReplyTo (kind : Answer) (lines : Lines) (graph asked : Content) (text : List ℕ) : Type 0
   where
     pub answer : List ℕ
-    pub is_answer : IsAnswerIn kind lines walks (grown_by graph asked.added) asked.question answer
+    pub is_answer : IsAnswerIn kind lines (grown_by graph asked.added) asked.question answer
     pub written : text ≡ added_line asked.added ++ answer
 
 -- the same for arcs that are added and a question
-abbrev pub IsGrownReply : Answer → Lines → Bool → Content → List ArcRec → Question → List ℕ → Type 0
-IsGrownReply kind lines walks graph arcs question text =
+abbrev pub IsGrownReply : Answer → Lines → Content → List ArcRec → Question → List ℕ → Type 0
+IsGrownReply kind lines graph arcs question text =
     (answer : List ℕ)
-    × IsAnswerIn kind lines walks (grown_by graph (Some arcs)) question answer
+    × IsAnswerIn kind lines (grown_by graph (Some arcs)) question answer
     × (text ≡ grown_text (length arcs) ++ answer)
 
 -- ---- the reply to any request, and the graph after it
@@ -88,26 +88,20 @@ IsGrownReply kind lines walks graph arcs question text =
 abbrev pub out_of_memory : List ℕ
 out_of_memory = codes "out of memory"
 
--- Walks of pairs are written where the request asks for them, or the session does for all.
-abbrev pub walks_or : Extent → Bool → Bool
-walks_or extent.Plain all_walks = all_walks
-walks_or extent.Walks all_walks = true
-walks_or (extent.Within bound) all_walks = all_walks
-
--- The lines of sources are those of the session. Where the request has a bound they are within it, whatever bound the
--- session has, and have walks if those of the session do.
+-- The lines of a request: those of the session. A section of walks has walks, and a section within a bound has lines within
+-- it, whatever bound the session has, with walks if those of the session have them.
 abbrev pub lines_by : Extent → Lines → Lines
 lines_by extent.Plain lines = lines
-lines_by extent.Walks lines = lines
+lines_by extent.Walks lines = by.Each true
 lines_by (extent.Within bound) lines = by.Within (has_walks lines) bound
 
 -- A request that is whole is answered. One that is wrong is refused in a line, and so is one for which memory was
 -- refused, while it was read or for its reply.
-abbrev pub IsReplyFor : Answer → Lines → Bool → Content → Outcome → List ℕ → Type 0
-IsReplyFor kind lines all_walks graph (whole job extent) text =
-    IsReplyTo kind (lines_by extent lines) (walks_or extent all_walks) graph job text
-IsReplyFor kind lines all_walks graph (wrong line what) text = text ≡ refusal_text line (words_of what)
-IsReplyFor kind lines all_walks graph (no_memory line) text = text ≡ refusal_text line out_of_memory
+abbrev pub IsReplyFor : Answer → Lines → Content → Outcome → List ℕ → Type 0
+IsReplyFor kind lines graph (whole job extent) text =
+    IsReplyTo kind (lines_by extent lines) graph job text
+IsReplyFor kind lines graph (wrong line what) text = text ≡ refusal_text line (words_of what)
+IsReplyFor kind lines graph (no_memory line) text = text ≡ refusal_text line out_of_memory
 
 -- the graph after a request
 abbrev pub graph_after : Content → Outcome → Content
@@ -148,17 +142,17 @@ pub record HoldsGraph (kind : Answer) (graph : Content) (session : Session) : Ty
 -- ---- all of them
 
 -- the replies to requests in order, each in the graph that those before it leave
-abbrev pub AreReplies : Answer → Lines → Bool → Content → List Outcome → List ℕ → Type 0
-AreReplies kind lines all_walks graph [] text = text ≡ []
-AreReplies kind lines all_walks graph (outcome ∷ outcomes) text =
+abbrev pub AreReplies : Answer → Lines → Content → List Outcome → List ℕ → Type 0
+AreReplies kind lines graph [] text = text ≡ []
+AreReplies kind lines graph (outcome ∷ outcomes) text =
     (first : List ℕ)
     × (rest : List ℕ)
     × (text ≡ first ++ rest)
-    × IsReplyFor kind lines all_walks graph outcome first
-    × AreReplies kind lines all_walks (graph_after graph outcome) outcomes rest
+    × IsReplyFor kind lines graph outcome first
+    × AreReplies kind lines (graph_after graph outcome) outcomes rest
 
 -- The text is that of a graph and then of requests, and these are the replies to the graph and to each of them.
-pub record IsSession (kind : Answer) (lines_are : Lines) (all_walks : Bool) (text replies : List ℕ) : Type 0 where
+pub record IsSession (kind : Answer) (lines_are : Lines) (text replies : List ℕ) : Type 0 where
   pub front : List ℕ
   pub graph : Content
   pub is_graph : IsGraphText front graph
@@ -167,7 +161,7 @@ pub record IsSession (kind : Answer) (lines_are : Lines) (all_walks : Bool) (tex
   pub outcomes : List Outcome
   pub requests : AreRequests graph.n (length (lines front) + 1) rest outcomes
   pub greeting : List ℕ
-  pub greets : IsAnswerIn kind lines_are false graph absent greeting
+  pub greets : IsAnswerIn kind lines_are graph absent greeting
   pub later : List ℕ
-  pub replied : AreReplies kind lines_are all_walks graph outcomes later
+  pub replied : AreReplies kind lines_are graph outcomes later
   pub written : replies ≡ greeting ++ later

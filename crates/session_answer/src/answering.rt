@@ -1,8 +1,7 @@
-//! How does a session go from its first byte to its last?
+//! A session, from its first byte to its last.
 
 ghost use Rattle.std.specs.Prelude.{◌<◌, ◌≤◌, ◌^◌, ℕ, List, [], Option, IfErr, IfOk, OnErr, OnOk, length};
 ghost use Rattle.dimacs_text.specs.Jobs.{content_of, Content, IsWithinLimits};
-ghost use Rattle.job_answer.specs.Solves.{IsLinesAsked};
 ghost use Rattle.session_answer.specs.Conversations.{HasConversed, HasHeard, IsAnsweredSession, IsKept};
 ghost use Rattle.session_answer.specs.Cuts.{EndsAfterGraph, EndsBy, IsCutConversation, IsCutSession};
 ghost use Rattle.session_answer.specs.Replies.{HoldsGraph};
@@ -37,15 +36,13 @@ pub fn answer_session<H: Threads + Wait + Clock + Sync, R: Read, W: Write, G: Ga
     reader: &mut R,
     writer: &mut W,
     asked: &Asked,
-    lines: Lines,
     gate: &G,
 ) -> Result<(), Fault>
-    requires bound { IsLinesAsked lines }
-    ensures answered { OnOk result (IsAnsweredSession asked.now.limit asked.now.answer lines asked.now.walks
+    ensures answered { OnOk result (IsAnsweredSession asked.now.limit asked.now.answer asked.now.lines
         (R.remaining reader.old) (R.remaining reader.new)
         (W.contents writer.old) (W.contents writer.new)) }
     // At each fault a prefix of the replies was written.
-    ensures cut { OnErr result (IsCutSession asked.now.answer lines asked.now.walks
+    ensures cut { OnErr result (IsCutSession asked.now.answer asked.now.lines
         (R.remaining reader.old) (R.remaining reader.new)
         (W.contents writer.old) (W.contents writer.new)) }
     // The fault is that of the text, or the system's.
@@ -55,14 +52,13 @@ pub fn answer_session<H: Threads + Wait + Clock + Sync, R: Read, W: Write, G: Ga
     let asked = asked.with_saving(true);
     let terms = Terms {
         asked: &asked,
-        lines,
         gate,
     };
     let mut buffer = vec![in alloc; 0; ROOM]?;
     answer_by(rt, alloc, reader, writer, &mut buffer, &terms)
 }
 
-/// The same, with room for the bytes of a read.
+/// Answers a session, with room for the bytes of a read.
 fn answer_by<H: Threads + Wait + Clock + Sync, R: Read, W: Write, G: Gate + Sync>(
     rt: &H,
     alloc: Global,
@@ -72,12 +68,11 @@ fn answer_by<H: Threads + Wait + Clock + Sync, R: Read, W: Write, G: Gate + Sync
     terms: &Terms<'_, G>,
 ) -> Result<(), Fault>
     requires room { 0 < length buffer.old }
-    requires bound { IsLinesAsked terms.now.lines }
     requires limit { terms.now.asked.now.limit ≤ 2 ^ 36 }
     ensures answered { OnOk result (IsAnsweredSession terms.now.asked.now.limit terms.now.asked.now.answer
-        terms.now.lines terms.now.asked.now.walks (R.remaining reader.old) (R.remaining reader.new)
+        terms.now.asked.now.lines (R.remaining reader.old) (R.remaining reader.new)
         (W.contents writer.old) (W.contents writer.new)) }
-    ensures cut { OnErr result (IsCutSession terms.now.asked.now.answer terms.now.lines terms.now.asked.now.walks
+    ensures cut { OnErr result (IsCutSession terms.now.asked.now.answer terms.now.asked.now.lines
         (R.remaining reader.old) (R.remaining reader.new)
         (W.contents writer.old) (W.contents writer.new)) }
     ensures says { IfErr result (EndsBy terms.now.asked.now.limit (R.remaining reader.old) (R.remaining reader.new)) }
@@ -88,7 +83,14 @@ fn answer_by<H: Threads + Wait + Clock + Sync, R: Read, W: Write, G: Gate + Sync
     let (at, end, has_ended) = (front.at, front.end, front.has_ended);
     let mut conversation = open_conversation(rt, alloc, front, terms.asked)?;
     let session = &conversation.session;
-    session.answer(rt, writer, &Ask::Absent, false, terms, &mut None)?;
+    session.answer(
+        rt,
+        writer,
+        &Ask::Absent,
+        terms.asked.lines,
+        terms,
+        &mut None,
+    )?;
     if has_ended {
         return Ok(());
     }
@@ -108,7 +110,7 @@ fn open_conversation<H: Threads + Sync>(
         HoldsGraph asked.now.answer (content_of front.graph) conversation.session) }
     ensures kept { IfOk result IsKept }
     ensures heard { (by : Lines) (written : Option (List ℕ)) → IfOk result (λ conversation.
-        HasHeard asked.now.answer by asked.now.walks (content_of front.graph) front.line conversation [] written written) }
+        HasHeard asked.now.answer by (content_of front.graph) front.line conversation [] written written) }
 {
     let (line, n) = (front.line, front.graph.n);
     Ok(Conversation {
@@ -132,19 +134,18 @@ fn converse<H: Threads + Wait + Clock + Sync, R: Read, W: Write, G: Gate + Sync>
 ) -> Result<(), Fault>
     requires kept { IsKept conversation.old }
     requires room { 0 < length buffer.old }
-    requires bound { IsLinesAsked terms.now.lines }
     ensures conversed { (graph : Content) (first : ℕ) (heard : List ℕ) (before : Option (List ℕ))
-        → HasHeard terms.now.asked.now.answer terms.now.lines terms.now.asked.now.walks graph first conversation.old
+        → HasHeard terms.now.asked.now.answer terms.now.asked.now.lines graph first conversation.old
         heard before (W.contents writer.old)
-        → OnOk result (HasConversed terms.now.asked.now.answer terms.now.lines terms.now.asked.now.walks graph first
+        → OnOk result (HasConversed terms.now.asked.now.answer terms.now.asked.now.lines graph first
         heard (R.remaining reader.old) (R.remaining reader.new) before (W.contents writer.new)) }
     ensures cut { (graph : Content) (first : ℕ) (heard : List ℕ) (before : Option (List ℕ))
-        → HasHeard terms.now.asked.now.answer terms.now.lines terms.now.asked.now.walks graph first conversation.old
+        → HasHeard terms.now.asked.now.answer terms.now.asked.now.lines graph first conversation.old
         heard before (W.contents writer.old)
-        → OnErr result (IsCutConversation terms.now.asked.now.answer terms.now.lines terms.now.asked.now.walks graph
+        → OnErr result (IsCutConversation terms.now.asked.now.answer terms.now.asked.now.lines graph
         first heard (R.remaining reader.old) (R.remaining reader.new) before (W.contents writer.new)) }
     ensures says { (graph : Content) (first : ℕ) (heard : List ℕ) (before : Option (List ℕ))
-        → HasHeard terms.now.asked.now.answer terms.now.lines terms.now.asked.now.walks graph first conversation.old
+        → HasHeard terms.now.asked.now.answer terms.now.asked.now.lines graph first conversation.old
         heard before (W.contents writer.old)
         → IfErr result (EndsAfterGraph graph.n first heard (R.remaining reader.old) (R.remaining reader.new)) }
 {

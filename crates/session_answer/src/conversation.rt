@@ -1,4 +1,4 @@
-//! How are requests told from the bytes that come, and replied to?
+//! The conversation after a graph: requests in the bytes that come, and their replies.
 
 ghost use Rattle.std.specs.Prelude.{◌≡◌, ◌≤◌, ◌<◌, ◌++◌, ◌∷◌, [], ℕ, List, Option, length, ⊤, IfErr, IfNone, IfOk, IfSome, OnErr, OnOk};
 ghost use Rattle.std.specs.Prelude.{slice_index, true, false};
@@ -8,7 +8,6 @@ ghost use Rattle.dimacs_text.specs.reader.FastArc.{HasNoFeed};
 ghost use Rattle.job_answer.specs.Bytes.{GivesPrefix, WritesPrefix};
 ghost use Rattle.job_answer.specs.Graphs.{AreGraphs};
 ghost use Rattle.job_answer.specs.Outcome.{IsWritingFault};
-ghost use Rattle.job_answer.specs.Solves.{IsLinesAsked};
 ghost use Rattle.answer_lines.specs.Lines.{refusal_text};
 ghost use Rattle.request_reader.specs.Reading.{outcomes_in, last_of, vertices_of, HasRequests, IsRefusedLast};
 ghost use Rattle.request_reader.specs.Requests.{Outcome, no_memory};
@@ -56,16 +55,15 @@ impl Conversation {
         terms: &Terms<'_, G>,
     ) -> Result<(), Fault>
         requires kept { IsKept self.old }
-        requires bound { IsLinesAsked terms.now.lines }
         ensures heard { (graph : Content) (first : ℕ) (heard : List ℕ) (before : Option (List ℕ))
-            → HasHeard terms.now.asked.now.answer terms.now.lines terms.now.asked.now.walks graph first self.old heard
+            → HasHeard terms.now.asked.now.answer terms.now.asked.now.lines graph first self.old heard
             before (W.contents writer.old)
-            → OnOk result (HasHeard terms.now.asked.now.answer terms.now.lines terms.now.asked.now.walks graph first
+            → OnOk result (HasHeard terms.now.asked.now.answer terms.now.asked.now.lines graph first
             self.new (heard ++ bytes.now) before (W.contents writer.new)) }
         ensures cut { (graph : Content) (first : ℕ) (heard : List ℕ) (before : Option (List ℕ))
-            → HasHeard terms.now.asked.now.answer terms.now.lines terms.now.asked.now.walks graph first self.old heard
+            → HasHeard terms.now.asked.now.answer terms.now.asked.now.lines graph first self.old heard
             before (W.contents writer.old)
-            → OnErr result (AreCutAfterBytes terms.now.asked.now.answer terms.now.lines terms.now.asked.now.walks graph
+            → OnErr result (AreCutAfterBytes terms.now.asked.now.answer terms.now.asked.now.lines graph
             first (heard ++ bytes.now) before (W.contents writer.new)) }
         ensures kept { OnOk result (IsKept self.new) }
         ensures kinds { IfErr result IsWritingFault }
@@ -108,17 +106,16 @@ impl Conversation {
         terms: &Terms<'_, G>,
     ) -> Result<(), Fault>
         requires kept { IsKept self.old }
-        requires bound { IsLinesAsked terms.now.lines }
         requires no_feed { HasNoFeed rest.now 0 (length rest.now) }
         ensures heard { (graph : Content) (first : ℕ) (heard : List ℕ) (before : Option (List ℕ))
-            → HasHeard terms.now.asked.now.answer terms.now.lines terms.now.asked.now.walks graph first self.old heard
+            → HasHeard terms.now.asked.now.answer terms.now.asked.now.lines graph first self.old heard
             before (W.contents writer.old)
-            → OnOk result (HasHeard terms.now.asked.now.answer terms.now.lines terms.now.asked.now.walks graph first
+            → OnOk result (HasHeard terms.now.asked.now.answer terms.now.asked.now.lines graph first
             self.new (heard ++ rest.now ++ 10 ∷ []) before (W.contents writer.new)) }
         ensures cut { (graph : Content) (first : ℕ) (heard : List ℕ) (before : Option (List ℕ))
-            → HasHeard terms.now.asked.now.answer terms.now.lines terms.now.asked.now.walks graph first self.old heard
+            → HasHeard terms.now.asked.now.answer terms.now.asked.now.lines graph first self.old heard
             before (W.contents writer.old)
-            → OnErr result (AreCutAfterBytes terms.now.asked.now.answer terms.now.lines terms.now.asked.now.walks graph
+            → OnErr result (AreCutAfterBytes terms.now.asked.now.answer terms.now.asked.now.lines graph
             first (heard ++ rest.now ++ 10 ∷ []) before (W.contents writer.new)) }
         ensures kept { OnOk result (IsKept self.new) }
         ensures kinds { IfErr result IsWritingFault }
@@ -158,17 +155,16 @@ impl Conversation {
     ) -> Result<(), Fault>
         requires kept { IsKept self.old }
         requires outside { self.old.in_comment ≡ false }
-        requires bound { IsLinesAsked terms.now.lines }
         requires no_feed { HasNoFeed rest.now 0 (length rest.now) }
         ensures heard { (graph : Content) (first : ℕ) (heard : List ℕ) (before : Option (List ℕ))
-            → HasHeard terms.now.asked.now.answer terms.now.lines terms.now.asked.now.walks graph first self.old heard
+            → HasHeard terms.now.asked.now.answer terms.now.asked.now.lines graph first self.old heard
             before (W.contents writer.old)
-            → OnOk result (HasHeard terms.now.asked.now.answer terms.now.lines terms.now.asked.now.walks graph first
+            → OnOk result (HasHeard terms.now.asked.now.answer terms.now.asked.now.lines graph first
             self.new (heard ++ rest.now ++ 10 ∷ []) before (W.contents writer.new)) }
         ensures cut { (graph : Content) (first : ℕ) (heard : List ℕ) (before : Option (List ℕ))
-            → HasHeard terms.now.asked.now.answer terms.now.lines terms.now.asked.now.walks graph first self.old heard
+            → HasHeard terms.now.asked.now.answer terms.now.asked.now.lines graph first self.old heard
             before (W.contents writer.old)
-            → OnErr result (AreCutAfterBytes terms.now.asked.now.answer terms.now.lines terms.now.asked.now.walks graph
+            → OnErr result (AreCutAfterBytes terms.now.asked.now.answer terms.now.asked.now.lines graph
             first (heard ++ rest.now ++ 10 ∷ []) before (W.contents writer.new)) }
         ensures kept { OnOk result (IsKept self.new) }
         ensures kinds { IfErr result IsWritingFault }
@@ -188,16 +184,15 @@ impl Conversation {
         terms: &Terms<'_, G>,
     ) -> Result<(), Fault>
         requires kept { IsKept self.old }
-        requires bound { IsLinesAsked terms.now.lines }
         ensures replied { (graph : Content) (first : ℕ) (ls : List (List ℕ)) (before : Option (List ℕ))
-            → HasRepliedTo terms.now.asked.now.answer terms.now.lines terms.now.asked.now.walks graph first self.old ls
+            → HasRepliedTo terms.now.asked.now.answer terms.now.asked.now.lines graph first self.old ls
             before (W.contents writer.old)
-            → OnOk result (HasRepliedTo terms.now.asked.now.answer terms.now.lines terms.now.asked.now.walks graph first
+            → OnOk result (HasRepliedTo terms.now.asked.now.answer terms.now.asked.now.lines graph first
             self.new (ls ++ line.now ∷ []) before (W.contents writer.new)) }
         ensures cut { (graph : Content) (first : ℕ) (ls : List (List ℕ)) (before : Option (List ℕ))
-            → HasRepliedTo terms.now.asked.now.answer terms.now.lines terms.now.asked.now.walks graph first self.old ls
+            → HasRepliedTo terms.now.asked.now.answer terms.now.asked.now.lines graph first self.old ls
             before (W.contents writer.old)
-            → OnErr result (AreCutAfterLines terms.now.asked.now.answer terms.now.lines terms.now.asked.now.walks graph
+            → OnErr result (AreCutAfterLines terms.now.asked.now.answer terms.now.asked.now.lines graph
             first (ls ++ line.now ∷ []) before (W.contents writer.new)) }
         ensures kept { OnOk result (IsKept self.new) }
         ensures unfinished { self.new.unfinished ≡ self.old.unfinished }
@@ -244,17 +239,16 @@ impl Conversation {
         terms: &Terms<'_, G>,
     ) -> Result<Told, Fault>
         requires graphs { AreGraphs self.old.session.graphs }
-        requires bound { IsLinesAsked terms.now.lines }
         requires within { IfSome request (IsRequestWithin self.old.session.graphs.network.n) }
         ensures replied { (graph : Content) → HoldsGraph terms.now.asked.now.answer graph self.old.session
             → IfOk result (λ told. IsTold told
-            (Replies terms.now.asked.now.answer terms.now.lines terms.now.asked.now.walks graph (outcomes_in request)
+            (Replies terms.now.asked.now.answer terms.now.asked.now.lines graph (outcomes_in request)
             self.new.session (W.contents writer.old) (W.contents writer.new))
-            (Replies terms.now.asked.now.answer terms.now.lines terms.now.asked.now.walks graph [] self.new.session
+            (Replies terms.now.asked.now.answer terms.now.asked.now.lines graph [] self.new.session
             (W.contents writer.old) (W.contents writer.new))) }
         ensures asked { IfOk result (λ told. IsTold told ⊤ (IsAskedIn request)) }
         ensures cut { (graph : Content) → HoldsGraph terms.now.asked.now.answer graph self.old.session
-            → OnErr result (WritesPrefix (AreReplies terms.now.asked.now.answer terms.now.lines terms.now.asked.now.walks
+            → OnErr result (WritesPrefix (AreReplies terms.now.asked.now.answer terms.now.asked.now.lines
             graph (outcomes_in request)) (W.contents writer.old) (W.contents writer.new)) }
         ensures graphs { OnOk result (AreGraphs self.new.session.graphs) }
         ensures vertices { OnOk result
@@ -281,16 +275,15 @@ impl Conversation {
         terms: &Terms<'_, G>,
     ) -> Result<(), Fault>
         requires kept { IsKept self.old }
-        requires bound { IsLinesAsked terms.now.lines }
         ensures replied { (graph : Content) (first : ℕ) (heard : List ℕ) (before : Option (List ℕ))
-            → HasHeard terms.now.asked.now.answer terms.now.lines terms.now.asked.now.walks graph first self.old heard
+            → HasHeard terms.now.asked.now.answer terms.now.asked.now.lines graph first self.old heard
             before (W.contents writer.old)
-            → OnOk result (HasRepliedTo terms.now.asked.now.answer terms.now.lines terms.now.asked.now.walks graph first
+            → OnOk result (HasRepliedTo terms.now.asked.now.answer terms.now.asked.now.lines graph first
             self.new (lines heard) before (W.contents writer.new)) }
         ensures cut { (graph : Content) (first : ℕ) (heard : List ℕ) (before : Option (List ℕ))
-            → HasHeard terms.now.asked.now.answer terms.now.lines terms.now.asked.now.walks graph first self.old heard
+            → HasHeard terms.now.asked.now.answer terms.now.asked.now.lines graph first self.old heard
             before (W.contents writer.old)
-            → OnErr result (AreRepliesCut terms.now.asked.now.answer terms.now.lines terms.now.asked.now.walks graph
+            → OnErr result (AreRepliesCut terms.now.asked.now.answer terms.now.asked.now.lines graph
             first (lines heard) before (W.contents writer.new)) }
         ensures kinds { IfErr result IsWritingFault }
     {
@@ -313,19 +306,18 @@ impl Conversation {
         terms: &Terms<'_, G>,
     ) -> Result<(), Fault>
         requires kept { IsKept self.old }
-        requires bound { IsLinesAsked terms.now.lines }
         ensures answered { (graph : Content) (first : ℕ) (heard : List ℕ) (before : Option (List ℕ))
-            → HasHeard terms.now.asked.now.answer terms.now.lines terms.now.asked.now.walks graph first self.old heard
+            → HasHeard terms.now.asked.now.answer terms.now.asked.now.lines graph first self.old heard
             before (W.contents writer.old)
-            → OnOk result (AreAnswered terms.now.asked.now.answer terms.now.lines terms.now.asked.now.walks graph first
+            → OnOk result (AreAnswered terms.now.asked.now.answer terms.now.asked.now.lines graph first
             heard before (W.contents writer.new)) }
         ensures cut { (graph : Content) (first : ℕ) (heard : List ℕ) (before : Option (List ℕ))
-            → HasHeard terms.now.asked.now.answer terms.now.lines terms.now.asked.now.walks graph first self.old heard
+            → HasHeard terms.now.asked.now.answer terms.now.asked.now.lines graph first self.old heard
             before (W.contents writer.old)
-            → OnErr result (AreRepliesCut terms.now.asked.now.answer terms.now.lines terms.now.asked.now.walks graph
+            → OnErr result (AreRepliesCut terms.now.asked.now.answer terms.now.asked.now.lines graph
             first (lines heard) before (W.contents writer.new)) }
         ensures says { (graph : Content) (first : ℕ) (heard : List ℕ) (before : Option (List ℕ))
-            → HasHeard terms.now.asked.now.answer terms.now.lines terms.now.asked.now.walks graph first self.old heard
+            → HasHeard terms.now.asked.now.answer terms.now.asked.now.lines graph first self.old heard
             before (W.contents writer.old)
             → IfErr result (EndsShort graph.n first (lines heard)) }
     {

@@ -1,4 +1,4 @@
-//! Which graph does a session begin with?
+//! The graph that a session begins with.
 
 ghost use Rattle.std.specs.Prelude.{◌≡◌, ◌+◌, ◌<◌, ◌≤◌, ◌^◌, ◌++◌, None, List, ℕ, length, true, false, IfErr, IfOk, OnErr};
 ghost use Rattle.std.specs.Bool.{OnTrue};
@@ -29,7 +29,7 @@ pub(crate) struct Front {
     pub(crate) at: usize,
     /// up to this one.
     pub(crate) end: usize,
-    /// Whether the input ended with the graph.
+    /// The input ended with the graph.
     pub(crate) has_ended: bool,
 }
 
@@ -77,7 +77,7 @@ pub(crate) fn read_front<H: Threads + Clock + Sync, R: Read>(
     Err(Fault::TooLong)
 }
 
-/// Whether no more bytes are to be read of the graph, of which this many were fed and this many came.
+/// Tells whether no more bytes are to be read of the graph, of which this many were fed and this many came.
 fn is_over(job: &JobReader, fed: usize, came: usize) -> bool
     requires { fed < came → IsGraphOver job.now }
     ensures fed { result ≡ false → came ≤ fed }
@@ -133,7 +133,7 @@ fn ended_front(job: JobReader) -> Result<Front, Fault>
     }
 }
 
-/// Whether a job is a graph alone.
+/// Tells whether a job is a graph alone.
 fn is_graph(job: &Job) -> bool
     ensures { OnTrue result (((content_of job.now).question ≡ absent) × ((content_of job.now).added ≡ None)) }
 {

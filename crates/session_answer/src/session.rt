@@ -6,22 +6,21 @@ ghost use Rattle.answer_lines.specs.Lines.{grown_text, refusal_text};
 ghost use Rattle.dimacs_text.specs.Jobs.{Content, added_of, content_of, question_of};
 ghost use Rattle.dimacs_text.specs.Jobs.{IsAddedWithin, IsQuestionWithin, IsWithinLimits};
 ghost use Rattle.job_answer.specs.Bytes.{GivesPrefix, Writes, WritesPrefix};
+ghost use Rattle.job_answer.specs.Choices.{IsLinesAsked};
 ghost use Rattle.job_answer.specs.Graphs.{AreGraphs};
-ghost use Rattle.job_answer.specs.LineWalks.{has_walks};
 ghost use Rattle.job_answer.specs.Outcome.{IsWritingFault};
-ghost use Rattle.job_answer.specs.Solves.{IsLinesAsked};
 ghost use Rattle.request_reader.specs.Reading.{outcome_of};
 ghost use Rattle.session_answer.specs.Replies.{HoldsGraph, IsAnswerIn, IsAsked, IsBodyIn, IsGrownReply, IsReplyFor};
 ghost use Rattle.session_answer.specs.Replies.{IsRequestWithin, IsTold};
-ghost use Rattle.session_answer.specs.Replies.{graph_after, grown_by, lines_by, lines_for, walks_or};
+ghost use Rattle.session_answer.specs.Replies.{graph_after, grown_by, lines_by, lines_for};
 
-use crate::terms::{Terms, has_walks, lines_for, walks_or};
+use crate::terms::{Terms, lines_by, lines_for};
 use answer_lines::{put_grown, put_ready, put_refusal};
 use dimacs_text::{Ask, Job};
 use job_answer::laws::answer_texts_by_lines_are_unique;
 use job_answer::{
-    Answer, Asked, BlockKind, Fault, Figures, Graphs, answer_question, graphs_for, is_unasked,
-    write_whole,
+    Answer, Asked, BlockKind, Fault, Graphs, Lines, NoWatch, answer_question, graphs_for,
+    is_unasked, write_whole,
 };
 use least_costs::Workspace;
 use least_costs::laws::networks_grow;
@@ -34,14 +33,14 @@ use std::sync::Wait;
 use std::thread::Threads;
 use std::time::Clock;
 
-/// What is written where memory is refused.
+/// The words of a refusal for want of memory.
 pub(crate) const NO_MEMORY: &str = "out of memory";
 
-/// How many lines, or vertices on walks, a reply may have that is made in memory before its first byte is given: some
+/// The most lines, or vertices on walks, of a reply that is made in memory before its first byte is given: some
 /// megabytes. No reply depends on it.
 const FEW_WORDS: usize = 1 << 16;
 
-/// What came of a request.
+/// The outcome of a request.
 #[derive(Clone, Copy, Debug, PartialEq, Eq)]
 pub(crate) enum Told {
     /// Its reply was given whole.
@@ -54,7 +53,7 @@ pub(crate) enum Told {
 #[derive(Drop)]
 pub(crate) struct Session {
     pub(crate) graphs: Graphs,
-    /// How many arcs were read, those that were added among them.
+    /// The number of arcs that were read, those that were added among them.
     pub(crate) arcs: usize,
     pub(crate) alloc: Global,
 }
@@ -93,15 +92,13 @@ impl Session {
         kept: &mut Option<Workspace>,
     ) -> Result<Told, Fault>
         requires graphs { AreGraphs self.old.graphs }
-        requires bound { IsLinesAsked terms.now.lines }
         requires within { IsRequestWithin self.old.graphs.network.n request }
         ensures reply { (graph : Content) → HoldsGraph terms.now.asked.now.answer graph self.old
-            → IfOk result (λ told. IsTold told (Writes (IsReplyFor terms.now.asked.now.answer terms.now.lines
-            terms.now.asked.now.walks graph (outcome_of request)) (W.contents writer.old) (W.contents writer.new))
+            → IfOk result (λ told. IsTold told (Writes (IsReplyFor terms.now.asked.now.answer terms.now.asked.now.lines graph (outcome_of request)) (W.contents writer.old) (W.contents writer.new))
             (Appends (W.contents writer.old) (W.contents writer.new) [])) }
         ensures asked { IfOk result (λ told. IsTold told ⊤ (IsAsked request)) }
         ensures cut { (graph : Content) → HoldsGraph terms.now.asked.now.answer graph self.old
-            → OnErr result (WritesPrefix (IsReplyFor terms.now.asked.now.answer terms.now.lines terms.now.asked.now.walks
+            → OnErr result (WritesPrefix (IsReplyFor terms.now.asked.now.answer terms.now.asked.now.lines
             graph (outcome_of request)) (W.contents writer.old) (W.contents writer.new)) }
         // The graph has the arcs that were added from then on.
         ensures graph { (graph : Content) → HoldsGraph terms.now.asked.now.answer graph self.old
@@ -123,12 +120,11 @@ impl Session {
             }
             Request::Asked { job, extent } => {
                 let Job { ask, added, .. } = job;
-                let walks = walks_or(extent, terms.asked.walks);
-                let terms = terms.by(extent);
+                let lines = lines_by(extent, terms.asked.lines);
                 self.prepare(kept);
                 match added {
-                    None => self.reply_asked(rt, writer, &ask, walks, &terms, kept),
-                    Some(arcs) => self.reply_grown(rt, writer, &arcs, &ask, walks, &terms, kept),
+                    None => self.reply_asked(rt, writer, &ask, lines, terms, kept),
+                    Some(arcs) => self.reply_grown(rt, writer, &arcs, &ask, lines, terms, kept),
                 }
             }
         }
@@ -149,28 +145,28 @@ impl Session {
         rt: &H,
         writer: &mut W,
         ask: &Ask,
-        walks: bool,
+        lines: Lines,
         terms: &Terms<'_, G>,
         kept: &mut Option<Workspace>,
     ) -> Result<Told, Fault>
         requires graphs { AreGraphs self.now.graphs }
-        requires bound { IsLinesAsked terms.now.lines }
+        requires bound { IsLinesAsked lines }
         requires within { IsQuestionWithin self.now.graphs.network.n (question_of ask.now) }
         ensures answered { (graph : Content) → HoldsGraph terms.now.asked.now.answer graph self.now
-            → IfOk result (λ told. IsTold told (Writes (IsAnswerIn terms.now.asked.now.answer terms.now.lines walks graph
+            → IfOk result (λ told. IsTold told (Writes (IsAnswerIn terms.now.asked.now.answer lines graph
             (question_of ask.now)) (W.contents writer.old) (W.contents writer.new))
             (Appends (W.contents writer.old) (W.contents writer.new) [])) }
         ensures cut { (graph : Content) → HoldsGraph terms.now.asked.now.answer graph self.now
-            → OnErr result (WritesPrefix (IsAnswerIn terms.now.asked.now.answer terms.now.lines walks graph
+            → OnErr result (WritesPrefix (IsAnswerIn terms.now.asked.now.answer lines graph
             (question_of ask.now)) (W.contents writer.old) (W.contents writer.new)) }
         ensures kinds { IfErr result IsWritingFault }
     {
         answer_texts_by_lines_are_unique();
-        if !self.is_short(ask, walks, terms) {
-            self.answer(rt, writer, ask, walks, terms, kept)?;
+        if !self.is_short(ask, lines, terms) {
+            self.answer(rt, writer, ask, lines, terms, kept)?;
             return Ok(Told::Whole);
         }
-        let text = match self.answer_text(rt, ask, walks, terms, kept) {
+        let text = match self.answer_text(rt, ask, lines, terms, kept) {
             Ok(text) => text,
             Err(Fault::Spawn) => return Err(Fault::Spawn),
             Err(_) => return Ok(Told::Nothing),
@@ -179,38 +175,38 @@ impl Session {
         Ok(Told::Whole)
     }
 
-    /// What is asked and how large the graph is, as a text.
+    /// Makes the text of an answer and of how large the graph is.
     fn answer_text<H: Threads + Wait + Clock + Sync, G: Gate + Sync>(
         &self,
         rt: &H,
         ask: &Ask,
-        walks: bool,
+        lines: Lines,
         terms: &Terms<'_, G>,
         kept: &mut Option<Workspace>,
     ) -> Result<Vec<u8>, Fault>
         requires graphs { AreGraphs self.now.graphs }
-        requires bound { IsLinesAsked terms.now.lines }
+        requires bound { IsLinesAsked lines }
         requires within { IsQuestionWithin self.now.graphs.network.n (question_of ask.now) }
         ensures text { (graph : Content) → HoldsGraph terms.now.asked.now.answer graph self.now
-            → IfOk result (λ text. IsAnswerIn terms.now.asked.now.answer terms.now.lines walks graph
+            → IfOk result (λ text. IsAnswerIn terms.now.asked.now.answer lines graph
             (question_of ask.now) text.items) }
         ensures kinds { IfErr result IsWritingFault }
     {
         let mut text = Vec::new(self.alloc);
-        self.answer(rt, &mut text, ask, walks, terms, kept)?;
+        self.answer(rt, &mut text, ask, lines, terms, kept)?;
         Ok(text)
     }
 
-    /// Whether a reply is so short that it may be made in memory. No reply depends on it.
-    fn is_short<G>(&self, ask: &Ask, walks: bool, terms: &Terms<'_, G>) -> bool {
+    /// Tells if a reply is so short that it may be made in memory. No reply depends on it.
+    fn is_short<G>(&self, ask: &Ask, lines: Lines, terms: &Terms<'_, G>) -> bool {
         let n = self.graphs.network.n() as usize;
-        let (lines, has_walks) = match (terms.asked.answer, ask) {
+        let (count, has_walks) = match (terms.asked.answer, ask) {
             (Answer::Components, _) | (_, Ask::Absent) => (n, false),
-            (_, Ask::Sources(sources)) => (sources.len().saturating_mul(n), has_walks(terms.lines)),
-            (_, Ask::Pairs(pairs)) => (pairs.len(), walks),
+            (_, Ask::Sources(sources)) => (sources.len().saturating_mul(n), lines.has_walks()),
+            (_, Ask::Pairs(pairs)) => (pairs.len(), lines.has_walks()),
         };
         let words = if has_walks { n } else { 1 };
-        lines.saturating_mul(words) <= FEW_WORDS
+        count.saturating_mul(words) <= FEW_WORDS
     }
 
     /// Adds arcs to the graph, and replies how many they are and to what is asked.
@@ -220,20 +216,20 @@ impl Session {
         writer: &mut W,
         arcs: &[ArcRec],
         ask: &Ask,
-        walks: bool,
+        lines: Lines,
         terms: &Terms<'_, G>,
         kept: &mut Option<Workspace>,
     ) -> Result<Told, Fault>
         requires graphs { AreGraphs self.old.graphs }
-        requires bound { IsLinesAsked terms.now.lines }
+        requires bound { IsLinesAsked lines }
         requires within { IsQuestionWithin self.old.graphs.network.n (question_of ask.now) }
         requires added { IsAddedWithin self.old.graphs.network.n (Some arcs.now) }
         ensures reply { (graph : Content) → HoldsGraph terms.now.asked.now.answer graph self.old
-            → IfOk result (λ told. IsTold told (Writes (IsGrownReply terms.now.asked.now.answer terms.now.lines walks graph
+            → IfOk result (λ told. IsTold told (Writes (IsGrownReply terms.now.asked.now.answer lines graph
             arcs.now (question_of ask.now)) (W.contents writer.old) (W.contents writer.new))
             (Appends (W.contents writer.old) (W.contents writer.new) [])) }
         ensures cut { (graph : Content) → HoldsGraph terms.now.asked.now.answer graph self.old
-            → OnErr result (WritesPrefix (IsGrownReply terms.now.asked.now.answer terms.now.lines walks graph arcs.now
+            → OnErr result (WritesPrefix (IsGrownReply terms.now.asked.now.answer lines graph arcs.now
             (question_of ask.now)) (W.contents writer.old) (W.contents writer.new)) }
         ensures graph { (graph : Content) → HoldsGraph terms.now.asked.now.answer graph self.old
             → IfOk result (λ told. IsTold told
@@ -246,7 +242,7 @@ impl Session {
         let Told::Whole = self.grow(rt, writer, arcs, terms)? else {
             return Ok(Told::Nothing);
         };
-        self.answer(rt, writer, ask, walks, terms, kept)?;
+        self.answer(rt, writer, ask, lines, terms, kept)?;
         Ok(Told::Whole)
     }
 
@@ -256,23 +252,23 @@ impl Session {
         rt: &H,
         writer: &mut W,
         ask: &Ask,
-        walks: bool,
+        lines: Lines,
         terms: &Terms<'_, G>,
         kept: &mut Option<Workspace>,
     ) -> Result<(), Fault>
         requires graphs { AreGraphs self.now.graphs }
-        requires bound { IsLinesAsked terms.now.lines }
+        requires bound { IsLinesAsked lines }
         requires within { IsQuestionWithin self.now.graphs.network.n (question_of ask.now) }
         ensures answered { (graph : Content) → HoldsGraph terms.now.asked.now.answer graph self.now
-            → OnOk result (Writes (IsAnswerIn terms.now.asked.now.answer terms.now.lines walks graph
+            → OnOk result (Writes (IsAnswerIn terms.now.asked.now.answer lines graph
             (question_of ask.now)) (W.contents writer.old) (W.contents writer.new)) }
         ensures cut { (graph : Content) → HoldsGraph terms.now.asked.now.answer graph self.now
-            → OnErr result (WritesPrefix (IsAnswerIn terms.now.asked.now.answer terms.now.lines walks graph
+            → OnErr result (WritesPrefix (IsAnswerIn terms.now.asked.now.answer lines graph
             (question_of ask.now)) (W.contents writer.old) (W.contents writer.new)) }
         ensures kinds { IfErr result IsWritingFault }
     {
         answer_texts_by_lines_are_unique();
-        self.write_body(rt, writer, ask, walks, terms, kept)?;
+        self.write_body(rt, writer, ask, lines, terms, kept)?;
         let mut ready = Vec::new(self.alloc);
         put_ready(&mut ready, self.graphs.network.n(), self.arcs as u64)?;
         write_whole(writer, &ready)
@@ -284,18 +280,18 @@ impl Session {
         rt: &H,
         writer: &mut W,
         ask: &Ask,
-        walks: bool,
+        lines: Lines,
         terms: &Terms<'_, G>,
         kept: &mut Option<Workspace>,
     ) -> Result<(), Fault>
         requires graphs { AreGraphs self.now.graphs }
-        requires bound { IsLinesAsked terms.now.lines }
+        requires bound { IsLinesAsked lines }
         requires within { IsQuestionWithin self.now.graphs.network.n (question_of ask.now) }
         ensures body { (graph : Content) → HoldsGraph terms.now.asked.now.answer graph self.now
-            → OnOk result (Writes (IsBodyIn terms.now.asked.now.answer terms.now.lines walks graph (question_of ask.now))
+            → OnOk result (Writes (IsBodyIn terms.now.asked.now.answer lines graph (question_of ask.now))
             (W.contents writer.old) (W.contents writer.new)) }
         ensures cut { (graph : Content) → HoldsGraph terms.now.asked.now.answer graph self.now
-            → OnErr result (WritesPrefix (IsBodyIn terms.now.asked.now.answer terms.now.lines walks graph
+            → OnErr result (WritesPrefix (IsBodyIn terms.now.asked.now.answer lines graph
             (question_of ask.now)) (W.contents writer.old) (W.contents writer.new)) }
         ensures kinds { IfErr result IsWritingFault }
     {
@@ -304,9 +300,8 @@ impl Session {
         }
         let kind = BlockKind {
             graphs: &self.graphs,
-            lines: lines_for(terms.lines, walks, ask),
+            lines: lines_for(lines, ask),
         };
-        let mut figures = Figures::new(rt);
         answer_question(
             rt,
             self.alloc,
@@ -316,7 +311,7 @@ impl Session {
             terms.asked,
             terms.gate,
             kept,
-            &mut figures,
+            &mut NoWatch,
         )
     }
 

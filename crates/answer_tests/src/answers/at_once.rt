@@ -2,7 +2,8 @@
 
 use crate::answers::answer_with_figures;
 use crate::answers::gates::Meeting;
-use job_answer::{Answer, Asked, AtOnce, Counter, answer_bytes};
+use job_answer::{Answer, Asked, AtOnce, answer_bytes};
+use job_messages::Counter;
 use obim_engine::{OpenGate, Settings};
 use std::alloc::Global;
 use std::process::Abort;

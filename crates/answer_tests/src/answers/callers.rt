@@ -3,11 +3,11 @@
 ghost use Rattle.std.specs.Prelude.{◌≡◌, ◌≢◌, ◌+◌, ◌≤◌, ◌++◌, ℕ, List, length, IfErr};
 ghost use Rattle.dimacs_text.specs.Jobs.{Content, IsJobText};
 ghost use Rattle.dimacs_text.specs.declared.fault.LineKind.{LineKind};
-ghost use Rattle.job_answer.specs.AnswerText.{IsAnswerText};
+ghost use Rattle.job_answer.specs.Within.{IsAnswerTextBy};
 ghost use Rattle.job_answer.specs.Outcome.{IsAnswerOf};
 
 use dimacs_text::laws::a_text_has_one_job;
-use job_answer::laws::asked_jobs_have_answers;
+use job_answer::laws::asked_jobs_have_answers_by_lines;
 use job_answer::{Asked, Fault, answer};
 use obim_engine::Gate;
 use std::alloc::Global;
@@ -31,15 +31,15 @@ pub(crate) fn append_answer<H: Threads + Wait + Clock + Sync, G: Gate + Sync>(
     ensures faulty { (line : ℕ) (kind : LineKind)
         → result ≡ Err (Fault.Text line kind) → bytes.new.items ≡ bytes.old.items }
     ensures prefix { IfErr result (λ _. (job : Content) (reply : List ℕ)
-        → IsJobText text.now job → IsAnswerText asked.now.answer asked.now.walks job reply
+        → IsJobText text.now job → IsAnswerTextBy asked.now.answer asked.now.lines job reply
         → (left : List ℕ) × (bytes.old.items ++ reply ≡ bytes.new.items ++ left)) }
     // And there is an answer, of which it is a prefix.
     ensures begun { result ≡ Err Fault.Write → (reply : List ℕ)
-        × IsAnswerOf asked.now.answer asked.now.walks text.now reply
+        × IsAnswerOf asked.now.answer asked.now.lines text.now reply
         × (left : List ℕ) × (bytes.old.items ++ reply ≡ bytes.new.items ++ left) }
 {
     a_text_has_one_job();
-    asked_jobs_have_answers();
+    asked_jobs_have_answers_by_lines();
     let mut reader = text;
     answer(rt, alloc, &mut reader, bytes, asked, gate)
 }

@@ -1,18 +1,11 @@
 //! Blocks in short: labels as bytes, and lines of what they come to.
 
-ghost use Rattle.std.specs.Prelude.{◌≡◌, false};
-ghost use Rattle.job_answer.specs.LineWalks.{has_walks};
-ghost use Rattle.job_answer.specs.Solves.{IsLinesAsked};
-
-use crate::answers::added::{asked, six_with};
+use crate::answers::added::six_with;
 use crate::answers::pairs::SIX_PAIRS_ANSWER;
-use job_answer::{Answer, Asked, Figures, Lines, answer_by};
-use obim_engine::OpenGate;
-use std::alloc::Global;
-use std::sync::Wait;
+use job_answer::{Answer, Asked, Lines, answer_bytes};
+use obim_engine::{OpenGate, Settings};
+use std::process::Abort;
 use std::test::Fail;
-use std::thread::Threads;
-use std::time::Clock;
 
 /// Labels 0, 10, 10, 12, 10 and 15.
 pub const SIX_RAW: &[u8] = b"s 1\n\0\0\0\0\0\0\0\0\x0a\0\0\0\0\0\0\0\x0a\0\0\0\0\0\0\0\
@@ -68,38 +61,11 @@ const ANSWERS: [(Answer, bool, &[u8], &[u8]); 14] = [
     (Answer::Components, false, b"", SIX_COMPONENTS),
 ];
 
-/// Lines in short: labels as bytes, or what they come to.
-fn in_short(raw: bool) -> Lines
-    ensures walks { has_walks result ≡ false }
-    ensures bound { IsLinesAsked result }
-{
-    if raw { Lines::Raw } else { Lines::Totals }
-}
-
-/// The answer to a text in short.
-fn answer_in_short<H: Threads + Wait + Clock + Sync>(
-    rt: &H,
-    alloc: Global,
-    text: &[u8],
-    asked: &Asked,
-    raw: bool,
-) -> Result<Vec<u8>, Fail>
-    requires { asked.now.walks ≡ false }
-{
-    let mut figures = Figures::new(rt);
-    let (mut reader, mut bytes) = (text, Vec::new(alloc));
-    let lines = in_short(raw);
-    answer_by(
-        rt,
-        alloc,
-        &mut reader,
-        &mut bytes,
-        asked,
-        lines,
-        &OpenGate,
-        &mut figures,
-    )?;
-    Ok(bytes)
+/// Labels as bytes, or what they come to.
+fn asked_in_short(rt: &impl Abort, kind: Answer, raw: bool, workers: u32) -> Asked {
+    let settings = Settings::new(workers, 4, 16).expect(rt, "settings within their limits");
+    let lines = if raw { Lines::Raw } else { Lines::Totals };
+    Asked::by_lines(kind, settings, lines, 100000).expect(rt, "lines of any kind")
 }
 
 #[test]
@@ -107,9 +73,8 @@ fn answers_in_short(rt: HostRuntime) -> Result<(), Fail> {
     for (kind, raw, sections, want) in ANSWERS {
         let text = six_with(rt.alloc(), sections)?;
         for workers in [1, 3] {
-            let asked = asked(&rt, kind, false, (workers, 4, 16));
-            assert!(rt; !asked.walks);
-            let bytes = answer_in_short(&rt, rt.alloc(), &text, &asked, raw)?;
+            let asked = asked_in_short(&rt, kind, raw, workers);
+            let bytes = answer_bytes(&rt, rt.alloc(), &text, &asked, &OpenGate)?;
             assert!(rt; bytes.as_slice() == want);
         }
     }

@@ -2,27 +2,19 @@
 //! the answer, and made once more it writes the answer that was worked by hand. `tests/refusals` refuses each in
 //! turn; `tests/refusals.tsv` has the calls.
 
-ghost use Rattle.std.specs.Prelude.{◌≡◌};
-ghost use Rattle.job_answer.specs.LineWalks.{has_walks};
-ghost use Rattle.job_answer.specs.Solves.{IsLinesAsked};
-
 use crate::answers::added::{SIX_ADDED, SIX_ADDED_WALKS};
 use crate::answers::at_once::{SIX_SOURCES, SIX_SOURCES_ANSWER, asked_at_once};
 use crate::answers::in_short::SIX_RAW;
 use crate::answers::pairs::{SIX_PAIRS, SIX_PAIRS_ANSWER, SIX_PAIRS_WALKS};
 use crate::answers::{SIX, SIX_WALKS, asked_for_walks, asked_with};
 use job_answer::{
-    Answer, Asked, AtOnce, Counter, Fault, Figures, Lines, answer, answer_by, answer_bytes,
-    answer_watched,
+    Answer, Asked, AtOnce, Fault, Lines, NoWatch, answer, answer_bytes, answer_watched,
 };
-use obim_engine::{Gate, OpenGate};
+use job_messages::Counter;
+use obim_engine::{Gate, OpenGate, Settings};
 use route_walks::{Memory, refusable, tried_again};
-use std::alloc::Global;
 use std::process::Abort;
-use std::sync::Wait;
 use std::test::Fail;
-use std::thread::Threads;
-use std::time::Clock;
 
 // A writer with room for more than the answer takes no memory of its own.
 const ROOM: usize = 1000;
@@ -31,11 +23,23 @@ fn expect_refused(rt: &impl Abort, fault: Fault) {
     assert!(rt; matches!(fault, Fault::Memory | Fault::Spawn), "{fault:?}");
 }
 
+// Of the vertices within 10 from the source.
+const SIX_WITHIN: &[u8] =
+    b"s 1\nd 1 0\nw 1 0 1\nd 2 10\nw 2 10 1 3 5 2\nd 3 10\nw 3 10 1 3\nd 5 10\nw 5 10 1 3 5\n";
+
+// Distances by these lines.
+fn asked_by(rt: &impl Abort, lines: Lines) -> Asked {
+    let settings = Settings::new(2, 4, 16).expect(rt, "settings within their limits");
+    Asked::by_lines(Answer::Distances, settings, lines, 1000).expect(rt, "a bound below INF")
+}
+
 #[test]
 fn of_answer(rt: HostRuntime) -> Result<(), Fail> {
     let alloc = rt.alloc();
     let labels = asked_with(&rt, Answer::Distances, 1000, (2, 4, 16));
     let three = asked_at_once(&rt, 3, AtOnce::Most(3));
+    let near = asked_by(&rt, Lines::of(true, Some(10)));
+    let totals = asked_by(&rt, Lines::Totals);
     let table = [
         (asked_for_walks(&rt, 1, 1000), SIX, SIX_WALKS),
         (asked_for_walks(&rt, 2, 1000), SIX, SIX_WALKS),
@@ -43,6 +47,9 @@ fn of_answer(rt: HostRuntime) -> Result<(), Fail> {
         (asked_for_walks(&rt, 2, 1000), SIX_ADDED, SIX_ADDED_WALKS),
         (labels, SIX_PAIRS, SIX_PAIRS_ANSWER),
         (three, SIX_SOURCES, SIX_SOURCES_ANSWER),
+        (near, SIX, SIX_WITHIN),
+        (asked_by(&rt, Lines::Raw), SIX, SIX_RAW),
+        (totals, SIX, b"t 1 6 57 15 6\n"),
     ];
     for (asked, text, want) in table {
         let (mut reader, mut same) = (text, text);
@@ -61,69 +68,6 @@ fn of_answer(rt: HostRuntime) -> Result<(), Fail> {
     Ok(())
 }
 
-const SIX_WITHIN: &[u8] =
-    b"s 1\nd 1 0\nw 1 0 1\nd 2 10\nw 2 10 1 3 5 2\nd 3 10\nw 3 10 1 3\nd 5 10\nw 5 10 1 3 5\n";
-
-// The answer by some lines.
-fn expect_by<H: Threads + Wait + Clock + Abort + Sync>(
-    rt: &H,
-    alloc: Global,
-    asked: &Asked,
-    lines: Lines,
-    want: &[u8],
-) -> Result<(), Fail>
-    requires walks { has_walks lines ≡ asked.now.walks }
-    requires bound { IsLinesAsked lines }
-{
-    let (mut reader, mut same) = (SIX, SIX);
-    let mut out = Vec::with_capacity(alloc, ROOM)?;
-    let mut figures = Figures::new(rt);
-    let gate = &OpenGate;
-    if let Err(fault) = refusable!(
-        alloc,
-        answer_by(
-            rt,
-            alloc,
-            &mut reader,
-            &mut out,
-            asked,
-            lines,
-            gate,
-            &mut figures
-        )
-    ) {
-        expect_refused(rt, fault);
-        assert!(rt; want.starts_with(&out));
-        out.clear();
-        answer_by(
-            rt,
-            alloc,
-            &mut same,
-            &mut out,
-            asked,
-            lines,
-            gate,
-            &mut figures,
-        )?;
-    }
-    assert!(rt; out.as_slice() == want);
-    Ok(())
-}
-
-// Of the vertices within a bound those that cost at most 10, and in short.
-#[test]
-fn of_answer_by(rt: HostRuntime) -> Result<(), Fail> {
-    let alloc = rt.alloc();
-    let asked = asked_for_walks(&rt, 2, 1000);
-    let (walks, bound) = (asked.walks, 10);
-    let lines = Lines::Within { walks, bound };
-    expect_by(&rt, alloc, &asked, lines, SIX_WITHIN)?;
-    let asked = asked_with(&rt, Answer::Distances, 1000, (2, 4, 16));
-    assert!(rt; !asked.walks);
-    expect_by(&rt, alloc, &asked, Lines::Raw, SIX_RAW)?;
-    expect_by(&rt, alloc, &asked, Lines::Totals, b"t 1 6 57 15 6\n")
-}
-
 #[test]
 fn of_answer_watched(rt: HostRuntime) -> Result<(), Fail> {
     let alloc = rt.alloc();
@@ -131,7 +75,6 @@ fn of_answer_watched(rt: HostRuntime) -> Result<(), Fail> {
         let asked = asked_for_walks(&rt, workers, 1000);
         let (mut reader, mut same) = (SIX, SIX);
         let mut out = Vec::with_capacity(alloc, ROOM)?;
-        let mut figures = Figures::new(&rt);
         if let Err(fault) = refusable!(
             alloc,
             answer_watched(
@@ -141,7 +84,7 @@ fn of_answer_watched(rt: HostRuntime) -> Result<(), Fail> {
                 &mut out,
                 &asked,
                 &OpenGate,
-                &mut figures
+                &mut NoWatch
             )
         ) {
             expect_refused(&rt, fault);
@@ -154,7 +97,7 @@ fn of_answer_watched(rt: HostRuntime) -> Result<(), Fail> {
                 &mut out,
                 &asked,
                 &OpenGate,
-                &mut figures,
+                &mut NoWatch,
             )?;
         }
         assert_eq!(rt; out.as_slice(), SIX_WALKS);

@@ -3,7 +3,7 @@
 ghost use Rattle.std.specs.Prelude.{Some};
 
 use crate::kept::asked_within;
-use job_answer::{Fault, Lines};
+use job_answer::Fault;
 use obim_engine::OpenGate;
 use session_answer::answer_session;
 use std::alloc::Global;
@@ -134,16 +134,7 @@ fn each_reply_is_out_before_more_is_read(rt: HostRuntime) -> Result<(), Fail> {
         };
         let mut out = Wired::new(rt.alloc(), &wire);
         let asked = asked_within(&rt, workers, 1000);
-        let lines = Lines::of(false, None);
-        answer_session(
-            &rt,
-            rt.alloc(),
-            &mut client,
-            &mut out,
-            &asked,
-            lines,
-            &OpenGate,
-        )?;
+        answer_session(&rt, rt.alloc(), &mut client, &mut out, &asked, &OpenGate)?;
         assert_eq!(rt; out.taken.as_slice(), REPLIES);
         assert_eq!(rt; client.early, 0);
     }
@@ -163,16 +154,7 @@ fn limits_of_graphs(rt: HostRuntime) -> Result<(), Fail> {
         let mut reader = GRAPH;
         let mut out = Vec::new(rt.alloc());
         let asked = asked_within(&rt, 1, limit);
-        let lines = Lines::of(false, None);
-        let outcome = answer_session(
-            &rt,
-            rt.alloc(),
-            &mut reader,
-            &mut out,
-            &asked,
-            lines,
-            &OpenGate,
-        );
+        let outcome = answer_session(&rt, rt.alloc(), &mut reader, &mut out, &asked, &OpenGate);
         assert!(rt; outcome == want);
         assert_eq!(rt; out.as_slice(), text);
     }

@@ -4,7 +4,7 @@
 use crate::kept::asked;
 use dimacs_text::Ask;
 use job_answer::{
-    Answer, BlockKind, Fault, Figures, Lines, answer_question, graphs_for, is_unasked, write_whole,
+    Answer, BlockKind, Fault, Lines, NoWatch, answer_question, graphs_for, is_unasked, write_whole,
 };
 use least_costs::Workspace;
 use obim_engine::OpenGate;
@@ -47,7 +47,6 @@ fn of_answer_question(rt: HostRuntime) -> Result<(), Fail> {
     let lines = Lines::Each { walks: false };
     let mut out = Vec::with_capacity(alloc, ROOM)?;
     let mut kept = Some(Workspace::new());
-    let mut figures = Figures::new(&rt);
     let kind = BlockKind {
         graphs: &graphs,
         lines,
@@ -65,7 +64,7 @@ fn of_answer_question(rt: HostRuntime) -> Result<(), Fail> {
             &asked,
             gate,
             &mut kept,
-            &mut figures
+            &mut NoWatch
         )
     ) {
         assert!(rt; matches!(fault, Fault::Memory | Fault::Spawn), "{fault:?}");
@@ -84,7 +83,7 @@ fn of_answer_question(rt: HostRuntime) -> Result<(), Fail> {
             &asked,
             gate,
             &mut kept,
-            &mut figures,
+            &mut NoWatch,
         )?;
     }
     assert!(rt; out.as_slice() == JOINED);
@@ -105,12 +104,11 @@ fn of_write_whole(rt: HostRuntime) -> Result<(), Fail> {
 fn of_answer_session(rt: HostRuntime) -> Result<(), Fail> {
     let alloc = rt.alloc();
     let asked = asked(&rt, Answer::Distances);
-    let lines = Lines::Each { walks: false };
     let (mut reader, mut same) = (REQUESTS, REQUESTS);
     let mut out = Vec::with_capacity(alloc, ROOM)?;
     let ended = refusable!(
         alloc,
-        answer_session(&rt, alloc, &mut reader, &mut out, &asked, lines, &OpenGate)
+        answer_session(&rt, alloc, &mut reader, &mut out, &asked, &OpenGate)
     );
     if let Err(fault) = ended {
         assert!(rt; matches!(fault, Fault::Memory | Fault::Spawn), "{fault:?}");
@@ -119,7 +117,7 @@ fn of_answer_session(rt: HostRuntime) -> Result<(), Fail> {
     if out.as_slice() != REPLIES {
         assert!(rt; ended.is_err() || has_refusal(&out));
         out.clear();
-        answer_session(&rt, alloc, &mut same, &mut out, &asked, lines, &OpenGate)?;
+        answer_session(&rt, alloc, &mut same, &mut out, &asked, &OpenGate)?;
     }
     assert!(rt; out.as_slice() == REPLIES);
     Ok(())

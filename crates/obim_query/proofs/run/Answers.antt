@@ -1,11 +1,6 @@
 use Rattle.std.proofs.Common.{◌≡◌, ◌≤◌, ℕ, Bool, true, false, not, List, Option, Some, None, inl, inr, refl, sym, arith}
 use Rattle.std.specs.Io.KnownBytes.{Keeps}
-use Rattle.clap.specs.Words.{Text}
-use Rattle.job_answer.specs.LineWalks.{bound_in}
-use Rattle.job_answer.specs.Solves.{IsLinesAsked}
-use Rattle.job_answer.specs.declared.asked.Lines.{Lines}
-use Rattle.job_answer.specs.declared.asked.Lines.TheVariants as lines
-use Rattle.command_line.specs.CommandLine.{AsksCost, IsLine, IsText}
+use Rattle.command_line.specs.CommandLine.{IsLine, IsText}
 use Rattle.command_line.specs.declared.refusals.Refusal.{Refusal}
 use Rattle.command_line.specs.declared.refusals.Refusal.TheVariants as refusal
 use Rattle.obim_query.specs.Replied.{IsRefusalStatus, IsStatusOf, IsTextStatus}
@@ -46,21 +41,6 @@ line_by : (why : Refusal) (status : ℕ) → IsStatusOf why status → status �
 line_by (refusal.Text text) status is one = absurd (no_text status 1 one (omega arith) (omega arith) is)
 line_by (refusal.Line line) status is one = tt
 line_by refusal.Memory status is one = absurd (omega (arith, is, one))
-
--- a bound that words ask for is a cost
-low_bound : (text : Option Text) (by : Lines) → AsksCost text (bound_in by) → IsLinesAsked by
-low_bound text (lines.Each walks) asked = tt
-low_bound text lines.Raw asked = tt
-low_bound text lines.Totals asked = tt
-low_bound (Some text) (lines.Within walks bound) asked = asked.1
-low_bound None (lines.Within walks bound) asked =
-    let clash : Some bound ≡ None = asked in absurd (cc)
-
-pub answer_job-requires-clause-bound : goal.answer_job-requires-clause-bound
-answer_job-requires-clause-bound g c lives longer = low_bound _ _ c.in-Ok.ensures.asked.ask.lines.asks_within
-
-pub serve-requires-clause-bound : goal.serve-requires-clause-bound
-serve-requires-clause-bound g c lives longer = low_bound _ _ c.in-Ok.ensures.asked.ask.lines.asks_within
 
 pub returns-in-Ok : goal.returns-in-Ok
 returns-in-Ok g c =

@@ -1,4 +1,5 @@
 use Rattle.std.proofs.Common.{◌≡◌, ◌∙◌, sym}
+use Rattle.job_answer.specs.LineWalks.{has_walks}
 use Rattle.command_line.specs.CommandLine.{AsksLines}
 use Rattle.command_line.proofs.Same.{same_asked, same_options}
 use Rattle.command_line.proofs.Unique.{one_auto, one_flag, one_hyphen, one_kind, one_lines, one_plan, one_settings}
@@ -9,10 +10,11 @@ returns c words one other is too =
     let a = is.ask in
     let b = too.ask in
     let kind : one.asked.answer ≡ other.asked.answer = one_kind _ _ _ a.answer b.answer in
-    let walks : one.asked.walks ≡ other.asked.walks = one_flag _ _ _ a.walks b.walks in
-    let lines : AsksLines _ _ _ other.asked.answer other.asked.walks one.lines = rw (← kind, ← walks) a.lines in
+    let walks : has_walks one.asked.lines ≡ has_walks other.asked.lines = one_flag _ _ _ a.walks b.walks in
+    let lines : AsksLines _ _ _ other.asked.answer (has_walks other.asked.lines) one.asked.lines =
+    rw (← kind, ← walks) a.lines in
     same_options one other
-    (same_asked _ _ kind (one_settings _ _ _ _ _ a.settings b.settings) walks (a.limit ∙ sym b.limit)
-    (one_plan _ _ _ a.at_once b.at_once) (one_auto _ _ _ a.saves b.saves))
-    (one_lines _ _ _ _ _ _ _ lines b.lines) (one_flag _ _ _ a.session b.session) (one_flag _ _ _ a.stats b.stats)
+    (same_asked _ _ kind (one_lines _ _ _ _ _ _ _ lines b.lines) (one_settings _ _ _ _ _ a.settings b.settings)
+    (a.limit ∙ sym b.limit) (one_plan _ _ _ a.at_once b.at_once) (one_auto _ _ _ a.saves b.saves))
+    (one_flag _ _ _ a.session b.session) (one_flag _ _ _ a.stats b.stats)
     (one_flag _ _ _ a.progress b.progress) (one_flag _ _ _ a.explain b.explain) (one_hyphen _ _ _ a.typed b.typed)

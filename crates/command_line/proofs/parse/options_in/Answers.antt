@@ -1,18 +1,19 @@
-use Rattle.std.proofs.Common.{◌≡◌, ◌∙◌, List, [], Option, codes, false, true, rules, subst, sym, ap}
+use Rattle.std.proofs.Common.{◌≡◌, ◌∙◌, List, [], Option, codes, false, true, refl, rules, subst, sym, ap}
 use Rattle.std.proofs.Common.{unwrap_or, is_some, option_map}
 use Rattle.clap.proofs.WalkLemmas.{first_value-rows, raw_values-rows}
 use Rattle.clap.specs.Words.{Text, first_of, first_value, found_of, matched_of, raw_values, rows_of}
 use Rattle.clap.specs.declared.parser.matches.Found.{Found}
-use Rattle.job_answer.specs.LineWalks.{bound_in, is_raw}
+use Rattle.job_answer.specs.LineWalks.{bound_in, has_walks, is_raw, is_totals}
 use Rattle.job_answer.specs.Choices.{IsAsked}
 use Rattle.job_answer.specs.declared.asked.Answer.{Answer}
+use Rattle.job_answer.specs.declared.asked.Lines.{Lines}
 use Rattle.job_answer.specs.declared.asked.Lines.TheVariants.{Each}
 use Rattle.job_answer.specs.declared.asked.TheConstants.{MAX_BYTES}
 use Rattle.command_line.specs.CommandLine.{AreHyphens, AsksAtOnce, AsksCost, AsksFor, AsksLines, AsksSettings, IsAlone}
 use Rattle.command_line.specs.CommandLine.{IsAuto, IsFlag, NamesKind, NamesLabels, operands_in}
 use Rattle.command_line.specs.declared.options.Options.{Options}
 use Rattle.command_line.proofs.Finding.{none_passed}
-use Rattle.command_line.proofs.Unique.{one_flag, one_kind}
+use Rattle.command_line.proofs.Unique.{one_flag, one_kind, one_lines}
 use Rattle.command_line.proofs.parse.options_in.Goals as goal
 
 -- what is said of the value that was found, and of what it asks for
@@ -52,14 +53,14 @@ module _ (found : Found) (options : Options) (asks : AsksFor (rows_of found) opt
   hyphens_found : AreHyphens (operands_of found) options.typed
   hyphens_found = subst (λ (texts : List Text). AreHyphens texts options.typed) (sym (operands-rows found)) asks.typed
 
-  lines_found : (kind : Answer) (walks : _) → kind ≡ options.asked.answer → walks ≡ options.asked.walks
+  lines_found : (kind : Answer) (walks : _) → kind ≡ options.asked.answer → walks ≡ has_walks options.asked.lines
       → AsksLines (first_value found (codes "within")) (first_value found (codes "labels"))
-      (first_value found (codes "totals")) kind walks options.lines
+      (first_value found (codes "totals")) kind walks options.asked.lines
   lines_found kind walks same walked = record {
     walked = asks.lines.walked ∙ sym walked;
-    asks_within = subst (λ text. AsksCost text (bound_in options.lines)) (sym (first_value-rows found (codes "within")))
+    asks_within = subst (λ text. AsksCost text (bound_in options.asked.lines)) (sym (first_value-rows found (codes "within")))
         asks.lines.asks_within;
-    asks_labels = subst (λ text. NamesLabels text (is_raw options.lines)) (sym (first_value-rows found (codes "labels")))
+    asks_labels = subst (λ text. NamesLabels text (is_raw options.asked.lines)) (sym (first_value-rows found (codes "labels")))
         asks.lines.asks_labels;
     asks_totals = flag_found _ _ asks.lines.asks_totals;
     plain = λ components. asks.lines.plain (sym same ∙ components) ∙ ap Each (sym walked);
@@ -77,9 +78,14 @@ module _ (found : Found) (options : Options) (asks : AsksFor (rows_of found) opt
       )
 
   -- what was found may be asked
-  asked_found : (kind : Answer) (walks : _) → kind ≡ options.asked.answer → walks ≡ options.asked.walks
-      → IsAsked kind walks MAX_BYTES
-  asked_found kind walks same walked = rw (same, walked, ← asks.limit) options.asked.within
+  asked_found : (kind : Answer) (walks : _) (by : Lines) → kind ≡ options.asked.answer
+      → walks ≡ has_walks options.asked.lines
+      → AsksLines (first_value found (codes "within")) (first_value found (codes "labels"))
+      (first_value found (codes "totals")) kind walks by
+      → IsAsked kind by MAX_BYTES
+  asked_found kind walks by same walked lines =
+      let is = one_lines _ _ _ _ _ _ _ lines (lines_found kind walks same walked) in
+      rw (same, is, ← asks.limit) options.asked.within
 
 pub returns : goal.returns
 unfolding operands_of
@@ -93,20 +99,21 @@ returns c =
     let shift = first_value-rows found (codes "shift") in
     let chunk = first_value-rows found (codes "chunk") in
     let answer = saving.answer ∙ with.answer ∙ made.answer in
-    let walks = saving.walks ∙ with.walks ∙ made.walks in
+    let lines_are = saving.lines ∙ with.lines ∙ made.lines in
     let lines = c.in_ok-lines.ensures in
+    let walks = ap has_walks lines_are ∙ lines.walked in
     record {
       answer = carried NamesKind _ _ _ _ (first_value-rows found (codes "answer")) answer c.in_ok-answer.ensures;
       walks = carried IsFlag _ _ _ _ (first_value-rows found (codes "walks")) walks c.has_flag-walks.ensures;
       lines = record {
-        walked = lines.walked ∙ sym walks;
-        asks_within = carried AsksCost _ _ _ _ (first_value-rows found (codes "within")) (search rules)
+        walked = refl;
+        asks_within = carried AsksCost _ _ _ _ (first_value-rows found (codes "within")) (ap bound_in lines_are)
             lines.asks_within;
-        asks_labels = carried NamesLabels _ _ _ _ (first_value-rows found (codes "labels")) (search rules)
+        asks_labels = carried NamesLabels _ _ _ _ (first_value-rows found (codes "labels")) (ap is_raw lines_are)
             lines.asks_labels;
-        asks_totals = carried IsFlag _ _ _ _ (first_value-rows found (codes "totals")) (search rules)
+        asks_totals = carried IsFlag _ _ _ _ (first_value-rows found (codes "totals")) (ap is_totals lines_are)
             lines.asks_totals;
-        plain = λ components. lines.plain (sym answer ∙ components) ∙ ap Each (sym walks);
+        plain = λ components. lines_are ∙ lines.plain (sym answer ∙ components) ∙ ap Each (sym walks);
       };
       settings = subst (AsksSettings (first_of (codes "workers") rows) (first_of (codes "shift") rows)
           (first_of (codes "chunk") rows)) (sym (saving.settings ∙ with.settings ∙ made.settings))
@@ -152,7 +159,7 @@ returns-in_err-lines c =
     let found = found_of c.args.matches.now in
     none_passed _ _ _ _ c.from_residual-in_err-lines.ensures.1 c.in_err-lines.ensures
     (λ options asks. (
-      options.lines,
+      options.asked.lines,
       lines_found found options asks _ _ (one_kind _ _ _ c.in_ok-answer.ensures (kind_found found options asks))
           (one_flag _ _ _ c.has_flag-walks.ensures (flag_found found options asks _ _ asks.walks)),
     ))
@@ -160,10 +167,10 @@ returns-in_err-lines c =
 pub returns-in_default : goal.returns-in_default
 returns-in_default c options asks =
     let found = found_of c.args.matches.now in
-    let may = asked_found found options asks _ _
+    let may = asked_found found options asks _ _ _
     (one_kind _ _ _ c.in_ok-answer.ensures (kind_found found options asks))
-    (one_flag _ _ _ c.has_flag-walks.ensures (flag_found found options asks _ _ asks.walks)) in
-    let bad : false ≡ true = sym (ap is_some c.in_default.is) ∙ c.new.ensures.within.1 may in absurd (cc)
+    (one_flag _ _ _ c.has_flag-walks.ensures (flag_found found options asks _ _ asks.walks)) c.in_ok-lines.ensures in
+    let bad : false ≡ true = sym (ap is_some c.in_default.is) ∙ c.by_lines.ensures.within.1 may in absurd (cc)
 
 pub returns-then-not-is_alone : goal.returns-then-not-is_alone
 returns-then-not-is_alone c options asks =

@@ -15,7 +15,7 @@ returns-in_err-graphs-clause-says g c =
     (record {
       asked = asked-if kind job (sym c.is_unasked.ensures ∙ c.if-is_unasked.false);
       has_sources = untold-if _ _ c.has_no_sources.ensures c.if-has_no_sources.false;
-      cut = writes-nothing (IsAnswerTextBy kind c.args.lines job) _;
+      cut = writes-nothing (IsAnswerTextBy kind c.args.asked.now.lines job) _;
     })
 
 pub returns-clause-reply : goal.returns-clause-reply
@@ -26,7 +26,7 @@ pub returns-clause-says : goal.returns-clause-says
 returns-clause-says g c =
     let kind = c.args.asked.now.answer in
     let job = content_of c.args.job in
-    reply-says kind c.args.lines job _ _ c.answer_question.result
+    reply-says kind c.args.asked.now.lines job _ _ c.answer_question.result
     (asked-if kind job (sym c.is_unasked.ensures ∙ c.if-is_unasked.false))
     (untold-if _ _ c.has_no_sources.ensures c.if-has_no_sources.false)
     c.answer_question.ensures.kinds

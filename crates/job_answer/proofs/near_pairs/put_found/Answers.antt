@@ -1,13 +1,11 @@
-use Rattle.std.proofs.Common.{◌≡◌, ◌+◌, ◌<◌, ◌∙◌, [], arith, drop, length, refl, rules, slice_index, sym, true}
-use Rattle.std.specs.Prelude.{slice_index_or}
-use Rattle.std.proofs.lemmas.List.{get_or-drop, get_or_read, length-drop}
-use Rattle.walk_report.specs.Told.{walks_in}
+use Rattle.std.proofs.Common.{◌+◌, ◌<◌, arith, drop, length, refl, rules, true}
+use Rattle.std.proofs.lemmas.List.{get_or-drop, length-drop}
 use Rattle.job_answer.specs.Graphs.{growth_of}
 use Rattle.job_answer.specs.NearPairs.{found_text}
 use Rattle.job_answer.specs.Tasks.{IsWalkedBlock}
 use Rattle.least_costs.specs.Pairs.{pair_at}
 use Rattle.job_answer.proofs.BlockLists.{blocks-more, blocks-stop, next-cut, rest-cut}
-use Rattle.job_answer.proofs.NearPairs.{found-lines, walk-read}
+use Rattle.job_answer.proofs.NearPairs.{found-lines}
 use Rattle.job_answer.proofs.Sinks.{at-err, cuts-is, cuts-line, puts-is, puts-line}
 use Rattle.job_answer.proofs.near_pairs.put_found.Goals as goal
 
@@ -25,18 +23,12 @@ loop-place-preserved g c =
     let label = c.index.result.now in
     let walk = c.deref.result.now in
     let there = get_or-drop first pairs k (0, 0) in
-    let label-is : label ≡ slice_index found.labels.items k =
-    get_or_read found.labels.items k label (omega (arith, here, c.requires.found.labels)) c.index.ensures 0 in
-    let in-walks : k < length found.walks.items = omega (arith, here, c.requires.found.walks) in
-    let vector = c.index-in-loop-place.result.now in
-    let walk-is : slice_index_or (walks_in found.walks.items) k [] ≡ walk =
-    walk-read found.walks.items k vector in-walks (get_or_read found.walks.items k vector in-walks c.index-in-loop-place.ensures vector)
-    ∙ sym c.deref.ensures.value in
     let block = IsWalkedBlock graphs in
     let text = found_text pair.0 pair.1 label walk in
     let is_block : block pair text =
-    found-lines c.least_labels_exist.ensures c.hops_and_parents_exist.ensures graphs pairs solve targets found k label walk
-    c.n.ensures.network c.requires.alone c.requires.pairs c.requires.solve c.requires.targets c.requires.found here label-is walk-is in
+    found-lines c.least_labels_exist.ensures c.hops_and_parents_exist.ensures graphs pairs solve targets found k label
+    c.index-in-loop-place.result.now walk c.n.ensures.network c.requires.alone c.requires.pairs c.requires.solve
+    c.requires.targets c.requires.found here c.index.ensures c.index-in-loop-place.ensures c.deref.ensures.value in
     let inside : k < length (drop first pairs) =
     omega (arith, here, c.requires.targets.count, c.requires.solve.within, length-drop first pairs) in
     record {
@@ -74,18 +66,12 @@ returns-in_err-send_if_full-clause-prefix g c =
     let label = c.index.result.now in
     let walk = c.deref.result.now in
     let there = get_or-drop first pairs k (0, 0) in
-    let label-is : label ≡ slice_index found.labels.items k =
-    get_or_read found.labels.items k label (omega (arith, here, c.requires.found.labels)) c.index.ensures 0 in
-    let in-walks : k < length found.walks.items = omega (arith, here, c.requires.found.walks) in
-    let vector = c.index-in-loop-place.result.now in
-    let walk-is : slice_index_or (walks_in found.walks.items) k [] ≡ walk =
-    walk-read found.walks.items k vector in-walks (get_or_read found.walks.items k vector in-walks c.index-in-loop-place.ensures vector)
-    ∙ sym c.deref.ensures.value in
     let block = IsWalkedBlock graphs in
     let text = found_text pair.0 pair.1 label walk in
     let is_block : block pair text =
-    found-lines c.least_labels_exist.ensures c.hops_and_parents_exist.ensures graphs pairs solve targets found k label walk
-    c.n.ensures.network c.requires.alone c.requires.pairs c.requires.solve c.requires.targets c.requires.found here label-is walk-is in
+    found-lines c.least_labels_exist.ensures c.hops_and_parents_exist.ensures graphs pairs solve targets found k label
+    c.index-in-loop-place.result.now walk c.n.ensures.network c.requires.alone c.requires.pairs c.requires.solve
+    c.requires.targets c.requires.found here c.index.ensures c.index-in-loop-place.ensures c.deref.ensures.value in
     let inside : k < length (drop first pairs) =
     omega (arith, here, c.requires.targets.count, c.requires.solve.within, length-drop first pairs) in
     let growth = growth_of graphs.grown in

@@ -11,7 +11,7 @@ pub returns-then-has_ended-clause-answered : goal.returns-then-has_ended-clause-
 returns-then-has_ended-clause-answered g c =
     let terms = c.args.terms.now in
     let front = c.in_ok-front.front in
-    session_ended terms.asked.now.limit terms.asked.now.answer terms.lines terms.asked.now.walks front c.read_front.new.buffer
+    session_ended terms.asked.now.limit terms.asked.now.answer terms.asked.now.lines front c.read_front.new.buffer
     (g.R.Read.remaining c.args.reader.now) (g.R.Read.remaining c.read_front.new.reader)
     (g.W.Write.contents c.args.writer.now) (g.W.Write.contents c.answer.new.writer) c.in_ok-front.ensures.front
     c.if-has_ended.true (c.in_ok-answer.ensures.answered (content_of front.graph) c.in_ok-conversation.ensures.holds)
@@ -21,7 +21,7 @@ returns-clause-answered g c =
     let terms = c.args.terms.now in
     let front = c.in_ok-front.front in
     let written = g.W.Write.contents c.answer.new.writer in
-    session_whole terms.asked.now.limit terms.asked.now.answer terms.lines terms.asked.now.walks front c.read_front.new.buffer
+    session_whole terms.asked.now.limit terms.asked.now.answer terms.asked.now.lines front c.read_front.new.buffer
     (g.R.Read.remaining c.args.reader.now) (g.R.Read.remaining c.read_front.new.reader)
     (g.R.Read.remaining c.converse.new.reader) (g.W.Write.contents c.args.writer.now) written
     (g.W.Write.contents c.converse.new.writer) c.converse.result c.in_ok-front.ensures.front c.if-has_ended.false
@@ -29,13 +29,13 @@ returns-clause-answered g c =
     (c.converse.ensures.conversed (content_of front.graph) front.line (take (front.end - front.at) (drop front.at c.read_front.new.buffer))
     written
     (c.in_ok-take.ensures.heard (content_of front.graph) front.line [] written
-    (c.in_ok-conversation.ensures.heard terms.lines written)))
+    (c.in_ok-conversation.ensures.heard terms.asked.now.lines written)))
 
 pub returns-in_err-front-clause-cut : goal.returns-in_err-front-clause-cut
 returns-in_err-front-clause-cut g c =
     let terms = c.args.terms.now in
     on_err
-    (nothing_cut terms.asked.now.answer terms.lines terms.asked.now.walks (g.R.Read.remaining c.args.reader.now)
+    (nothing_cut terms.asked.now.answer terms.asked.now.lines (g.R.Read.remaining c.args.reader.now)
     (g.R.Read.remaining c.read_front.new.reader) (g.W.Write.contents c.args.writer.now) c.in_err-front.ensures.cut)
     c.from_residual.result
 
@@ -43,7 +43,7 @@ pub returns-in_err-conversation-clause-cut : goal.returns-in_err-conversation-cl
 returns-in_err-conversation-clause-cut g c =
     let terms = c.args.terms.now in
     on_err
-    (nothing_cut terms.asked.now.answer terms.lines terms.asked.now.walks (g.R.Read.remaining c.args.reader.now)
+    (nothing_cut terms.asked.now.answer terms.asked.now.lines (g.R.Read.remaining c.args.reader.now)
     (g.R.Read.remaining c.read_front.new.reader) (g.W.Write.contents c.args.writer.now)
     (record { bytes = _; taken = c.in_ok-front.ensures.front.taken }))
     c.from_residual-in_err-conversation.result
@@ -53,7 +53,7 @@ returns-in_err-answer-clause-cut g c =
     let terms = c.args.terms.now in
     let front = c.in_ok-front.front in
     on_err
-    (greeting_cut terms.asked.now.limit terms.asked.now.answer terms.lines terms.asked.now.walks front c.read_front.new.buffer
+    (greeting_cut terms.asked.now.limit terms.asked.now.answer terms.asked.now.lines front c.read_front.new.buffer
     (g.R.Read.remaining c.args.reader.now) (g.R.Read.remaining c.read_front.new.reader)
     (g.W.Write.contents c.args.writer.now) (g.W.Write.contents c.answer.new.writer) c.in_ok-front.ensures.front
     (c.in_err-answer.ensures.cut (content_of front.graph) c.in_ok-conversation.ensures.holds))
@@ -68,13 +68,13 @@ returns-in_err-take-clause-cut g c =
     let written = g.W.Write.contents c.answer.new.writer in
     let taken = g.R.Read.remaining c.read_front.new.reader in
     on_err
-    (session_cut c.answer_texts_by_lines_are_unique.ensures terms.asked.now.limit terms.asked.now.answer terms.lines terms.asked.now.walks
+    (session_cut c.answer_texts_by_lines_are_unique.ensures terms.asked.now.limit terms.asked.now.answer terms.asked.now.lines
     front c.read_front.new.buffer (g.R.Read.remaining c.args.reader.now) taken taken
     (g.W.Write.contents c.args.writer.now) written (g.W.Write.contents c.take.new.writer) c.in_ok-front.ensures.front
     c.if-has_ended.false (c.in_ok-answer.ensures.answered graph c.in_ok-conversation.ensures.holds)
-    (first_heard_cut terms.asked.now.answer terms.lines terms.asked.now.walks graph front.line heard taken written
+    (first_heard_cut terms.asked.now.answer terms.asked.now.lines graph front.line heard taken written
     (g.W.Write.contents c.take.new.writer)
-    (c.in_err-take.ensures.cut graph front.line [] written (c.in_ok-conversation.ensures.heard terms.lines written))))
+    (c.in_err-take.ensures.cut graph front.line [] written (c.in_ok-conversation.ensures.heard terms.asked.now.lines written))))
     c.from_residual-in_err-take.result
 
 pub returns-clause-cut : goal.returns-clause-cut
@@ -86,13 +86,13 @@ returns-clause-cut g c =
     let written = g.W.Write.contents c.answer.new.writer in
     on_err_weaker c.converse.result
     (λ cut.
-    session_cut c.answer_texts_by_lines_are_unique.ensures terms.asked.now.limit terms.asked.now.answer terms.lines terms.asked.now.walks
+    session_cut c.answer_texts_by_lines_are_unique.ensures terms.asked.now.limit terms.asked.now.answer terms.asked.now.lines
     front c.read_front.new.buffer (g.R.Read.remaining c.args.reader.now) (g.R.Read.remaining c.read_front.new.reader)
     (g.R.Read.remaining c.converse.new.reader) (g.W.Write.contents c.args.writer.now) written
     (g.W.Write.contents c.converse.new.writer) c.in_ok-front.ensures.front c.if-has_ended.false
     (c.in_ok-answer.ensures.answered graph c.in_ok-conversation.ensures.holds) cut)
     (c.converse.ensures.cut graph front.line heard written
-    (c.in_ok-take.ensures.heard graph front.line [] written (c.in_ok-conversation.ensures.heard terms.lines written)))
+    (c.in_ok-take.ensures.heard graph front.line [] written (c.in_ok-conversation.ensures.heard terms.asked.now.lines written)))
 
 pub returns-in_err-front-clause-says : goal.returns-in_err-front-clause-says
 returns-in_err-front-clause-says g c =
@@ -126,4 +126,4 @@ returns-clause-says g c =
     (g.R.Read.remaining c.read_front.new.reader) (g.R.Read.remaining c.converse.new.reader) fault c.requires.limit
     c.in_ok-front.ensures.front c.if-has_ended.false says)
     (c.converse.ensures.says graph front.line heard written
-    (c.in_ok-take.ensures.heard graph front.line [] written (c.in_ok-conversation.ensures.heard terms.lines written)))
+    (c.in_ok-take.ensures.heard graph front.line [] written (c.in_ok-conversation.ensures.heard terms.asked.now.lines written)))

@@ -15,7 +15,7 @@ use Rattle.session_answer.proofs.answering.converse.Goals as goal
 pub returns-then-count-eq0-clause-conversed : goal.returns-then-count-eq0-clause-conversed
 returns-then-count-eq0-clause-conversed g c graph first heard before h =
     let terms = c.args.terms.now in
-    all_taken terms.asked.now.answer terms.lines terms.asked.now.walks graph first c.loop.conversation heard
+    all_taken terms.asked.now.answer terms.asked.now.lines graph first c.loop.conversation heard
     c.read_some.new.buffer c.in_ok-count.count (g.R.Read.remaining c.args.reader.now)
     (g.R.Read.remaining c.loop.reader) (g.R.Read.remaining c.read_some.new.reader) before
     (g.W.Write.contents c.loop.writer) (g.W.Write.contents c.end.new.writer) c.end.result
@@ -36,7 +36,7 @@ loop-init g c =
             all =
                 subst
                 (λ bytes.
-                HasHeard terms.asked.now.answer terms.lines terms.asked.now.walks graph first c.args.conversation.now bytes
+                HasHeard terms.asked.now.answer terms.asked.now.lines graph first c.args.conversation.now bytes
                 before (g.W.Write.contents c.args.writer.now)) (sym (append-nil heard)) h;
           };
       often = record { bytes = []; taken = Consumes-nil _; many = omega arith };
@@ -47,7 +47,7 @@ loop-preserved g c = record {
   kept = c.in_ok-take.ensures.kept;
   room = grind (arith, c.loop.invariant.room, c.read_some.auto.buffer);
   taken = λ graph first heard before h.
-      more_taken c.args.terms.now.asked.now.answer c.args.terms.now.lines c.args.terms.now.asked.now.walks graph first
+      more_taken c.args.terms.now.asked.now.answer c.args.terms.now.asked.now.lines graph first
       c.loop.conversation c.take.new.self heard (take c.in_ok-count.count c.read_some.new.buffer)
       (g.R.Read.remaining c.args.reader.now) (g.R.Read.remaining c.loop.reader)
       (g.R.Read.remaining c.read_some.new.reader) before (g.W.Write.contents c.loop.writer)
@@ -94,7 +94,7 @@ pub returns-in_err-count-clause-cut : goal.returns-in_err-count-clause-cut
 returns-in_err-count-clause-cut g c graph first heard before h =
     let terms = c.args.terms.now in
     on_err
-    (read_cut c.answer_texts_by_lines_are_unique.ensures terms.asked.now.answer terms.lines terms.asked.now.walks graph
+    (read_cut c.answer_texts_by_lines_are_unique.ensures terms.asked.now.answer terms.asked.now.lines graph
     first c.loop.conversation heard (g.R.Read.remaining c.args.reader.now) (g.R.Read.remaining c.loop.reader)
     (g.R.Read.remaining c.read_some.new.reader) before (g.W.Write.contents c.loop.writer)
     (c.loop.invariant.taken graph first heard before h) c.in_err-count.ensures.bytes)
@@ -106,7 +106,7 @@ returns-then-count-eq0-clause-cut g c graph first heard before h =
     let so_far = c.loop.invariant.taken graph first heard before h in
     on_err_weaker c.end.result
     (λ cut.
-    end_cut terms.asked.now.answer terms.lines terms.asked.now.walks graph first c.loop.conversation heard
+    end_cut terms.asked.now.answer terms.asked.now.lines graph first c.loop.conversation heard
     c.read_some.new.buffer c.in_ok-count.count (g.R.Read.remaining c.args.reader.now)
     (g.R.Read.remaining c.loop.reader) (g.R.Read.remaining c.read_some.new.reader) before
     (g.W.Write.contents c.loop.writer) (g.W.Write.contents c.end.new.writer) so_far c.in_ok-count.ensures.bytes.0
@@ -120,7 +120,7 @@ returns-in_err-take-clause-cut g c graph first heard before h =
     let terms = c.args.terms.now in
     let so_far = c.loop.invariant.taken graph first heard before h in
     on_err
-    (last_cut terms.asked.now.answer terms.lines terms.asked.now.walks graph first c.loop.conversation heard
+    (last_cut terms.asked.now.answer terms.asked.now.lines graph first c.loop.conversation heard
     (take c.in_ok-count.count c.read_some.new.buffer) (g.R.Read.remaining c.args.reader.now)
     (g.R.Read.remaining c.loop.reader) (g.R.Read.remaining c.read_some.new.reader) before
     (g.W.Write.contents c.loop.writer) (g.W.Write.contents c.take.new.writer) so_far c.in_ok-count.ensures.bytes.0
@@ -130,7 +130,7 @@ returns-in_err-take-clause-cut g c graph first heard before h =
 pub returns-clause-cut : goal.returns-clause-cut
 returns-clause-cut g c graph first heard before h =
     let terms = c.args.terms.now in
-    read_cut c.answer_texts_by_lines_are_unique.ensures terms.asked.now.answer terms.lines terms.asked.now.walks graph
+    read_cut c.answer_texts_by_lines_are_unique.ensures terms.asked.now.answer terms.asked.now.lines graph
     first c.loop.conversation heard (g.R.Read.remaining c.args.reader.now) (g.R.Read.remaining c.loop.reader)
     (g.R.Read.remaining c.loop.reader) before (g.W.Write.contents c.loop.writer)
     (c.loop.invariant.taken graph first heard before h) (Keeps-refl _)

@@ -10,5 +10,5 @@ returns-clause-kept g c =
 
 pub returns-clause-heard : goal.returns-clause-heard
 returns-clause-heard g c by written =
-    begins_heard c.args.asked.now.answer by c.args.asked.now.walks (content_of c.args.front.graph) c.args.front.line _
+    begins_heard c.args.asked.now.answer by (content_of c.args.front.graph) c.args.front.line _
     written refl c.new-2.ensures.items c.new.ensures.requests c.new.ensures.vertices c.in_ok-open.ensures.holds

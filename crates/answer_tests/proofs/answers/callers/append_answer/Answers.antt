@@ -1,21 +1,21 @@
-use Rattle.std.proofs.Common.{◌≡◌, Bool, ℕ, List, ◌++◌, Some, append_assoc, inl, inr, ap, subst, sym, ◌∙◌}
+use Rattle.std.proofs.Common.{◌≡◌, ℕ, List, ◌++◌, Some, append_assoc, inl, inr, ap, subst, sym, ◌∙◌}
 use Rattle.std.proofs.lemmas.List.{append-nil}
 use Rattle.std.proofs.lemmas.Result.{IfErr-weaker}
 use Rattle.dimacs_text.specs.Jobs.{Content, IsJobText}
 use Rattle.dimacs_text.specs.Laws.{ATextHasOneJob}
 use Rattle.job_answer.specs.declared.asked.Answer.{Answer}
-use Rattle.job_answer.specs.declared.asked.Lines.TheVariants as lines
+use Rattle.job_answer.specs.declared.asked.Lines.{Lines}
 use Rattle.job_answer.specs.declared.fault.Fault.{Fault}
 use Rattle.job_answer.specs.declared.fault.Fault.TheVariants.{Read, TooLong, Text, NoAsk, NoSources, Memory, Spawn, Write}
-use Rattle.job_answer.specs.AnswerText.{IsAnswerText}
 use Rattle.job_answer.specs.Bytes.{IsPrefix}
 use Rattle.job_answer.specs.Outcome.{IsAnswerOf, IsBegunBy, row_of}
-use Rattle.job_answer.specs.Existence.{AskedJobsHaveAnswers}
+use Rattle.job_answer.specs.Existence.{AskedJobsHaveAnswersByLines}
+use Rattle.job_answer.specs.Within.{IsAnswerTextBy}
 use Rattle.answer_tests.proofs.answers.callers.append_answer.Goals as goal
 
-module _ (limit : ℕ) (kind : Answer) (walks : Bool) (text rest old new : List ℕ) where
+module _ (limit : ℕ) (kind : Answer) (by : Lines) (text rest old new : List ℕ) where
   abbrev Begun : Type 0
-  Begun = IsBegunBy limit kind (lines.Each walks) (Some text) (Some rest) (Some old) (Some new)
+  Begun = IsBegunBy limit kind by (Some text) (Some rest) (Some old) (Some new)
 
   job_text : (run : Begun) → IsJobText text run.job
   job_text run =
@@ -25,7 +25,7 @@ module _ (limit : ℕ) (kind : Answer) (walks : Bool) (text rest old new : List 
       subst (λ (xs : List ℕ). IsJobText xs run.job) (sym whole) run.request.is_job
 
   -- of an answer of the job a prefix was appended
-  prefix-of : (run : Begun) (reply : List ℕ) → IsAnswerText kind walks run.job reply → IsPrefix new (old ++ reply)
+  prefix-of : (run : Begun) (reply : List ℕ) → IsAnswerTextBy kind by run.job reply → IsPrefix new (old ++ reply)
   prefix-of run reply answered =
       let prefix = run.reply.cut.is_prefix reply answered in (
         prefix.0,
@@ -35,24 +35,24 @@ module _ (limit : ℕ) (kind : Answer) (walks : Bool) (text rest old new : List 
       )
 
   -- and there is such an answer
-  has_begun : AskedJobsHaveAnswers → Begun
-      → (reply : List ℕ) × IsAnswerOf kind walks text reply × (left : List ℕ) × (old ++ reply ≡ new ++ left)
+  has_begun : AskedJobsHaveAnswersByLines → Begun
+      → (reply : List ℕ) × IsAnswerOf kind by text reply × (left : List ℕ) × (old ++ reply ≡ new ++ left)
   has_begun law run =
-      let found = law kind walks run.job run.request.limits run.reply.asked in
+      let found = law kind by run.job run.request.limits run.reply.asked run.reply.has_sources in
       let prefix = prefix-of run found.0 found.1 in
       (found.0, record { job = run.job; is_job = job_text run; is_answer = found.1 }, prefix.0, prefix.1)
 
   module _ (law : ATextHasOneJob) (job : Content) (reply : List ℕ) (is_job : IsJobText text job)
-      (answered : IsAnswerText kind walks job reply) where
+      (answered : IsAnswerTextBy kind by job reply) where
     kept : new ≡ old → IsPrefix new (old ++ reply)
     kept same = (reply, ap (λ (xs : List ℕ). xs ++ reply) (sym same))
 
     begun : Begun → IsPrefix new (old ++ reply)
     begun run =
         let same = law text job run.job is_job (job_text run) in
-        prefix-of run reply (subst (λ (j : Content). IsAnswerText kind walks j reply) same answered)
+        prefix-of run reply (subst (λ (j : Content). IsAnswerTextBy kind by j reply) same answered)
 
-    at-fault : (fault : Fault) → (row_of limit kind (lines.Each walks) (Some text) (Some rest) (Some old) (Some new) fault).written
+    at-fault : (fault : Fault) → (row_of limit kind by (Some text) (Some rest) (Some old) (Some new) fault).written
         → IsPrefix new (old ++ reply)
     at-fault Read same = kept same
     at-fault TooLong same = kept same
@@ -66,14 +66,14 @@ module _ (limit : ℕ) (kind : Answer) (walks : Bool) (text rest old new : List 
 pub returns-clause-begun : goal.returns-clause-begun
 returns-clause-begun g c failed =
     let asked = c.args.asked.now in
-    has_begun asked.limit asked.answer asked.walks c.args.text.now _ c.args.bytes.now.items c.answer.new.writer.items
-    c.asked_jobs_have_answers.ensures (rw failed at c.answer.ensures.written)
+    has_begun asked.limit asked.answer asked.lines c.args.text.now _ c.args.bytes.now.items c.answer.new.writer.items
+    c.asked_jobs_have_answers_by_lines.ensures (rw failed at c.answer.ensures.written)
 
 pub returns-clause-prefix : goal.returns-clause-prefix
 returns-clause-prefix g c =
     IfErr-weaker c.answer.result _ _
     (λ fault written job reply is_job answered.
-    at-fault c.args.asked.now.limit c.args.asked.now.answer c.args.asked.now.walks c.args.text.now _
+    at-fault c.args.asked.now.limit c.args.asked.now.answer c.args.asked.now.lines c.args.text.now _
     c.args.bytes.now.items c.answer.new.writer.items c.a_text_has_one_job.ensures job reply is_job answered fault
     written)
     c.answer.ensures.written

@@ -13,14 +13,13 @@ use Rattle.session_answer.proofs.conversation.Conversation.end_line.Goals as goa
 pub returns-then-self-clause-heard : goal.returns-then-self-clause-heard
 returns-then-self-clause-heard g c graph first heard before is =
     let kind = c.args.terms.now.asked.now.answer in
-    let by = c.args.terms.now.lines in
-    let walks = c.args.terms.now.asked.now.walks in
+    let by = c.args.terms.now.asked.now.lines in
     let self = c.args.self.now in
     let rest = c.args.rest.now in
     let begun = comment_begun self.in_comment self.unfinished.items is.begun c.if-self.true is.kept in
-    heard_line kind by walks graph first self c.end_comment.new.self heard rest before _ _ is c.requires.no_feed
+    heard_line kind by graph first self c.end_comment.new.self heard rest before _ _ is c.requires.no_feed
     c.end_comment.ensures.outside (ap (λ list. list.items) c.end_comment.ensures.unfinished ∙ begun.0)
-    (passed_replied kind by walks graph first self c.end_comment.new.self (lines is.whole) (is.begun ++ rest) before _
+    (passed_replied kind by graph first self c.end_comment.new.self (lines is.whole) (is.begun ++ rest) before _
     (λ outcomes requests.
     c.end_comment.ensures.requests first (lines is.whole) outcomes (is.begun ++ rest) requests
     (comment-more is.begun rest begun.1))
@@ -42,8 +41,7 @@ returns-then-self-clause-kept g c =
 pub returns-then-is_empty-clause-heard : goal.returns-then-is_empty-clause-heard
 returns-then-is_empty-clause-heard g c graph first heard before is =
     let kind = c.args.terms.now.asked.now.answer in
-    let by = c.args.terms.now.lines in
-    let walks = c.args.terms.now.asked.now.walks in
+    let by = c.args.terms.now.asked.now.lines in
     let self = c.args.self.now in
     let whole = lines is.whole in
     let empty : length self.unfinished.items ≡ 0 = search rules in
@@ -54,18 +52,17 @@ returns-then-is_empty-clause-heard g c graph first heard before is =
     sym (ap (λ (kept : List ℕ). kept ++ c.args.rest.now) begun) in
     on_ok_weaker c.take_line.result
     (λ replied.
-    heard_line kind by walks graph first self c.take_line.new.self heard c.args.rest.now before _ _ is
+    heard_line kind by graph first self c.take_line.new.self heard c.args.rest.now before _ _ is
     c.requires.no_feed (c.take_line.ensures.in_comment ∙ c.if-self.false)
     (ap (λ list. list.items) c.take_line.ensures.unfinished ∙ none)
-    (subst (λ (last : List ℕ). HasRepliedTo kind by walks graph first c.take_line.new.self (whole ++ last ∷ []) before
+    (subst (λ (last : List ℕ). HasRepliedTo kind by graph first c.take_line.new.self (whole ++ last ∷ []) before
     (g.W.Write.contents c.take_line.new.writer)) line replied))
     (c.take_line.ensures.replied graph first whole before is.replied)
 
 pub returns-then-is_empty-clause-cut : goal.returns-then-is_empty-clause-cut
 returns-then-is_empty-clause-cut g c graph first heard before is =
     let kind = c.args.terms.now.asked.now.answer in
-    let by = c.args.terms.now.lines in
-    let walks = c.args.terms.now.asked.now.walks in
+    let by = c.args.terms.now.asked.now.lines in
     let self = c.args.self.now in
     let whole = lines is.whole in
     let empty : length self.unfinished.items ≡ 0 = search rules in
@@ -76,7 +73,7 @@ returns-then-is_empty-clause-cut g c graph first heard before is =
     sym (ap (λ (kept : List ℕ). kept ++ c.args.rest.now) begun) in
     on_err_weaker c.take_line.result
     (λ cut.
-    cut_at_line kind by walks graph first self heard c.args.rest.now before _ _ is c.requires.no_feed
-    (subst (λ (last : List ℕ). AreCutAfterLines kind by walks graph first (whole ++ last ∷ []) before
+    cut_at_line kind by graph first self heard c.args.rest.now before _ _ is c.requires.no_feed
+    (subst (λ (last : List ℕ). AreCutAfterLines kind by graph first (whole ++ last ∷ []) before
     (g.W.Write.contents c.take_line.new.writer)) line cut))
     (c.take_line.ensures.cut graph first whole before is.replied)

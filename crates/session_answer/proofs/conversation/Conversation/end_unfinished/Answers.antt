@@ -10,8 +10,7 @@ use Rattle.session_answer.proofs.conversation.Conversation.end_unfinished.Goals 
 pub returns-clause-heard : goal.returns-clause-heard
 returns-clause-heard g c graph first heard before is =
     let kind = c.args.terms.now.asked.now.answer in
-    let by = c.args.terms.now.lines in
-    let walks = c.args.terms.now.asked.now.walks in
+    let by = c.args.terms.now.asked.now.lines in
     let self = c.args.self.now in
     let whole = lines is.whole in
     let line : c.deref.result.now ≡ is.begun ++ c.args.rest.now =
@@ -26,31 +25,29 @@ returns-clause-heard g c graph first heard before is =
     ∙ c.new.ensures.items in
     on_ok_weaker c.take_line.result
     (λ replied.
-    heard_line kind by walks graph first self c.take_line.new.self heard c.args.rest.now before _ _ is
+    heard_line kind by graph first self c.take_line.new.self heard c.args.rest.now before _ _ is
     c.requires.no_feed (c.take_line.ensures.in_comment ∙ c.requires.outside) none
-    (subst (λ (last : List ℕ). HasRepliedTo kind by walks graph first c.take_line.new.self (whole ++ last ∷ []) before
+    (subst (λ (last : List ℕ). HasRepliedTo kind by graph first c.take_line.new.self (whole ++ last ∷ []) before
     (g.W.Write.contents c.take_line.new.writer)) line replied))
     (c.take_line.ensures.replied graph first whole before
-    (same_replied kind by walks graph first self _ whole before _ refl refl is.replied))
+    (same_replied kind by graph first self _ whole before _ refl refl is.replied))
 
 pub returns-in_err-extend_from_slice-clause-cut : goal.returns-in_err-extend_from_slice-clause-cut
 returns-in_err-extend_from_slice-clause-cut g c graph first heard before is =
     let kind = c.args.terms.now.asked.now.answer in
-    let by = c.args.terms.now.lines in
-    let walks = c.args.terms.now.asked.now.walks in
+    let by = c.args.terms.now.asked.now.lines in
     let law = c.answer_texts_by_lines_are_unique.ensures in
     let came = c.args.rest.now in
     on_err
-    (cut_longer kind by walks graph first (heard ++ came) (10 ∷ []) before _
-    (cut_longer kind by walks graph first heard came before _
-    (heard_cut law kind by walks graph first c.args.self.now heard before _ is)))
+    (cut_longer kind by graph first (heard ++ came) (10 ∷ []) before _
+    (cut_longer kind by graph first heard came before _
+    (heard_cut law kind by graph first c.args.self.now heard before _ is)))
     c.from_residual.result
 
 pub returns-clause-cut : goal.returns-clause-cut
 returns-clause-cut g c graph first heard before is =
     let kind = c.args.terms.now.asked.now.answer in
-    let by = c.args.terms.now.lines in
-    let walks = c.args.terms.now.asked.now.walks in
+    let by = c.args.terms.now.asked.now.lines in
     let self = c.args.self.now in
     let whole = lines is.whole in
     let line : c.deref.result.now ≡ is.begun ++ c.args.rest.now =
@@ -61,8 +58,8 @@ returns-clause-cut g c graph first heard before is =
     (kept_begun self.in_comment self.unfinished.items is.begun c.requires.outside is.kept) in
     on_err_weaker c.take_line.result
     (λ cut.
-    cut_at_line kind by walks graph first self heard c.args.rest.now before _ _ is c.requires.no_feed
-    (subst (λ (last : List ℕ). AreCutAfterLines kind by walks graph first (whole ++ last ∷ []) before
+    cut_at_line kind by graph first self heard c.args.rest.now before _ _ is c.requires.no_feed
+    (subst (λ (last : List ℕ). AreCutAfterLines kind by graph first (whole ++ last ∷ []) before
     (g.W.Write.contents c.take_line.new.writer)) line cut))
     (c.take_line.ensures.cut graph first whole before
-    (same_replied kind by walks graph first self _ whole before _ refl refl is.replied))
+    (same_replied kind by graph first self _ whole before _ refl refl is.replied))

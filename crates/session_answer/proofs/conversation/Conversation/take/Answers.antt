@@ -10,8 +10,7 @@ use Rattle.session_answer.proofs.conversation.Conversation.take.Goals as goal
 pub loop-end-preserved : goal.loop-end-preserved
 loop-end-preserved g c =
     let kind = c.args.terms.now.asked.now.answer in
-    let by = c.args.terms.now.lines in
-    let walks = c.args.terms.now.asked.now.walks in
+    let by = c.args.terms.now.asked.now.lines in
     let bytes = c.args.bytes.now in
     let at = c.loop-end.at in
     let end = c.in-Some.end in
@@ -21,7 +20,7 @@ loop-end-preserved g c =
       inside = omega (arith, found.1);
       kept = c.in_ok-end_line.ensures.kept;
       heard = λ graph first heard before is.
-          subst (λ (all : List ℕ). HasHeard kind by walks graph first c.end_line.new.self all before
+          subst (λ (all : List ℕ). HasHeard kind by graph first c.end_line.new.self all before
           (g.W.Write.contents c.end_line.new.writer))
           (append_assoc (heard ++ take at bytes) line (10 ∷ [])
           ∙ append_assoc heard (take at bytes) (line ++ 10 ∷ [])
@@ -33,15 +32,14 @@ loop-end-preserved g c =
 pub returns-clause-heard : goal.returns-clause-heard
 returns-clause-heard g c graph first heard before is =
     let kind = c.args.terms.now.asked.now.answer in
-    let by = c.args.terms.now.lines in
-    let walks = c.args.terms.now.asked.now.walks in
+    let by = c.args.terms.now.asked.now.lines in
     let bytes = c.args.bytes.now in
     let at = c.loop-end.at in
     let all : heard ++ bytes ≡ (heard ++ take at bytes) ++ drop at bytes =
     ap (λ (more : List ℕ). heard ++ more) (sym (take-append-drop at bytes))
     ∙ sym (append_assoc heard (take at bytes) (drop at bytes)) in
     rw all
-    (heard_rest kind by walks graph first c.loop-end.self _ (heard ++ take at bytes) (drop at bytes) before _
+    (heard_rest kind by graph first c.loop-end.self _ (heard ++ take at bytes) (drop at bytes) before _
     (c.loop-end.invariant.heard graph first heard before is)
     (no_feed_after bytes at c.in_default.ensures.none)
     (λ begun kept.
@@ -52,16 +50,15 @@ returns-clause-heard g c graph first heard before is =
 pub returns-in_err-end_line-clause-cut : goal.returns-in_err-end_line-clause-cut
 returns-in_err-end_line-clause-cut g c graph first heard before is =
     let kind = c.args.terms.now.asked.now.answer in
-    let by = c.args.terms.now.lines in
-    let walks = c.args.terms.now.asked.now.walks in
+    let by = c.args.terms.now.asked.now.lines in
     let bytes = c.args.bytes.now in
     let at = c.loop-end.at in
     let end = c.in-Some.end in
     let found = c.in-Some.ensures.some in
     let line = take (end - at) (drop at bytes) in
     on_err
-    (cut_in_all kind by walks graph first heard bytes (end + 1) before _
-    (subst (λ (all : List ℕ). AreCutAfterBytes kind by walks graph first all before
+    (cut_in_all kind by graph first heard bytes (end + 1) before _
+    (subst (λ (all : List ℕ). AreCutAfterBytes kind by graph first all before
     (g.W.Write.contents c.end_line.new.writer))
     (append_assoc (heard ++ take at bytes) line (10 ∷ [])
     ∙ append_assoc heard (take at bytes) (line ++ 10 ∷ [])
@@ -73,13 +70,12 @@ returns-in_err-end_line-clause-cut g c graph first heard before is =
 pub returns-in_err-keep-clause-cut : goal.returns-in_err-keep-clause-cut
 returns-in_err-keep-clause-cut g c graph first heard before is =
     let kind = c.args.terms.now.asked.now.answer in
-    let by = c.args.terms.now.lines in
-    let walks = c.args.terms.now.asked.now.walks in
+    let by = c.args.terms.now.asked.now.lines in
     let law = c.answer_texts_by_lines_are_unique.ensures in
     let bytes = c.args.bytes.now in
     let at = c.loop-end.at in
     on_err
-    (cut_in_all kind by walks graph first heard bytes at before _
-    (heard_cut law kind by walks graph first c.loop-end.self (heard ++ take at bytes) before _
+    (cut_in_all kind by graph first heard bytes at before _
+    (heard_cut law kind by graph first c.loop-end.self (heard ++ take at bytes) before _
     (c.loop-end.invariant.heard graph first heard before is)))
     c.from_residual-in_err-keep.result

@@ -31,10 +31,10 @@ returns-clause-answered g c graph holds =
 pub returns-in_err-write_body-clause-cut : goal.returns-in_err-write_body-clause-cut
 returns-in_err-write_body-clause-cut g c graph holds =
     let kind = c.args.terms.now.asked.now.answer in
-    let by = c.args.terms.now.lines in
+    let by = c.args.lines in
     let question = question_of c.args.ask.now in
     on_err
-    (first_cut (IsBodyIn kind by c.args.walks graph question) (IsAnswerIn kind by c.args.walks graph question) _ _
+    (first_cut (IsBodyIn kind by graph question) (IsAnswerIn kind by graph question) _ _
     (λ text is. (is.body, ready_text graph.n (length graph.arcs), is.is_body, is.written))
     (c.in_err-write_body.ensures.cut graph holds))
     c.from_residual.result
@@ -43,8 +43,8 @@ pub returns-in_err-put_ready-clause-cut : goal.returns-in_err-put_ready-clause-c
 returns-in_err-put_ready-clause-cut g c graph holds =
     let body = c.in_ok-write_body.ensures.body graph holds in
     on_err
-    (ready_cut c.answer_texts_by_lines_are_unique.ensures c.args.terms.now.asked.now.answer c.args.terms.now.lines
-    c.args.walks graph (question_of c.args.ask.now) body.text _ _ _ body.is_text body.appended
+    (ready_cut c.answer_texts_by_lines_are_unique.ensures c.args.terms.now.asked.now.answer c.args.lines
+    graph (question_of c.args.ask.now) body.text _ _ _ body.is_text body.appended
     (none_given (λ text. text ≡ ready_text graph.n (length graph.arcs)) _))
     c.from_residual-in_err-put_ready.result
 
@@ -59,7 +59,7 @@ returns-clause-cut g c graph holds =
     (ap₂ ready_text (c.n.ensures.vertices ∙ holds.network.vertices) holds.count) in
     on_err_weaker c.write_whole.result
     (λ cut.
-    ready_cut c.answer_texts_by_lines_are_unique.ensures c.args.terms.now.asked.now.answer c.args.terms.now.lines
-    c.args.walks graph (question_of c.args.ask.now) body.text _ _ _ body.is_text body.appended
+    ready_cut c.answer_texts_by_lines_are_unique.ensures c.args.terms.now.asked.now.answer c.args.lines
+    graph (question_of c.args.ask.now) body.text _ _ _ body.is_text body.appended
     (only_cut bytes (ready_text graph.n (length graph.arcs)) _ _ ready cut))
     c.write_whole.ensures.prefix

@@ -8,11 +8,11 @@ use Rattle.session_answer.proofs.session.Session.reply_asked.Goals as goal
 pub returns-in_err-write_whole-clause-cut : goal.returns-in_err-write_whole-clause-cut
 returns-in_err-write_whole-clause-cut g c graph holds =
     let kind = c.args.terms.now.asked.now.answer in
-    let by = c.args.terms.now.lines in
+    let by = c.args.lines in
     let question = question_of c.args.ask.now in
     on_err
-    (text_cut (IsAnswerIn kind by c.args.walks graph question)
-    (one_answer c.answer_texts_by_lines_are_unique.ensures kind by c.args.walks graph question) c.in-Ok.text.items _ _
+    (text_cut (IsAnswerIn kind by graph question)
+    (one_answer c.answer_texts_by_lines_are_unique.ensures kind by graph question) c.in-Ok.text.items _ _
     (c.in-Ok.ensures.text graph holds)
     (subst
     (λ bytes. GivesPrefix (g.W.Write.contents c.args.writer.now) (g.W.Write.contents c.write_whole.new.writer) bytes)

@@ -18,11 +18,11 @@ returns-in_err-grow-clause-cut g c graph holds =
 pub returns-in_err-answer-clause-cut : goal.returns-in_err-answer-clause-cut
 returns-in_err-answer-clause-cut g c graph holds =
     let kind = c.args.terms.now.asked.now.answer in
-    let by = c.args.terms.now.lines in
+    let by = c.args.lines in
     let question = question_of c.args.ask.now in
     let after = grown_by graph (Some c.args.arcs.now) in
     on_err
-    (second_cut (IsAnswerIn kind by c.args.walks after question) _ (grown_text (length c.args.arcs.now)) _ _ _
+    (second_cut (IsAnswerIn kind by after question) _ (grown_text (length c.args.arcs.now)) _ _ _
     (λ text is. (is.0, is.1, is.2)) (told_whole _ _ _ c.in-Whole.is c.in_ok-grow.ensures.told)
     (c.in_err-answer.ensures.cut after (told_whole _ _ _ c.in-Whole.is (c.in_ok-grow.ensures.graph graph holds))))
     c.from_residual-in_err-answer.result

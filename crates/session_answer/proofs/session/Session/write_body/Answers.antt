@@ -12,14 +12,14 @@ returns-clause-body g c graph holds =
     let kind = c.args.terms.now.asked.now.answer in
     let question = question_of c.args.ask.now in
     let job = job_of graph question in
-    let by = lines_for c.args.terms.now.lines c.args.walks question in
+    let by = lines_for c.args.lines question in
     let asked : is_unasked kind question ≡ false = sym c.is_unasked.ensures ∙ c.if-is_unasked.false in
     on_ok_weaker c.answer_question.result
     (λ written. record {
       text = written.text;
       is_text =
           subst (λ unasked. IsBodyIf unasked kind by job written.text) (sym asked)
-          (subst (λ lines. IsAnswerTextBy kind lines job written.text) c.lines_for.ensures written.is_text);
+          (subst (λ lines. IsAnswerTextBy kind lines job written.text) c.lines_for.ensures.lines written.is_text);
       appended = written.appended;
     })
     (c.answer_question.ensures.reply job (graph_rows kind graph c.args.self.now c.requires.graphs.is holds) refl)
@@ -29,14 +29,14 @@ returns-clause-cut g c graph holds =
     let kind = c.args.terms.now.asked.now.answer in
     let question = question_of c.args.ask.now in
     let job = job_of graph question in
-    let by = lines_for c.args.terms.now.lines c.args.walks question in
+    let by = lines_for c.args.lines question in
     let asked : is_unasked kind question ≡ false = sym c.is_unasked.ensures ∙ c.if-is_unasked.false in
     on_err_weaker c.answer_question.result
     (λ cut. record {
       given = cut.given;
       is_prefix = λ text is.
           cut.is_prefix text
-          (subst (λ lines. IsAnswerTextBy kind lines job text) (sym c.lines_for.ensures)
+          (subst (λ lines. IsAnswerTextBy kind lines job text) (sym c.lines_for.ensures.lines)
           (subst (λ unasked. IsBodyIf unasked kind by job text) asked is));
       appended = cut.appended;
     })

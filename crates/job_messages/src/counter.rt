@@ -33,7 +33,7 @@ impl Counter {
         })
     }
 
-    /// How many vertices the worker visited.
+    /// Gives the number of vertices that the worker visited.
     pub fn visits_of(&self, worker: u32) -> u64 {
         match self.visits.get(worker as usize * SPREAD) {
             Some(count) => count.load(Ordering::Relaxed),
@@ -41,7 +41,7 @@ impl Counter {
         }
     }
 
-    /// What the worklist held: the most buckets of a run, and the looks and chunks of all runs.
+    /// Gives the figures of the worklist: the most buckets of a run, and the looks and chunks of all runs.
     pub fn worklist(&self) -> Worklist {
         Worklist {
             buckets: self.most_buckets.load(Ordering::Relaxed),

@@ -1,7 +1,6 @@
-//! What a job is made of, and where the time of its answer went: for `--stats`.
+//! Figures of a job, and of where the time of its answer went: for `--stats`.
 
-use crate::watch::{Phase, Watch};
-use job_reader::ReadWatch;
+use job_answer::{Phase, ReadWatch, Watch};
 use std::time::{Clock, Duration};
 
 /// Figures of a job and of how it was answered. No byte of the answer depends on them.
@@ -10,9 +9,9 @@ pub struct Figures {
     pub vertices: u32,
     /// Of the rows: components take each arc both ways.
     pub arcs: usize,
-    /// How often labels were worked out: once for each source, and once for components.
+    /// The number of times that labels were worked out: once for each source, and once for components.
     pub solves: usize,
-    /// How many sources were solved at the same time at most.
+    /// The most sources that were solved at the same time.
     pub at_once: usize,
     pub reading: Duration,
     pub rows: Duration,

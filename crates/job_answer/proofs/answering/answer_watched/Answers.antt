@@ -1,5 +1,5 @@
 use Rattle.std.proofs.Common.{rules}
-use Rattle.job_answer.proofs.answering.answer_by.Goals as goal
+use Rattle.job_answer.proofs.answering.answer_watched.Goals as goal
 
 pub returns-in_err-job : goal.returns-in_err-job
 returns-in_err-job g c = search rules
