@@ -47,6 +47,17 @@ fn path<H: Threads + Abort + Sync>(rt: &H, alloc: Global) -> Result<Network, Fai
     network_of(rt, alloc, 3_000, &arcs, Cost::Weight)
 }
 
+/// A binary tree of 3,000 vertices, with arcs away from its root.
+fn tree<H: Threads + Abort + Sync>(rt: &H, alloc: Global) -> Result<Network, Fail>
+    ensures { IfOk result (λ network. network.n ≡ 3000) }
+{
+    let mut arcs = Vec::with_capacity(alloc, 2_999)?;
+    for v in 1..3_000_u32 {
+        arcs.push(ArcRec::new((v - 1) / 2, v, 1))?;
+    }
+    network_of(rt, alloc, 3_000, &arcs, Cost::Weight)
+}
+
 /// Asserts that these are the costs of a row of a table.
 fn expect_costs(rt: &impl Abort, row: usize, network: &Network, costs: &Costs, want: &[Option<u64>])
     requires { costs.now.net ≡ network.now }

@@ -20,8 +20,13 @@ use walk_report::WalkSpace;
 /// The rows are worth reversing once searches to one target have visited as many vertices as this part of the network.
 const SPENT_IN: u64 = 4;
 
-/// A search that finds nothing counts as so much of the network, since workers are asked then.
-const VAIN_IN: u64 = 16;
+/// A search that finds nothing counts as so much of the network if its frontier is wide. Searches from both ends meet
+/// after few visits then, where workers visit much of the network.
+const VAIN_IN: u64 = 8;
+
+/// A frontier is wide if it has one vertex for so many that were visited. On a map it has far fewer, and searches from
+/// both ends gain little there for targets far away.
+const VISITED_A_VERTEX: usize = 2;
 
 /// Visits so few are never worth it.
 const FEW_SPENT: u64 = 4096;
@@ -175,13 +180,14 @@ impl Near {
         }
     }
 
-    /// Counts what the last search from one end has visited.
+    /// Counts what searches from both ends might have saved of the last search from one end.
     fn spend(&mut self, network: &Network, found: bool) {
-        let visited = match &self.forward {
+        let saved = match &self.forward {
             Some(space) if found => u64::from(space.visits()),
-            _ => u64::from(network.n()) / VAIN_IN,
+            Some(space) if has_wide_frontier(space) => u64::from(network.n()) / VAIN_IN,
+            _ => 0,
         };
-        self.spent = self.spent.saturating_add(visited);
+        self.spent = self.spent.saturating_add(saved);
     }
 
     /// Makes room for this network, unless it has room for as many vertices.
@@ -192,6 +198,12 @@ impl Near {
             self.both_ends = Budget::of(n);
         }
     }
+}
+
+/// Tells if the last search left a wide frontier.
+fn has_wide_frontier(space: &SearchSpace) -> bool {
+    let visited = space.visits() as usize;
+    space.reached().saturating_sub(visited) >= visited / VISITED_A_VERTEX
 }
 
 /// Makes room for `n` vertices, unless it has room for as many. Returns true if it made room.

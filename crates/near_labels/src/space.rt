@@ -71,6 +71,11 @@ impl SearchSpace {
         self.state.made
     }
 
+    /// The number of vertices that the last search from its source reached, visited or not.
+    pub fn reached(&self) -> usize {
+        self.state.reached
+    }
+
     /// Returns the least labels of these targets from the source, in their order; `None` where the visits that are
     /// allowed don't do, or memory is refused. Takes the time of the vertices that are nearer than the farthest target.
     pub fn labels_to(

@@ -28,6 +28,8 @@ pub(crate) struct State {
     /// The number of visits that the last search made, and of arcs that it relaxed.
     pub made: u32,
     pub relaxed: usize,
+    /// The number of vertices that the last search reached.
+    pub reached: usize,
     /// The least sum of a label that fell and of the other side's label of that vertex. A hint.
     pub met: u64,
 }
@@ -50,6 +52,7 @@ impl State {
             arcs: 0,
             made: 0,
             relaxed: 0,
+            reached: 0,
             met: INF,
         })
     }
@@ -235,6 +238,7 @@ impl State {
         self.queue.clear();
         self.met = INF;
         self.relaxed = 0;
+        self.reached = self.noted.len();
         while let Some(v) = self.noted.pop() {
             let place = v as usize;
             self.labels[place] = INF;

@@ -3,7 +3,7 @@
 ghost use Rattle.std.specs.Prelude.{◌≡◌, ◌<◌, true};
 ghost use Rattle.least_costs.specs.Pairs.{ArePairsWithin};
 
-use crate::asked::{path, six};
+use crate::asked::{path, six, tree};
 use least_costs::{Network, Plan, Solver, Unwatched, Workers, Workspace};
 use obim_engine::OpenGate;
 use route_walks::{INF, Memory};
@@ -94,7 +94,7 @@ fn costs_of_one_call_after_another(rt: HostRuntime) -> Result<(), Fail> {
     expect_calls(&rt, alloc, &short, &long, &mut kept)
 }
 
-/// Asks the path for far targets, so often that the rows are worth reversing.
+/// Asks for a far target from many vertices, so often that the rows are worth reversing if frontiers are wide.
 pub fn ask_in_vain<H: Threads + Wait + Clock + Sync>(
     rt: &H,
     alloc: Global,
@@ -120,16 +120,20 @@ pub fn prepare(alloc: Global, network: &mut Network, kept: &mut Option<Workspace
 }
 
 #[test]
-fn rows_are_reversed_after_searches_in_vain(rt: HostRuntime) -> Result<(), Fail> {
+fn rows_are_reversed_after_wide_searches_in_vain(rt: HostRuntime) -> Result<(), Fail> {
     let alloc = rt.alloc();
-    for searches in [false, true] {
-        let mut network = path(&rt, alloc)?;
+    for (is_wide, searches) in [(true, false), (true, true), (false, true)] {
+        let mut network = if is_wide {
+            tree(&rt, alloc)?
+        } else {
+            path(&rt, alloc)?
+        };
         let mut kept = Some(Workspace::new().searching(searches));
         prepare(alloc, &mut network, &mut kept);
         assert!(rt; !network.has_reversed());
         ask_in_vain(&rt, alloc, &network, &mut kept)?;
         prepare(alloc, &mut network, &mut kept);
-        assert!(rt; network.has_reversed() == searches);
+        assert!(rt; network.has_reversed() == (is_wide && searches));
     }
     Ok(())
 }

@@ -7,7 +7,7 @@ ghost use Rattle.least_costs.specs.Network.{GrowsTo};
 ghost use Rattle.least_costs.specs.Pairs.{GrowsInto};
 
 use crate::asked::kept::{ask_in_vain, prepare};
-use crate::asked::{expect_costs, expect_within, path, six};
+use crate::asked::{expect_costs, expect_within, six, tree};
 use least_costs::{
     AtOnce, Cost, Costs, CostsBelow, CostsWithin, Network, NetworkFault, PairCosts, Plan, Runner,
     Solver, Start, Unwatched, Workers, Workspace,
@@ -483,7 +483,7 @@ fn of_network_reverse(rt: HostRuntime) -> Result<(), Fail> {
 #[test]
 fn of_workspace_prepare(rt: HostRuntime) -> Result<(), Fail> {
     let alloc = rt.alloc();
-    let mut network = path(&rt, alloc)?;
+    let mut network = tree(&rt, alloc)?;
     let mut kept = Some(Workspace::new());
     ask_in_vain(&rt, alloc, &network, &mut kept)?;
     refusable!(alloc, prepare(alloc, &mut network, &mut kept));
