@@ -3,6 +3,7 @@ pub mod Choices
 pub mod Bytes
 pub mod AnswerText
 pub mod Graphs
+pub mod Questions
 pub mod Costs
 pub mod Short
 pub mod Within

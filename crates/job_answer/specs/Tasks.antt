@@ -1,22 +1,16 @@
 -- What each task of an answer gives: it is done by itself, before its turn or in it.
 use Rattle.std.specs.Prelude.{ℕ, ◌+◌, ◌<◌, ◌≤◌, true, List, All}
 use Rattle.std.specs.Prelude.{drop, length, slice_index, take}
-use Rattle.dimacs_text.specs.Jobs.{IsPairWithin}
 use Rattle.job_answer.specs.declared.blocks.BlockText.{BlockText}
-use Rattle.job_answer.specs.declared.blocks.SourceTasks.{SourceTasks}
+use Rattle.job_answer.specs.declared.source_tasks.SourceTasks.{SourceTasks}
 use Rattle.job_answer.specs.declared.graphs.Graphs.{Graphs}
 use Rattle.job_answer.specs.declared.walked_pairs.LinesText.{LinesText}
 use Rattle.job_answer.specs.declared.walked_pairs.WalkTasks.{WalkTasks}
 use Rattle.job_answer.specs.AnswerText.{AreBlocks, IsGrownPair}
-use Rattle.job_answer.specs.Graphs.{AreGraphs, growth_of}
+use Rattle.job_answer.specs.Graphs.{growth_of}
 use Rattle.job_answer.specs.InNetworks.{IsBlockIn}
 
 -- ---- sources: a task for each gives its block
-
--- the networks in which costs are least, and sources that are vertices of them
-pub record AreSourceTasks (of : SourceTasks) : Type 0 where
-  pub are : AreGraphs of.kind.graphs.now
-  pub within : All (λ source. source < of.kind.graphs.now.network.n) of.sources.now
 
 -- the text is the block of a source
 abbrev pub IsSourceBlock : SourceTasks → ℕ → List ℕ → Type 0
@@ -27,11 +21,6 @@ abbrev pub IsBlockText : SourceTasks → ℕ → BlockText → Type 0
 IsBlockText of place text = IsSourceBlock of (slice_index of.sources.now place) text.bytes.items
 
 -- ---- pairs with walks: a task for those that stand side by side and have one source gives their lines
-
--- the networks in which costs are least, and pairs of vertices of them
-pub record AreWalkTasks (of : WalkTasks) : Type 0 where
-  pub are : AreGraphs of.queries.graphs.now
-  pub within : All (IsPairWithin of.queries.graphs.now.network.n) of.queries.pairs.now
 
 -- the text has the lines of a pair with its walk, in the network and the one that it grows to
 abbrev pub IsWalkedBlock : Graphs → ℕ × ℕ → List ℕ → Type 0

@@ -1,11 +1,13 @@
 //! From the bytes of a job text to the bytes of its answer.
 
 ghost use Rattle.std.specs.Prelude.{◌≡◌, ◌↔◌, false, IfOk, IfErr, IsTrue, OnErr, OnOk};
-ghost use Rattle.dimacs_text.specs.Jobs.{Content, content_of, question_of, IsQuestionWithin, IsWithinLimits};
-ghost use Rattle.job_answer.specs.AnswerText.{growth_for};
+ghost use Rattle.dimacs_text.specs.Jobs.{Content, content_of, question_of, IsWithinLimits};
 ghost use Rattle.job_answer.specs.Bytes.{Writes, WritesPrefix};
-ghost use Rattle.job_answer.specs.Graphs.{AreGraphs, AreGraphsFor};
-ghost use Rattle.job_answer.specs.InNetworks.{IsTextIn};
+ghost use Rattle.job_answer.specs.Graphs.{AreGraphs};
+ghost use Rattle.job_answer.specs.InNetworks.{IsStartIn};
+ghost use Rattle.job_answer.specs.Questions.{IsAnswerable, IsOfJob, IsTextOf};
+ghost use Rattle.job_answer.specs.declared.asked.Lines.TheVariants.{Each};
+ghost use Rattle.least_costs.specs.declared.start.Start.TheVariants.{Everywhere};
 ghost use Rattle.job_answer.specs.Outcome.{IsAnswerOf, IsReply, IsReplyFault, IsTrueOfBytes};
 ghost use Rattle.job_answer.specs.Outcome.{IsWritingFault, is_unasked};
 ghost use Rattle.job_answer.specs.Sinks.{Cuts, IsSame, Puts};
@@ -14,10 +16,13 @@ ghost use Rattle.job_answer.specs.Within.{HasNoSources, IsAnswerTextBy};
 use crate::asked::{Answer, Asked, Lines};
 use crate::block_kind::BlockKind;
 use crate::blocks::{put_solved, put_sources};
+use crate::env::Context;
 use crate::fault::Fault;
 use crate::graphs::{Graphs, graphs_for};
 use crate::laws::{blocks_are_unique, lines_are_unique};
+use crate::pair_queries::PairQueries;
 use crate::pairs::put_pairs;
+use crate::question::Question;
 use crate::saving::asked_for;
 use crate::sink::{PIECE, Sink};
 use crate::watch::{NoWatch, Phase, Watch};
@@ -77,7 +82,13 @@ pub fn answer_watched<H: Threads + Wait + Clock + Sync, R: Read, W: Write, G: Ga
     let threads = asked.settings.workers as usize;
     let job = read_job_from(rt, alloc, reader, asked.limit, threads, watch)?;
     watch.end(rt, Phase::Reading);
-    answer_job(rt, alloc, writer, asked, job, gate, watch)
+    let context = Context {
+        rt,
+        alloc,
+        asked,
+        gate,
+    };
+    answer_job(&context, writer, job, watch)
 }
 
 /// Gives the bytes of the answer to a text in memory. No fault is `Write`.
@@ -104,20 +115,20 @@ pub fn answer_bytes<H: Threads + Wait + Clock + Sync, G: Gate + Sync>(
 
 /// Writes the answer of the job.
 fn answer_job<H: Threads + Wait + Clock + Sync, W: Write, G: Gate + Sync>(
-    rt: &H,
-    alloc: Global,
+    context: &Context<'_, H, G>,
     writer: &mut W,
-    asked: &Asked,
     job: Job,
-    gate: &G,
     watch: &mut impl Watch,
 ) -> Result<(), Fault>
     requires limits { IsWithinLimits (content_of job) }
-    ensures reply { OnOk result (Writes (IsAnswerTextBy asked.now.answer asked.now.lines (content_of job))
+    ensures reply { OnOk result (Writes
+        (IsAnswerTextBy context.now.asked.now.answer context.now.asked.now.lines (content_of job))
         (W.contents writer.old) (W.contents writer.new)) }
-    ensures says { IfErr result (IsReplyFault asked.now.answer asked.now.lines (content_of job)
+    ensures says { IfErr result
+        (IsReplyFault context.now.asked.now.answer context.now.asked.now.lines (content_of job)
         (W.contents writer.old) (W.contents writer.new)) }
 {
+    let (rt, alloc, asked) = (context.rt, context.alloc, context.asked);
     if is_unasked(asked.answer, &job.ask) {
         return Err(Fault::NoAsk);
     }
@@ -138,12 +149,13 @@ fn answer_job<H: Threads + Wait + Clock + Sync, W: Write, G: Gate + Sync>(
     let rows = graphs.network.rows();
     watch.see_rows(rows.n(), rows.arc_count());
     watch.end(rt, Phase::Rows);
-    let kind = BlockKind {
+    let question = Question {
         graphs: &graphs,
+        ask: &ask,
         lines: asked.lines,
     };
     let mut kept = Some(Workspace::new().searching(searches));
-    answer_question(rt, alloc, writer, kind, &ask, asked, gate, &mut kept, watch)
+    answer_question(context, writer, &question, &mut kept, watch)
 }
 
 /// Reverses the rows of the network, if it is so. No graph changes.
@@ -176,43 +188,37 @@ fn count_sources(pairs: &[(u32, u32)]) -> usize {
     count
 }
 
-/// Writes the answer to a question, by networks that are kept: exactly the bytes that answer a job of the same graph
-/// which asks the same. Walks come of the lines alone. Nothing is written after the answer, and the writer is flushed
-/// once, at its end.
+/// Writes the answer to a question: exactly the bytes that answer a job of the same graph which asks the same. Nothing is
+/// written after the answer, and the writer is flushed once, at its end.
 ///
 /// What is kept from one question to the next is taken, and given back with the answer.
 pub fn answer_question<H: Threads + Wait + Clock + Sync, W: Write, G: Gate + Sync>(
-    rt: &H,
-    alloc: Global,
+    context: &Context<'_, H, G>,
     writer: &mut W,
-    kind: BlockKind<'_>,
-    ask: &Ask,
-    asked: &Asked,
-    gate: &G,
+    question: &Question<'_>,
     kept: &mut Option<Workspace>,
     watch: &mut impl Watch,
 ) -> Result<(), Fault>
-    requires graphs { AreGraphs kind.graphs.now }
-    requires question { IsQuestionWithin kind.graphs.now.network.n (question_of ask.now) }
-    requires asked { is_unasked asked.now.answer (question_of ask.now) ≡ false }
-    requires sources { ¬ (HasNoSources asked.now.answer kind.lines (question_of ask.now)) }
-    ensures reply { (job : Content)
-        → AreGraphsFor asked.now.answer job.n job.arcs (growth_for asked.now.answer job) kind.entry.graphs.now
-        → question_of ask.now ≡ job.question
-        → OnOk result (Writes (IsAnswerTextBy asked.now.answer kind.entry.lines job)
+    requires { IsAnswerable context.now.asked.now.answer question.now }
+    ensures reply { (job : Content) → IsOfJob context.now.asked.now.answer question.now job
+        → OnOk result (Writes (IsAnswerTextBy context.now.asked.now.answer question.now.lines job)
         (W.contents writer.old) (W.contents writer.new)) }
-    ensures prefix { (job : Content)
-        → AreGraphsFor asked.now.answer job.n job.arcs (growth_for asked.now.answer job) kind.entry.graphs.now
-        → question_of ask.now ≡ job.question
-        → OnErr result (WritesPrefix (IsAnswerTextBy asked.now.answer kind.entry.lines job)
+    ensures prefix { (job : Content) → IsOfJob context.now.asked.now.answer question.now job
+        → OnErr result (WritesPrefix (IsAnswerTextBy context.now.asked.now.answer question.now.lines job)
         (W.contents writer.old) (W.contents writer.new)) }
     ensures kinds { IfErr result IsWritingFault }
 {
     // What is least in the network is least for the arcs that it was made of, and so are its walks.
     least_labels_follow_the_arcs();
     hops_and_parents_follow_the_arcs();
-    let asked = asked_for(asked, kind.graphs, ask);
-    write_text(rt, alloc, writer, kind, ask, &asked, gate, kept, watch)
+    let asked = asked_for(context.asked, question.graphs, question.ask);
+    let context = Context {
+        rt: context.rt,
+        alloc: context.alloc,
+        asked: &asked,
+        gate: context.gate,
+    };
+    write_text(&context, writer, question, kept, watch)
 }
 
 /// Tells whether a job asks for nothing: it has no section of queries, and the answer needs one.
@@ -240,81 +246,92 @@ fn has_no_sources(answer: Answer, lines: Lines, ask: &Ask) -> bool
 
 /// Writes the text of what is asked.
 fn write_text<H: Threads + Wait + Clock + Sync, W: Write, G: Gate + Sync>(
-    rt: &H,
-    alloc: Global,
+    context: &Context<'_, H, G>,
     writer: &mut W,
-    kind: BlockKind<'_>,
-    ask: &Ask,
-    asked: &Asked,
-    gate: &G,
+    question: &Question<'_>,
     kept: &mut Option<Workspace>,
     watch: &mut impl Watch,
 ) -> Result<(), Fault>
-    requires graphs { AreGraphs kind.graphs.now }
-    requires question { IsQuestionWithin kind.graphs.now.network.n (question_of ask.now) }
-    requires asked { is_unasked asked.now.answer (question_of ask.now) ≡ false }
-    requires sources { ¬ (HasNoSources asked.now.answer kind.lines (question_of ask.now)) }
-    ensures text { OnOk result (Writes (IsTextIn kind.entry.graphs.now asked.now.answer kind.entry.lines
-        (question_of ask.now)) (W.contents writer.old) (W.contents writer.new)) }
-    ensures prefix { OnErr result (WritesPrefix (IsTextIn kind.entry.graphs.now asked.now.answer kind.entry.lines
-        (question_of ask.now)) (W.contents writer.old) (W.contents writer.new)) }
+    requires { IsAnswerable context.now.asked.now.answer question.now }
+    ensures text { OnOk result (Writes (IsTextOf context.now.asked.now.answer question.now)
+        (W.contents writer.old) (W.contents writer.new)) }
+    ensures prefix { OnErr result (WritesPrefix (IsTextOf context.now.asked.now.answer question.now)
+        (W.contents writer.old) (W.contents writer.new)) }
     ensures kinds { IfErr result IsWritingFault }
 {
     // So what is a prefix of this text is one of the text that another run would write.
     blocks_are_unique();
     lines_are_unique();
-    let mut waiting = Vec::new(alloc);
+    let mut waiting = Vec::new(context.alloc);
     let mut sink = Sink {
         writer,
         waiting: &mut waiting,
         piece: PIECE,
     };
-    put_text(rt, alloc, &mut sink, kind, ask, asked, gate, kept, watch)?;
+    put_text(context, &mut sink, question, kept, watch)?;
     sink.finish()
 }
 
 /// Puts the text of what is asked.
 fn put_text<H: Threads + Wait + Clock + Sync, W: Write, G: Gate + Sync>(
-    rt: &H,
-    alloc: Global,
+    context: &Context<'_, H, G>,
     sink: &mut Sink<'_, W>,
-    kind: BlockKind<'_>,
-    ask: &Ask,
-    asked: &Asked,
-    gate: &G,
+    question: &Question<'_>,
     kept: &mut Option<Workspace>,
     watch: &mut impl Watch,
 ) -> Result<(), Fault>
-    requires graphs { AreGraphs kind.graphs.now }
-    requires question { IsQuestionWithin kind.graphs.now.network.n (question_of ask.now) }
-    requires asked { is_unasked asked.now.answer (question_of ask.now) ≡ false }
-    requires sources { ¬ (HasNoSources asked.now.answer kind.lines (question_of ask.now)) }
+    requires { IsAnswerable context.now.asked.now.answer question.now }
     ensures same { IsSame sink.old sink.new }
-    ensures text { OnOk result (Puts W.contents (IsTextIn kind.entry.graphs.now asked.now.answer kind.entry.lines
-        (question_of ask.now)) sink.old sink.new) }
-    ensures prefix { OnErr result (Cuts W.contents (IsTextIn kind.entry.graphs.now asked.now.answer kind.entry.lines
-        (question_of ask.now)) sink.old sink.new) }
+    ensures text { OnOk result (Puts W.contents (IsTextOf context.now.asked.now.answer question.now)
+        sink.old sink.new) }
+    ensures prefix { OnErr result (Cuts W.contents (IsTextOf context.now.asked.now.answer question.now)
+        sink.old sink.new) }
     ensures kinds { IfErr result IsWritingFault }
 {
-    match (asked.answer, ask) {
-        (Answer::Components, _) => {
-            // Components have neither walks nor costs, so their block is the same by all lines.
-            let kind = BlockKind {
-                graphs: kind.graphs,
-                lines: Lines::Each { walks: false },
-            };
-            let mut workers = Workers::new(asked.settings, gate, kept.take());
-            let start = Start::Everywhere;
-            put_solved(rt, alloc, sink, &kind, start, &mut workers, watch)?;
-            *kept = Some(workers.into_kept());
-            Ok(())
-        }
+    let (graphs, lines) = (question.graphs, question.lines);
+    match (context.asked.answer, question.ask) {
+        (Answer::Components, _) => put_all(context, sink, graphs, kept, watch),
         (_, Ask::Sources(sources)) => {
-            put_sources(rt, alloc, sink, kind, sources, asked, gate, kept, watch)
+            let kind = BlockKind { graphs, lines };
+            put_sources(context, sink, kind, sources, kept, watch)
         }
         (_, Ask::Pairs(pairs)) => {
-            put_pairs(rt, alloc, sink, kind, pairs, asked, gate, kept, watch)
+            let queries = PairQueries { graphs, pairs };
+            put_pairs(context, sink, queries, lines.has_walks(), kept, watch)
         }
         (_, Ask::Absent) => unreachable!(),
     }
+}
+
+/// Puts the components of all vertices.
+fn put_all<H: Threads + Wait + Clock + Sync, W: Write, G: Gate + Sync>(
+    context: &Context<'_, H, G>,
+    sink: &mut Sink<'_, W>,
+    graphs: &Graphs,
+    kept: &mut Option<Workspace>,
+    watch: &mut impl Watch,
+) -> Result<(), Fault>
+    requires graphs { AreGraphs graphs.now }
+    ensures same { IsSame sink.old sink.new }
+    ensures block { OnOk result (Puts W.contents (IsStartIn graphs.now (Each false) Everywhere) sink.old sink.new) }
+    ensures prefix { OnErr result (Cuts W.contents (IsStartIn graphs.now (Each false) Everywhere)
+        sink.old sink.new) }
+    ensures kinds { IfErr result IsWritingFault }
+{
+    // Components have neither walks nor costs, so their block is the same by all lines.
+    let kind = BlockKind {
+        graphs,
+        lines: Lines::Each { walks: false },
+    };
+    let mut workers = Workers::new(context.asked.settings, context.gate, kept.take());
+    put_solved(
+        &context.env(),
+        sink,
+        &kind,
+        Start::Everywhere,
+        &mut workers,
+        watch,
+    )?;
+    *kept = Some(workers.into_kept());
+    Ok(())
 }

@@ -12,13 +12,14 @@ ghost use Rattle.job_answer.specs.Outcome.{IsWritingFault};
 ghost use Rattle.job_answer.specs.Sinks.{Cuts, IsSame, Puts};
 ghost use Rattle.job_answer.specs.Solves.{AreCostsFor, IsRest};
 ghost use Rattle.job_answer.specs.Solves.{IsStartBlock, IsStartLines, goal_of};
-ghost use Rattle.job_answer.specs.Tasks.{AreSourceTasks, IsBlockText, IsSourceBlock};
+ghost use Rattle.job_answer.specs.Tasks.{IsBlockText, IsSourceBlock};
 ghost use Rattle.job_answer.specs.LineWalks.{AreWalksFor, HasVertexLines, has_walks};
 ghost use Rattle.job_answer.specs.Within.{IsLinesBlock};
 ghost use Rattle.least_costs.specs.declared.start.Start.TheVariants.{At};
 
-use crate::asked::{Asked, Lines};
+use crate::asked::Lines;
 use crate::block_kind::BlockKind;
+use crate::env::{Context, Env};
 use crate::fault::Fault;
 use crate::graphs::{Grown, teams_for};
 use crate::laws::{blocks_are_unique, lines_are_unique};
@@ -27,11 +28,12 @@ use crate::lines::{put_components, put_labels, put_raw, put_totals, put_within};
 use crate::near_block::{near_block, put_near};
 use crate::sink::{NoWriter, Sink, most_bytes};
 use crate::solves::{costs_after, costs_from};
-use crate::team_watch::{SolveCount, TeamWatch};
+use crate::source_tasks::SourceTasks;
+use crate::team_watch::{SolveCount, TeamWatch, see_round};
 use crate::watch::{Phase, Watch};
 use answer_lines::put_grown;
-use least_costs::{CostsBelow, Network, Part, Rounds, Start, Team, TeamGate, Workers, Workspace};
-use obim_engine::{Gate, Settings};
+use least_costs::{CostsBelow, Network, Rounds, Start, Tasks, TeamGate, Workers, Workspace};
+use obim_engine::Gate;
 use route_walks::laws::least_labels_exist;
 use route_walks::{MAX_VERTICES, Memory};
 use std::alloc::Global;
@@ -41,35 +43,23 @@ use std::thread::Threads;
 use std::time::Clock;
 use walk_report::laws::{hops_and_parents_exist, walks_below_agree};
 
-/// The sources whose blocks are asked for. A task for each gives its block.
-#[derive(Drop)]
-pub struct SourceTasks<'a> {
-    pub kind: BlockKind<'a>,
-    pub sources: &'a [u32],
-    pub settings: &'a Settings,
-    pub solves: SolveCount,
-}
-
 /// The block of a source, in memory.
 #[derive(Drop)]
 pub struct BlockText {
     pub bytes: Vec<u8>,
 }
 
-impl<'a> Part<SourceTasks<'a>> for BlockText {
+impl<'a> Tasks<BlockText> for SourceTasks<'a> {
     ghost is_part = { IsBlockText };
 }
 
 /// Puts the block of each source in turn: the least costs from it, with their walks where they are asked
 /// for. Where the network grows, the same in the grown one comes after each block.
 pub fn put_sources<H: Threads + Wait + Clock + Sync, W: Write, G: Gate + Sync>(
-    rt: &H,
-    alloc: Global,
+    context: &Context<'_, H, G>,
     sink: &mut Sink<'_, W>,
     kind: BlockKind<'_>,
     sources: &[u32],
-    asked: &Asked,
-    gate: &G,
     kept: &mut Option<Workspace>,
     watch: &mut impl Watch,
 ) -> Result<(), Fault>
@@ -82,31 +72,29 @@ pub fn put_sources<H: Threads + Wait + Clock + Sync, W: Write, G: Gate + Sync>(
         sink.old sink.new) }
     ensures kinds { IfErr result IsWritingFault }
 {
+    let (env, asked) = (context.env(), context.asked);
     let teams = teams_for(kind.graphs, asked);
     let tasks = SourceTasks {
         kind,
         sources,
-        settings: &asked.settings,
         solves: SolveCount::new(),
     };
-    let mut rounds = Rounds::new(alloc, sources.len(), teams, asked.settings.workers);
-    let mut workers = Workers::new(asked.settings, gate, kept.take());
-    put_blocks(rt, alloc, sink, &tasks, &mut rounds, &mut workers, watch)?;
-    *kept = Some(workers.into_kept());
+    let workers = Workers::new(asked.settings, context.gate, kept.take());
+    let mut rounds = Rounds::new(env.alloc, sources.len(), teams, workers);
+    put_blocks(&env, sink, &tasks, &mut rounds, watch)?;
+    *kept = Some(rounds.into_kept());
     Ok(())
 }
 
 /// Puts the block of each source in turn.
 fn put_blocks<H: Threads + Wait + Clock + Sync, W: Write, G: Gate + Sync>(
-    rt: &H,
-    alloc: Global,
+    env: &Env<'_, H>,
     sink: &mut Sink<'_, W>,
     tasks: &SourceTasks<'_>,
-    rounds: &mut Rounds<BlockText, Workspace>,
-    workers: &mut Workers<'_, G>,
+    rounds: &mut Rounds<'_, BlockText, G>,
     watch: &mut impl Watch,
 ) -> Result<(), Fault>
-    requires tasks { AreSourceTasks tasks.now }
+    requires graphs { AreGraphs tasks.now.kind.graphs.now }
     requires made { AreMade (IsBlockText tasks.now) rounds.old.made.items }
     ensures same { IsSame sink.old sink.new }
     ensures blocks { OnOk result (Puts W.contents (AreBlocks (IsSourceBlock tasks.now) tasks.now.sources.now)
@@ -119,23 +107,21 @@ fn put_blocks<H: Threads + Wait + Clock + Sync, W: Write, G: Gate + Sync>(
     lines_are_unique();
     for place in 0..tasks.sources.len() {
         watch.see_answered(place, tasks.sources.len());
-        put_block_at(rt, alloc, sink, tasks, place, rounds, workers, watch)?;
+        put_block_at(env, sink, tasks, place, rounds, watch)?;
     }
     Ok(())
 }
 
 /// Puts the block of the source at a place: as it was made before its turn, or else solved now.
 fn put_block_at<H: Threads + Wait + Clock + Sync, W: Write, G: Gate + Sync>(
-    rt: &H,
-    alloc: Global,
+    env: &Env<'_, H>,
     sink: &mut Sink<'_, W>,
     tasks: &SourceTasks<'_>,
     place: usize,
-    rounds: &mut Rounds<BlockText, Workspace>,
-    workers: &mut Workers<'_, G>,
+    rounds: &mut Rounds<'_, BlockText, G>,
     watch: &mut impl Watch,
 ) -> Result<(), Fault>
-    requires tasks { AreSourceTasks tasks.now }
+    requires graphs { AreGraphs tasks.now.kind.graphs.now }
     requires place { place < length tasks.now.sources.now }
     requires made { AreMade (IsBlockText tasks.now) rounds.old.made.items }
     ensures same { IsSame sink.old sink.new }
@@ -147,106 +133,89 @@ fn put_block_at<H: Threads + Wait + Clock + Sync, W: Write, G: Gate + Sync>(
     ensures kinds { IfErr result IsWritingFault }
 {
     lines_are_unique();
-    if let Some(text) = take_block(rt, alloc, rounds, tasks, workers.gate, place, watch) {
+    let text = take_block(env, rounds, tasks, place);
+    see_round(env.rt, rounds.at_once(), &tasks.solves, watch);
+    if let Some(text) = text {
         sink.send_with(&text.bytes)?;
-        watch.end(rt, Phase::Writing);
+        watch.end(env.rt, Phase::Writing);
         return Ok(());
     }
     let start = Start::At(tasks.sources[place]);
-    put_solved(rt, alloc, sink, &tasks.kind, start, workers, watch)
+    put_solved(env, sink, &tasks.kind, start, &mut rounds.workers, watch)
 }
 
 /// The block of the source at a place, if it was made before its turn.
 fn take_block<H: Threads + Wait + Clock + Sync, G: Gate + Sync>(
-    rt: &H,
-    alloc: Global,
-    rounds: &mut Rounds<BlockText, Workspace>,
+    env: &Env<'_, H>,
+    rounds: &mut Rounds<'_, BlockText, G>,
     tasks: &SourceTasks<'_>,
-    gate: &G,
     place: usize,
-    watch: &mut impl Watch,
 ) -> Option<BlockText>
-    requires tasks { AreSourceTasks tasks.now }
+    requires graphs { AreGraphs tasks.now.kind.graphs.now }
     requires made { AreMade (IsBlockText tasks.now) rounds.old.made.items }
     ensures left { AreMade (IsBlockText tasks.now) rounds.new.made.items }
     ensures text { IfSome result (IsBlockText tasks.now place) }
 {
-    let text = rounds.take(
-        rt,
-        alloc,
+    rounds.take(
+        env.rt,
+        env.alloc,
         tasks,
-        &|place: usize, team: Team, kept: &mut Option<Workspace>| -> Option<BlockText>
+        &|place: usize, workers: &mut Workers<'_, TeamGate<'_, G>>| -> Option<BlockText>
             requires sync { IsSync H.row × IsSync G.row }
-            requires tasks { AreSourceTasks tasks.now }
+            requires graphs { AreGraphs tasks.now.kind.graphs.now }
             ensures { IfSome result (IsBlockText tasks.entry.now place) }
-        { make_block(rt, alloc, tasks, gate, place, team, kept) },
-        &|place: usize| place.saturating_add(1),
+        { make_block(env, tasks, place, workers) },
         place,
-    );
-    watch.see_teams(rounds.at_once());
-    watch.see_solves(tasks.solves.take());
-    watch.end(rt, Phase::Solving);
-    text
+    )
 }
 
-/// The block of the source at a place, made by a team over the pool that it kept. `None` where it was not made: where
-/// memory was refused, or where walks make it long.
+/// The block of the source at a place. `None` if memory is refused, or if walks make it long.
 fn make_block<H: Threads + Wait + Clock + Sync, G: Gate + Sync>(
-    rt: &H,
-    alloc: Global,
+    env: &Env<'_, H>,
     tasks: &SourceTasks<'_>,
-    gate: &G,
     place: usize,
-    team: Team,
-    kept: &mut Option<Workspace>,
+    workers: &mut Workers<'_, G>,
 ) -> Option<BlockText>
-    requires { AreSourceTasks tasks.now }
+    requires graphs { AreGraphs tasks.now.kind.graphs.now }
     ensures { IfSome result (IsBlockText tasks.now place) }
 {
     if place >= tasks.sources.len() {
         return None;
     }
-    let gate = TeamGate { gate, team };
-    let mut workers = Workers::new(team.settings(tasks.settings), &gate, kept.take());
     let mut watch = TeamWatch {
         solves: &tasks.solves,
     };
     let source = tasks.sources[place];
-    let text = held_block(rt, alloc, &tasks.kind, source, &mut workers, &mut watch).ok();
-    *kept = Some(workers.into_kept());
-    text
+    held_block(env, &tasks.kind, source, workers, &mut watch).ok()
 }
 
-/// The block of a source, in memory, by the workers of a team. Fails where it is long, too.
+/// The block of a source, in memory. Fails if it is long, too.
 fn held_block<H: Threads + Wait + Clock + Sync, G: Gate + Sync>(
-    rt: &H,
-    alloc: Global,
+    env: &Env<'_, H>,
     kind: &BlockKind<'_>,
     source: u32,
-    workers: &mut Workers<'_, TeamGate<'_, G>>,
+    workers: &mut Workers<'_, G>,
     watch: &mut impl Watch,
 ) -> Result<BlockText, Fault>
     requires graphs { AreGraphs kind.now.graphs.now }
     requires source { source < kind.now.graphs.now.network.n }
-    requires team { workers.old.settings.workers ≡ workers.old.gate.now.team.workers }
     ensures { IfOk result (λ text. IsBlockIn kind.now.graphs.now kind.now.lines source text.bytes.items) }
 {
-    let (mut nobody, mut bytes) = (NoWriter, Vec::new(alloc));
+    let (mut nobody, mut bytes) = (NoWriter, Vec::new(env.alloc));
     let mut sink = Sink {
         writer: &mut nobody,
         waiting: &mut bytes,
         piece: most_bytes(kind.graphs),
     };
     let start = Start::At(source);
-    put_solved(rt, alloc, &mut sink, kind, start, workers, watch)?;
+    put_solved(env, &mut sink, kind, start, workers, watch)?;
     Ok(BlockText { bytes })
 }
 
 /// Solves from a start, and puts the block of the costs, or that of a list of near vertices. Where the network grows,
 /// what comes after it is put too.
 pub fn put_solved<H: Threads + Wait + Clock + Sync, W: Write, G: Gate + Sync>(
-    rt: &H,
-    alloc: Global,
+    env: &Env<'_, H>,
     sink: &mut Sink<'_, W>,
     kind: &BlockKind<'_>,
     start: Start,
@@ -266,21 +235,21 @@ pub fn put_solved<H: Threads + Wait + Clock + Sync, W: Write, G: Gate + Sync>(
     lines_are_unique();
     blocks_are_unique();
     let (graphs, lines) = (kind.graphs, kind.lines);
-    let network = &graphs.network;
+    let (alloc, network) = (env.alloc, &graphs.network);
     if let Some(near) = near_block(alloc, graphs, lines, start, workers) {
-        return put_near(rt, sink, network, lines, start, &near, watch);
+        return put_near(env.rt, sink, network, lines, start, &near, watch);
     }
     let goal = lines.goal();
-    let costs = costs_from(rt, alloc, network, start, goal, workers, watch)?;
+    let costs = costs_from(env, network, start, goal, workers, watch)?;
     put_block(alloc, sink, network, lines, start, &costs)?;
-    watch.end(rt, Phase::Writing);
+    watch.end(env.rt, Phase::Writing);
     let Some(grown) = &graphs.grown else {
         return Ok(());
     };
     let more = &grown.network;
-    let after = costs_after(rt, alloc, network, more, costs, goal, workers, watch)?;
+    let after = costs_after(env, network, more, costs, goal, workers, watch)?;
     put_grown_block(alloc, sink, grown, lines, start, &after)?;
-    watch.end(rt, Phase::Writing);
+    watch.end(env.rt, Phase::Writing);
     Ok(())
 }
 

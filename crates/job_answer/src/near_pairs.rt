@@ -3,7 +3,6 @@
 ghost use Rattle.std.specs.Prelude.{◌≡◌, ◌<◌, ◌++◌, None, All, IfErr, IfSome, OnErr, OnOk, drop, length, slice_range};
 ghost use Rattle.near_labels.specs.Found.{AreWalksFound};
 ghost use Rattle.route_walks.specs.declared.graph.TheConstants.{MAX_VERTICES};
-ghost use Rattle.dimacs_text.specs.Jobs.{IsPairWithin};
 ghost use Rattle.job_answer.specs.AnswerText.{AreBlocks};
 ghost use Rattle.job_answer.specs.Graphs.{AreGraphs};
 ghost use Rattle.job_answer.specs.NearPairs.{found_text};
@@ -16,8 +15,9 @@ ghost use Rattle.job_answer.specs.Tasks.{IsWalkedBlock};
 use crate::fault::Fault;
 use crate::graphs::Graphs;
 use crate::laws::blocks_are_unique;
+use crate::pair_queries::PairQueries;
 use crate::sink::Sink;
-use crate::solves::{PairQueries, Solve};
+use crate::solves::Solve;
 use answer_lines::{put_pair, put_walk};
 use least_costs::{WalksFound, Workers};
 use obim_engine::Gate;
@@ -57,7 +57,6 @@ pub(crate) fn put_found<W: Write>(
 ) -> Result<(), Fault>
     requires graphs { AreGraphs queries.now.graphs.now }
     requires alone { queries.now.graphs.now.grown ≡ None }
-    requires pairs { All (IsPairWithin queries.now.graphs.now.network.n) queries.now.pairs.now }
     requires solve { IsForQueries queries.now.pairs.now solve }
     requires targets { AreTargetsOf queries.now.pairs.now solve.first solve.end targets.now }
     requires found { AreWalksFound queries.now.graphs.now.network.n queries.now.graphs.now.network.arcs

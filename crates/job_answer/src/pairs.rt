@@ -1,32 +1,30 @@
 //! The lines that answer pairs.
 
 ghost use Rattle.std.specs.Prelude.{◌≡◌, ◌<◌, ◌≤◌, ◌^◌, ◌++◌, None, length, slice_index_or};
-ghost use Rattle.std.specs.Prelude.{All, IfErr, IfOk, OnErr, OnOk, false};
+ghost use Rattle.std.specs.Prelude.{IfErr, IfOk, OnErr, OnOk, false};
 ghost use Rattle.least_costs.specs.Costs.{label_of};
 ghost use Rattle.least_costs.specs.Pairs.{ArePairCosts};
 ghost use Rattle.dimacs_text.specs.Jobs.{IsPairWithin};
 ghost use Rattle.answer_lines.specs.Lines.{pair_text};
 ghost use Rattle.job_answer.specs.Graphs.{AreGraphs, growth_of};
 ghost use Rattle.job_answer.specs.InNetworks.{ArePairsIn};
-ghost use Rattle.job_answer.specs.LineWalks.{has_walks};
 ghost use Rattle.job_answer.specs.Outcome.{IsWritingFault};
 ghost use Rattle.job_answer.specs.Sinks.{Cuts, IsSame, Puts};
 ghost use Rattle.job_answer.specs.Solves.{AreCostsAfter, HasCostAfter, with_growth};
 
-use crate::asked::Asked;
-use crate::block_kind::BlockKind;
+use crate::env::Context;
 use crate::fault::Fault;
 use crate::graphs::{Graphs, plan_of};
 use crate::laws::blocks_are_unique;
+use crate::pair_queries::PairQueries;
 use crate::sink::Sink;
 use crate::walked_pairs::put_all_walked;
 use crate::watch::{Phase, Watch};
 use answer_lines::{put_grown, put_pair};
 use least_costs::laws::costs_are_labels;
-use least_costs::{PairCosts, Progress, Solver, Team, TeamGate, Workspace};
+use least_costs::{PairCosts, Progress, Solver, Workspace};
 use obim_engine::Gate;
 use route_walks::{INF, MAX_VERTICES, Memory};
-use std::alloc::Global;
 use std::io::Write;
 use std::sync::Wait;
 use std::thread::Threads;
@@ -56,59 +54,50 @@ impl<W: Watch> Progress for PairWatch<'_, W> {
 /// are known. With walks only pairs that stand side by side share the solve of their source, and no cost
 /// is kept from one source to the next.
 pub fn put_pairs<H: Threads + Wait + Clock + Sync, W: Write, G: Gate + Sync>(
-    rt: &H,
-    alloc: Global,
+    context: &Context<'_, H, G>,
     sink: &mut Sink<'_, W>,
-    kind: BlockKind<'_>,
-    pairs: &[(u32, u32)],
-    asked: &Asked,
-    gate: &G,
+    queries: PairQueries<'_>,
+    walks: bool,
     kept: &mut Option<Workspace>,
     watch: &mut impl Watch,
 ) -> Result<(), Fault>
-    requires graphs { AreGraphs kind.graphs.now }
-    requires count { length pairs.now ≤ 2 ^ 20 }
-    requires pairs { All (IsPairWithin kind.graphs.now.network.n) pairs.now }
+    requires graphs { AreGraphs queries.graphs.now }
+    requires count { length queries.pairs.now ≤ 2 ^ 20 }
     ensures same { IsSame sink.old sink.new }
-    ensures blocks { OnOk result (Puts W.contents (ArePairsIn kind.entry.graphs.now (has_walks kind.entry.lines)
-        pairs.now) sink.old sink.new) }
-    ensures prefix { OnErr result (Cuts W.contents (ArePairsIn kind.entry.graphs.now (has_walks kind.entry.lines)
-        pairs.now) sink.old sink.new) }
+    ensures blocks { OnOk result (Puts W.contents (ArePairsIn queries.entry.graphs.now walks queries.entry.pairs.now)
+        sink.old sink.new) }
+    ensures prefix { OnErr result (Cuts W.contents (ArePairsIn queries.entry.graphs.now walks queries.entry.pairs.now)
+        sink.old sink.new) }
     ensures kinds { IfErr result IsWritingFault }
 {
-    let graphs = kind.graphs;
-    if kind.lines.has_walks() {
-        return put_all_walked(rt, alloc, sink, graphs, pairs, asked, gate, kept, watch);
+    if walks {
+        return put_all_walked(context, sink, queries, kept, watch);
     }
-    let costs = costs_between(rt, alloc, graphs, pairs, asked, gate, kept, watch)?;
-    put_lines(sink, graphs, pairs, &costs)
+    let costs = costs_between(context, &queries, kept, watch)?;
+    put_lines(sink, &queries, &costs)
 }
 
 /// The costs of the pairs, and where the network grows those in the grown one.
 fn costs_between<H: Threads + Wait + Clock + Sync, G: Gate + Sync>(
-    rt: &H,
-    alloc: Global,
-    graphs: &Graphs,
-    pairs: &[(u32, u32)],
-    asked: &Asked,
-    gate: &G,
+    context: &Context<'_, H, G>,
+    queries: &PairQueries<'_>,
     kept: &mut Option<Workspace>,
     watch: &mut impl Watch,
 ) -> Result<PairCosts, Fault>
-    requires graphs { AreGraphs graphs.now }
-    requires count { length pairs.now ≤ 2 ^ 20 }
-    requires pairs { All (IsPairWithin graphs.now.network.n) pairs.now }
-    ensures costs { IfOk result (λ costs. ArePairCosts graphs.now.network pairs.now costs.costs.items) }
-    ensures after { IfOk result (λ costs. AreCostsAfter graphs.now.grown pairs.now costs.after.items) }
+    requires graphs { AreGraphs queries.now.graphs.now }
+    requires count { length queries.now.pairs.now ≤ 2 ^ 20 }
+    ensures costs { IfOk result (λ costs.
+        ArePairCosts queries.now.graphs.now.network queries.now.pairs.now costs.costs.items) }
+    ensures after { IfOk result (λ costs.
+        AreCostsAfter queries.now.graphs.now.grown queries.now.pairs.now costs.after.items) }
     ensures kinds { IfErr result IsWritingFault }
 {
+    let (graphs, pairs) = (queries.graphs, queries.pairs);
+    let (rt, alloc) = (context.rt, context.alloc);
     let solver = Solver {
         network: &graphs.network,
-        plan: plan_of(asked),
-        gate: TeamGate {
-            gate,
-            team: Team::at(0, 1, asked.settings.workers),
-        },
+        plan: plan_of(context.asked),
+        gate: context.gate,
     };
     watch.see_answered(0, pairs.len());
     let mut watch = PairWatch { watch };
@@ -125,21 +114,22 @@ fn costs_between<H: Threads + Wait + Clock + Sync, G: Gate + Sync>(
 /// Puts the lines of pairs that have these costs.
 fn put_lines<W: Write>(
     sink: &mut Sink<'_, W>,
-    graphs: &Graphs,
-    pairs: &[(u32, u32)],
+    queries: &PairQueries<'_>,
     costs: &PairCosts,
 ) -> Result<(), Fault>
-    requires graphs { AreGraphs graphs.now }
-    requires pairs { All (IsPairWithin graphs.now.network.n) pairs.now }
-    requires costs { ArePairCosts graphs.now.network pairs.now costs.now.costs.items }
-    requires after { AreCostsAfter graphs.now.grown pairs.now costs.now.after.items }
+    requires graphs { AreGraphs queries.now.graphs.now }
+    requires costs { ArePairCosts queries.now.graphs.now.network queries.now.pairs.now costs.now.costs.items }
+    requires after { AreCostsAfter queries.now.graphs.now.grown queries.now.pairs.now costs.now.after.items }
     ensures same { IsSame sink.old sink.new }
-    ensures blocks { OnOk result (Puts W.contents (ArePairsIn graphs.now false pairs.now) sink.old sink.new) }
-    ensures prefix { OnErr result (Cuts W.contents (ArePairsIn graphs.now false pairs.now) sink.old sink.new) }
+    ensures blocks { OnOk result (Puts W.contents (ArePairsIn queries.now.graphs.now false queries.now.pairs.now)
+        sink.old sink.new) }
+    ensures prefix { OnErr result (Cuts W.contents (ArePairsIn queries.now.graphs.now false queries.now.pairs.now)
+        sink.old sink.new) }
     ensures kinds { IfErr result IsWritingFault }
 {
     blocks_are_unique();
     costs_are_labels();
+    let (graphs, pairs) = (queries.graphs, queries.pairs);
     for place in 0..pairs.len() {
         put_pair_lines(sink.waiting, graphs, pairs[place], place, costs)?;
         sink.send_if_full()?;

@@ -6,20 +6,18 @@ ghost use Rattle.least_costs.specs.Network.{GrowsTo, IsStartWithin};
 ghost use Rattle.job_answer.specs.Outcome.{IsWritingFault};
 ghost use Rattle.job_answer.specs.Solves.{AreCostsFor, EndsWithSource, IsForQueries};
 
+use crate::env::Env;
 use crate::fault::Fault;
-use crate::graphs::Graphs;
 use crate::watch::{Phase, Watch};
 use least_costs::{CostsBelow, Network, Start, Workers};
 use obim_engine::{Gate, Goal};
-use std::alloc::Global;
 use std::sync::Wait;
 use std::thread::Threads;
 use std::time::Clock;
 
 /// The costs of a network from a start that serve a goal, by these workers. They go no further.
 pub fn costs_from<H: Threads + Wait + Clock + Sync, G: Gate + Sync>(
-    rt: &H,
-    alloc: Global,
+    env: &Env<'_, H>,
     network: &Network,
     start: Start,
     goal: Goal<'_>,
@@ -31,19 +29,18 @@ pub fn costs_from<H: Threads + Wait + Clock + Sync, G: Gate + Sync>(
     ensures costs { IfOk result (AreCostsFor network.now start goal.entry) }
     ensures kinds { IfErr result IsWritingFault }
 {
-    let costs = workers.costs_for(rt, alloc, network, start, goal)?;
+    let costs = workers.costs_for(env.rt, env.alloc, network, start, goal)?;
     // In what costs are least, and up to which limit, is known of each.
     let _ = costs.start();
     watch.see_solves(1);
-    watch.end(rt, Phase::Solving);
+    watch.end(env.rt, Phase::Solving);
     Ok(costs)
 }
 
 /// The costs of the grown network from the same start that serve a goal, from what the run before left. Only what the
 /// added arcs change is visited, and what the goal wants besides.
 pub fn costs_after<H: Threads + Wait + Clock + Sync, G: Gate + Sync>(
-    rt: &H,
-    alloc: Global,
+    env: &Env<'_, H>,
     network: &Network,
     grown: &Network,
     costs: CostsBelow,
@@ -57,18 +54,12 @@ pub fn costs_after<H: Threads + Wait + Clock + Sync, G: Gate + Sync>(
     ensures costs { IfOk result (AreCostsFor grown.now costs.start goal.entry) }
     ensures kinds { IfErr result IsWritingFault }
 {
+    let (rt, alloc) = (env.rt, env.alloc);
     let costs = workers.costs_for_after(rt, alloc, network, grown, costs, goal)?;
     let _ = costs.start();
     watch.see_solves(1);
     watch.end(rt, Phase::Solving);
     Ok(costs)
-}
-
-/// Pairs, and the networks in which their costs are least.
-#[derive(Drop)]
-pub struct PairQueries<'a> {
-    pub graphs: &'a Graphs,
-    pub pairs: &'a [(u32, u32)],
 }
 
 /// One solve: its labels answer the queries from `first` up to `end`.

@@ -1,7 +1,8 @@
 //! A count of what teams solve side by side.
 
-use crate::watch::Watch;
+use crate::watch::{Phase, Watch};
 use std::sync::atomic::{AtomicUsize, Ordering};
+use std::time::Clock;
 
 /// A count of the times that teams worked out labels, also for what was not kept.
 #[derive(Drop)]
@@ -32,4 +33,11 @@ impl Watch for TeamWatch<'_> {
     fn see_solves(&mut self, count: usize) {
         self.solves.count.fetch_add(count, Ordering::Relaxed);
     }
+}
+
+/// Tells a watch what teams did before the turn of a task, and that the next phase is over.
+pub fn see_round<C: Clock>(clock: &C, teams: usize, solves: &SolveCount, watch: &mut impl Watch) {
+    watch.see_teams(teams);
+    watch.see_solves(solves.take());
+    watch.end(clock, Phase::Solving);
 }

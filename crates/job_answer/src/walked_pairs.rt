@@ -15,21 +15,22 @@ ghost use Rattle.job_answer.specs.Outcome.{IsWritingFault};
 ghost use Rattle.job_answer.specs.Sinks.{Cuts, IsSame, Puts};
 ghost use Rattle.job_answer.specs.Solves.{AreEachTold, AreTargetsOf, AreWalkedBelow, IsForQueries, IsWalked};
 ghost use Rattle.job_answer.specs.Solves.{IsWalkedAfter, walked_text, walked_after_text, with_growth};
-ghost use Rattle.job_answer.specs.Tasks.{AreLines, AreWalkTasks, IsLinesText, IsWalkedBlock};
+ghost use Rattle.job_answer.specs.Tasks.{AreLines, IsLinesText, IsWalkedBlock};
 
-use crate::asked::Asked;
+use crate::env::{Context, Env};
 use crate::fault::Fault;
 use crate::graphs::{Graphs, teams_for};
 use crate::laws::blocks_are_unique;
 use crate::line_walks::{LineWalks, put_walk_line, walks_below};
 use crate::near_pairs::{near_walks, put_found};
+use crate::pair_queries::PairQueries;
 use crate::sink::{NoWriter, Sink, most_bytes};
-use crate::solves::{PairQueries, Solve, costs_after, costs_from, next_source};
-use crate::team_watch::{SolveCount, TeamWatch};
+use crate::solves::{Solve, costs_after, costs_from, next_source};
+use crate::team_watch::{SolveCount, TeamWatch, see_round};
 use crate::watch::{Phase, Watch};
 use answer_lines::{put_grown, put_pair};
-use least_costs::{Network, Part, Rounds, Start, Team, TeamGate, Workers, Workspace};
-use obim_engine::{Gate, Goal, Settings};
+use least_costs::{Network, Rounds, Start, Tasks, TeamGate, Workers, Workspace};
+use obim_engine::{Gate, Goal};
 use route_walks::laws::least_labels_exist;
 use route_walks::{MAX_VERTICES, Memory};
 use std::alloc::Global;
@@ -44,9 +45,6 @@ use walk_report::laws::{hops_and_parents_exist, walks_below_agree};
 #[derive(Drop)]
 pub struct WalkTasks<'a> {
     pub queries: PairQueries<'a>,
-    pub settings: &'a Settings,
-    /// True if a team's own thread searches before its workers are asked.
-    pub searches: bool,
     pub solves: SolveCount,
 }
 
@@ -58,55 +56,55 @@ pub struct LinesText {
     pub bytes: Vec<u8>,
 }
 
-impl<'a> Part<WalkTasks<'a>> for LinesText {
+impl<'a> Tasks<LinesText> for WalkTasks<'a> {
     ghost is_part = { AreLines };
+
+    /// The place of the first pair of the next source.
+    fn after(&self, place: usize) -> usize {
+        next_source(self.queries.pairs, place)
+    }
 }
 
 /// Puts the lines of each pair in turn, each with its walk. Only pairs that stand side by side share the
 /// solve of their source.
 pub fn put_all_walked<H: Threads + Wait + Clock + Sync, W: Write, G: Gate + Sync>(
-    rt: &H,
-    alloc: Global,
+    context: &Context<'_, H, G>,
     sink: &mut Sink<'_, W>,
-    graphs: &Graphs,
-    pairs: &[(u32, u32)],
-    asked: &Asked,
-    gate: &G,
+    queries: PairQueries<'_>,
     kept: &mut Option<Workspace>,
     watch: &mut impl Watch,
 ) -> Result<(), Fault>
-    requires pairs { All (IsPairWithin graphs.now.network.n) pairs.now }
-    requires graphs { AreGraphs graphs.now }
+    requires graphs { AreGraphs queries.graphs.now }
     ensures same { IsSame sink.old sink.new }
-    ensures blocks { OnOk result (Puts W.contents (ArePairsIn graphs.now true pairs.now) sink.old sink.new) }
-    ensures prefix { OnErr result (Cuts W.contents (ArePairsIn graphs.now true pairs.now) sink.old sink.new) }
+    ensures blocks { OnOk result (Puts W.contents (ArePairsIn queries.entry.graphs.now true queries.entry.pairs.now)
+        sink.old sink.new) }
+    ensures prefix { OnErr result (Cuts W.contents (ArePairsIn queries.entry.graphs.now true queries.entry.pairs.now)
+        sink.old sink.new) }
     ensures kinds { IfErr result IsWritingFault }
 {
+    let (env, asked) = (context.env(), context.asked);
+    let teams = teams_for(queries.graphs, asked);
+    let count = queries.pairs.len();
     let tasks = WalkTasks {
-        queries: PairQueries { graphs, pairs },
-        settings: &asked.settings,
-        searches: matches!(kept, Some(kept) if kept.searches()),
+        queries,
         solves: SolveCount::new(),
     };
-    let teams = teams_for(graphs, asked);
-    let mut rounds = Rounds::new(alloc, pairs.len(), teams, asked.settings.workers);
-    let mut workers = Workers::new(asked.settings, gate, kept.take());
-    put_all_lines(rt, alloc, sink, &tasks, &mut rounds, &mut workers, watch)?;
-    *kept = Some(workers.into_kept());
+    let workers = Workers::new(asked.settings, context.gate, kept.take());
+    let mut rounds = Rounds::new(env.alloc, count, teams, workers);
+    put_all_lines(&env, sink, &tasks, &mut rounds, watch)?;
+    *kept = Some(rounds.into_kept());
     Ok(())
 }
 
 /// Puts the lines of each pair in turn.
 fn put_all_lines<H: Threads + Wait + Clock + Sync, W: Write, G: Gate + Sync>(
-    rt: &H,
-    alloc: Global,
+    env: &Env<'_, H>,
     sink: &mut Sink<'_, W>,
     tasks: &WalkTasks<'_>,
-    rounds: &mut Rounds<LinesText, Workspace>,
-    workers: &mut Workers<'_, G>,
+    rounds: &mut Rounds<'_, LinesText, G>,
     watch: &mut impl Watch,
 ) -> Result<(), Fault>
-    requires tasks { AreWalkTasks tasks.now }
+    requires graphs { AreGraphs tasks.now.queries.graphs.now }
     requires made { AreMade (AreLines tasks.now) rounds.old.made.items }
     ensures same { IsSame sink.old sink.new }
     ensures blocks { OnOk result (Puts W.contents (AreBlocks (IsWalkedBlock tasks.now.queries.graphs.now)
@@ -120,7 +118,7 @@ fn put_all_lines<H: Threads + Wait + Clock + Sync, W: Write, G: Gate + Sync>(
     let mut first = 0;
     while first < count {
         watch.see_answered(first, count);
-        first += put_lines_at(rt, alloc, sink, tasks, first, rounds, workers, watch)?;
+        first += put_lines_at(env, sink, tasks, first, rounds, watch)?;
     }
     Ok(())
 }
@@ -128,16 +126,14 @@ fn put_all_lines<H: Threads + Wait + Clock + Sync, W: Write, G: Gate + Sync>(
 /// Puts the lines of the pairs from a place on that have one source: as they were made before their turn, or else
 /// solved now. How many pairs these are.
 fn put_lines_at<H: Threads + Wait + Clock + Sync, W: Write, G: Gate + Sync>(
-    rt: &H,
-    alloc: Global,
+    env: &Env<'_, H>,
     sink: &mut Sink<'_, W>,
     tasks: &WalkTasks<'_>,
     first: usize,
-    rounds: &mut Rounds<LinesText, Workspace>,
-    workers: &mut Workers<'_, G>,
+    rounds: &mut Rounds<'_, LinesText, G>,
     watch: &mut impl Watch,
 ) -> Result<usize, Fault>
-    requires tasks { AreWalkTasks tasks.now }
+    requires graphs { AreGraphs tasks.now.queries.graphs.now }
     requires place { first < length tasks.now.queries.pairs.now }
     requires made { AreMade (AreLines tasks.now) rounds.old.made.items }
     ensures same { IsSame sink.old sink.new }
@@ -151,108 +147,87 @@ fn put_lines_at<H: Threads + Wait + Clock + Sync, W: Write, G: Gate + Sync>(
     ensures kinds { IfErr result IsWritingFault }
 {
     blocks_are_unique();
-    if let Some(text) = take_lines(rt, alloc, rounds, tasks, workers.gate, first, watch) {
+    let text = take_lines(env, rounds, tasks, first);
+    see_round(env.rt, rounds.at_once(), &tasks.solves, watch);
+    if let Some(text) = text {
         sink.send_with(&text.bytes)?;
-        watch.end(rt, Phase::Writing);
+        watch.end(env.rt, Phase::Writing);
         return Ok(text.count);
     }
     let queries = &tasks.queries;
     let solve = Solve::of_queries(queries.pairs, first);
-    put_solved_pairs(rt, alloc, sink, queries, solve, workers, watch)?;
+    let workers = &mut rounds.workers;
+    put_solved_pairs(env, sink, queries, solve, workers, watch)?;
     Ok(solve.end - first)
 }
 
 /// The lines of the pairs from a place on, if they were made before their turn.
 fn take_lines<H: Threads + Wait + Clock + Sync, G: Gate + Sync>(
-    rt: &H,
-    alloc: Global,
-    rounds: &mut Rounds<LinesText, Workspace>,
+    env: &Env<'_, H>,
+    rounds: &mut Rounds<'_, LinesText, G>,
     tasks: &WalkTasks<'_>,
-    gate: &G,
     place: usize,
-    watch: &mut impl Watch,
 ) -> Option<LinesText>
-    requires tasks { AreWalkTasks tasks.now }
+    requires graphs { AreGraphs tasks.now.queries.graphs.now }
     requires made { AreMade (AreLines tasks.now) rounds.old.made.items }
     ensures left { AreMade (AreLines tasks.now) rounds.new.made.items }
     ensures text { IfSome result (AreLines tasks.now place) }
 {
-    let text = rounds.take(
-        rt,
-        alloc,
+    rounds.take(
+        env.rt,
+        env.alloc,
         tasks,
-        &|place: usize, team: Team, kept: &mut Option<Workspace>| -> Option<LinesText>
+        &|place: usize, workers: &mut Workers<'_, TeamGate<'_, G>>| -> Option<LinesText>
             requires sync { IsSync H.row × IsSync G.row }
-            requires tasks { AreWalkTasks tasks.now }
+            requires graphs { AreGraphs tasks.now.queries.graphs.now }
             ensures { IfSome result (AreLines tasks.entry.now place) }
-        { make_lines(rt, alloc, tasks, gate, place, team, kept) },
-        &|place: usize| next_source(tasks.queries.pairs, place),
+        { make_lines(env, tasks, place, workers) },
         place,
-    );
-    watch.see_teams(rounds.at_once());
-    watch.see_solves(tasks.solves.take());
-    watch.end(rt, Phase::Solving);
-    text
+    )
 }
 
-/// The lines of the pairs from a place on that have one source, made by a team over the pool that it kept. `None`
-/// where they were not made: where memory was refused, or where walks make them long.
+/// The lines of the pairs from a place on that have one source. `None` if memory is refused, or if walks make them long.
 fn make_lines<H: Threads + Wait + Clock + Sync, G: Gate + Sync>(
-    rt: &H,
-    alloc: Global,
+    env: &Env<'_, H>,
     tasks: &WalkTasks<'_>,
-    gate: &G,
     place: usize,
-    team: Team,
-    kept: &mut Option<Workspace>,
+    workers: &mut Workers<'_, G>,
 ) -> Option<LinesText>
-    requires { AreWalkTasks tasks.now }
+    requires graphs { AreGraphs tasks.now.queries.graphs.now }
     ensures { IfSome result (AreLines tasks.now place) }
 {
     if place >= tasks.queries.pairs.len() {
         return None;
     }
-    let gate = TeamGate { gate, team };
-    let own = match kept.take() {
-        Some(own) => own,
-        None => Workspace::new().searching(tasks.searches),
-    };
-    let mut workers = Workers::new(team.settings(tasks.settings), &gate, Some(own));
     let mut watch = TeamWatch {
         solves: &tasks.solves,
     };
-    let lines = held_lines(rt, alloc, &tasks.queries, place, &mut workers, &mut watch).ok();
-    *kept = Some(workers.into_kept());
-    lines
+    held_lines(env, &tasks.queries, place, workers, &mut watch).ok()
 }
 
-/// The lines of the pairs from a place on that have one source, in memory, by the workers of a team. Fails where
-/// they are long, too.
+/// The lines of the pairs from a place on that have one source, in memory. Fails if they are long, too.
 fn held_lines<H: Threads + Wait + Clock + Sync, G: Gate + Sync>(
-    rt: &H,
-    alloc: Global,
+    env: &Env<'_, H>,
     queries: &PairQueries<'_>,
     first: usize,
-    workers: &mut Workers<'_, TeamGate<'_, G>>,
+    workers: &mut Workers<'_, G>,
     watch: &mut impl Watch,
 ) -> Result<LinesText, Fault>
     requires graphs { AreGraphs queries.now.graphs.now }
-    requires pairs { All (IsPairWithin queries.now.graphs.now.network.n) queries.now.pairs.now }
     requires place { first < length queries.now.pairs.now }
-    requires team { workers.old.settings.workers ≡ workers.old.gate.now.team.workers }
     ensures { IfOk result (IsLinesText queries.now.graphs.now queries.now.pairs.now first) }
 {
     let graphs = queries.graphs;
     let pairs = &queries.pairs[first..];
     let solve = Solve::of_queries(pairs, 0);
     let rest = PairQueries { graphs, pairs };
-    let (mut nobody, mut bytes) = (NoWriter, Vec::new(alloc));
+    let (mut nobody, mut bytes) = (NoWriter, Vec::new(env.alloc));
     let mut sink = Sink {
         writer: &mut nobody,
         waiting: &mut bytes,
         piece: most_bytes(graphs),
     };
-    put_solved_pairs(rt, alloc, &mut sink, &rest, solve, workers, watch)?;
+    put_solved_pairs(env, &mut sink, &rest, solve, workers, watch)?;
     Ok(LinesText {
         count: solve.end,
         bytes,
@@ -262,8 +237,7 @@ fn held_lines<H: Threads + Wait + Clock + Sync, G: Gate + Sync>(
 /// Solves for some of the pairs, and puts their lines, each with its walk: by the thread that asks if their targets are
 /// near, and else by workers.
 fn put_solved_pairs<H: Threads + Wait + Clock + Sync, W: Write, G: Gate + Sync>(
-    rt: &H,
-    alloc: Global,
+    env: &Env<'_, H>,
     sink: &mut Sink<'_, W>,
     queries: &PairQueries<'_>,
     solve: Solve,
@@ -271,7 +245,6 @@ fn put_solved_pairs<H: Threads + Wait + Clock + Sync, W: Write, G: Gate + Sync>(
     watch: &mut impl Watch,
 ) -> Result<(), Fault>
     requires graphs { AreGraphs queries.now.graphs.now }
-    requires pairs { All (IsPairWithin queries.now.graphs.now.network.n) queries.now.pairs.now }
     requires solve { IsForQueries queries.now.pairs.now solve }
     ensures same { IsSame sink.old sink.new }
     ensures blocks { OnOk result (Puts W.contents (AreBlocks (IsWalkedBlock queries.now.graphs.now)
@@ -283,23 +256,22 @@ fn put_solved_pairs<H: Threads + Wait + Clock + Sync, W: Write, G: Gate + Sync>(
     blocks_are_unique();
     let (graphs, pairs) = (queries.graphs, queries.pairs);
     let source = pairs[solve.first].0;
-    let targets = targets_of(alloc, pairs, solve)?;
-    match near_walks(alloc, graphs, source, &targets, workers) {
+    let targets = targets_of(env.alloc, pairs, solve)?;
+    match near_walks(env.alloc, graphs, source, &targets, workers) {
         Some(found) => {
             watch.see_solves(1);
-            watch.end(rt, Phase::Solving);
+            watch.end(env.rt, Phase::Solving);
             put_found(sink, queries, solve, &targets, &found)?;
         }
-        None => put_by_workers(rt, alloc, sink, queries, solve, &targets, workers, watch)?,
+        None => put_by_workers(env, sink, queries, solve, &targets, workers, watch)?,
     }
-    watch.end(rt, Phase::Writing);
+    watch.end(env.rt, Phase::Writing);
     Ok(())
 }
 
 /// Solves for some of the pairs, which have these targets, by workers, and puts their lines, each with its walk.
 fn put_by_workers<H: Threads + Wait + Clock + Sync, W: Write, G: Gate + Sync>(
-    rt: &H,
-    alloc: Global,
+    env: &Env<'_, H>,
     sink: &mut Sink<'_, W>,
     queries: &PairQueries<'_>,
     solve: Solve,
@@ -308,7 +280,6 @@ fn put_by_workers<H: Threads + Wait + Clock + Sync, W: Write, G: Gate + Sync>(
     watch: &mut impl Watch,
 ) -> Result<(), Fault>
     requires graphs { AreGraphs queries.now.graphs.now }
-    requires pairs { All (IsPairWithin queries.now.graphs.now.network.n) queries.now.pairs.now }
     requires solve { IsForQueries queries.now.pairs.now solve }
     requires targets { AreTargetsOf queries.now.pairs.now solve.first solve.end targets.now }
     ensures same { IsSame sink.old sink.new }
@@ -321,9 +292,9 @@ fn put_by_workers<H: Threads + Wait + Clock + Sync, W: Write, G: Gate + Sync>(
     blocks_are_unique();
     let (graphs, pairs) = (queries.graphs, queries.pairs);
     let source = pairs[solve.first].0;
-    let walks = walks_to(rt, alloc, graphs, source, targets, workers, watch)?;
+    let walks = walks_to(env, graphs, source, targets, workers, watch)?;
     let (walked, after) = (&walks.before, &walks.after);
-    put_walked(alloc, sink, queries, solve, walked, after)
+    put_walked(env.alloc, sink, queries, solve, walked, after)
 }
 
 /// The targets of the pairs that a solve is for, in their order.
@@ -354,8 +325,7 @@ struct BothWalked {
 
 /// The walks from a source to some targets. Workers go no further than these want, in either network.
 fn walks_to<H: Threads + Wait + Clock + Sync, G: Gate + Sync>(
-    rt: &H,
-    alloc: Global,
+    env: &Env<'_, H>,
     graphs: &Graphs,
     source: u32,
     targets: &[u32],
@@ -371,8 +341,8 @@ fn walks_to<H: Threads + Wait + Clock + Sync, G: Gate + Sync>(
         (λ t. IsWalkedAfter graphs.now.grown (source, t) both.after) targets.now) }
     ensures kinds { IfErr result IsWritingFault }
 {
-    let (network, goal) = (&graphs.network, Goal::WalksTo(targets));
-    let costs = costs_from(rt, alloc, network, Start::At(source), goal, workers, watch)?;
+    let (alloc, network, goal) = (env.alloc, &graphs.network, Goal::WalksTo(targets));
+    let costs = costs_from(env, network, Start::At(source), goal, workers, watch)?;
     let limit = costs.limit();
     match &graphs.grown {
         None => {
@@ -384,7 +354,7 @@ fn walks_to<H: Threads + Wait + Clock + Sync, G: Gate + Sync>(
             // The second run goes on from what the first one left, so the labels are copied.
             let labels = costs.labels().to_vec(alloc)?;
             let more = &grown.network;
-            let costs = costs_after(rt, alloc, network, more, costs, goal, workers, watch)?;
+            let costs = costs_after(env, network, more, costs, goal, workers, watch)?;
             let far = costs.limit();
             let after = walked_from(alloc, more, source, far, costs.into_labels())?;
             let before = walked_from(alloc, network, source, limit, labels)?;
@@ -426,7 +396,6 @@ fn put_walked<W: Write>(
     after: &Option<Walked>,
 ) -> Result<(), Fault>
     requires graphs { AreGraphs queries.now.graphs.now }
-    requires pairs { All (IsPairWithin queries.now.graphs.now.network.n) queries.now.pairs.now }
     requires solve { IsForQueries queries.now.pairs.now solve }
     requires walked { AreEachTold (λ pair. IsWalked queries.now.graphs.now.network.n
         queries.now.graphs.now.network.arcs pair walked.now) queries.now.pairs.now solve.first solve.end }

@@ -11,9 +11,13 @@ pub record EachSeen : Type 0 where
   pub net : NetworkSeen
   pub left : List ℕ
 
--- the sources are vertices of the network
+-- these are vertices of the network
 abbrev pub AreWithin : NetworkSeen → List ℕ → Type 0
 AreWithin net sources = All (λ source. source < net.n) sources
+
+-- the sources are vertices of the network
+abbrev pub AreSources : Sources → Type 0
+AreSources asked = AreWithin asked.network.now asked.sources.now
 
 -- the costs are those from the source at a place
 abbrev pub IsFromPlace : Sources → ℕ → CostsSeen → Type 0
@@ -21,6 +25,6 @@ IsFromPlace asked place costs = IsFrom asked.network.now (slice_index asked.sour
 
 -- what is so between two calls
 pub record IsTurn (asked : Sources) (next : ℕ) (made : List (Made CostsSeen)) : Type 0 where
-  pub within : AreWithin asked.network.now asked.sources.now
+  pub within : AreSources asked
   pub place : next ≤ length asked.sources.now
   pub are_made : AreMade (IsFromPlace asked) made

@@ -1,21 +1,19 @@
-//! In which order are the costs from many sources handed over, that are worked out side by side?
+//! The costs from one source after another, several of which are worked out at the same time.
 
 ghost use Rattle.std.specs.Prelude.{◌≡◌, ◌<◌, [], drop, length, slice_index};
 ghost use Rattle.std.specs.Prelude.{IfNone, IfOk, IfSome, OnSome};
 ghost use Rattle.std.specs.Thread.{IsSync};
 ghost use Rattle.least_costs.specs.Costs.{IsFrom};
-ghost use Rattle.least_costs.specs.Each.{AreWithin, IsFromPlace};
+ghost use Rattle.least_costs.specs.Each.{AreSources, AreWithin, IsFromPlace};
 ghost use Rattle.least_costs.specs.Rounds.{AreMade};
 
 use crate::costs::Costs;
 use crate::network::Network;
-use crate::plan::Plan;
-use crate::rounds::{Part, Rounds};
+use crate::rounds::{Rounds, Tasks};
 use crate::solver::Solver;
 use crate::start::Start;
-use crate::teams::{Team, TeamGate};
+use crate::teams::TeamGate;
 use crate::workers::Workers;
-use crate::workspace::Workspace;
 use obim_engine::Gate;
 use route_walks::Memory;
 use std::alloc::Global;
@@ -31,7 +29,7 @@ pub struct Sources<'a> {
     pub sources: &'a [u32],
 }
 
-impl<'a> Part<Sources<'a>> for Costs {
+impl<'a> Tasks<Costs> for Sources<'a> {
     ghost is_part = { IsFromPlace };
 }
 
@@ -40,10 +38,7 @@ impl<'a> Part<Sources<'a>> for Costs {
 #[derive(Drop)]
 pub struct Each<'a, G> {
     asked: Sources<'a>,
-    plan: Plan,
-    // All workers, for a source that is solved in its turn.
-    workers: Workers<'a, G>,
-    rounds: Rounds<Costs, Workspace>,
+    rounds: Rounds<'a, Costs, G>,
     next: usize,
 }
 
@@ -65,13 +60,12 @@ impl<'a, G: Gate + Sync> Solver<'a, G> {
         requires { AreWithin self.now.network.now sources.now }
         ensures { result ≡ record { net = self.now.network.now; left = sources.now } }
     {
-        let (network, plan) = (self.network, self.plan);
-        let teams = plan.teams(network);
+        let network = self.network;
+        let teams = self.plan.teams(network);
+        let workers = Workers::new(self.plan.settings, &self.gate, None);
         Each {
             asked: Sources { network, sources },
-            plan,
-            workers: Workers::new(plan.settings, &self.gate, None),
-            rounds: Rounds::new(alloc, sources.len(), teams, plan.settings.workers),
+            rounds: Rounds::new(alloc, sources.len(), teams, workers),
             next: 0,
         }
     }
@@ -96,13 +90,15 @@ impl<'a, G: Gate + Sync> Each<'a, G> {
         if place >= self.asked.sources.len() {
             return None;
         }
-        let (asked, plan, gate) = (&self.asked, &self.plan, self.workers.gate);
-        let ahead = take_ahead(rt, alloc, &mut self.rounds, asked, plan, gate, place);
-        let found = match ahead {
+        let (network, sources) = (self.asked.network, self.asked.sources);
+        let asked = Sources { network, sources };
+        let rounds = &mut self.rounds;
+        let found = match take_ahead(rt, alloc, rounds, &asked, place) {
             Some(costs) => Ok(costs),
             None => {
-                let start = Start::At(asked.sources[place]);
-                self.workers.costs_from(rt, alloc, asked.network, start)
+                let start = Start::At(sources[place]);
+                let workers = &mut rounds.workers;
+                workers.costs_from(rt, alloc, network, start)
             }
         };
         self.next = place + 1;
@@ -114,13 +110,11 @@ impl<'a, G: Gate + Sync> Each<'a, G> {
 fn take_ahead<H: Threads + Wait + Clock + Sync, G: Gate + Sync>(
     rt: &H,
     alloc: Global,
-    rounds: &mut Rounds<Costs, Workspace>,
+    rounds: &mut Rounds<'_, Costs, G>,
     asked: &Sources<'_>,
-    plan: &Plan,
-    gate: &G,
     place: usize,
 ) -> Option<Costs>
-    requires sources { AreWithin asked.now.network.now asked.now.sources.now }
+    requires sources { AreSources asked.now }
     requires made { AreMade (IsFromPlace asked.now) rounds.old.made.items }
     ensures left { AreMade (IsFromPlace asked.now) rounds.new.made.items }
     ensures costs { IfSome result (IsFromPlace asked.now place) }
@@ -129,39 +123,29 @@ fn take_ahead<H: Threads + Wait + Clock + Sync, G: Gate + Sync>(
         rt,
         alloc,
         asked,
-        &|place: usize, team: Team, kept: &mut Option<Workspace>| -> Option<Costs>
+        &|place: usize, workers: &mut Workers<'_, TeamGate<'_, G>>| -> Option<Costs>
             requires sync { IsSync H.row × IsSync G.row }
-            requires sources { AreWithin asked.now.network.now asked.now.sources.now }
+            requires sources { AreSources asked.now }
             ensures { IfSome result (IsFromPlace asked.entry.now place) }
-        { solved_by(rt, alloc, asked, plan, gate, place, team, kept) },
-        &|place: usize| place.saturating_add(1),
+        { solved_by(rt, alloc, asked, place, workers) },
         place,
     )
 }
 
-/// The costs from the source at a place, worked out by a team over the pool that it kept.
+/// The costs from the source at a place.
 fn solved_by<H: Threads + Wait + Clock + Sync, G: Gate + Sync>(
     rt: &H,
     alloc: Global,
     asked: &Sources<'_>,
-    plan: &Plan,
-    gate: &G,
     place: usize,
-    team: Team,
-    kept: &mut Option<Workspace>,
+    workers: &mut Workers<'_, G>,
 ) -> Option<Costs>
-    requires sources { AreWithin asked.now.network.now asked.now.sources.now }
+    requires sources { AreSources asked.now }
     ensures { IfSome result (IsFromPlace asked.now place) }
 {
     if place >= asked.sources.len() {
         return None;
     }
-    let gate = TeamGate { gate, team };
-    let mut workers = Workers::new(team.settings(&plan.settings), &gate, kept.take());
-    let source = asked.sources[place];
-    let costs = workers
-        .costs_from(rt, alloc, asked.network, Start::At(source))
-        .ok();
-    *kept = Some(workers.into_kept());
-    costs
+    let start = Start::At(asked.sources[place]);
+    workers.costs_from(rt, alloc, asked.network, start).ok()
 }

@@ -61,7 +61,7 @@ pub use network::{MOST_ARCS, Network};
 pub use pairs::PairCosts;
 pub use plan::{AtOnce, Plan};
 pub use progress::{Progress, Unwatched};
-pub use rounds::{Made, Part, Rounds};
+pub use rounds::{Made, Rounds, Tasks};
 pub use runner::Runner;
 pub use solver::Solver;
 pub use start::Start;

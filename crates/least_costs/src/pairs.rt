@@ -1,4 +1,4 @@
-//! What does it cost from the source of each of many pairs to its target?
+//! The costs of pairs.
 
 ghost use Rattle.std.specs.Prelude.{◌≡◌, ◌+◌, ◌<◌, ◌≤◌, ◌^◌, ℕ, List, All, IfOk, IfSome, OnOk, length};
 ghost use Rattle.std.specs.Thread.{IsSync};
@@ -11,12 +11,11 @@ ghost use Rattle.least_costs.specs.Rounds.{AreMade};
 
 use crate::costs::costs_at;
 use crate::network::Network;
-use crate::plan::Plan;
 use crate::progress::{Progress, Unwatched};
-use crate::rounds::{Part, Rounds};
+use crate::rounds::{Rounds, Tasks};
 use crate::solver::Solver;
 use crate::start::Start;
-use crate::teams::{Team, TeamGate};
+use crate::teams::TeamGate;
 use crate::workers::Workers;
 use crate::workspace::Workspace;
 use obim_engine::{Closed, Gate, Goal};
@@ -34,8 +33,6 @@ pub struct Pairs<'a> {
     pub grown: Option<&'a Network>,
     pub pairs: &'a [(u32, u32)],
     pub order: &'a [(u32, u32)],
-    /// True if the thread that asks, or that of a team, searches by itself before workers are asked.
-    pub searches: bool,
 }
 
 /// The costs of pairs; `None` if there is no walk.
@@ -46,8 +43,13 @@ pub struct PairCosts {
     pub after: Vec<Option<u64>>,
 }
 
-impl<'a> Part<Pairs<'a>> for PairCosts {
+impl<'a> Tasks<PairCosts> for Pairs<'a> {
     ghost is_part = { AreCostsFrom };
+
+    /// The place of the first pair of the next source.
+    fn after(&self, place: usize) -> usize {
+        next_source(self.order, place)
+    }
 }
 
 impl<'a, G: Gate + Sync> Solver<'a, G> {
@@ -94,23 +96,23 @@ impl<'a, G: Gate + Sync> Solver<'a, G> {
             grown,
             pairs,
             order: &order,
-            searches: does_search(kept),
         };
-        let (plan, gate) = (&self.plan, &self.gate);
         let mut costs = vec![in alloc; None; pairs.len()]?;
         let mut after = room_after(alloc, &asked)?;
+        let teams = self.plan.teams(self.network);
+        let workers = Workers::new(self.plan.settings, &self.gate, kept.take());
+        let mut rounds = Rounds::new(alloc, order.len(), teams, workers);
         fill_all(
-            rt, alloc, &asked, plan, gate, kept, &mut costs, &mut after, progress,
+            rt,
+            alloc,
+            &asked,
+            &mut rounds,
+            &mut costs,
+            &mut after,
+            progress,
         )?;
+        *kept = Some(rounds.into_kept());
         Ok(PairCosts { costs, after })
-    }
-}
-
-/// Tells if what is kept has room for searches.
-fn does_search(kept: &Option<Workspace>) -> bool {
-    match kept {
-        Some(kept) => kept.searches(),
-        None => false,
     }
 }
 
@@ -143,14 +145,13 @@ fn fill_all<H: Threads + Wait + Clock + Sync, G: Gate + Sync>(
     rt: &H,
     alloc: Global,
     asked: &Pairs<'_>,
-    plan: &Plan,
-    gate: &G,
-    kept: &mut Option<Workspace>,
+    rounds: &mut Rounds<'_, PairCosts, G>,
     costs: &mut [Option<u64>],
     after: &mut [Option<u64>],
     progress: &mut impl Progress,
 ) -> Result<(), Memory>
     requires asked { AreAsked asked.now }
+    requires made { AreMade (AreCostsFrom asked.now) rounds.old.made.items }
     requires places { length costs.old ≡ length asked.now.pairs.now }
     requires after { IfSome asked.now.grown (λ _. length after.old ≡ length asked.now.pairs.now) }
     ensures costs { OnOk result (ArePairCosts asked.now.network.now asked.now.pairs.now costs.new) }
@@ -158,23 +159,15 @@ fn fill_all<H: Threads + Wait + Clock + Sync, G: Gate + Sync>(
 {
     let order = asked.order;
     let solves = if asked.grown.is_some() { 2 } else { 1 };
-    let mut rounds = Rounds::new(
-        alloc,
-        order.len(),
-        plan.teams(asked.network),
-        plan.settings.workers,
-    );
-    let mut workers = Workers::new(plan.settings, gate, kept.take());
     let mut first = 0;
     while first < order.len() {
-        let found = costs_next(rt, alloc, asked, plan, &mut rounds, &mut workers, first)?;
+        let found = costs_next(rt, alloc, asked, rounds, first)?;
         let own: &[Option<u64>] = &found.costs;
         fill(costs, order, first, own);
         fill_after(after, asked, first, &found);
         first += own.len();
         progress.see(rt, first, order.len(), solves, rounds.at_once());
     }
-    *kept = Some(workers.into_kept());
     Ok(())
 }
 
@@ -184,9 +177,7 @@ fn costs_next<H: Threads + Wait + Clock + Sync, G: Gate + Sync>(
     rt: &H,
     alloc: Global,
     asked: &Pairs<'_>,
-    plan: &Plan,
-    rounds: &mut Rounds<PairCosts, Workspace>,
-    workers: &mut Workers<'_, G>,
+    rounds: &mut Rounds<'_, PairCosts, G>,
     first: usize,
 ) -> Result<PairCosts, Memory>
     requires asked { AreAsked asked.now }
@@ -196,13 +187,59 @@ fn costs_next<H: Threads + Wait + Clock + Sync, G: Gate + Sync>(
     ensures left { AreMade (AreCostsFrom asked.now) rounds.new.made.items }
 {
     if !rounds.was_tried(first)
-        && let Some(found) = costs_near(alloc, asked, first, &mut workers.kept)
+        && let Some(found) = costs_near(alloc, asked, first, &mut rounds.workers.kept)
     {
         return Ok(found);
     }
-    match take_ahead(rt, alloc, rounds, asked, plan, workers.gate, first) {
+    match take_ahead(rt, alloc, rounds, asked, first) {
         Some(found) => Ok(found),
-        None => costs_of(rt, alloc, asked, first, workers),
+        None => costs_of(rt, alloc, asked, first, &mut rounds.workers),
+    }
+}
+
+/// The costs of the pairs of the source at a place, if they were worked out before their turn.
+fn take_ahead<H: Threads + Wait + Clock + Sync, G: Gate + Sync>(
+    rt: &H,
+    alloc: Global,
+    rounds: &mut Rounds<'_, PairCosts, G>,
+    asked: &Pairs<'_>,
+    first: usize,
+) -> Option<PairCosts>
+    requires asked { AreAsked asked.now }
+    requires made { AreMade (AreCostsFrom asked.now) rounds.old.made.items }
+    ensures left { AreMade (AreCostsFrom asked.now) rounds.new.made.items }
+    ensures costs { IfSome result (AreCostsFrom asked.now first) }
+{
+    rounds.take(
+        rt,
+        alloc,
+        asked,
+        &|place: usize, workers: &mut Workers<'_, TeamGate<'_, G>>| -> Option<PairCosts>
+            requires sync { IsSync H.row × IsSync G.row }
+            requires asked { AreAsked asked.now }
+            ensures { IfSome result (AreCostsFrom asked.entry.now place) }
+        { costs_by(rt, alloc, asked, place, workers) },
+        first,
+    )
+}
+
+/// The costs of the pairs of the source at a place: by the thread that asks if they are near, and else by workers.
+fn costs_by<H: Threads + Wait + Clock + Sync, G: Gate + Sync>(
+    rt: &H,
+    alloc: Global,
+    asked: &Pairs<'_>,
+    place: usize,
+    workers: &mut Workers<'_, G>,
+) -> Option<PairCosts>
+    requires { AreAsked asked.now }
+    ensures { IfSome result (AreCostsFrom asked.now place) }
+{
+    if place >= asked.order.len() {
+        return None;
+    }
+    match costs_near(alloc, asked, place, &mut workers.kept) {
+        Some(costs) => Some(costs),
+        None => costs_of(rt, alloc, asked, place, workers).ok(),
     }
 }
 
@@ -220,7 +257,7 @@ fn costs_near(
     let None = asked.grown else {
         return None;
     };
-    if !asked.searches {
+    if !kept.searches {
         return None;
     }
     let end = run_end(asked.order, first);
@@ -233,81 +270,6 @@ fn costs_near(
     };
     let after = Vec::new(alloc);
     Some(PairCosts { costs, after })
-}
-
-/// The costs of the pairs of the source at a place, if they were worked out before their turn.
-fn take_ahead<H: Threads + Wait + Clock + Sync, G: Gate + Sync>(
-    rt: &H,
-    alloc: Global,
-    rounds: &mut Rounds<PairCosts, Workspace>,
-    asked: &Pairs<'_>,
-    plan: &Plan,
-    gate: &G,
-    first: usize,
-) -> Option<PairCosts>
-    requires asked { AreAsked asked.now }
-    requires made { AreMade (AreCostsFrom asked.now) rounds.old.made.items }
-    ensures left { AreMade (AreCostsFrom asked.now) rounds.new.made.items }
-    ensures costs { IfSome result (AreCostsFrom asked.now first) }
-{
-    rounds.take(
-        rt,
-        alloc,
-        asked,
-        &|place: usize, team: Team, kept: &mut Option<Workspace>| -> Option<PairCosts>
-            requires sync { IsSync H.row × IsSync G.row }
-            requires asked { AreAsked asked.now }
-            ensures { IfSome result (AreCostsFrom asked.entry.now place) }
-        { costs_by(rt, alloc, asked, plan, gate, place, team, kept) },
-        &|place: usize| next_source(asked.order, place),
-        first,
-    )
-}
-
-/// The costs of the pairs of the source at a place, worked out by a team over the pool that it kept.
-fn costs_by<H: Threads + Wait + Clock + Sync, G: Gate + Sync>(
-    rt: &H,
-    alloc: Global,
-    asked: &Pairs<'_>,
-    plan: &Plan,
-    gate: &G,
-    place: usize,
-    team: Team,
-    kept: &mut Option<Workspace>,
-) -> Option<PairCosts>
-    requires { AreAsked asked.now }
-    ensures { IfSome result (AreCostsFrom asked.now place) }
-{
-    if place >= asked.order.len() {
-        return None;
-    }
-    let gate = TeamGate { gate, team };
-    let own = match kept.take() {
-        Some(own) => own,
-        None => Workspace::new().searching(asked.searches),
-    };
-    let mut workers = Workers::new(team.settings(&plan.settings), &gate, Some(own));
-    let costs = costs_by_team(rt, alloc, asked, place, &mut workers);
-    *kept = Some(workers.into_kept());
-    costs
-}
-
-/// The costs of the pairs of the source at a place: by the team's own thread if they are near, and else by its workers.
-fn costs_by_team<H: Threads + Wait + Clock + Sync, G: Gate + Sync>(
-    rt: &H,
-    alloc: Global,
-    asked: &Pairs<'_>,
-    place: usize,
-    workers: &mut Workers<'_, G>,
-) -> Option<PairCosts>
-    requires asked { AreAsked asked.now }
-    requires place { place < length asked.now.order.now }
-    ensures { IfSome result (AreCostsFrom asked.now place) }
-{
-    match costs_near(alloc, asked, place, &mut workers.kept) {
-        Some(costs) => Some(costs),
-        None => costs_of(rt, alloc, asked, place, workers).ok(),
-    }
 }
 
 /// The costs of the pairs of the source at a place.

@@ -1,19 +1,27 @@
-//! Which tasks are done before their turn, side by side, by teams that keep what they need from one task to the next?
+//! Tasks that teams do before their turn, several at the same time.
 
 ghost use Rattle.std.specs.Prelude.{◌≡◌, ◌+◌, ◌<◌, ◌≤◌, [], ℕ, All, IfSome, length};
 ghost use Rattle.std.specs.Thread.{IsSync};
 ghost use Rattle.least_costs.specs.Rounds.{AreMade, Makes};
 ghost use Rattle.obim_engine.specs.declared.settings.TheConstants.{MAX_WORKERS};
 
-use crate::teams::Team;
+use crate::teams::{Team, TeamGate};
+use crate::workers::Workers;
+use crate::workspace::Workspace;
+use obim_engine::{Gate, Settings};
 use std::alloc::Global;
 use std::sync::{Mutex, Wait};
 use std::thread::{Threads, for_each_mut};
 
-/// What a task gives that is one of many: one for each source, say. `O` is what the tasks are of.
-pub trait Part<O>: Send + Drop {
+/// Tasks of one kind, each at a place from 0 on: the costs from each of many sources, say. `P` is what a task gives.
+pub trait Tasks<P>: Sync {
     /// It is what the task at a place gives.
-    ghost is_part: { O → ℕ → Self → Type 0 };
+    ghost is_part: { Self → ℕ → P → Type 0 };
+
+    /// The place of the task that comes after the one at a place.
+    fn after(&self, place: usize) -> usize {
+        place.saturating_add(1)
+    }
 }
 
 /// What the task at a place gave.
@@ -25,14 +33,14 @@ pub struct Made<P> {
 
 /// What a team keeps from task to task, and what it made in this round.
 #[derive(Drop)]
-struct Crew<S, P> {
-    kept: Option<S>,
+struct Crew<P> {
+    kept: Option<Workspace>,
     made: Vec<Made<P>>,
-    /// Whether it made all that it took.
+    /// True if it made all that it took.
     whole: bool,
 }
 
-/// How many places were taken.
+/// The number of places that were taken.
 #[derive(Drop)]
 struct Cursor {
     taken: usize,
@@ -46,40 +54,54 @@ impl Cursor {
     }
 }
 
+/// Some tasks that are done at the same time, and the workers that teams are made of.
+#[derive(Drop)]
+struct Round<'a, T, F, G> {
+    tasks: &'a T,
+    make: &'a F,
+    places: &'a [usize],
+    settings: Settings,
+    searches: bool,
+    gate: &'a G,
+}
+
 /// Tasks that are done in rounds. In a round teams do one or two tasks each at the same time, and what these
 /// gave waits for its turn. What a team keeps, as its pool of work, it keeps to the end.
 #[derive(Drop)]
-pub struct Rounds<P, S> {
+pub struct Rounds<'a, P, G> {
     /// What was made and not taken yet.
     pub made: Vec<Made<P>>,
-    crews: Vec<Crew<S, P>>,
+    /// All workers, for a task that is done in its turn. Teams are made of as many.
+    pub workers: Workers<'a, G>,
+    settings: Settings,
+    crews: Vec<Crew<P>>,
     /// The places before this one were tried.
     end: usize,
-    /// How many places there are.
+    /// The number of places.
     len: usize,
     /// How many teams work at the same time. With fewer than two nothing is made before its turn.
     teams: usize,
     /// The most teams that worked at the same time so far.
     most: usize,
-    workers: u32,
-    ghost within: { (teams ≤ workers) × (workers ≤ MAX_WORKERS) },
+    ghost within: { (teams ≤ settings.workers) × (settings.workers ≤ MAX_WORKERS) },
 }
 
-impl<P: Send + Drop, S: Send + Drop> Rounds<P, S> {
-    /// Nothing is made yet. The places are those below `len`, and `workers` are shared by this many teams.
-    pub fn new(alloc: Global, len: usize, teams: usize, workers: u32) -> Rounds<P, S>
-        requires teams { teams ≤ workers }
-        requires few { workers ≤ MAX_WORKERS }
+impl<'a, P: Send + Drop, G: Gate + Sync> Rounds<'a, P, G> {
+    /// Makes nothing yet. The places are those below `len`, and so many teams share these workers.
+    pub fn new(alloc: Global, len: usize, teams: usize, workers: Workers<'a, G>) -> Rounds<'a, P, G>
+        requires teams { teams ≤ workers.settings.workers }
+        requires few { workers.settings.workers ≤ MAX_WORKERS }
         ensures { result.made.items ≡ [] }
     {
         Rounds {
             made: Vec::new(alloc),
+            settings: workers.settings,
+            workers,
             crews: Vec::new(alloc),
             end: 0,
             len,
             teams,
             most: 1,
-            workers,
         }
     }
 
@@ -88,69 +110,58 @@ impl<P: Send + Drop, S: Send + Drop> Rounds<P, S> {
         self.most
     }
 
+    /// Returns what all workers keep, for others after them.
+    pub fn into_kept(self) -> Workspace {
+        self.workers.into_kept()
+    }
+
     /// Tells if the task at a place was tried before its turn.
     pub(crate) fn was_tried(&self, place: usize) -> bool {
         place < self.end
     }
 
-    /// What the task at a place gives, if it was made. Where the place was not tried yet, it and some after it
-    /// are done first: `after` tells the place of the task after one. `make` does a task, by the workers of a
-    /// team, with what the team kept; `None` if it can't, and then fewer teams work from there on. The places
-    /// are asked for in rising order.
-    pub fn take<H, O, F, A>(
+    /// Takes what the task at a place gives, if it was made. If the place was not tried yet, teams do that task and some
+    /// after it first. `make` does a task by the workers of a team; `None` if it can't, and then fewer teams work from there
+    /// on. The places are asked for in rising order.
+    pub fn take<H, T, F>(
         &mut self,
         rt: &H,
         alloc: Global,
-        of: &O,
+        tasks: &T,
         make: &F,
-        after: &A,
         place: usize,
     ) -> Option<P>
     where
         H: Threads + Wait + Sync,
-        O: Sync,
-        P: Part<O>,
-        F: Fn(usize, Team, &mut Option<S>) -> Option<P> + Sync,
-        A: Fn(usize) -> usize,
+        T: Tasks<P>,
+        F: Fn(usize, &mut Workers<'_, TeamGate<'_, G>>) -> Option<P> + Sync,
         requires callable { F.IsAlwaysCallable make.now }
-        requires makes { Makes (P.is_part of.now) (F.post make.now) }
-        requires after { A.IsAlwaysCallable after.now }
-        requires made { AreMade (P.is_part of.now) self.old.made.items }
-        ensures left { AreMade (P.is_part of.now) self.new.made.items }
-        ensures part { IfSome result (P.is_part of.now place) }
+        requires makes { Makes (T.is_part tasks.now) (F.post make.now) }
+        requires made { AreMade (T.is_part tasks.now) self.old.made.items }
+        ensures left { AreMade (T.is_part tasks.now) self.new.made.items }
+        ensures part { IfSome result (T.is_part tasks.now place) }
     {
-        self.make_next(rt, alloc, of, make, after, place);
+        self.make_next(rt, alloc, tasks, make, place);
         let at = self.made.iter().position(|made| made.place == place)?;
         Some(self.made.swap_remove(at).part)
     }
 
-    /// Does the task at this place, and some after it, where the place was not tried yet.
-    fn make_next<H, O, F, A>(
-        &mut self,
-        rt: &H,
-        alloc: Global,
-        of: &O,
-        make: &F,
-        after: &A,
-        place: usize,
-    )
+    /// Does the task at this place, and some after it, if the place was not tried yet.
+    fn make_next<H, T, F>(&mut self, rt: &H, alloc: Global, tasks: &T, make: &F, place: usize)
     where
         H: Threads + Wait + Sync,
-        O: Sync,
-        P: Part<O>,
-        F: Fn(usize, Team, &mut Option<S>) -> Option<P> + Sync,
-        A: Fn(usize) -> usize,
+        T: Tasks<P>,
+        F: Fn(usize, &mut Workers<'_, TeamGate<'_, G>>) -> Option<P> + Sync,
         requires callable { F.IsAlwaysCallable make.now }
-        requires makes { Makes (P.is_part of.now) (F.post make.now) }
-        requires after { A.IsAlwaysCallable after.now }
-        requires made { AreMade (P.is_part of.now) self.old.made.items }
-        ensures { AreMade (P.is_part of.now) self.new.made.items }
+        requires makes { Makes (T.is_part tasks.now) (F.post make.now) }
+        requires made { AreMade (T.is_part tasks.now) self.old.made.items }
+        ensures { AreMade (T.is_part tasks.now) self.new.made.items }
     {
         if place < self.end || self.teams < 2 {
             return;
         }
         let most = self.teams.saturating_mul(2);
-        let Some((places, end)) = places_from(alloc, after, place, self.len, most) else {
+        let Some((places, end)) = places_from::<P, T>(alloc, tasks, place, self.len, most) else {
             return;
         };
         hire(alloc, &mut self.crews, self.teams);
@@ -160,19 +171,19 @@ impl<P: Send + Drop, S: Send + Drop> Rounds<P, S> {
         }
         self.most = self.most.max(teams);
         // Two tasks each where there are enough, so that a team that is done early takes another.
-        let round = count_ahead(teams, places.len());
-        let crews = &mut self.crews[..teams];
-        let whole = do_round(
-            rt,
-            of,
+        let count = count_ahead(teams, places.len());
+        let round = Round {
+            tasks,
             make,
-            &places[..round],
-            self.workers,
-            crews,
-            &mut self.made,
-        );
-        self.end = if round < places.len() {
-            places[round]
+            places: &places[..count],
+            settings: self.settings,
+            searches: self.workers.kept.searches,
+            gate: self.workers.gate,
+        };
+        let crews = &mut self.crews[..teams];
+        let whole = do_round(rt, &round, crews, &mut self.made);
+        self.end = if count < places.len() {
+            places[count]
         } else {
             end
         };
@@ -191,8 +202,8 @@ fn count_ahead(teams: usize, left: usize) -> usize
     if left / 2 >= teams { teams * 2 } else { teams }
 }
 
-/// Crews until there are this many, or memory is refused.
-fn hire<P: Drop, S: Drop>(alloc: Global, crews: &mut Vec<Crew<S, P>>, count: usize) {
+/// Adds crews until there are this many, or memory is refused.
+fn hire<P: Drop>(alloc: Global, crews: &mut Vec<Crew<P>>, count: usize) {
     for _ in crews.len()..count {
         let crew = Crew {
             kept: None,
@@ -205,115 +216,124 @@ fn hire<P: Drop, S: Drop>(alloc: Global, crews: &mut Vec<Crew<S, P>>, count: usi
     }
 }
 
-/// The crews do the tasks at these places at the same time. Whether all were done, and what they gave is kept.
-fn do_round<H, O, P, S, F>(
+/// Does a round by these crews, and adds what they made to a list. Returns true if all was made.
+fn do_round<H, P, T, F, G>(
     rt: &H,
-    of: &O,
-    make: &F,
-    places: &[usize],
-    workers: u32,
-    crews: &mut [Crew<S, P>],
+    round: &Round<'_, T, F, G>,
+    crews: &mut [Crew<P>],
     made: &mut Vec<Made<P>>,
 ) -> bool
 where
     H: Threads + Wait + Sync,
-    O: Sync,
-    P: Part<O>,
-    S: Send + Drop,
-    F: Fn(usize, Team, &mut Option<S>) -> Option<P> + Sync,
-    requires callable { F.IsAlwaysCallable make.now }
-    requires makes { Makes (P.is_part of.now) (F.post make.now) }
+    P: Send + Drop,
+    T: Tasks<P>,
+    F: Fn(usize, &mut Workers<'_, TeamGate<'_, G>>) -> Option<P> + Sync,
+    G: Gate + Sync,
+    requires callable { F.IsAlwaysCallable round.now.make.now }
+    requires makes { Makes (T.is_part round.now.tasks.now) (F.post round.now.make.now) }
     requires some { 0 < length crews.old }
-    requires crews { length crews.old ≤ workers }
-    requires few { workers ≤ MAX_WORKERS }
-    requires made { AreMade (P.is_part of.now) made.old.items }
-    ensures { AreMade (P.is_part of.now) made.new.items }
+    requires crews { length crews.old ≤ round.now.settings.workers }
+    requires few { round.now.settings.workers ≤ MAX_WORKERS }
+    requires made { AreMade (T.is_part round.now.tasks.now) made.old.items }
+    ensures { AreMade (T.is_part round.now.tasks.now) made.new.items }
 {
-    work_all(rt, of, make, places, workers, crews);
-    gather(of, crews, made)
+    work_all(rt, round, crews);
+    gather::<P, T>(round.tasks, crews, made)
 }
 
-/// The crews work at the same time.
-fn work_all<H, O, P, S, F>(
-    rt: &H,
-    of: &O,
-    make: &F,
-    places: &[usize],
-    workers: u32,
-    crews: &mut [Crew<S, P>],
-)
+/// Lets the crews work at the same time.
+fn work_all<H, P, T, F, G>(rt: &H, round: &Round<'_, T, F, G>, crews: &mut [Crew<P>])
 where
     H: Threads + Wait + Sync,
-    O: Sync,
-    P: Part<O>,
-    S: Send + Drop,
-    F: Fn(usize, Team, &mut Option<S>) -> Option<P> + Sync,
-    requires callable { F.IsAlwaysCallable make.now }
-    requires makes { Makes (P.is_part of.now) (F.post make.now) }
+    P: Send + Drop,
+    T: Tasks<P>,
+    F: Fn(usize, &mut Workers<'_, TeamGate<'_, G>>) -> Option<P> + Sync,
+    G: Gate + Sync,
+    requires callable { F.IsAlwaysCallable round.now.make.now }
+    requires makes { Makes (T.is_part round.now.tasks.now) (F.post round.now.make.now) }
     requires some { 0 < length crews.old }
-    requires crews { length crews.old ≤ workers }
-    requires few { workers ≤ MAX_WORKERS }
-    ensures { All (λ crew. AreMade (P.is_part of.now) crew.made.items) crews.new }
+    requires crews { length crews.old ≤ round.now.settings.workers }
+    requires few { round.now.settings.workers ≤ MAX_WORKERS }
+    ensures { All (λ crew. AreMade (T.is_part round.now.tasks.now) crew.made.items) crews.new }
 {
-    let teams = crews.len();
+    let (teams, workers) = (crews.len(), round.settings.workers);
     let cursor = Mutex::new(Cursor { taken: 0 });
     for_each_mut(
         rt,
         crews,
         teams,
-        &|place: usize, crew: &mut Crew<S, P>|
-            requires sync { IsSync H.row × IsSync F.row }
-            requires callable { F.IsAlwaysCallable make.now }
-            requires makes { Makes (P.is_part of.now) (F.post make.now) }
+        &|place: usize, crew: &mut Crew<P>|
+            requires sync { IsSync H.row × IsSync T.row × IsSync F.row × IsSync G.row }
+            requires callable { F.IsAlwaysCallable round.now.make.now }
+            requires makes { Makes (T.is_part round.now.tasks.now) (F.post round.now.make.now) }
             requires place { place < teams }
             requires teams { teams ≤ workers }
             requires few { workers ≤ MAX_WORKERS }
-            ensures { AreMade (P.is_part of.entry.now) crew.new.made.items }
-        {
-            work_on(
-                rt,
-                of,
-                make,
-                places,
-                &cursor,
-                Team::at(place, teams, workers),
-                crew,
-            )
-        },
+            ensures { AreMade (T.is_part round.entry.now.tasks.now) crew.new.made.items }
+        { work_on(rt, round, &cursor, Team::at(place, teams, workers), crew) },
     );
 }
 
-/// A crew does tasks as long as there are places to take, of which others take some. It ends where one could
-/// not be done.
-fn work_on<H, O, P, S, F>(
+/// Does tasks of a round by one crew, with what it kept.
+fn work_on<H, P, T, F, G>(
     rt: &H,
-    of: &O,
-    make: &F,
-    places: &[usize],
+    round: &Round<'_, T, F, G>,
     cursor: &Mutex<Cursor>,
     team: Team,
-    crew: &mut Crew<S, P>,
+    crew: &mut Crew<P>,
 )
 where
     H: Threads + Wait + Sync,
-    O: Sync,
-    P: Part<O>,
-    S: Send + Drop,
-    F: Fn(usize, Team, &mut Option<S>) -> Option<P> + Sync,
-    requires callable { F.IsAlwaysCallable make.now }
-    requires makes { Makes (P.is_part of.now) (F.post make.now) }
-    ensures { AreMade (P.is_part of.now) crew.new.made.items }
+    P: Send + Drop,
+    T: Tasks<P>,
+    F: Fn(usize, &mut Workers<'_, TeamGate<'_, G>>) -> Option<P> + Sync,
+    G: Gate + Sync,
+    requires callable { F.IsAlwaysCallable round.now.make.now }
+    requires makes { Makes (T.is_part round.now.tasks.now) (F.post round.now.make.now) }
+    ensures { AreMade (T.is_part round.now.tasks.now) crew.new.made.items }
 {
-    let _ = of;
+    let gate = TeamGate {
+        gate: round.gate,
+        team,
+    };
+    let kept = match crew.kept.take() {
+        Some(kept) => kept,
+        None => Workspace::new().searching(round.searches),
+    };
+    let mut workers = Workers::new(team.settings(&round.settings), &gate, Some(kept));
+    make_some(rt, round, cursor, &mut workers, crew);
+    crew.kept = Some(workers.into_kept());
+}
+
+/// Does tasks of a round as long as there are places to take, of which other crews take some. Ends if one can't be done.
+fn make_some<H, P, T, F, G>(
+    rt: &H,
+    round: &Round<'_, T, F, G>,
+    cursor: &Mutex<Cursor>,
+    workers: &mut Workers<'_, TeamGate<'_, G>>,
+    crew: &mut Crew<P>,
+)
+where
+    H: Threads + Wait + Sync,
+    P: Send + Drop,
+    T: Tasks<P>,
+    F: Fn(usize, &mut Workers<'_, TeamGate<'_, G>>) -> Option<P> + Sync,
+    G: Gate + Sync,
+    requires callable { F.IsAlwaysCallable round.now.make.now }
+    requires makes { Makes (T.is_part round.now.tasks.now) (F.post round.now.make.now) }
+    requires team { workers.old.settings.workers ≡ workers.old.gate.now.team.workers }
+    ensures { AreMade (T.is_part round.now.tasks.now) crew.new.made.items }
+{
+    let make = round.make;
     crew.made.clear();
     crew.whole = true;
-    for _ in 0..places.len() {
+    for _ in 0..round.places.len() {
         let at = cursor.lock(rt).take();
-        if at >= places.len() {
+        if at >= round.places.len() {
             break;
         }
-        let place = places[at];
-        let Some(part) = make(place, team, &mut crew.kept) else {
+        let place = round.places[at];
+        let Some(part) = make(place, workers) else {
             crew.whole = false;
             break;
         };
@@ -324,16 +344,18 @@ where
     }
 }
 
-/// Moves what the crews made to one list. Whether each did all that it took, and all of it is kept.
-fn gather<O, P, S>(of: &O, crews: &mut [Crew<S, P>], made: &mut Vec<Made<P>>) -> bool
-where
-    P: Part<O>,
-    S: Send + Drop,
-    requires made { AreMade (P.is_part of.now) made.old.items }
-    requires crews { All (λ crew. AreMade (P.is_part of.now) crew.made.items) crews.old }
-    ensures { AreMade (P.is_part of.now) made.new.items }
+/// Moves what the crews made to one list. Returns true if each did all that it took, and all of it is kept.
+fn gather<P: Send + Drop, T: Tasks<P>>(
+    tasks: &T,
+    crews: &mut [Crew<P>],
+    made: &mut Vec<Made<P>>,
+) -> bool
+    requires made { AreMade (T.is_part tasks.now) made.old.items }
+    requires crews { All (λ crew. AreMade (T.is_part tasks.now) crew.made.items) crews.old }
+    ensures { AreMade (T.is_part tasks.now) made.new.items }
 {
-    let _ = of;
+    // The tasks are for the contract alone.
+    let _ = tasks;
     let mut whole = true;
     for at in 0..crews.len() {
         let crew = &mut crews[at];
@@ -343,17 +365,14 @@ where
     whole
 }
 
-/// Up to `most` places from one on that are below `len`, and the place after them. `None` where memory is
-/// refused.
-fn places_from<A: Fn(usize) -> usize>(
+/// Up to `most` places from one on that are below `len`, and the place after them. `None` if memory is refused.
+fn places_from<P, T: Tasks<P>>(
     alloc: Global,
-    after: &A,
+    tasks: &T,
     first: usize,
     len: usize,
     most: usize,
-) -> Option<(Vec<usize>, usize)>
-    requires { A.IsAlwaysCallable after.now }
-{
+) -> Option<(Vec<usize>, usize)> {
     let mut places = Vec::new(alloc);
     let mut next = first;
     for _ in 0..most {
@@ -363,7 +382,7 @@ fn places_from<A: Fn(usize) -> usize>(
         if places.push(next).is_err() {
             return None;
         }
-        next = after(next);
+        next = tasks.after(next);
     }
     Some((places, next))
 }

@@ -13,6 +13,17 @@ pub trait Gate {
     fn end<H: Wait>(&self, _rt: &H, _worklist: Worklist) {}
 }
 
+/// A gate that is borrowed serves as the one that it is borrowed from.
+impl<G: Gate> Gate for &G {
+    fn pass<H: Wait>(&self, rt: &H, worker: u32, vertex: u32) {
+        (**self).pass(rt, worker, vertex);
+    }
+
+    fn end<H: Wait>(&self, rt: &H, worklist: Worklist) {
+        (**self).end(rt, worklist);
+    }
+}
+
 /// The gate that lets every worker through at once.
 #[derive(Clone, Copy, Debug, PartialEq, Eq)]
 pub struct OpenGate;

@@ -9,10 +9,9 @@ ghost use Rattle.session_answer.specs.Replies.{HoldsGraph};
 use crate::conversation::Conversation;
 use crate::graph_front::{Front, read_front, read_some};
 use crate::session::Session;
-use crate::terms::Terms;
 use dimacs_text::Ask;
 use job_answer::laws::answer_texts_by_lines_are_unique;
-use job_answer::{Asked, Fault, Lines};
+use job_answer::{Asked, Context, Fault, Lines};
 use least_costs::Workspace;
 use obim_engine::Gate;
 use request_reader::RequestReader;
@@ -50,52 +49,47 @@ pub fn answer_session<H: Threads + Wait + Clock + Sync, R: Read, W: Write, G: Ga
 {
     // A small request is answered by one worker, however many there are.
     let asked = asked.with_saving(true);
-    let terms = Terms {
+    let context = Context {
+        rt,
+        alloc,
         asked: &asked,
         gate,
     };
     let mut buffer = vec![in alloc; 0; ROOM]?;
-    answer_by(rt, alloc, reader, writer, &mut buffer, &terms)
+    answer_by(&context, reader, writer, &mut buffer)
 }
 
 /// Answers a session, with room for the bytes of a read.
 fn answer_by<H: Threads + Wait + Clock + Sync, R: Read, W: Write, G: Gate + Sync>(
-    rt: &H,
-    alloc: Global,
+    context: &Context<'_, H, G>,
     reader: &mut R,
     writer: &mut W,
     buffer: &mut [u8],
-    terms: &Terms<'_, G>,
 ) -> Result<(), Fault>
     requires room { 0 < length buffer.old }
-    requires limit { terms.now.asked.now.limit ≤ 2 ^ 36 }
-    ensures answered { OnOk result (IsAnsweredSession terms.now.asked.now.limit terms.now.asked.now.answer
-        terms.now.asked.now.lines (R.remaining reader.old) (R.remaining reader.new)
+    requires limit { context.now.asked.now.limit ≤ 2 ^ 36 }
+    ensures answered { OnOk result (IsAnsweredSession context.now.asked.now.limit context.now.asked.now.answer
+        context.now.asked.now.lines (R.remaining reader.old) (R.remaining reader.new)
         (W.contents writer.old) (W.contents writer.new)) }
-    ensures cut { OnErr result (IsCutSession terms.now.asked.now.answer terms.now.asked.now.lines
+    ensures cut { OnErr result (IsCutSession context.now.asked.now.answer context.now.asked.now.lines
         (R.remaining reader.old) (R.remaining reader.new)
         (W.contents writer.old) (W.contents writer.new)) }
-    ensures says { IfErr result (EndsBy terms.now.asked.now.limit (R.remaining reader.old) (R.remaining reader.new)) }
+    ensures says { IfErr result (EndsBy context.now.asked.now.limit (R.remaining reader.old) (R.remaining reader.new)) }
 {
     answer_texts_by_lines_are_unique();
-    let threads = terms.asked.settings.workers as usize;
-    let front = read_front(rt, alloc, reader, buffer, terms.asked.limit, threads)?;
+    let threads = context.asked.settings.workers as usize;
+    let (rt, alloc) = (context.rt, context.alloc);
+    let front = read_front(rt, alloc, reader, buffer, context.asked.limit, threads)?;
     let (at, end, has_ended) = (front.at, front.end, front.has_ended);
-    let mut conversation = open_conversation(rt, alloc, front, terms.asked)?;
+    let mut conversation = open_conversation(rt, alloc, front, context.asked)?;
     let session = &conversation.session;
-    session.answer(
-        rt,
-        writer,
-        &Ask::Absent,
-        terms.asked.lines,
-        terms,
-        &mut None,
-    )?;
+    let lines = context.asked.lines;
+    session.answer(context, writer, &Ask::Absent, lines, &mut None)?;
     if has_ended {
         return Ok(());
     }
-    conversation.take(rt, writer, &buffer[at..end], terms)?;
-    converse(rt, reader, writer, buffer, &mut conversation, terms)
+    conversation.take(context, writer, &buffer[at..end])?;
+    converse(context, reader, writer, buffer, &mut conversation)
 }
 
 /// Keeps a graph, for the requests after it.
@@ -119,33 +113,31 @@ fn open_conversation<H: Threads + Sync>(
         unfinished: Vec::new(alloc),
         in_comment: false,
         kept: Some(Workspace::new()),
-        alloc,
     })
 }
 
 /// Takes what the reader gives, up to its end, and replies.
 fn converse<H: Threads + Wait + Clock + Sync, R: Read, W: Write, G: Gate + Sync>(
-    rt: &H,
+    context: &Context<'_, H, G>,
     reader: &mut R,
     writer: &mut W,
     buffer: &mut [u8],
     conversation: &mut Conversation,
-    terms: &Terms<'_, G>,
 ) -> Result<(), Fault>
     requires kept { IsKept conversation.old }
     requires room { 0 < length buffer.old }
     ensures conversed { (graph : Content) (first : ℕ) (heard : List ℕ) (before : Option (List ℕ))
-        → HasHeard terms.now.asked.now.answer terms.now.asked.now.lines graph first conversation.old
+        → HasHeard context.now.asked.now.answer context.now.asked.now.lines graph first conversation.old
         heard before (W.contents writer.old)
-        → OnOk result (HasConversed terms.now.asked.now.answer terms.now.asked.now.lines graph first
+        → OnOk result (HasConversed context.now.asked.now.answer context.now.asked.now.lines graph first
         heard (R.remaining reader.old) (R.remaining reader.new) before (W.contents writer.new)) }
     ensures cut { (graph : Content) (first : ℕ) (heard : List ℕ) (before : Option (List ℕ))
-        → HasHeard terms.now.asked.now.answer terms.now.asked.now.lines graph first conversation.old
+        → HasHeard context.now.asked.now.answer context.now.asked.now.lines graph first conversation.old
         heard before (W.contents writer.old)
-        → OnErr result (IsCutConversation terms.now.asked.now.answer terms.now.asked.now.lines graph
+        → OnErr result (IsCutConversation context.now.asked.now.answer context.now.asked.now.lines graph
         first heard (R.remaining reader.old) (R.remaining reader.new) before (W.contents writer.new)) }
     ensures says { (graph : Content) (first : ℕ) (heard : List ℕ) (before : Option (List ℕ))
-        → HasHeard terms.now.asked.now.answer terms.now.asked.now.lines graph first conversation.old
+        → HasHeard context.now.asked.now.answer context.now.asked.now.lines graph first conversation.old
         heard before (W.contents writer.old)
         → IfErr result (EndsAfterGraph graph.n first heard (R.remaining reader.old) (R.remaining reader.new)) }
 {
@@ -153,9 +145,9 @@ fn converse<H: Threads + Wait + Clock + Sync, R: Read, W: Write, G: Gate + Sync>
     for _ in 0..u64::MAX {
         let count = read_some(reader, buffer)?;
         if count == 0 {
-            return conversation.end(rt, writer, terms);
+            return conversation.end(context, writer);
         }
-        conversation.take(rt, writer, &buffer[..count], terms)?;
+        conversation.take(context, writer, &buffer[..count])?;
     }
     // No one sends that much.
     Err(Fault::TooLong)

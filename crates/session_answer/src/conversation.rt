@@ -17,10 +17,9 @@ ghost use Rattle.session_answer.specs.Cuts.{AreCutAfterBytes, AreCutAfterLines, 
 ghost use Rattle.session_answer.specs.Replies.{AreReplies, HoldsGraph, IsAskedIn, IsRequestWithin, IsTold, out_of_memory};
 
 use crate::session::{NO_MEMORY, Session, Told, refuse};
-use crate::terms::Terms;
 use dimacs_text::{LineKind, begins_comment};
-use job_answer::Fault;
 use job_answer::laws::answer_texts_by_lines_are_unique;
+use job_answer::{Context, Fault};
 use least_costs::Workspace;
 use obim_engine::Gate;
 use request_reader::{Request, RequestReader};
@@ -42,28 +41,26 @@ pub(crate) struct Conversation {
     pub(crate) in_comment: bool,
     /// Kept from one request to the next. None after a request was refused memory.
     pub(crate) kept: Option<Workspace>,
-    pub(crate) alloc: Global,
 }
 
 impl Conversation {
     /// Takes the next bytes, and replies to each request that is complete in them.
     pub(crate) fn take<H: Threads + Wait + Clock + Sync, W: Write, G: Gate + Sync>(
         &mut self,
-        rt: &H,
+        context: &Context<'_, H, G>,
         writer: &mut W,
         bytes: &[u8],
-        terms: &Terms<'_, G>,
     ) -> Result<(), Fault>
         requires kept { IsKept self.old }
         ensures heard { (graph : Content) (first : ℕ) (heard : List ℕ) (before : Option (List ℕ))
-            → HasHeard terms.now.asked.now.answer terms.now.asked.now.lines graph first self.old heard
+            → HasHeard context.now.asked.now.answer context.now.asked.now.lines graph first self.old heard
             before (W.contents writer.old)
-            → OnOk result (HasHeard terms.now.asked.now.answer terms.now.asked.now.lines graph first
+            → OnOk result (HasHeard context.now.asked.now.answer context.now.asked.now.lines graph first
             self.new (heard ++ bytes.now) before (W.contents writer.new)) }
         ensures cut { (graph : Content) (first : ℕ) (heard : List ℕ) (before : Option (List ℕ))
-            → HasHeard terms.now.asked.now.answer terms.now.asked.now.lines graph first self.old heard
+            → HasHeard context.now.asked.now.answer context.now.asked.now.lines graph first self.old heard
             before (W.contents writer.old)
-            → OnErr result (AreCutAfterBytes terms.now.asked.now.answer terms.now.asked.now.lines graph
+            → OnErr result (AreCutAfterBytes context.now.asked.now.answer context.now.asked.now.lines graph
             first (heard ++ bytes.now) before (W.contents writer.new)) }
         ensures kept { OnOk result (IsKept self.new) }
         ensures kinds { IfErr result IsWritingFault }
@@ -71,7 +68,7 @@ impl Conversation {
         answer_texts_by_lines_are_unique();
         let mut at = 0;
         while let Some(end) = next_feed(bytes, at) {
-            self.end_line(rt, writer, &bytes[at..end], terms)?;
+            self.end_line(context, writer, &bytes[at..end])?;
             at = end + 1;
         }
         self.keep(&bytes[at..])?;
@@ -100,22 +97,21 @@ impl Conversation {
     /// Takes the rest of a line, whose line feed came after it.
     fn end_line<H: Threads + Wait + Clock + Sync, W: Write, G: Gate + Sync>(
         &mut self,
-        rt: &H,
+        context: &Context<'_, H, G>,
         writer: &mut W,
         rest: &[u8],
-        terms: &Terms<'_, G>,
     ) -> Result<(), Fault>
         requires kept { IsKept self.old }
         requires no_feed { HasNoFeed rest.now 0 (length rest.now) }
         ensures heard { (graph : Content) (first : ℕ) (heard : List ℕ) (before : Option (List ℕ))
-            → HasHeard terms.now.asked.now.answer terms.now.asked.now.lines graph first self.old heard
+            → HasHeard context.now.asked.now.answer context.now.asked.now.lines graph first self.old heard
             before (W.contents writer.old)
-            → OnOk result (HasHeard terms.now.asked.now.answer terms.now.asked.now.lines graph first
+            → OnOk result (HasHeard context.now.asked.now.answer context.now.asked.now.lines graph first
             self.new (heard ++ rest.now ++ 10 ∷ []) before (W.contents writer.new)) }
         ensures cut { (graph : Content) (first : ℕ) (heard : List ℕ) (before : Option (List ℕ))
-            → HasHeard terms.now.asked.now.answer terms.now.asked.now.lines graph first self.old heard
+            → HasHeard context.now.asked.now.answer context.now.asked.now.lines graph first self.old heard
             before (W.contents writer.old)
-            → OnErr result (AreCutAfterBytes terms.now.asked.now.answer terms.now.asked.now.lines graph
+            → OnErr result (AreCutAfterBytes context.now.asked.now.answer context.now.asked.now.lines graph
             first (heard ++ rest.now ++ 10 ∷ []) before (W.contents writer.new)) }
         ensures kept { OnOk result (IsKept self.new) }
         ensures kinds { IfErr result IsWritingFault }
@@ -126,9 +122,9 @@ impl Conversation {
         }
         if self.unfinished.is_empty() {
             // The whole line is there, and is read where it stands.
-            return self.take_line(rt, writer, rest, terms);
+            return self.take_line(context, writer, rest);
         }
-        self.end_unfinished(rt, writer, rest, terms)
+        self.end_unfinished(context, writer, rest)
     }
 
     /// Passes by the comment that was begun.
@@ -148,51 +144,49 @@ impl Conversation {
     /// Takes the rest of a line that came in pieces, whose line feed came after it.
     fn end_unfinished<H: Threads + Wait + Clock + Sync, W: Write, G: Gate + Sync>(
         &mut self,
-        rt: &H,
+        context: &Context<'_, H, G>,
         writer: &mut W,
         rest: &[u8],
-        terms: &Terms<'_, G>,
     ) -> Result<(), Fault>
         requires kept { IsKept self.old }
         requires outside { self.old.in_comment ≡ false }
         requires no_feed { HasNoFeed rest.now 0 (length rest.now) }
         ensures heard { (graph : Content) (first : ℕ) (heard : List ℕ) (before : Option (List ℕ))
-            → HasHeard terms.now.asked.now.answer terms.now.asked.now.lines graph first self.old heard
+            → HasHeard context.now.asked.now.answer context.now.asked.now.lines graph first self.old heard
             before (W.contents writer.old)
-            → OnOk result (HasHeard terms.now.asked.now.answer terms.now.asked.now.lines graph first
+            → OnOk result (HasHeard context.now.asked.now.answer context.now.asked.now.lines graph first
             self.new (heard ++ rest.now ++ 10 ∷ []) before (W.contents writer.new)) }
         ensures cut { (graph : Content) (first : ℕ) (heard : List ℕ) (before : Option (List ℕ))
-            → HasHeard terms.now.asked.now.answer terms.now.asked.now.lines graph first self.old heard
+            → HasHeard context.now.asked.now.answer context.now.asked.now.lines graph first self.old heard
             before (W.contents writer.old)
-            → OnErr result (AreCutAfterBytes terms.now.asked.now.answer terms.now.asked.now.lines graph
+            → OnErr result (AreCutAfterBytes context.now.asked.now.answer context.now.asked.now.lines graph
             first (heard ++ rest.now ++ 10 ∷ []) before (W.contents writer.new)) }
         ensures kept { OnOk result (IsKept self.new) }
         ensures kinds { IfErr result IsWritingFault }
     {
         answer_texts_by_lines_are_unique();
         self.unfinished.extend_from_slice(rest)?;
-        let line = replace(&mut self.unfinished, Vec::new(self.alloc));
-        self.take_line(rt, writer, &line, terms)
+        let line = replace(&mut self.unfinished, Vec::new(context.alloc));
+        self.take_line(context, writer, &line)
     }
 
     /// Takes a line, and replies to the requests that end there.
     fn take_line<H: Threads + Wait + Clock + Sync, W: Write, G: Gate + Sync>(
         &mut self,
-        rt: &H,
+        context: &Context<'_, H, G>,
         writer: &mut W,
         line: &[u8],
-        terms: &Terms<'_, G>,
     ) -> Result<(), Fault>
         requires kept { IsKept self.old }
         ensures replied { (graph : Content) (first : ℕ) (ls : List (List ℕ)) (before : Option (List ℕ))
-            → HasRepliedTo terms.now.asked.now.answer terms.now.asked.now.lines graph first self.old ls
+            → HasRepliedTo context.now.asked.now.answer context.now.asked.now.lines graph first self.old ls
             before (W.contents writer.old)
-            → OnOk result (HasRepliedTo terms.now.asked.now.answer terms.now.asked.now.lines graph first
+            → OnOk result (HasRepliedTo context.now.asked.now.answer context.now.asked.now.lines graph first
             self.new (ls ++ line.now ∷ []) before (W.contents writer.new)) }
         ensures cut { (graph : Content) (first : ℕ) (ls : List (List ℕ)) (before : Option (List ℕ))
-            → HasRepliedTo terms.now.asked.now.answer terms.now.asked.now.lines graph first self.old ls
+            → HasRepliedTo context.now.asked.now.answer context.now.asked.now.lines graph first self.old ls
             before (W.contents writer.old)
-            → OnErr result (AreCutAfterLines terms.now.asked.now.answer terms.now.asked.now.lines graph
+            → OnErr result (AreCutAfterLines context.now.asked.now.answer context.now.asked.now.lines graph
             first (ls ++ line.now ∷ []) before (W.contents writer.new)) }
         ensures kept { OnOk result (IsKept self.new) }
         ensures unfinished { self.new.unfinished ≡ self.old.unfinished }
@@ -201,18 +195,18 @@ impl Conversation {
     {
         answer_texts_by_lines_are_unique();
         let came = self.requests.read(line);
-        let Told::Whole = self.reply(rt, writer, came.cut, terms)? else {
+        let Told::Whole = self.reply(context, writer, came.cut)? else {
             // What ends before the line asks nothing.
             return Err(Fault::Memory);
         };
-        let Told::Whole = self.reply(rt, writer, came.found, terms)? else {
-            return self.refuse_last(writer);
+        let Told::Whole = self.reply(context, writer, came.found)? else {
+            return self.refuse_last(context.alloc, writer);
         };
         Ok(())
     }
 
     /// Refuses the last request, which was whole with the last line, for want of memory.
-    fn refuse_last<W: Write>(&mut self, writer: &mut W) -> Result<(), Fault>
+    fn refuse_last<W: Write>(&mut self, alloc: Global, writer: &mut W) -> Result<(), Fault>
         ensures requests { (first : ℕ) (all : List (List ℕ)) (outcomes : List Outcome)
             → IsRefusedLast self.old.requests first all outcomes
             → HasRequests self.new.requests first all (outcomes ++ no_memory (last_of self.old.requests) ∷ []) }
@@ -227,28 +221,27 @@ impl Conversation {
         ensures kinds { IfErr result IsWritingFault }
     {
         let line = self.requests.refuse();
-        refuse(self.alloc, writer, line, NO_MEMORY)
+        refuse(alloc, writer, line, NO_MEMORY)
     }
 
     /// Replies to a request, if there is one.
     fn reply<H: Threads + Wait + Clock + Sync, W: Write, G: Gate + Sync>(
         &mut self,
-        rt: &H,
+        context: &Context<'_, H, G>,
         writer: &mut W,
         request: Option<Request>,
-        terms: &Terms<'_, G>,
     ) -> Result<Told, Fault>
         requires graphs { AreGraphs self.old.session.graphs }
         requires within { IfSome request (IsRequestWithin self.old.session.graphs.network.n) }
-        ensures replied { (graph : Content) → HoldsGraph terms.now.asked.now.answer graph self.old.session
+        ensures replied { (graph : Content) → HoldsGraph context.now.asked.now.answer graph self.old.session
             → IfOk result (λ told. IsTold told
-            (Replies terms.now.asked.now.answer terms.now.asked.now.lines graph (outcomes_in request)
+            (Replies context.now.asked.now.answer context.now.asked.now.lines graph (outcomes_in request)
             self.new.session (W.contents writer.old) (W.contents writer.new))
-            (Replies terms.now.asked.now.answer terms.now.asked.now.lines graph [] self.new.session
+            (Replies context.now.asked.now.answer context.now.asked.now.lines graph [] self.new.session
             (W.contents writer.old) (W.contents writer.new))) }
         ensures asked { IfOk result (λ told. IsTold told ⊤ (IsAskedIn request)) }
-        ensures cut { (graph : Content) → HoldsGraph terms.now.asked.now.answer graph self.old.session
-            → OnErr result (WritesPrefix (AreReplies terms.now.asked.now.answer terms.now.asked.now.lines
+        ensures cut { (graph : Content) → HoldsGraph context.now.asked.now.answer graph self.old.session
+            → OnErr result (WritesPrefix (AreReplies context.now.asked.now.answer context.now.asked.now.lines
             graph (outcomes_in request)) (W.contents writer.old) (W.contents writer.new)) }
         ensures graphs { OnOk result (AreGraphs self.new.session.graphs) }
         ensures vertices { OnOk result
@@ -260,30 +253,26 @@ impl Conversation {
     {
         match request {
             None => Ok(Told::Whole),
-            Some(request) => {
-                self.session
-                    .reply(rt, writer, request, terms, &mut self.kept)
-            },
+            Some(request) => { self.session.reply(context, writer, request, &mut self.kept) },
         }
     }
 
     /// Takes the last line, if it has no line feed.
     fn end_last_line<H: Threads + Wait + Clock + Sync, W: Write, G: Gate + Sync>(
         &mut self,
-        rt: &H,
+        context: &Context<'_, H, G>,
         writer: &mut W,
-        terms: &Terms<'_, G>,
     ) -> Result<(), Fault>
         requires kept { IsKept self.old }
         ensures replied { (graph : Content) (first : ℕ) (heard : List ℕ) (before : Option (List ℕ))
-            → HasHeard terms.now.asked.now.answer terms.now.asked.now.lines graph first self.old heard
+            → HasHeard context.now.asked.now.answer context.now.asked.now.lines graph first self.old heard
             before (W.contents writer.old)
-            → OnOk result (HasRepliedTo terms.now.asked.now.answer terms.now.asked.now.lines graph first
+            → OnOk result (HasRepliedTo context.now.asked.now.answer context.now.asked.now.lines graph first
             self.new (lines heard) before (W.contents writer.new)) }
         ensures cut { (graph : Content) (first : ℕ) (heard : List ℕ) (before : Option (List ℕ))
-            → HasHeard terms.now.asked.now.answer terms.now.asked.now.lines graph first self.old heard
+            → HasHeard context.now.asked.now.answer context.now.asked.now.lines graph first self.old heard
             before (W.contents writer.old)
-            → OnErr result (AreRepliesCut terms.now.asked.now.answer terms.now.asked.now.lines graph
+            → OnErr result (AreRepliesCut context.now.asked.now.answer context.now.asked.now.lines graph
             first (lines heard) before (W.contents writer.new)) }
         ensures kinds { IfErr result IsWritingFault }
     {
@@ -294,35 +283,34 @@ impl Conversation {
         if self.unfinished.is_empty() {
             return Ok(());
         }
-        let line = replace(&mut self.unfinished, Vec::new(self.alloc));
-        self.take_line(rt, writer, &line, terms)
+        let line = replace(&mut self.unfinished, Vec::new(context.alloc));
+        self.take_line(context, writer, &line)
     }
 
     /// After the last byte. In the middle of a request that is a fault.
     pub(crate) fn end<H: Threads + Wait + Clock + Sync, W: Write, G: Gate + Sync>(
         &mut self,
-        rt: &H,
+        context: &Context<'_, H, G>,
         writer: &mut W,
-        terms: &Terms<'_, G>,
     ) -> Result<(), Fault>
         requires kept { IsKept self.old }
         ensures answered { (graph : Content) (first : ℕ) (heard : List ℕ) (before : Option (List ℕ))
-            → HasHeard terms.now.asked.now.answer terms.now.asked.now.lines graph first self.old heard
+            → HasHeard context.now.asked.now.answer context.now.asked.now.lines graph first self.old heard
             before (W.contents writer.old)
-            → OnOk result (AreAnswered terms.now.asked.now.answer terms.now.asked.now.lines graph first
+            → OnOk result (AreAnswered context.now.asked.now.answer context.now.asked.now.lines graph first
             heard before (W.contents writer.new)) }
         ensures cut { (graph : Content) (first : ℕ) (heard : List ℕ) (before : Option (List ℕ))
-            → HasHeard terms.now.asked.now.answer terms.now.asked.now.lines graph first self.old heard
+            → HasHeard context.now.asked.now.answer context.now.asked.now.lines graph first self.old heard
             before (W.contents writer.old)
-            → OnErr result (AreRepliesCut terms.now.asked.now.answer terms.now.asked.now.lines graph
+            → OnErr result (AreRepliesCut context.now.asked.now.answer context.now.asked.now.lines graph
             first (lines heard) before (W.contents writer.new)) }
         ensures says { (graph : Content) (first : ℕ) (heard : List ℕ) (before : Option (List ℕ))
-            → HasHeard terms.now.asked.now.answer terms.now.asked.now.lines graph first self.old heard
+            → HasHeard context.now.asked.now.answer context.now.asked.now.lines graph first self.old heard
             before (W.contents writer.old)
             → IfErr result (EndsShort graph.n first (lines heard)) }
     {
         answer_texts_by_lines_are_unique();
-        self.end_last_line(rt, writer, terms)?;
+        self.end_last_line(context, writer)?;
         match self.requests.lacking() {
             None => Ok(()),
             Some(line) => Err(Fault::Text {

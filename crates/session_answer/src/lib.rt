@@ -12,7 +12,7 @@
 mod answering;
 mod conversation;
 mod graph_front;
+mod request_lines;
 mod session;
-mod terms;
 
 pub use answering::answer_session;

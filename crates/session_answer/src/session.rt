@@ -14,12 +14,12 @@ ghost use Rattle.session_answer.specs.Replies.{HoldsGraph, IsAnswerIn, IsAsked, 
 ghost use Rattle.session_answer.specs.Replies.{IsRequestWithin, IsTold};
 ghost use Rattle.session_answer.specs.Replies.{graph_after, grown_by, lines_by, lines_for};
 
-use crate::terms::{Terms, lines_by, lines_for};
+use crate::request_lines::{lines_by, lines_for};
 use answer_lines::{put_grown, put_ready, put_refusal};
 use dimacs_text::{Ask, Job};
 use job_answer::laws::answer_texts_by_lines_are_unique;
 use job_answer::{
-    Answer, Asked, BlockKind, Fault, Graphs, Lines, NoWatch, answer_question, graphs_for,
+    Answer, Asked, Context, Fault, Graphs, Lines, NoWatch, Question, answer_question, graphs_for,
     is_unasked, write_whole,
 };
 use least_costs::Workspace;
@@ -55,7 +55,6 @@ pub(crate) struct Session {
     pub(crate) graphs: Graphs,
     /// The number of arcs that were read, those that were added among them.
     pub(crate) arcs: usize,
-    pub(crate) alloc: Global,
 }
 
 impl Session {
@@ -77,7 +76,6 @@ impl Session {
         Ok(Session {
             graphs,
             arcs: count,
-            alloc,
         })
     }
 
@@ -85,88 +83,86 @@ impl Session {
     /// before the first byte of the reply, nothing is done.
     pub(crate) fn reply<H: Threads + Wait + Clock + Sync, W: Write, G: Gate + Sync>(
         &mut self,
-        rt: &H,
+        context: &Context<'_, H, G>,
         writer: &mut W,
         request: Request,
-        terms: &Terms<'_, G>,
         kept: &mut Option<Workspace>,
     ) -> Result<Told, Fault>
         requires graphs { AreGraphs self.old.graphs }
         requires within { IsRequestWithin self.old.graphs.network.n request }
-        ensures reply { (graph : Content) → HoldsGraph terms.now.asked.now.answer graph self.old
-            → IfOk result (λ told. IsTold told (Writes (IsReplyFor terms.now.asked.now.answer terms.now.asked.now.lines graph (outcome_of request)) (W.contents writer.old) (W.contents writer.new))
+        ensures reply { (graph : Content) → HoldsGraph context.now.asked.now.answer graph self.old
+            → IfOk result (λ told. IsTold told (Writes (IsReplyFor context.now.asked.now.answer context.now.asked.now.lines graph (outcome_of request)) (W.contents writer.old) (W.contents writer.new))
             (Appends (W.contents writer.old) (W.contents writer.new) [])) }
         ensures asked { IfOk result (λ told. IsTold told ⊤ (IsAsked request)) }
-        ensures cut { (graph : Content) → HoldsGraph terms.now.asked.now.answer graph self.old
-            → OnErr result (WritesPrefix (IsReplyFor terms.now.asked.now.answer terms.now.asked.now.lines
+        ensures cut { (graph : Content) → HoldsGraph context.now.asked.now.answer graph self.old
+            → OnErr result (WritesPrefix (IsReplyFor context.now.asked.now.answer context.now.asked.now.lines
             graph (outcome_of request)) (W.contents writer.old) (W.contents writer.new)) }
         // The graph has the arcs that were added from then on.
-        ensures graph { (graph : Content) → HoldsGraph terms.now.asked.now.answer graph self.old
+        ensures graph { (graph : Content) → HoldsGraph context.now.asked.now.answer graph self.old
             → IfOk result (λ told. IsTold told
-            (HoldsGraph terms.now.asked.now.answer (graph_after graph (outcome_of request)) self.new)
-            (HoldsGraph terms.now.asked.now.answer graph self.new)) }
+            (HoldsGraph context.now.asked.now.answer (graph_after graph (outcome_of request)) self.new)
+            (HoldsGraph context.now.asked.now.answer graph self.new)) }
         ensures graphs { OnOk result (AreGraphs self.new.graphs) }
         ensures vertices { OnOk result (self.new.graphs.network.n ≡ self.old.graphs.network.n) }
         ensures kinds { IfErr result IsWritingFault }
     {
         match request {
             Request::Wrong { line, kind } => {
-                refuse(self.alloc, writer, line, kind.words())?;
+                refuse(context.alloc, writer, line, kind.words())?;
                 Ok(Told::Whole)
             }
             Request::NoMemory { line } => {
-                refuse(self.alloc, writer, line, NO_MEMORY)?;
+                refuse(context.alloc, writer, line, NO_MEMORY)?;
                 Ok(Told::Whole)
             }
             Request::Asked { job, extent } => {
                 let Job { ask, added, .. } = job;
-                let lines = lines_by(extent, terms.asked.lines);
-                self.prepare(kept);
+                let lines = lines_by(extent, context.asked.lines);
+                self.prepare(context.alloc, kept);
                 match added {
-                    None => self.reply_asked(rt, writer, &ask, lines, terms, kept),
-                    Some(arcs) => self.reply_grown(rt, writer, &arcs, &ask, lines, terms, kept),
+                    None => self.reply_asked(context, writer, &ask, lines, kept),
+                    Some(arcs) => self.reply_grown(context, writer, &arcs, &ask, lines, kept),
                 }
             }
         }
     }
 
     /// Reverses the rows of the network, where searches from both ends gain more than that takes.
-    fn prepare(&mut self, kept: &mut Option<Workspace>)
+    fn prepare(&mut self, alloc: Global, kept: &mut Option<Workspace>)
         ensures { self.new ≡ self.old }
     {
         if let Some(kept) = kept {
-            kept.prepare(self.alloc, &mut self.graphs.network);
+            kept.prepare(alloc, &mut self.graphs.network);
         }
     }
 
     /// Replies to what is asked. A short reply is made in memory first, so that nothing was given where memory is refused.
     fn reply_asked<H: Threads + Wait + Clock + Sync, W: Write, G: Gate + Sync>(
         &self,
-        rt: &H,
+        context: &Context<'_, H, G>,
         writer: &mut W,
         ask: &Ask,
         lines: Lines,
-        terms: &Terms<'_, G>,
         kept: &mut Option<Workspace>,
     ) -> Result<Told, Fault>
         requires graphs { AreGraphs self.now.graphs }
         requires bound { IsLinesAsked lines }
         requires within { IsQuestionWithin self.now.graphs.network.n (question_of ask.now) }
-        ensures answered { (graph : Content) → HoldsGraph terms.now.asked.now.answer graph self.now
-            → IfOk result (λ told. IsTold told (Writes (IsAnswerIn terms.now.asked.now.answer lines graph
+        ensures answered { (graph : Content) → HoldsGraph context.now.asked.now.answer graph self.now
+            → IfOk result (λ told. IsTold told (Writes (IsAnswerIn context.now.asked.now.answer lines graph
             (question_of ask.now)) (W.contents writer.old) (W.contents writer.new))
             (Appends (W.contents writer.old) (W.contents writer.new) [])) }
-        ensures cut { (graph : Content) → HoldsGraph terms.now.asked.now.answer graph self.now
-            → OnErr result (WritesPrefix (IsAnswerIn terms.now.asked.now.answer lines graph
+        ensures cut { (graph : Content) → HoldsGraph context.now.asked.now.answer graph self.now
+            → OnErr result (WritesPrefix (IsAnswerIn context.now.asked.now.answer lines graph
             (question_of ask.now)) (W.contents writer.old) (W.contents writer.new)) }
         ensures kinds { IfErr result IsWritingFault }
     {
         answer_texts_by_lines_are_unique();
-        if !self.is_short(ask, lines, terms) {
-            self.answer(rt, writer, ask, lines, terms, kept)?;
+        if !self.is_short(context.asked.answer, ask, lines) {
+            self.answer(context, writer, ask, lines, kept)?;
             return Ok(Told::Whole);
         }
-        let text = match self.answer_text(rt, ask, lines, terms, kept) {
+        let text = match self.answer_text(context, ask, lines, kept) {
             Ok(text) => text,
             Err(Fault::Spawn) => return Err(Fault::Spawn),
             Err(_) => return Ok(Told::Nothing),
@@ -178,29 +174,28 @@ impl Session {
     /// Makes the text of an answer and of how large the graph is.
     fn answer_text<H: Threads + Wait + Clock + Sync, G: Gate + Sync>(
         &self,
-        rt: &H,
+        context: &Context<'_, H, G>,
         ask: &Ask,
         lines: Lines,
-        terms: &Terms<'_, G>,
         kept: &mut Option<Workspace>,
     ) -> Result<Vec<u8>, Fault>
         requires graphs { AreGraphs self.now.graphs }
         requires bound { IsLinesAsked lines }
         requires within { IsQuestionWithin self.now.graphs.network.n (question_of ask.now) }
-        ensures text { (graph : Content) → HoldsGraph terms.now.asked.now.answer graph self.now
-            → IfOk result (λ text. IsAnswerIn terms.now.asked.now.answer lines graph
+        ensures text { (graph : Content) → HoldsGraph context.now.asked.now.answer graph self.now
+            → IfOk result (λ text. IsAnswerIn context.now.asked.now.answer lines graph
             (question_of ask.now) text.items) }
         ensures kinds { IfErr result IsWritingFault }
     {
-        let mut text = Vec::new(self.alloc);
-        self.answer(rt, &mut text, ask, lines, terms, kept)?;
+        let mut text = Vec::new(context.alloc);
+        self.answer(context, &mut text, ask, lines, kept)?;
         Ok(text)
     }
 
     /// Tells if a reply is so short that it may be made in memory. No reply depends on it.
-    fn is_short<G>(&self, ask: &Ask, lines: Lines, terms: &Terms<'_, G>) -> bool {
+    fn is_short(&self, answer: Answer, ask: &Ask, lines: Lines) -> bool {
         let n = self.graphs.network.n() as usize;
-        let (count, has_walks) = match (terms.asked.answer, ask) {
+        let (count, has_walks) = match (answer, ask) {
             (Answer::Components, _) | (_, Ask::Absent) => (n, false),
             (_, Ask::Sources(sources)) => (sources.len().saturating_mul(n), lines.has_walks()),
             (_, Ask::Pairs(pairs)) => (pairs.len(), lines.has_walks()),
@@ -212,64 +207,62 @@ impl Session {
     /// Adds arcs to the graph, and replies how many they are and to what is asked.
     fn reply_grown<H: Threads + Wait + Clock + Sync, W: Write, G: Gate + Sync>(
         &mut self,
-        rt: &H,
+        context: &Context<'_, H, G>,
         writer: &mut W,
         arcs: &[ArcRec],
         ask: &Ask,
         lines: Lines,
-        terms: &Terms<'_, G>,
         kept: &mut Option<Workspace>,
     ) -> Result<Told, Fault>
         requires graphs { AreGraphs self.old.graphs }
         requires bound { IsLinesAsked lines }
         requires within { IsQuestionWithin self.old.graphs.network.n (question_of ask.now) }
         requires added { IsAddedWithin self.old.graphs.network.n (Some arcs.now) }
-        ensures reply { (graph : Content) → HoldsGraph terms.now.asked.now.answer graph self.old
-            → IfOk result (λ told. IsTold told (Writes (IsGrownReply terms.now.asked.now.answer lines graph
+        ensures reply { (graph : Content) → HoldsGraph context.now.asked.now.answer graph self.old
+            → IfOk result (λ told. IsTold told (Writes (IsGrownReply context.now.asked.now.answer lines graph
             arcs.now (question_of ask.now)) (W.contents writer.old) (W.contents writer.new))
             (Appends (W.contents writer.old) (W.contents writer.new) [])) }
-        ensures cut { (graph : Content) → HoldsGraph terms.now.asked.now.answer graph self.old
-            → OnErr result (WritesPrefix (IsGrownReply terms.now.asked.now.answer lines graph arcs.now
+        ensures cut { (graph : Content) → HoldsGraph context.now.asked.now.answer graph self.old
+            → OnErr result (WritesPrefix (IsGrownReply context.now.asked.now.answer lines graph arcs.now
             (question_of ask.now)) (W.contents writer.old) (W.contents writer.new)) }
-        ensures graph { (graph : Content) → HoldsGraph terms.now.asked.now.answer graph self.old
+        ensures graph { (graph : Content) → HoldsGraph context.now.asked.now.answer graph self.old
             → IfOk result (λ told. IsTold told
-            (HoldsGraph terms.now.asked.now.answer (grown_by graph (Some arcs.now)) self.new)
-            (HoldsGraph terms.now.asked.now.answer graph self.new)) }
+            (HoldsGraph context.now.asked.now.answer (grown_by graph (Some arcs.now)) self.new)
+            (HoldsGraph context.now.asked.now.answer graph self.new)) }
         ensures graphs { OnOk result (AreGraphs self.new.graphs) }
         ensures vertices { OnOk result (self.new.graphs.network.n ≡ self.old.graphs.network.n) }
         ensures kinds { IfErr result IsWritingFault }
     {
-        let Told::Whole = self.grow(rt, writer, arcs, terms)? else {
+        let Told::Whole = self.grow(context, writer, arcs)? else {
             return Ok(Told::Nothing);
         };
-        self.answer(rt, writer, ask, lines, terms, kept)?;
+        self.answer(context, writer, ask, lines, kept)?;
         Ok(Told::Whole)
     }
 
     /// Writes what is asked, and how large the graph is.
     pub(crate) fn answer<H: Threads + Wait + Clock + Sync, W: Write, G: Gate + Sync>(
         &self,
-        rt: &H,
+        context: &Context<'_, H, G>,
         writer: &mut W,
         ask: &Ask,
         lines: Lines,
-        terms: &Terms<'_, G>,
         kept: &mut Option<Workspace>,
     ) -> Result<(), Fault>
         requires graphs { AreGraphs self.now.graphs }
         requires bound { IsLinesAsked lines }
         requires within { IsQuestionWithin self.now.graphs.network.n (question_of ask.now) }
-        ensures answered { (graph : Content) → HoldsGraph terms.now.asked.now.answer graph self.now
-            → OnOk result (Writes (IsAnswerIn terms.now.asked.now.answer lines graph
+        ensures answered { (graph : Content) → HoldsGraph context.now.asked.now.answer graph self.now
+            → OnOk result (Writes (IsAnswerIn context.now.asked.now.answer lines graph
             (question_of ask.now)) (W.contents writer.old) (W.contents writer.new)) }
-        ensures cut { (graph : Content) → HoldsGraph terms.now.asked.now.answer graph self.now
-            → OnErr result (WritesPrefix (IsAnswerIn terms.now.asked.now.answer lines graph
+        ensures cut { (graph : Content) → HoldsGraph context.now.asked.now.answer graph self.now
+            → OnErr result (WritesPrefix (IsAnswerIn context.now.asked.now.answer lines graph
             (question_of ask.now)) (W.contents writer.old) (W.contents writer.new)) }
         ensures kinds { IfErr result IsWritingFault }
     {
         answer_texts_by_lines_are_unique();
-        self.write_body(rt, writer, ask, lines, terms, kept)?;
-        let mut ready = Vec::new(self.alloc);
+        self.write_body(context, writer, ask, lines, kept)?;
+        let mut ready = Vec::new(context.alloc);
         put_ready(&mut ready, self.graphs.network.n(), self.arcs as u64)?;
         write_whole(writer, &ready)
     }
@@ -277,58 +270,47 @@ impl Session {
     /// Writes what is asked, if something is.
     fn write_body<H: Threads + Wait + Clock + Sync, W: Write, G: Gate + Sync>(
         &self,
-        rt: &H,
+        context: &Context<'_, H, G>,
         writer: &mut W,
         ask: &Ask,
         lines: Lines,
-        terms: &Terms<'_, G>,
         kept: &mut Option<Workspace>,
     ) -> Result<(), Fault>
         requires graphs { AreGraphs self.now.graphs }
         requires bound { IsLinesAsked lines }
         requires within { IsQuestionWithin self.now.graphs.network.n (question_of ask.now) }
-        ensures body { (graph : Content) → HoldsGraph terms.now.asked.now.answer graph self.now
-            → OnOk result (Writes (IsBodyIn terms.now.asked.now.answer lines graph (question_of ask.now))
+        ensures body { (graph : Content) → HoldsGraph context.now.asked.now.answer graph self.now
+            → OnOk result (Writes (IsBodyIn context.now.asked.now.answer lines graph (question_of ask.now))
             (W.contents writer.old) (W.contents writer.new)) }
-        ensures cut { (graph : Content) → HoldsGraph terms.now.asked.now.answer graph self.now
-            → OnErr result (WritesPrefix (IsBodyIn terms.now.asked.now.answer lines graph
+        ensures cut { (graph : Content) → HoldsGraph context.now.asked.now.answer graph self.now
+            → OnErr result (WritesPrefix (IsBodyIn context.now.asked.now.answer lines graph
             (question_of ask.now)) (W.contents writer.old) (W.contents writer.new)) }
         ensures kinds { IfErr result IsWritingFault }
     {
-        if is_unasked(terms.asked.answer, ask) {
+        if is_unasked(context.asked.answer, ask) {
             return Ok(());
         }
-        let kind = BlockKind {
+        let question = Question {
             graphs: &self.graphs,
+            ask,
             lines: lines_for(lines, ask),
         };
-        answer_question(
-            rt,
-            self.alloc,
-            writer,
-            kind,
-            ask,
-            terms.asked,
-            terms.gate,
-            kept,
-            &mut NoWatch,
-        )
+        answer_question(context, writer, &question, kept, &mut NoWatch)
     }
 
     /// Adds arcs to the graph, and writes how many they are. Where memory is refused, nothing is done.
     fn grow<H: Threads + Sync, W: Write, G>(
         &mut self,
-        rt: &H,
+        context: &Context<'_, H, G>,
         writer: &mut W,
         arcs: &[ArcRec],
-        terms: &Terms<'_, G>,
     ) -> Result<Told, Fault>
         requires graphs { AreGraphs self.old.graphs }
         requires within { IsAddedWithin self.old.graphs.network.n (Some arcs.now) }
-        ensures graph { (graph : Content) → HoldsGraph terms.now.asked.now.answer graph self.old
+        ensures graph { (graph : Content) → HoldsGraph context.now.asked.now.answer graph self.old
             → IfOk result (λ told. IsTold told
-            (HoldsGraph terms.now.asked.now.answer (grown_by graph (Some arcs.now)) self.new)
-            (HoldsGraph terms.now.asked.now.answer graph self.new)) }
+            (HoldsGraph context.now.asked.now.answer (grown_by graph (Some arcs.now)) self.new)
+            (HoldsGraph context.now.asked.now.answer graph self.new)) }
         ensures graphs { OnOk result (AreGraphs self.new.graphs) }
         ensures vertices { OnOk result (self.new.graphs.network.n ≡ self.old.graphs.network.n) }
         ensures told { IfOk result (λ told. IsTold told
@@ -340,15 +322,16 @@ impl Session {
     {
         networks_grow();
         // The line is made first: once the graph has grown no memory is asked for up to the first byte.
-        let mut line = Vec::new(self.alloc);
+        let mut line = Vec::new(context.alloc);
         let Ok(()) = put_grown(&mut line, arcs.len() as u32) else {
             return Ok(Told::Nothing);
         };
         let Some(count) = self.arcs.checked_add(arcs.len()) else {
             return Ok(Told::Nothing);
         };
-        let threads = terms.asked.settings.workers as usize;
-        let Ok(network) = self.graphs.network.with_arcs(rt, self.alloc, arcs, threads) else {
+        let threads = context.asked.settings.workers as usize;
+        let (rt, alloc) = (context.rt, context.alloc);
+        let Ok(network) = self.graphs.network.with_arcs(rt, alloc, arcs, threads) else {
             return Ok(Told::Nothing);
         };
         self.graphs = Graphs {

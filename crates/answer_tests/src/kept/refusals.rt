@@ -4,7 +4,8 @@
 use crate::kept::asked;
 use dimacs_text::Ask;
 use job_answer::{
-    Answer, BlockKind, Fault, Lines, NoWatch, answer_question, graphs_for, is_unasked, write_whole,
+    Answer, Context, Fault, Lines, NoWatch, Question, answer_question, graphs_for, is_unasked,
+    write_whole,
 };
 use least_costs::Workspace;
 use obim_engine::OpenGate;
@@ -44,47 +45,28 @@ fn of_answer_question(rt: HostRuntime) -> Result<(), Fail> {
     let asked = asked(&rt, Answer::Components);
     let arcs: Vec<ArcRec> = EXAMPLE_ARCS.to_vec(alloc)?;
     let graphs = graphs_for(&rt, alloc, asked.answer, 6, arcs, None, 2)?;
-    let lines = Lines::Each { walks: false };
+    let question = Question {
+        graphs: &graphs,
+        ask: &Ask::Absent,
+        lines: Lines::Each { walks: false },
+    };
+    let context = Context {
+        rt: &rt,
+        alloc,
+        asked: &asked,
+        gate: &OpenGate,
+    };
     let mut out = Vec::with_capacity(alloc, ROOM)?;
     let mut kept = Some(Workspace::new());
-    let kind = BlockKind {
-        graphs: &graphs,
-        lines,
-    };
-    let (gate, ask) = (&OpenGate, Ask::Absent);
-    assert!(rt; !is_unasked(asked.answer, &ask));
+    assert!(rt; !is_unasked(asked.answer, question.ask));
     if let Err(fault) = refusable!(
         alloc,
-        answer_question(
-            &rt,
-            alloc,
-            &mut out,
-            kind,
-            &ask,
-            &asked,
-            gate,
-            &mut kept,
-            &mut NoWatch
-        )
+        answer_question(&context, &mut out, &question, &mut kept, &mut NoWatch)
     ) {
         assert!(rt; matches!(fault, Fault::Memory | Fault::Spawn), "{fault:?}");
         assert!(rt; JOINED.starts_with(&out));
         out.clear();
-        let kind = BlockKind {
-            graphs: &graphs,
-            lines,
-        };
-        answer_question(
-            &rt,
-            alloc,
-            &mut out,
-            kind,
-            &ask,
-            &asked,
-            gate,
-            &mut kept,
-            &mut NoWatch,
-        )?;
+        answer_question(&context, &mut out, &question, &mut kept, &mut NoWatch)?;
     }
     assert!(rt; out.as_slice() == JOINED);
     Ok(())

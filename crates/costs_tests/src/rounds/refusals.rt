@@ -1,24 +1,18 @@
 //! Each call that takes memory, with one allocation of it refused: a task is not done then, and the caller does it.
 //! `tests/refusals` refuses each in turn; `tests/refusals.tsv` has the calls.
 
-use crate::rounds::{Before, count, taken};
-use least_costs::Rounds;
+use crate::rounds::{Places, part_at, taken};
+use least_costs::{Plan, Rounds, Workers};
+use obim_engine::OpenGate;
 use route_walks::refusable;
 use std::test::Fail;
 
 #[test]
 fn of_rounds_new(rt: HostRuntime) -> Result<(), Fail> {
     let alloc = rt.alloc();
-    let mut rounds: Rounds<Before, u32> = refusable!(alloc, Rounds::new(alloc, 1, 2, 2));
-    let part = rounds.take(
-        &rt,
-        alloc,
-        &(),
-        &count,
-        &|place: usize| place.saturating_add(1),
-        0,
-    );
-    assert!(rt; part.is_none());
+    let workers = Workers::new(Plan::usual(2).settings, &OpenGate, None);
+    let mut rounds = refusable!(alloc, Rounds::new(alloc, 1, 2, workers));
+    assert!(rt; rounds.take(&rt, alloc, &Places, &part_at, 0).is_none());
     Ok(())
 }
 

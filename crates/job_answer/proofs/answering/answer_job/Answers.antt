@@ -8,26 +8,28 @@ use Rattle.job_answer.proofs.answering.answer_job.Goals as goal
 
 pub returns-in_err-graphs-clause-says : goal.returns-in_err-graphs-clause-says
 returns-in_err-graphs-clause-says g c =
-    let kind = c.args.asked.now.answer in
+    let kind = c.args.context.now.asked.now.answer in
     let job = content_of c.args.job in
     let p = err_from_is_err_and c.from_residual.result c.from_residual.ensures.1 in
     rw (p.1, p.2)
     (record {
       asked = asked-if kind job (sym c.is_unasked.ensures ∙ c.if-is_unasked.false);
       has_sources = untold-if _ _ c.has_no_sources.ensures c.if-has_no_sources.false;
-      cut = writes-nothing (IsAnswerTextBy kind c.args.asked.now.lines job) _;
+      cut = writes-nothing (IsAnswerTextBy kind c.args.context.now.asked.now.lines job) _;
     })
 
 pub returns-clause-reply : goal.returns-clause-reply
 returns-clause-reply g c =
-    c.answer_question.ensures.reply (content_of c.args.job) (rw c.reverse_if.ensures c.in_ok-graphs.ensures.graphs) refl
+    c.answer_question.ensures.reply (content_of c.args.job)
+    (record { graphs = rw c.reverse_if.ensures c.in_ok-graphs.ensures.graphs; asks = refl })
 
 pub returns-clause-says : goal.returns-clause-says
 returns-clause-says g c =
-    let kind = c.args.asked.now.answer in
+    let kind = c.args.context.now.asked.now.answer in
     let job = content_of c.args.job in
-    reply-says kind c.args.asked.now.lines job _ _ c.answer_question.result
+    reply-says kind c.args.context.now.asked.now.lines job _ _ c.answer_question.result
     (asked-if kind job (sym c.is_unasked.ensures ∙ c.if-is_unasked.false))
     (untold-if _ _ c.has_no_sources.ensures c.if-has_no_sources.false)
     c.answer_question.ensures.kinds
-    (c.answer_question.ensures.prefix job (rw c.reverse_if.ensures c.in_ok-graphs.ensures.graphs) refl)
+    (c.answer_question.ensures.prefix job
+    (record { graphs = rw c.reverse_if.ensures c.in_ok-graphs.ensures.graphs; asks = refl }))

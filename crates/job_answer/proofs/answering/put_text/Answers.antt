@@ -10,9 +10,9 @@ use Rattle.job_answer.proofs.answering.put_text.Goals as goal
 
 pub returns-in_default-Sources : goal.returns-in_default-Sources
 returns-in_default-Sources g c =
-    let kind = c.args.asked.now.answer in
-    let by = c.args.kind.lines in
-    let graphs = c.args.kind.graphs.now in
+    let kind = c.args.context.now.asked.now.answer in
+    let by = c.args.question.now.lines in
+    let graphs = c.args.question.now.graphs.now in
     let growth = growth_of graphs.grown in
     let sources = c.in_default-Sources.sources.items in
     let blocks = AreLinesBlocks by graphs.network.n graphs.network.arcs growth sources in

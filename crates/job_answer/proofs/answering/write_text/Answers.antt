@@ -20,12 +20,14 @@ returns-clause-text g c =
 
 pub returns-clause-prefix : goal.returns-clause-prefix
 returns-clause-prefix g c =
-    let graphs = c.args.kind.graphs.now in
+    let question = c.args.question.now in
+    let kind = c.args.context.now.asked.now.answer in
+    let graphs = question.graphs.now in
     let growth = growth_of graphs.grown in
-    let text = IsTextBy c.args.asked.now.answer c.args.kind.lines graphs.network.n graphs.network.arcs growth
-    (question_of c.args.ask.now) in
-    let only = text-same c.blocks_are_unique.ensures c.lines_are_unique.ensures c.args.asked.now.answer c.args.kind.lines
-    graphs.network.n graphs.network.arcs growth (question_of c.args.ask.now) in
+    let text = IsTextBy kind question.lines graphs.network.n graphs.network.arcs growth
+    (question_of question.ask.now) in
+    let only = text-same c.blocks_are_unique.ensures c.lines_are_unique.ensures kind question.lines
+    graphs.network.n graphs.network.arcs growth (question_of question.ask.now) in
     let cut = on_err_weaker c.finish.result
     (λ cut. writes-cut g.W.Write.contents text _ _ c.new-waiting.ensures.items
     (last-cut g.W.Write.contents text _ _ _ only c.in_ok-put_text.ensures.text cut))

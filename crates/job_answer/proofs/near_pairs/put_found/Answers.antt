@@ -27,7 +27,7 @@ loop-place-preserved g c =
     let text = found_text pair.0 pair.1 label walk in
     let is_block : block pair text =
     found-lines c.least_labels_exist.ensures c.hops_and_parents_exist.ensures graphs pairs solve targets found k label
-    c.index-in-loop-place.result.now walk c.n.ensures.network c.requires.alone c.requires.pairs c.requires.solve
+    c.index-in-loop-place.result.now walk c.n.ensures.network c.requires.alone c.args.queries.now.within c.requires.solve
     c.requires.targets c.requires.found here c.index.ensures c.index-in-loop-place.ensures c.deref.ensures.value in
     let inside : k < length (drop first pairs) =
     omega (arith, here, c.requires.targets.count, c.requires.solve.within, length-drop first pairs) in
@@ -70,7 +70,7 @@ returns-in_err-send_if_full-clause-prefix g c =
     let text = found_text pair.0 pair.1 label walk in
     let is_block : block pair text =
     found-lines c.least_labels_exist.ensures c.hops_and_parents_exist.ensures graphs pairs solve targets found k label
-    c.index-in-loop-place.result.now walk c.n.ensures.network c.requires.alone c.requires.pairs c.requires.solve
+    c.index-in-loop-place.result.now walk c.n.ensures.network c.requires.alone c.args.queries.now.within c.requires.solve
     c.requires.targets c.requires.found here c.index.ensures c.index-in-loop-place.ensures c.deref.ensures.value in
     let inside : k < length (drop first pairs) =
     omega (arith, here, c.requires.targets.count, c.requires.solve.within, length-drop first pairs) in

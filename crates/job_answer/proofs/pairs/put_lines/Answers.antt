@@ -13,12 +13,12 @@ use Rattle.job_answer.proofs.pairs.put_lines.Goals as goal
 
 pub put_pair_lines-requires-clause-after : goal.put_pair_lines-requires-clause-after
 put_pair_lines-requires-clause-after g c =
-    has_cost_after c.args.graphs.now.grown c.args.pairs.now c.args.costs.now.after.items c.loop-place.place c.requires.after
+    has_cost_after c.args.queries.now.graphs.now.grown c.args.queries.now.pairs.now c.args.costs.now.after.items c.loop-place.place c.requires.after
     c.loop-place-test.true
 
 pub loop-place-init : goal.loop-place-init
 loop-place-init g c =
-    let graphs = c.args.graphs.now in
+    let graphs = c.args.queries.now.graphs.now in
     let block = IsGrownPair false graphs.network.n graphs.network.arcs (growth_of graphs.grown) in
     record {
       same = record { writer = refl; waiting = refl; piece = refl };
@@ -27,10 +27,10 @@ loop-place-init g c =
 
 pub loop-place-preserved : goal.loop-place-preserved
 loop-place-preserved g c =
-    let graphs = c.args.graphs.now in
+    let graphs = c.args.queries.now.graphs.now in
     let growth = growth_of graphs.grown in
     let block = IsGrownPair false graphs.network.n graphs.network.arcs growth in
-    let pairs = c.args.pairs.now in
+    let pairs = c.args.queries.now.pairs.now in
     let k = c.loop-place.place in
     let pair = pair_at pairs k in
     let text =
@@ -38,7 +38,7 @@ loop-place-preserved g c =
     (pair_text pair.0 pair.1 (label_of (get_or c.args.costs.now.after.items k None))) in
     let is_block =
     plain-block c.costs_are_labels.ensures graphs.network graphs.grown pairs c.args.costs.now.costs.items
-    c.args.costs.now.after.items k c.requires.graphs.is c.requires.graphs.grows c.requires.pairs c.requires.costs
+    c.args.costs.now.after.items k c.requires.graphs.is c.requires.graphs.grows c.args.queries.now.within c.requires.costs
     c.requires.after c.loop-place-test.true in
     record {
       same = search rules;
@@ -51,19 +51,19 @@ loop-place-preserved g c =
 
 pub returns-in_err-put_pair_lines-clause-prefix : goal.returns-in_err-put_pair_lines-clause-prefix
 returns-in_err-put_pair_lines-clause-prefix g c =
-    let graphs = c.args.graphs.now in
+    let graphs = c.args.queries.now.graphs.now in
     let growth = growth_of graphs.grown in
     at-err _
     (blocks-stop (IsGrownPair false graphs.network.n graphs.network.arcs growth) g.W.Write.contents
-    (c.blocks_are_unique.ensures false graphs.network.n graphs.network.arcs growth).1 c.args.pairs.now c.loop-place.place
+    (c.blocks_are_unique.ensures false graphs.network.n graphs.network.arcs growth).1 c.args.queries.now.pairs.now c.loop-place.place
     _ _ _ refl c.loop-place.invariant.put)
 
 pub returns-in_err-send_if_full-clause-prefix : goal.returns-in_err-send_if_full-clause-prefix
 returns-in_err-send_if_full-clause-prefix g c =
-    let graphs = c.args.graphs.now in
+    let graphs = c.args.queries.now.graphs.now in
     let growth = growth_of graphs.grown in
     let block = IsGrownPair false graphs.network.n graphs.network.arcs growth in
-    let pairs = c.args.pairs.now in
+    let pairs = c.args.queries.now.pairs.now in
     let k = c.loop-place.place in
     let pair = pair_at pairs k in
     let only = (c.blocks_are_unique.ensures false graphs.network.n graphs.network.arcs growth).1 in
@@ -72,7 +72,7 @@ returns-in_err-send_if_full-clause-prefix g c =
     (pair_text pair.0 pair.1 (label_of (get_or c.args.costs.now.after.items k None))) in
     let is_block =
     plain-block c.costs_are_labels.ensures graphs.network graphs.grown pairs c.args.costs.now.costs.items
-    c.args.costs.now.after.items k c.requires.graphs.is c.requires.graphs.grows c.requires.pairs c.requires.costs
+    c.args.costs.now.after.items k c.requires.graphs.is c.requires.graphs.grows c.args.queries.now.within c.requires.costs
     c.requires.after c.loop-place-test.true in
     at-err _
     (rest-cut block g.W.Write.contents only pairs k _ _ _ c.loop-place.invariant.put
@@ -83,6 +83,6 @@ returns-in_err-send_if_full-clause-prefix g c =
 
 pub returns-clause-blocks : goal.returns-clause-blocks
 returns-clause-blocks g c =
-    let graphs = c.args.graphs.now in
+    let graphs = c.args.queries.now.graphs.now in
     blocks-all (IsGrownPair false graphs.network.n graphs.network.arcs (growth_of graphs.grown)) g.W.Write.contents
-    c.args.pairs.now c.loop-place.place _ _ c.loop-place-test.false c.loop-place.invariant.put
+    c.args.queries.now.pairs.now c.loop-place.place _ _ c.loop-place-test.false c.loop-place.invariant.put

@@ -7,7 +7,7 @@ use Rattle.job_answer.proofs.walked_pairs.put_by_workers.Goals as goal
 pub walks_to-requires-clause-targets : goal.walks_to-requires-clause-targets
 walks_to-requires-clause-targets g c κs within =
     targets-within c.args.queries.now.graphs.now.network.n c.args.queries.now.pairs.now c.args.solve.first c.args.solve.end
-    c.args.targets.now c.requires.pairs c.requires.targets c.requires.solve.within
+    c.args.targets.now c.args.queries.now.within c.requires.targets c.requires.solve.within
 
 pub put_walked-requires-clause-walked : goal.put_walked-requires-clause-walked
 put_walked-requires-clause-walked g c =

@@ -9,7 +9,7 @@ use Rattle.session_answer.proofs.answering.answer_by.Goals as goal
 
 pub returns-then-has_ended-clause-answered : goal.returns-then-has_ended-clause-answered
 returns-then-has_ended-clause-answered g c =
-    let terms = c.args.terms.now in
+    let terms = c.args.context.now in
     let front = c.in_ok-front.front in
     session_ended terms.asked.now.limit terms.asked.now.answer terms.asked.now.lines front c.read_front.new.buffer
     (g.R.Read.remaining c.args.reader.now) (g.R.Read.remaining c.read_front.new.reader)
@@ -18,7 +18,7 @@ returns-then-has_ended-clause-answered g c =
 
 pub returns-clause-answered : goal.returns-clause-answered
 returns-clause-answered g c =
-    let terms = c.args.terms.now in
+    let terms = c.args.context.now in
     let front = c.in_ok-front.front in
     let written = g.W.Write.contents c.answer.new.writer in
     session_whole terms.asked.now.limit terms.asked.now.answer terms.asked.now.lines front c.read_front.new.buffer
@@ -33,7 +33,7 @@ returns-clause-answered g c =
 
 pub returns-in_err-front-clause-cut : goal.returns-in_err-front-clause-cut
 returns-in_err-front-clause-cut g c =
-    let terms = c.args.terms.now in
+    let terms = c.args.context.now in
     on_err
     (nothing_cut terms.asked.now.answer terms.asked.now.lines (g.R.Read.remaining c.args.reader.now)
     (g.R.Read.remaining c.read_front.new.reader) (g.W.Write.contents c.args.writer.now) c.in_err-front.ensures.cut)
@@ -41,7 +41,7 @@ returns-in_err-front-clause-cut g c =
 
 pub returns-in_err-conversation-clause-cut : goal.returns-in_err-conversation-clause-cut
 returns-in_err-conversation-clause-cut g c =
-    let terms = c.args.terms.now in
+    let terms = c.args.context.now in
     on_err
     (nothing_cut terms.asked.now.answer terms.asked.now.lines (g.R.Read.remaining c.args.reader.now)
     (g.R.Read.remaining c.read_front.new.reader) (g.W.Write.contents c.args.writer.now)
@@ -50,7 +50,7 @@ returns-in_err-conversation-clause-cut g c =
 
 pub returns-in_err-answer-clause-cut : goal.returns-in_err-answer-clause-cut
 returns-in_err-answer-clause-cut g c =
-    let terms = c.args.terms.now in
+    let terms = c.args.context.now in
     let front = c.in_ok-front.front in
     on_err
     (greeting_cut terms.asked.now.limit terms.asked.now.answer terms.asked.now.lines front c.read_front.new.buffer
@@ -61,7 +61,7 @@ returns-in_err-answer-clause-cut g c =
 
 pub returns-in_err-take-clause-cut : goal.returns-in_err-take-clause-cut
 returns-in_err-take-clause-cut g c =
-    let terms = c.args.terms.now in
+    let terms = c.args.context.now in
     let front = c.in_ok-front.front in
     let graph = content_of front.graph in
     let heard = take (front.end - front.at) (drop front.at c.read_front.new.buffer) in
@@ -79,7 +79,7 @@ returns-in_err-take-clause-cut g c =
 
 pub returns-clause-cut : goal.returns-clause-cut
 returns-clause-cut g c =
-    let terms = c.args.terms.now in
+    let terms = c.args.context.now in
     let front = c.in_ok-front.front in
     let graph = content_of front.graph in
     let heard = take (front.end - front.at) (drop front.at c.read_front.new.buffer) in
@@ -103,19 +103,19 @@ pub returns-in_err-answer-clause-says : goal.returns-in_err-answer-clause-says
 returns-in_err-answer-clause-says g c =
     let p = err_from_is_err_and c.from_residual-in_err-answer.result c.from_residual-in_err-answer.ensures.1 in
     rw (p.1, p.2)
-    (writing_ends c.args.terms.now.asked.now.limit (g.R.Read.remaining c.args.reader.now)
+    (writing_ends c.args.context.now.asked.now.limit (g.R.Read.remaining c.args.reader.now)
     (g.R.Read.remaining c.read_front.new.reader) c.in_err-answer.field-0.0 c.in_err-answer.ensures.kinds)
 
 pub returns-in_err-take-clause-says : goal.returns-in_err-take-clause-says
 returns-in_err-take-clause-says g c =
     let p = err_from_is_err_and c.from_residual-in_err-take.result c.from_residual-in_err-take.ensures.1 in
     rw (p.1, p.2)
-    (writing_ends c.args.terms.now.asked.now.limit (g.R.Read.remaining c.args.reader.now)
+    (writing_ends c.args.context.now.asked.now.limit (g.R.Read.remaining c.args.reader.now)
     (g.R.Read.remaining c.read_front.new.reader) c.in_err-take.field-0.0 c.in_err-take.ensures.kinds)
 
 pub returns-clause-says : goal.returns-clause-says
 returns-clause-says g c =
-    let terms = c.args.terms.now in
+    let terms = c.args.context.now in
     let front = c.in_ok-front.front in
     let graph = content_of front.graph in
     let heard = take (front.end - front.at) (drop front.at c.read_front.new.buffer) in

@@ -14,7 +14,7 @@ use Rattle.session_answer.proofs.answering.converse.Goals as goal
 
 pub returns-then-count-eq0-clause-conversed : goal.returns-then-count-eq0-clause-conversed
 returns-then-count-eq0-clause-conversed g c graph first heard before h =
-    let terms = c.args.terms.now in
+    let terms = c.args.context.now in
     all_taken terms.asked.now.answer terms.asked.now.lines graph first c.loop.conversation heard
     c.read_some.new.buffer c.in_ok-count.count (g.R.Read.remaining c.args.reader.now)
     (g.R.Read.remaining c.loop.reader) (g.R.Read.remaining c.read_some.new.reader) before
@@ -25,7 +25,7 @@ returns-then-count-eq0-clause-conversed g c graph first heard before h =
 
 pub loop-init : goal.loop-init
 loop-init g c =
-    let terms = c.args.terms.now in
+    let terms = c.args.context.now in
     record {
       kept = c.requires.kept;
       room = c.requires.room;
@@ -47,7 +47,7 @@ loop-preserved g c = record {
   kept = c.in_ok-take.ensures.kept;
   room = grind (arith, c.loop.invariant.room, c.read_some.auto.buffer);
   taken = λ graph first heard before h.
-      more_taken c.args.terms.now.asked.now.answer c.args.terms.now.asked.now.lines graph first
+      more_taken c.args.context.now.asked.now.answer c.args.context.now.asked.now.lines graph first
       c.loop.conversation c.take.new.self heard (take c.in_ok-count.count c.read_some.new.buffer)
       (g.R.Read.remaining c.args.reader.now) (g.R.Read.remaining c.loop.reader)
       (g.R.Read.remaining c.read_some.new.reader) before (g.W.Write.contents c.loop.writer)
@@ -92,7 +92,7 @@ returns-clause-says g c graph first heard before h =
 
 pub returns-in_err-count-clause-cut : goal.returns-in_err-count-clause-cut
 returns-in_err-count-clause-cut g c graph first heard before h =
-    let terms = c.args.terms.now in
+    let terms = c.args.context.now in
     on_err
     (read_cut c.answer_texts_by_lines_are_unique.ensures terms.asked.now.answer terms.asked.now.lines graph
     first c.loop.conversation heard (g.R.Read.remaining c.args.reader.now) (g.R.Read.remaining c.loop.reader)
@@ -102,7 +102,7 @@ returns-in_err-count-clause-cut g c graph first heard before h =
 
 pub returns-then-count-eq0-clause-cut : goal.returns-then-count-eq0-clause-cut
 returns-then-count-eq0-clause-cut g c graph first heard before h =
-    let terms = c.args.terms.now in
+    let terms = c.args.context.now in
     let so_far = c.loop.invariant.taken graph first heard before h in
     on_err_weaker c.end.result
     (λ cut.
@@ -117,7 +117,7 @@ returns-then-count-eq0-clause-cut g c graph first heard before h =
 
 pub returns-in_err-take-clause-cut : goal.returns-in_err-take-clause-cut
 returns-in_err-take-clause-cut g c graph first heard before h =
-    let terms = c.args.terms.now in
+    let terms = c.args.context.now in
     let so_far = c.loop.invariant.taken graph first heard before h in
     on_err
     (last_cut terms.asked.now.answer terms.asked.now.lines graph first c.loop.conversation heard
@@ -129,7 +129,7 @@ returns-in_err-take-clause-cut g c graph first heard before h =
 
 pub returns-clause-cut : goal.returns-clause-cut
 returns-clause-cut g c graph first heard before h =
-    let terms = c.args.terms.now in
+    let terms = c.args.context.now in
     read_cut c.answer_texts_by_lines_are_unique.ensures terms.asked.now.answer terms.asked.now.lines graph
     first c.loop.conversation heard (g.R.Read.remaining c.args.reader.now) (g.R.Read.remaining c.loop.reader)
     (g.R.Read.remaining c.loop.reader) before (g.W.Write.contents c.loop.writer)

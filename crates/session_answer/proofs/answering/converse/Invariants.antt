@@ -10,9 +10,9 @@ invariant-loop g l = record {
   kept : IsKept l.conversation;
   room : 0 < length l.buffer;
   taken : (graph : Content) (first : ℕ) (heard : List ℕ) (before : Option (List ℕ))
-      → HasHeard l.terms.asked.now.answer l.terms.asked.now.lines graph first l.initial.conversation
+      → HasHeard l.context.asked.now.answer l.context.asked.now.lines graph first l.initial.conversation
       heard before (g.W.Write.contents l.initial.writer)
-      → HasTaken l.terms.asked.now.answer l.terms.asked.now.lines graph first l.conversation heard
+      → HasTaken l.context.asked.now.answer l.context.asked.now.lines graph first l.conversation heard
       (g.R.Read.remaining l.initial.reader) (g.R.Read.remaining l.reader) before (g.W.Write.contents l.writer);
   often : TakesEach l.counter (g.R.Read.remaining l.initial.reader) (g.R.Read.remaining l.reader);
 }

@@ -5,7 +5,7 @@ use Rattle.least_costs.proofs.rounds.Rounds.take.Goals as goal
 
 pub returns : goal.returns
 returns g c =
-    let IsPart : Made g.row.P.Denot → Type 0 = λ one. g.P.Part.is_part c.args.of.now one.place one.part in
+    let IsPart : Made g.row.P.Denot → Type 0 = λ one. g.T.Tasks.is_part c.args.tasks.now one.place one.part in
     let made = c.make_next.new.self.made.items in
     record {
       left =

@@ -21,8 +21,8 @@ returns-in-None-clause-answered g c graph first heard before is =
 
 pub returns-in-Some-clause-cut : goal.returns-in-Some-clause-cut
 returns-in-Some-clause-cut g c graph first heard before is =
-    let kind = c.args.terms.now.asked.now.answer in
-    let by = c.args.terms.now.asked.now.lines in
+    let kind = c.args.context.now.asked.now.answer in
+    let by = c.args.context.now.asked.now.lines in
     cut_here kind by graph first (lines heard) (lines heard) before _ refl
     (replied_cut c.answer_texts_by_lines_are_unique.ensures kind by graph first c.end_last_line.new.self
     (lines heard) before _ (c.in_ok-end_last_line.ensures.replied graph first heard before is))

@@ -10,8 +10,8 @@ use Rattle.session_answer.proofs.conversation.Conversation.end_last_line.Goals a
 
 pub returns-then-self-clause-replied : goal.returns-then-self-clause-replied
 returns-then-self-clause-replied g c graph first heard before is =
-    let kind = c.args.terms.now.asked.now.answer in
-    let by = c.args.terms.now.asked.now.lines in
+    let kind = c.args.context.now.asked.now.answer in
+    let by = c.args.context.now.asked.now.lines in
     let self = c.args.self.now in
     let begun = comment_begun self.in_comment self.unfinished.items is.begun c.if-self.true is.kept in
     subst (λ (ls : List (List ℕ)). HasRepliedTo kind by graph first c.end_comment.new.self ls before
@@ -24,8 +24,8 @@ returns-then-self-clause-replied g c graph first heard before is =
 
 pub returns-then-is_empty-clause-replied : goal.returns-then-is_empty-clause-replied
 returns-then-is_empty-clause-replied g c graph first heard before is =
-    let kind = c.args.terms.now.asked.now.answer in
-    let by = c.args.terms.now.asked.now.lines in
+    let kind = c.args.context.now.asked.now.answer in
+    let by = c.args.context.now.asked.now.lines in
     let empty : length c.args.self.now.unfinished.items ≡ 0 = search rules in
     let none =
     sym (kept_begun c.args.self.now.in_comment c.args.self.now.unfinished.items is.begun c.if-self.false is.kept)
@@ -35,8 +35,8 @@ returns-then-is_empty-clause-replied g c graph first heard before is =
 
 pub returns-clause-replied : goal.returns-clause-replied
 returns-clause-replied g c graph first heard before is =
-    let kind = c.args.terms.now.asked.now.answer in
-    let by = c.args.terms.now.asked.now.lines in
+    let kind = c.args.context.now.asked.now.answer in
+    let by = c.args.context.now.asked.now.lines in
     let self = c.args.self.now in
     let whole = lines is.whole in
     let kept = kept_begun self.in_comment self.unfinished.items is.begun c.if-self.false is.kept in
@@ -55,8 +55,8 @@ returns-clause-replied g c graph first heard before is =
 
 pub returns-clause-cut : goal.returns-clause-cut
 returns-clause-cut g c graph first heard before is =
-    let kind = c.args.terms.now.asked.now.answer in
-    let by = c.args.terms.now.asked.now.lines in
+    let kind = c.args.context.now.asked.now.answer in
+    let by = c.args.context.now.asked.now.lines in
     let self = c.args.self.now in
     let whole = lines is.whole in
     let kept = kept_begun self.in_comment self.unfinished.items is.begun c.if-self.false is.kept in

@@ -12,8 +12,8 @@ use Rattle.session_answer.proofs.conversation.Conversation.end_line.Goals as goa
 
 pub returns-then-self-clause-heard : goal.returns-then-self-clause-heard
 returns-then-self-clause-heard g c graph first heard before is =
-    let kind = c.args.terms.now.asked.now.answer in
-    let by = c.args.terms.now.asked.now.lines in
+    let kind = c.args.context.now.asked.now.answer in
+    let by = c.args.context.now.asked.now.lines in
     let self = c.args.self.now in
     let rest = c.args.rest.now in
     let begun = comment_begun self.in_comment self.unfinished.items is.begun c.if-self.true is.kept in
@@ -40,8 +40,8 @@ returns-then-self-clause-kept g c =
 
 pub returns-then-is_empty-clause-heard : goal.returns-then-is_empty-clause-heard
 returns-then-is_empty-clause-heard g c graph first heard before is =
-    let kind = c.args.terms.now.asked.now.answer in
-    let by = c.args.terms.now.asked.now.lines in
+    let kind = c.args.context.now.asked.now.answer in
+    let by = c.args.context.now.asked.now.lines in
     let self = c.args.self.now in
     let whole = lines is.whole in
     let empty : length self.unfinished.items ≡ 0 = search rules in
@@ -61,8 +61,8 @@ returns-then-is_empty-clause-heard g c graph first heard before is =
 
 pub returns-then-is_empty-clause-cut : goal.returns-then-is_empty-clause-cut
 returns-then-is_empty-clause-cut g c graph first heard before is =
-    let kind = c.args.terms.now.asked.now.answer in
-    let by = c.args.terms.now.asked.now.lines in
+    let kind = c.args.context.now.asked.now.answer in
+    let by = c.args.context.now.asked.now.lines in
     let self = c.args.self.now in
     let whole = lines is.whole in
     let empty : length self.unfinished.items ≡ 0 = search rules in

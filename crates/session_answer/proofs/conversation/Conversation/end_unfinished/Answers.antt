@@ -9,8 +9,8 @@ use Rattle.session_answer.proofs.conversation.Conversation.end_unfinished.Goals 
 
 pub returns-clause-heard : goal.returns-clause-heard
 returns-clause-heard g c graph first heard before is =
-    let kind = c.args.terms.now.asked.now.answer in
-    let by = c.args.terms.now.asked.now.lines in
+    let kind = c.args.context.now.asked.now.answer in
+    let by = c.args.context.now.asked.now.lines in
     let self = c.args.self.now in
     let whole = lines is.whole in
     let line : c.deref.result.now ≡ is.begun ++ c.args.rest.now =
@@ -34,8 +34,8 @@ returns-clause-heard g c graph first heard before is =
 
 pub returns-in_err-extend_from_slice-clause-cut : goal.returns-in_err-extend_from_slice-clause-cut
 returns-in_err-extend_from_slice-clause-cut g c graph first heard before is =
-    let kind = c.args.terms.now.asked.now.answer in
-    let by = c.args.terms.now.asked.now.lines in
+    let kind = c.args.context.now.asked.now.answer in
+    let by = c.args.context.now.asked.now.lines in
     let law = c.answer_texts_by_lines_are_unique.ensures in
     let came = c.args.rest.now in
     on_err
@@ -46,8 +46,8 @@ returns-in_err-extend_from_slice-clause-cut g c graph first heard before is =
 
 pub returns-clause-cut : goal.returns-clause-cut
 returns-clause-cut g c graph first heard before is =
-    let kind = c.args.terms.now.asked.now.answer in
-    let by = c.args.terms.now.asked.now.lines in
+    let kind = c.args.context.now.asked.now.answer in
+    let by = c.args.context.now.asked.now.lines in
     let self = c.args.self.now in
     let whole = lines is.whole in
     let line : c.deref.result.now ≡ is.begun ++ c.args.rest.now =

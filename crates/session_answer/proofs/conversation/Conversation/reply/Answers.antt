@@ -8,16 +8,16 @@ use Rattle.session_answer.proofs.conversation.Conversation.reply.Goals as goal
 
 pub returns-in-Some-clause-replied : goal.returns-in-Some-clause-replied
 returns-in-Some-clause-replied g c graph holds =
-    let kind = c.args.terms.now.asked.now.answer in
-    let by = c.args.terms.now.asked.now.lines in
+    let kind = c.args.context.now.asked.now.answer in
+    let by = c.args.context.now.asked.now.lines in
     rw c.in-Some.is
     (reply_told kind by graph (outcome_of c.in-Some.request) _ _ _ c.reply.result (c.reply.ensures.reply graph holds)
     (c.reply.ensures.graph graph holds))
 
 pub returns-in-Some-clause-cut : goal.returns-in-Some-clause-cut
 returns-in-Some-clause-cut g c graph holds =
-    let kind = c.args.terms.now.asked.now.answer in
-    let by = c.args.terms.now.asked.now.lines in
+    let kind = c.args.context.now.asked.now.answer in
+    let by = c.args.context.now.asked.now.lines in
     let outcome = outcome_of c.in-Some.request in
     rw c.in-Some.is
     (on_err_weaker c.reply.result

@@ -9,8 +9,8 @@ use Rattle.session_answer.proofs.conversation.Conversation.take.Goals as goal
 
 pub loop-end-preserved : goal.loop-end-preserved
 loop-end-preserved g c =
-    let kind = c.args.terms.now.asked.now.answer in
-    let by = c.args.terms.now.asked.now.lines in
+    let kind = c.args.context.now.asked.now.answer in
+    let by = c.args.context.now.asked.now.lines in
     let bytes = c.args.bytes.now in
     let at = c.loop-end.at in
     let end = c.in-Some.end in
@@ -31,8 +31,8 @@ loop-end-preserved g c =
 
 pub returns-clause-heard : goal.returns-clause-heard
 returns-clause-heard g c graph first heard before is =
-    let kind = c.args.terms.now.asked.now.answer in
-    let by = c.args.terms.now.asked.now.lines in
+    let kind = c.args.context.now.asked.now.answer in
+    let by = c.args.context.now.asked.now.lines in
     let bytes = c.args.bytes.now in
     let at = c.loop-end.at in
     let all : heard ++ bytes ≡ (heard ++ take at bytes) ++ drop at bytes =
@@ -49,8 +49,8 @@ returns-clause-heard g c graph first heard before is =
 
 pub returns-in_err-end_line-clause-cut : goal.returns-in_err-end_line-clause-cut
 returns-in_err-end_line-clause-cut g c graph first heard before is =
-    let kind = c.args.terms.now.asked.now.answer in
-    let by = c.args.terms.now.asked.now.lines in
+    let kind = c.args.context.now.asked.now.answer in
+    let by = c.args.context.now.asked.now.lines in
     let bytes = c.args.bytes.now in
     let at = c.loop-end.at in
     let end = c.in-Some.end in
@@ -69,8 +69,8 @@ returns-in_err-end_line-clause-cut g c graph first heard before is =
 
 pub returns-in_err-keep-clause-cut : goal.returns-in_err-keep-clause-cut
 returns-in_err-keep-clause-cut g c graph first heard before is =
-    let kind = c.args.terms.now.asked.now.answer in
-    let by = c.args.terms.now.asked.now.lines in
+    let kind = c.args.context.now.asked.now.answer in
+    let by = c.args.context.now.asked.now.lines in
     let law = c.answer_texts_by_lines_are_unique.ensures in
     let bytes = c.args.bytes.now in
     let at = c.loop-end.at in

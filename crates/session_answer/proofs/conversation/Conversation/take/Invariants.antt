@@ -8,9 +8,9 @@ invariant-loop-end g l = record {
   inside : l.at ≤ length l.bytes;
   kept : IsKept l.self;
   heard : (graph : Content) (first : ℕ) (heard : List ℕ) (before : Option (List ℕ))
-      → HasHeard l.terms.asked.now.answer l.terms.asked.now.lines graph first l.initial.self heard before
+      → HasHeard l.context.asked.now.answer l.context.asked.now.lines graph first l.initial.self heard before
       (g.W.Write.contents l.initial.writer)
-      → HasHeard l.terms.asked.now.answer l.terms.asked.now.lines graph first l.self
+      → HasHeard l.context.asked.now.answer l.context.asked.now.lines graph first l.self
       (heard ++ take l.at l.bytes) before (g.W.Write.contents l.writer);
 }
 

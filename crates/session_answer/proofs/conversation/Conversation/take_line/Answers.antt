@@ -1,8 +1,8 @@
 use Rattle.std.proofs.Common.{◌∙◌, ◌++◌, ◌∷◌, [], ap, append_assoc, subst, sym}
 use Rattle.std.proofs.lemmas.Result.{on_err_weaker, on_ok_weaker}
-use Rattle.job_answer.specs.Graphs.{AreGraphs}
 use Rattle.request_reader.specs.Reading.{HasRequests, IsRefusedLast, last_of, outcomes_in, outcomes_of, vertices_of}
 use Rattle.request_reader.specs.Requests.{no_memory}
+use Rattle.job_answer.specs.Graphs.{AreGraphs}
 use Rattle.session_answer.specs.Conversations.{graph_of}
 use Rattle.session_answer.specs.Replies.{AreReplies, HoldsGraph}
 use Rattle.session_answer.proofs.CutLemmas.{after_cut, cut_after_lines, front_cut, nothing_cut, on_err, refusal_cut}
@@ -11,8 +11,8 @@ use Rattle.session_answer.proofs.conversation.Conversation.take_line.Goals as go
 
 pub returns-clause-replied : goal.returns-clause-replied
 returns-clause-replied g c graph first ls before is =
-    let kind = c.args.terms.now.asked.now.answer in
-    let by = c.args.terms.now.asked.now.lines in
+    let kind = c.args.context.now.asked.now.answer in
+    let by = c.args.context.now.asked.now.lines in
     let came = c.read-came.result in
     let so_far = graph_of graph is.outcomes in
     let cut = told_whole _ _ _ c.in-Whole.is (c.in_ok-reply.ensures.replied so_far is.replied.holds) in
@@ -33,8 +33,8 @@ returns-clause-replied g c graph first ls before is =
 
 pub returns-in_err-reply-clause-cut : goal.returns-in_err-reply-clause-cut
 returns-in_err-reply-clause-cut g c graph first ls before is =
-    let kind = c.args.terms.now.asked.now.answer in
-    let by = c.args.terms.now.asked.now.lines in
+    let kind = c.args.context.now.asked.now.answer in
+    let by = c.args.context.now.asked.now.lines in
     let law = c.answer_texts_by_lines_are_unique.ensures in
     let came = c.read-came.result in
     let so_far = graph_of graph is.outcomes in
@@ -49,8 +49,8 @@ returns-in_err-reply-clause-cut g c graph first ls before is =
 
 pub returns-in_default-clause-cut : goal.returns-in_default-clause-cut
 returns-in_default-clause-cut g c graph first ls before is =
-    let kind = c.args.terms.now.asked.now.answer in
-    let by = c.args.terms.now.asked.now.lines in
+    let kind = c.args.context.now.asked.now.answer in
+    let by = c.args.context.now.asked.now.lines in
     let law = c.answer_texts_by_lines_are_unique.ensures in
     let came = c.read-came.result in
     let so_far = graph_of graph is.outcomes in
@@ -63,8 +63,8 @@ returns-in_default-clause-cut g c graph first ls before is =
 
 pub returns-in_err-reply-2-clause-cut : goal.returns-in_err-reply-2-clause-cut
 returns-in_err-reply-2-clause-cut g c graph first ls before is =
-    let kind = c.args.terms.now.asked.now.answer in
-    let by = c.args.terms.now.asked.now.lines in
+    let kind = c.args.context.now.asked.now.answer in
+    let by = c.args.context.now.asked.now.lines in
     let law = c.answer_texts_by_lines_are_unique.ensures in
     let came = c.read-came.result in
     let so_far = graph_of graph is.outcomes in
@@ -81,8 +81,8 @@ returns-in_err-reply-2-clause-cut g c graph first ls before is =
 
 pub returns-in_default-2-clause-replied : goal.returns-in_default-2-clause-replied
 returns-in_default-2-clause-replied g c graph first ls before is =
-    let kind = c.args.terms.now.asked.now.answer in
-    let by = c.args.terms.now.asked.now.lines in
+    let kind = c.args.context.now.asked.now.answer in
+    let by = c.args.context.now.asked.now.lines in
     let came = c.read-came.result in
     let so_far = graph_of graph is.outcomes in
     let after = graph_of so_far (outcomes_in came.cut) in
@@ -118,8 +118,8 @@ returns-in_default-2-clause-replied g c graph first ls before is =
 
 pub returns-in_default-2-clause-cut : goal.returns-in_default-2-clause-cut
 returns-in_default-2-clause-cut g c graph first ls before is =
-    let kind = c.args.terms.now.asked.now.answer in
-    let by = c.args.terms.now.asked.now.lines in
+    let kind = c.args.context.now.asked.now.answer in
+    let by = c.args.context.now.asked.now.lines in
     let law = c.answer_texts_by_lines_are_unique.ensures in
     let came = c.read-came.result in
     let so_far = graph_of graph is.outcomes in

@@ -30,7 +30,7 @@ returns-clause-answered g c graph holds =
 
 pub returns-in_err-write_body-clause-cut : goal.returns-in_err-write_body-clause-cut
 returns-in_err-write_body-clause-cut g c graph holds =
-    let kind = c.args.terms.now.asked.now.answer in
+    let kind = c.args.context.now.asked.now.answer in
     let by = c.args.lines in
     let question = question_of c.args.ask.now in
     on_err
@@ -43,7 +43,7 @@ pub returns-in_err-put_ready-clause-cut : goal.returns-in_err-put_ready-clause-c
 returns-in_err-put_ready-clause-cut g c graph holds =
     let body = c.in_ok-write_body.ensures.body graph holds in
     on_err
-    (ready_cut c.answer_texts_by_lines_are_unique.ensures c.args.terms.now.asked.now.answer c.args.lines
+    (ready_cut c.answer_texts_by_lines_are_unique.ensures c.args.context.now.asked.now.answer c.args.lines
     graph (question_of c.args.ask.now) body.text _ _ _ body.is_text body.appended
     (none_given (λ text. text ≡ ready_text graph.n (length graph.arcs)) _))
     c.from_residual-in_err-put_ready.result
@@ -59,7 +59,7 @@ returns-clause-cut g c graph holds =
     (ap₂ ready_text (c.n.ensures.vertices ∙ holds.network.vertices) holds.count) in
     on_err_weaker c.write_whole.result
     (λ cut.
-    ready_cut c.answer_texts_by_lines_are_unique.ensures c.args.terms.now.asked.now.answer c.args.lines
+    ready_cut c.answer_texts_by_lines_are_unique.ensures c.args.context.now.asked.now.answer c.args.lines
     graph (question_of c.args.ask.now) body.text _ _ _ body.is_text body.appended
     (only_cut bytes (ready_text graph.n (length graph.arcs)) _ _ ready cut))
     c.write_whole.ensures.prefix

@@ -6,7 +6,7 @@ use Rattle.session_answer.proofs.session.Session.grow.Goals as goal
 
 pub returns-clause-graph : goal.returns-clause-graph
 returns-clause-graph g c graph holds =
-    let kind = c.args.terms.now.asked.now.answer in
+    let kind = c.args.context.now.asked.now.answer in
     let arcs = c.args.arcs.now in
     let old = c.args.self.now.graphs.network in
     let more = c.in-Ok-with_arcs.ensures in

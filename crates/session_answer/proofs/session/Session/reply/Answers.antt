@@ -6,8 +6,8 @@ use Rattle.session_answer.proofs.session.Session.reply.Goals as goal
 
 pub returns-in-None-clause-reply : goal.returns-in-None-clause-reply
 returns-in-None-clause-reply g c graph holds =
-    let kind = c.args.terms.now.asked.now.answer in
-    let by = lines_by c.in-Asked.extent c.args.terms.now.asked.now.lines in
+    let kind = c.args.context.now.asked.now.answer in
+    let by = lines_by c.in-Asked.extent c.args.context.now.asked.now.lines in
     let asked = content_of c.in-Asked.job in
     rw c.in-Asked.is
     (if_ok _ _ c.reply_asked.result
@@ -26,8 +26,8 @@ returns-in-None-clause-reply g c graph holds =
 
 pub returns-clause-reply : goal.returns-clause-reply
 returns-clause-reply g c graph holds =
-    let kind = c.args.terms.now.asked.now.answer in
-    let by = lines_by c.in-Asked.extent c.args.terms.now.asked.now.lines in
+    let kind = c.args.context.now.asked.now.answer in
+    let by = lines_by c.in-Asked.extent c.args.context.now.asked.now.lines in
     let asked = content_of c.in-Asked.job in
     rw c.in-Asked.is
     (if_ok _ _ c.reply_grown.result

@@ -7,7 +7,7 @@ use Rattle.session_answer.proofs.session.Session.reply_asked.Goals as goal
 
 pub returns-in_err-write_whole-clause-cut : goal.returns-in_err-write_whole-clause-cut
 returns-in_err-write_whole-clause-cut g c graph holds =
-    let kind = c.args.terms.now.asked.now.answer in
+    let kind = c.args.context.now.asked.now.answer in
     let by = c.args.lines in
     let question = question_of c.args.ask.now in
     on_err

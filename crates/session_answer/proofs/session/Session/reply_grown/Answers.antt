@@ -17,7 +17,7 @@ returns-in_err-grow-clause-cut g c graph holds =
 
 pub returns-in_err-answer-clause-cut : goal.returns-in_err-answer-clause-cut
 returns-in_err-answer-clause-cut g c graph holds =
-    let kind = c.args.terms.now.asked.now.answer in
+    let kind = c.args.context.now.asked.now.answer in
     let by = c.args.lines in
     let question = question_of c.args.ask.now in
     let after = grown_by graph (Some c.args.arcs.now) in

@@ -9,7 +9,7 @@ use Rattle.session_answer.proofs.session.Session.write_body.Goals as goal
 
 pub returns-clause-body : goal.returns-clause-body
 returns-clause-body g c graph holds =
-    let kind = c.args.terms.now.asked.now.answer in
+    let kind = c.args.context.now.asked.now.answer in
     let question = question_of c.args.ask.now in
     let job = job_of graph question in
     let by = lines_for c.args.lines question in
@@ -22,11 +22,12 @@ returns-clause-body g c graph holds =
           (subst (λ lines. IsAnswerTextBy kind lines job written.text) c.lines_for.ensures.lines written.is_text);
       appended = written.appended;
     })
-    (c.answer_question.ensures.reply job (graph_rows kind graph c.args.self.now c.requires.graphs.is holds) refl)
+    (c.answer_question.ensures.reply job
+    (record { graphs = graph_rows kind graph c.args.self.now c.requires.graphs.is holds; asks = refl }))
 
 pub returns-clause-cut : goal.returns-clause-cut
 returns-clause-cut g c graph holds =
-    let kind = c.args.terms.now.asked.now.answer in
+    let kind = c.args.context.now.asked.now.answer in
     let question = question_of c.args.ask.now in
     let job = job_of graph question in
     let by = lines_for c.args.lines question in
@@ -40,4 +41,5 @@ returns-clause-cut g c graph holds =
           (subst (λ unasked. IsBodyIf unasked kind by job text) asked is));
       appended = cut.appended;
     })
-    (c.answer_question.ensures.prefix job (graph_rows kind graph c.args.self.now c.requires.graphs.is holds) refl)
+    (c.answer_question.ensures.prefix job
+    (record { graphs = graph_rows kind graph c.args.self.now c.requires.graphs.is holds; asks = refl }))

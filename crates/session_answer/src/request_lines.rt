@@ -1,4 +1,4 @@
-//! The terms of a session, and the lines of a request.
+//! The lines of a request.
 
 ghost use Rattle.std.specs.Prelude.{◌≡◌, false, true};
 ghost use Rattle.dimacs_text.specs.AfterGraph.{IsExtentWithin};
@@ -7,14 +7,7 @@ ghost use Rattle.job_answer.specs.Choices.{IsLinesAsked};
 ghost use Rattle.session_answer.specs.Replies.{lines_by, lines_for};
 
 use dimacs_text::{Ask, Extent};
-use job_answer::{Asked, Lines};
-
-/// The terms that all answers of a session have in common.
-#[derive(Drop)]
-pub(crate) struct Terms<'a, G> {
-    pub(crate) asked: &'a Asked,
-    pub(crate) gate: &'a G,
-}
+use job_answer::Lines;
 
 /// The lines of a request: within its bound if it has one, with walks if it asks for them, or else those of the session.
 pub(crate) fn lines_by(extent: Extent, lines: Lines) -> Lines

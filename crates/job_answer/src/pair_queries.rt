@@ -1,0 +1,14 @@
+//! Pairs, and the networks in which their costs are least.
+
+ghost use Rattle.std.specs.Prelude.{All};
+ghost use Rattle.dimacs_text.specs.Jobs.{IsPairWithin};
+
+use crate::graphs::Graphs;
+
+/// Pairs of vertices, and the networks in which their costs are least.
+#[derive(Drop)]
+pub struct PairQueries<'a> {
+    pub graphs: &'a Graphs,
+    pub pairs: &'a [(u32, u32)],
+    ghost within: { All (IsPairWithin graphs.now.network.n) pairs.now },
+}

@@ -1,0 +1,15 @@
+//! The tasks of an answer to sources.
+
+ghost use Rattle.std.specs.Prelude.{◌<◌, All};
+
+use crate::block_kind::BlockKind;
+use crate::team_watch::SolveCount;
+
+/// The sources whose blocks are asked for. A task for each gives its block.
+#[derive(Drop)]
+pub struct SourceTasks<'a> {
+    pub kind: BlockKind<'a>,
+    pub sources: &'a [u32],
+    pub solves: SolveCount,
+    ghost within: { All (λ source. source < kind.graphs.now.network.n) sources.now },
+}
