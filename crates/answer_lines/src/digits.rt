@@ -6,7 +6,7 @@ ghost use Rattle.answer_lines.specs.Lines.{cost_text};
 use itoa::write_digits;
 use route_walks::INF;
 
-/// No line has more bytes: a letter, three numbers of at most 20 digits, three spaces and a line feed.
+/// The most bytes of a line: a letter, three numbers of at most 20 digits, three spaces and a line feed.
 pub(crate) const ROOM: usize = 65;
 
 /// Puts a byte in front of what stands at the end of a line.

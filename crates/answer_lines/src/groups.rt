@@ -1,6 +1,6 @@
 //! The lines of many vertices.
 //!
-//! A group of them is made at once in an array, its last line first, and goes out at once: the lines of
+//! A group of them is made at once in an array, its last line first, and goes out at once. A group is the lines of
 //! neighbouring vertices whose numbers differ in their last two digits alone.
 
 ghost use Rattle.std.specs.Prelude.{◌≡◌, ℕ, ◌+◌, ◌*◌, ◌/◌, ◌%◌, ◌<◌, ◌≤◌, ◌++◌, ◌∷◌, [], length, take};
@@ -17,7 +17,7 @@ use std::simd::Simd;
 /// Lines of a group, which begins where the number of a vertex is a multiple of this.
 const GROUP: usize = 50;
 
-/// No line of a group has more bytes: the room of a head, two digits, a space, 20 digits and a line feed.
+/// A bound on the bytes of a line of a group: the room of a head, two digits, a space, 20 digits and a line feed.
 const LINE: usize = 40;
 
 /// The lines of a group have no more bytes.
@@ -30,8 +30,8 @@ const HEAD: usize = 16;
 static PAIRS: [u8; 200] =
     *b"00010203040506070809101112131415161718192021222324252627282930313233343536373839404142434445464748495051525354555657585960616263646566676869707172737475767778798081828384858687888990919293949596979899";
 
-/// What the lines of a group begin with, at the end of an array: their letter, a space and the digits of
-/// the vertex without the last two.
+/// The beginning of the lines of a group, at the end of an array: their letter, a space and the digits of the vertex
+/// without the last two.
 #[derive(Drop)]
 struct Head {
     bytes: [u8; HEAD],
@@ -148,7 +148,7 @@ fn put_component_line(lines: &mut [u8], end: usize, head: &Head, v: u32, label: 
     put_head(lines, end, head)
 }
 
-/// How many of these vertices, which are counted from `first` on, belong to its group.
+/// The number of these vertices, which are counted from `first` on, that belong to its group.
 fn group_len(first: u32, count: usize) -> usize
     requires { first < MAX_VERTICES }
     ensures some { 0 < count → 0 < result }
@@ -207,8 +207,7 @@ fn put_component_group(
     Ok(())
 }
 
-/// Appends the lines `d V COST` of the vertices from `first` on, in rising order, where the cost of `INF` is
-/// `inf`.
+/// Appends the lines `d V COST` of the vertices from `first` on, in rising order, with `inf` for the cost of `INF`.
 pub fn put_labels(out: &mut Vec<u8>, first: u32, labels: &[u64]) -> Result<(), Memory>
     requires vertices { first + length labels.now ≤ MAX_VERTICES }
     ensures ok { OnOk result (out.new.items ≡ out.old.items ++ label_lines first labels.now) }
@@ -230,8 +229,8 @@ pub fn put_labels(out: &mut Vec<u8>, first: u32, labels: &[u64]) -> Result<(), M
     Ok(())
 }
 
-/// Appends the lines `k V LABEL` of the vertices from `first` on, in rising order, where each label is the
-/// number of a vertex too: both are counted from 0, and from 1 in the line.
+/// Appends the lines `k V LABEL` of the vertices from `first` on, in rising order. Each label is the number of a
+/// vertex too: both are counted from 0, and from 1 in the line.
 pub fn put_components(out: &mut Vec<u8>, first: u32, labels: &[u64]) -> Result<(), Memory>
     requires vertices { first + length labels.now ≤ MAX_VERTICES }
     requires finite { All (λ label. label < INF) labels.now }

@@ -1,4 +1,4 @@
-//! Which bytes is this line of an answer?
+//! The bytes of each line of an answer.
 //!
 //! Each `put_` call appends exactly the bytes of its lines to a vector, or leaves the vector as it was and returns
 //! `Memory`. Vertices are counted from 0 in the calls, and from 1 in the lines. For example, by

@@ -8,7 +8,7 @@ ghost use Rattle.answer_lines.specs.Lines.{grown_text, label_text, pair_text, re
 use crate::digits::{ROOM, put_byte, put_cost, put_number, put_start};
 use route_walks::{MAX_VERTICES, Memory};
 
-/// Appends the line `s V` of a source, where vertices are counted from 1.
+/// Appends the line `s V` of a source, with vertices counted from 1.
 pub fn put_source(out: &mut Vec<u8>, s: u32) -> Result<(), Memory>
     requires { s < MAX_VERTICES }
     ensures ok { OnOk result (out.new.items ≡ out.old.items ++ source_text s) }
@@ -21,7 +21,7 @@ pub fn put_source(out: &mut Vec<u8>, s: u32) -> Result<(), Memory>
     Ok(())
 }
 
-/// Appends the line `d V COST` of a vertex, where the cost of `INF` is `inf`.
+/// Appends the line `d V COST` of a vertex, with `inf` for the cost of `INF`.
 pub fn put_label(out: &mut Vec<u8>, v: u32, label: u64) -> Result<(), Memory>
     requires { v < MAX_VERTICES }
     ensures ok { OnOk result (out.new.items ≡ out.old.items ++ label_text v label) }
@@ -36,8 +36,8 @@ pub fn put_label(out: &mut Vec<u8>, v: u32, label: u64) -> Result<(), Memory>
     Ok(())
 }
 
-/// Appends the line `q S T COST` of a pair, for the label of its target `t` from its source `s`, where the
-/// cost of `INF` is `inf`.
+/// Appends the line `q S T COST` of a pair, for the label of its target `t` from its source `s`, with `inf` for the
+/// cost of `INF`.
 pub fn put_pair(out: &mut Vec<u8>, s: u32, t: u32, label: u64) -> Result<(), Memory>
     requires source { s < MAX_VERTICES }
     requires target { t < MAX_VERTICES }

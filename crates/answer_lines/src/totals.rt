@@ -1,4 +1,4 @@
-//! What the labels from a source come to.
+//! Totals of the labels from a source.
 
 ghost use Rattle.std.specs.Prelude.{◌≡◌, ◌+◌, ◌^◌, ◌<◌, ◌≤◌, ◌==◌, ◌++◌, max, length, drop, codes, decimal};
 ghost use Rattle.std.specs.Prelude.{if◌then◌else◌, OnOk, OnErr};
@@ -8,25 +8,25 @@ use crate::digits::{put_byte, put_number, put_start};
 use itoa::write_digits;
 use route_walks::{INF, MAX_VERTICES, Memory};
 
-/// No line of totals has more bytes: a letter, four numbers of at most 20 digits, one of at most 39, five spaces and a
-/// line feed.
+/// The most bytes of a line of totals: a letter, four numbers of at most 20 digits, one of at most 39, five spaces and
+/// a line feed.
 const ROOM: usize = 126;
 
-/// What the labels from a source come to, where vertices are counted from 0.
+/// The totals of the labels from a source. Vertices are counted from 0.
 #[derive(Clone, Copy, Debug, PartialEq, Eq)]
 pub struct Totals {
-    /// How many vertices a walk reaches: their labels are not `INF`.
+    /// The number of vertices that a walk reaches: their labels are not `INF`.
     pub reached: u32,
     /// The sum of their labels.
     pub sum: u128,
-    /// The greatest of their labels, or 0 where there is none.
+    /// The greatest of their labels, or 0 if no vertex is reached.
     pub greatest: u64,
-    /// The first vertex that has it, or how many labels there are where none is a cost.
+    /// The first vertex that has it, or the number of labels if none is a cost.
     pub farthest: u32,
 }
 
 impl Totals {
-    /// What these labels come to.
+    /// Sums up these labels.
     pub fn of(labels: &[u64]) -> Totals
         requires vertices { length labels.now ≤ MAX_VERTICES }
         ensures reached { result.reached ≡ reached labels.now }
@@ -46,7 +46,7 @@ impl Totals {
         totals
     }
 
-    /// The same with the label of a vertex before those whose labels came to this.
+    /// Adds the label of a vertex that comes before those that were added.
     fn with_label(self, v: u32, label: u64) -> Totals
         requires reached { self.reached < MAX_VERTICES }
         requires sum { self.sum < 2 ^ 127 }

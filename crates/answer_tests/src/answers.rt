@@ -35,7 +35,7 @@ const SIX_GRAPH: usize = 76;
 
 const SIX_ANSWER: &[u8] = b"s 1\nd 1 0\nd 2 10\nd 3 10\nd 4 12\nd 5 10\nd 6 15\n";
 
-/// The same with a walk of fewest arcs beside each label, along least tails.
+/// The answer of `SIX` with a walk of fewest arcs beside each label, along least tails.
 const SIX_WALKS: &[u8] =
     b"s 1\nd 1 0\nw 1 0 1\nd 2 10\nw 2 10 1 3 5 2\nd 3 10\nw 3 10 1 3\nd 4 12\n\
       w 4 12 1 3 5 2 4\nd 5 10\nw 5 10 1 3 5\nd 6 15\nw 6 15 1 3 5 2 4 6\n";
@@ -44,7 +44,7 @@ fn asked(rt: &impl Abort, answer: Answer, limit: u64) -> Asked {
     asked_with(rt, answer, limit, (2, 4, 16))
 }
 
-/// What is asked with this number of workers, this shift and chunks of this size.
+/// Asks for an answer with this number of workers, this shift and chunks of this size.
 fn asked_with(
     rt: &impl Abort,
     answer: Answer,
@@ -117,7 +117,7 @@ const ALONE: [(Answer, &[u8], u64); 2] = [
     (Answer::Components, b"p sp 300 0\n", 300),
 ];
 
-// Of two workers one works alone in a small graph, where that is asked for.
+// Of two workers one works alone in a small graph, if that is asked for.
 #[test]
 fn visits_of_one_worker_alone(rt: HostRuntime) -> Result<(), Fail> {
     for (answer, text, visits) in ALONE {
@@ -179,7 +179,7 @@ const NO_PROBLEM: Fault = Fault::Text {
     kind: LineKind::NoProblem,
 };
 
-// Where the text is refused, what stands in the vector stays as it is.
+// If the text is refused, what stands in the vector stays as it is.
 #[test]
 fn refusals_of_texts(rt: HostRuntime) -> Result<(), Fail> {
     for (text, limit, want, left) in REFUSED {
@@ -194,7 +194,7 @@ fn refusals_of_texts(rt: HostRuntime) -> Result<(), Fail> {
     Ok(())
 }
 
-/// Looks whether a text has this fault, and what stands in a vector stays as it is.
+/// Asserts that a text has this fault, and that what stands in a vector stays as it is.
 fn expect_refusal(
     rt: &(impl Abort + Threads + Wait + Clock + Sync),
     alloc: Global,
@@ -256,7 +256,7 @@ fn writers_that_fail_or_take_little(rt: HostRuntime) -> Result<(), Fail> {
     Ok(())
 }
 
-// Of each row the answer, the text, what comes of it, and how often the writer is flushed.
+// Of each row the answer, the text, its outcome, and how often the writer is flushed.
 const FLUSHED: [(Answer, &[u8], Result<(), Fault>, u32); 6] = [
     (Answer::Distances, SIX, Ok(()), 1),
     (Answer::Components, SIX, Ok(()), 1),
@@ -266,7 +266,7 @@ const FLUSHED: [(Answer, &[u8], Result<(), Fault>, u32); 6] = [
     (Answer::Distances, b"", Err(NO_PROBLEM), 0),
 ];
 
-// A writer is flushed once, after an empty answer too, and never where the text is refused.
+// A writer is flushed once, after an empty answer too, and never if the text is refused.
 #[test]
 fn flushes_of_answers(rt: HostRuntime) -> Result<(), Fail> {
     for (kind, text, want, flushes) in FLUSHED {

@@ -7,7 +7,7 @@ use job_answer::{Answer, Asked};
 use obim_engine::Settings;
 use std::process::Abort;
 
-/// What is asked with two workers.
+/// Asks for an answer with two workers.
 fn asked(rt: &impl Abort, answer: Answer) -> Asked {
     let settings = Settings::new(2, 4, 16).expect(rt, "settings within their limits");
     Asked::new(answer, settings, false, 1000).expect(rt, "no walks")

@@ -1,5 +1,5 @@
-//! What words ask for. Command lines of all options and faults stand in `tests/command_lines.tsv` and in
-//! `tests/command_line_faults.tsv`.
+//! Tests of what the words of a command line ask for. Command lines of all options and faults stand in
+//! `tests/command_lines.tsv` and in `tests/command_line_faults.tsv`.
 
 mod refusals;
 
@@ -64,7 +64,7 @@ fn is_asked(options: &Options, row: &Row) -> bool {
         && settings.buckets == row.buckets
 }
 
-// Of no use to a caller who prints nothing, a text is told apart from what is refused.
+// Of no use to a caller who prints nothing, a text is distinguished from what is refused.
 #[test]
 fn words_are_refused(rt: HostRuntime) -> Result<(), Fail> {
     assert!(rt; is_text(rt.alloc(), &["obim_query", "--help"]));
@@ -74,7 +74,7 @@ fn words_are_refused(rt: HostRuntime) -> Result<(), Fail> {
     Ok(())
 }
 
-/// Whether the words ask for a text, in place of an answer, or are refused in a sentence.
+/// Tells if the words ask for a text, in place of an answer, or are refused in a sentence.
 fn is_text(alloc: Global, words: &[&str]) -> bool {
     match parse_options(alloc, words) {
         Err(Refusal::Text(_)) => true,

@@ -118,7 +118,7 @@ fn with_answers<'a>(alloc: Global) -> Result<Command<'a>, AllocError>
     Ok(command.arg(within_option(alloc))?)
 }
 
-/// The options of how labels are told.
+/// Adds the options of the form in which labels are printed.
 fn with_forms<'a>(alloc: Global, command: Command<'a>) -> Result<Command<'a>, AllocError>
     ensures { IfOk result (λ with. app_of with ≡ with_rule (with_rule (app_of command.entry) labels_rule)
         (flag (codes "totals"))) }
@@ -165,7 +165,7 @@ fn with_settings<'a>(
     Ok(command)
 }
 
-/// The flags of what is printed besides, and `-`, which the help says in its text.
+/// Adds the flags of what is printed on standard error, and `-`, which the help says in its text.
 fn with_flags<'a>(alloc: Global, command: Command<'a>) -> Result<Command<'a>, AllocError>
     ensures { IfOk result (λ with. app_of with ≡ with_rule (with_rule (with_rule (with_rule
         (app_of command.entry) (flag (codes "progress"))) (flag (codes "stats"))) (flag (codes "explain")))

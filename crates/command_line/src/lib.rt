@@ -1,9 +1,10 @@
-//! What do the words of this command line ask for?
+//! The options that the words of a command line ask for.
 //!
-//! `parse_options` judges the words of a command line of `obim_query`, of which the first is the program's name. It gives
-//! the `Options` that they ask for, or a `Refusal`: the help or the version, which the words ask for then, or what is
-//! wrong with them, in a sentence. Its contract says of each option which value was asked for, and that words which are
-//! refused in a sentence ask for no options; which words are values of which option says the contract of `clap`.
+//! `parse_options` judges the words of a command line of `obim_query`, of which the first is the program's name. It
+//! gives the `Options` that they ask for, or a `Refusal`. A refusal is the help or the version, if the words ask for
+//! it, or a sentence of what is wrong with them. Its contract says of each option which value was asked for, and that
+//! words which are refused in a sentence ask for no options. The contract of `clap` says which words are values of
+//! which option.
 //!
 //! ```text
 //! let options = parse_options(rt.alloc(), &["obim_query", "-a", "levels", "--within", "3"])?;
@@ -14,8 +15,8 @@
 //!
 //! Nothing is printed here. The program prints what a refusal holds.
 //!
-//! Stands on `clap` for the words, on `job_answer` for what may be asked, on `obim_engine` for the limits of the
-//! settings, on `least_costs` for how many sources are solved at once, and on `route_walks` for the greatest cost.
+//! Stands on `clap` for the words, on `job_answer` for what may be asked, and on `obim_engine` for the limits of the
+//! settings. `least_costs` says how many sources are solved at once, and `route_walks` the greatest cost.
 #![tactic(auto)]
 
 mod command;

@@ -7,14 +7,14 @@ use job_answer::Asked;
 pub struct Options {
     /// The kind of answer, its lines and the settings.
     pub asked: Asked,
-    /// Requests follow the graph, each of which is answered at once.
+    /// True if requests follow the graph, each of which is answered at once.
     pub session: bool,
-    /// Figures are printed after the answer.
+    /// True if figures are printed after the answer.
     pub stats: bool,
-    /// It is printed how far the answer is.
+    /// True if it is printed how far the answer is.
     pub progress: bool,
-    /// A fault is explained.
+    /// True if a fault is explained.
     pub explain: bool,
-    /// The job may come from a terminal, since the argument `-` is there.
+    /// True if the job may come from a terminal, since the argument `-` is there.
     pub typed: bool,
 }

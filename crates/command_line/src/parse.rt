@@ -22,8 +22,8 @@ use std::convert::AsStr;
 ///
 /// # Errors
 ///
-/// `Refusal::Text` if they ask for the help or the version. `Refusal::Line` if something is wrong with them: it names the
-/// first fault. `Refusal::Memory` if the system refuses memory.
+/// `Refusal::Text` if they ask for the help or the version. `Refusal::Line` if something is wrong with them: it names
+/// the first fault. `Refusal::Memory` if the system refuses memory.
 pub fn parse_options<'a, S: AsStr>(alloc: Global, arguments: &'a [S]) -> Result<Options, Refusal>
     ensures asked { IfOk result (WordsAskFor (map S.text arguments.entry.now)) }
     ensures text { IfErr result (λ refusal. IsText refusal → AskForText (map S.text arguments.entry.now)) }
@@ -68,7 +68,7 @@ fn options_in(alloc: Global, matches: &ArgMatches) -> Result<Options, Misuse>
     })
 }
 
-/// Tells whether there is no session, or nothing beside it.
+/// Tells if there is no session, or nothing beside it.
 fn is_alone(session: bool, stats: bool, progress: bool) -> bool
     ensures { IsTrue result ↔ IsAlone session stats progress }
 {

@@ -16,9 +16,9 @@ use std::convert::AsStr;
 /// The reason why a command line asks for no answer.
 #[derive(Drop)]
 pub enum Refusal {
-    /// It asks for a text: the help or the version.
+    /// The command line asks for a text: the help or the version.
     Text(Error),
-    /// It is refused: what is wrong with it, in a sentence.
+    /// The command line is refused: what is wrong with it, in a sentence.
     Line(String),
     /// The system refused memory.
     Memory,
@@ -85,7 +85,7 @@ fn negative_in<S: AsStr>(arguments: &[S]) -> Option<(Numbers, &str)> {
     None
 }
 
-/// Tells whether the text is a minus sign and digits.
+/// Tells if the text is a minus sign and digits.
 fn is_negative(text: &str) -> bool {
     match text.strip_prefix("-") {
         Some(digits) => !digits.is_empty() && digits.bytes().all(|byte| byte.is_ascii_digit()),
@@ -128,7 +128,7 @@ fn first_line(text: &str) -> &str {
     }
 }
 
-/// clap's tip which argument may be meant, where it has one.
+/// Returns clap's tip which argument may be meant, if it has one.
 fn similar_in(text: &str) -> Option<&str> {
     let (_, tip) = text.split_once("\n  tip: ")?;
     let (tip, _) = tip.split_once('\n')?;

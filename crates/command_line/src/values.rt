@@ -74,14 +74,14 @@ impl From<AllocError> for Misuse {
     }
 }
 
-/// Tells whether a flag is there.
+/// Tells if a flag is there.
 pub(crate) fn has_flag(matches: &ArgMatches, flag: &str) -> bool
     ensures { IsFlag (first_value (found_of matches.now) flag.now) result }
 {
     matches.get_str(flag) == Some("true")
 }
 
-/// Tells whether the operand `-`, which is standard input, is there. Refuses each other operand.
+/// Tells if the operand `-`, which is standard input, is there. Refuses each other operand.
 pub(crate) fn has_hyphen(alloc: Global, matches: &ArgMatches) -> Result<bool, Misuse>
     ensures { Finds (AreHyphens (unwrap_or
         (option_map raw_values (matched_of (found_of matches.now) (codes "operand"))) [])) result }
@@ -92,7 +92,7 @@ pub(crate) fn has_hyphen(alloc: Global, matches: &ArgMatches) -> Result<bool, Mi
     }
 }
 
-/// Tells whether there are operands, and refuses each that is no hyphen.
+/// Tells if there are operands, and refuses each that is no hyphen.
 fn are_hyphens(alloc: Global, operands: &[&str]) -> Result<bool, Misuse>
     ensures { Finds (AreHyphens (map (λ operand. operand.now) operands.now)) result }
 {
@@ -107,7 +107,7 @@ fn are_hyphens(alloc: Global, operands: &[&str]) -> Result<bool, Misuse>
     Ok(!operands.is_empty())
 }
 
-/// The numbers that an option takes, and whether it takes `auto`.
+/// The numbers that an option takes, and true if it takes `auto`.
 #[derive(Clone, Copy)]
 pub(crate) struct Numbers {
     option: &'static str,
@@ -117,7 +117,7 @@ pub(crate) struct Numbers {
 }
 
 impl Numbers {
-    /// The number that the option asks for. There is none where it is left out or `auto`.
+    /// The number that the option asks for, and `None` if it is left out or `auto`.
     fn asked_in(self, alloc: Global, matches: &ArgMatches) -> Result<Option<u32>, Misuse>
         ensures { Finds (AsksNumber self.has_auto self.least self.most
             (first_value (found_of matches.now) self.option.now)) result }
@@ -134,7 +134,7 @@ impl Numbers {
         }
     }
 
-    /// Says why the text is none of these numbers.
+    /// Says why the text isn't one of these numbers.
     pub(crate) fn refuse(self, alloc: Global, text: &str) -> Result<String, AllocError> {
         let option = self.option;
         format!(in alloc; "invalid value '{text}' for '--{option}': a number from {self}")
@@ -177,7 +177,7 @@ pub(crate) fn settings_in(alloc: Global, matches: &ArgMatches) -> Result<Setting
     }
 }
 
-/// Tells whether the number of workers is left to the program, which then has one work alone in a small graph.
+/// Tells if the number of workers is left to the program, which then has one work alone in a small graph.
 pub(crate) fn saves_workers(matches: &ArgMatches) -> bool
     ensures { IsAuto (first_value (found_of matches.now) (codes "workers")) result }
 {
@@ -206,7 +206,7 @@ fn chunk_of(asked: Option<u32>, workers: u32) -> usize
     }
 }
 
-/// The chunk size where none is given. One worker shares nothing, so its chunks are as large as they can
+/// The chunk size if none is given. One worker shares nothing, so its chunks are as large as they can
 /// be: they take the same room whatever their size is.
 fn usual_chunk(workers: u32) -> usize
     ensures { result ≡ usual_chunk workers }
@@ -246,7 +246,7 @@ pub(crate) fn answer_in(alloc: Global, matches: &ArgMatches) -> Result<Answer, M
     }
 }
 
-/// Tells whether labels are written as bytes, and not as text.
+/// Tells if labels are written as bytes, and not as text.
 pub(crate) fn has_raw_labels(alloc: Global, matches: &ArgMatches) -> Result<bool, Misuse>
     ensures { Finds (NamesLabels (first_value (found_of matches.now) (codes "labels"))) result }
 {

@@ -1,4 +1,4 @@
-//! What does a new road change for each of many sources?
+//! The changes that a new road makes for each of many sources.
 
 ghost use Rattle.std.specs.Prelude.{◌≡◌, ◌<◌, IfOk};
 ghost use Rattle.least_costs.specs.Each.{AreWithin};
@@ -20,7 +20,7 @@ pub struct Change {
     pub after: Option<u64>,
 }
 
-/// What it costs from each source to the target in a network, and in the one that it grew to.
+/// The costs from each source to the target in a network, and in the one that it grew to.
 pub fn changes<H: Threads + Wait + Clock + Sync>(
     rt: &H,
     alloc: Global,

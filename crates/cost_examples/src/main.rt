@@ -1,9 +1,9 @@
-//! What do callers ask of a network, and what do they then know?
+//! Callers of a network, and what they know.
 //!
-//! Three functions as a program writes and proves them over `least_costs`: `cost_matrix` asks for the costs from
-//! each of many sources to each of many targets, `nearest_depot` for the depot from which a vertex is reached at
-//! the least cost, `changes` for what a new road saves for each of many sources. The program prints what they
-//! give for five crossings, after the example of `docs/LIBRARY.md`.
+//! Three functions as a program writes and proves them over `least_costs`. `cost_matrix` asks for the costs from each
+//! of many sources to each of many targets. `nearest_depot` asks for the depot from which a vertex is reached at the
+//! least cost, and `changes` for what a new road saves for each of many sources. The program prints what they give for
+//! five crossings, after the example of `docs/LIBRARY.md`.
 #![tactic(auto)]
 
 ghost use Rattle.std.specs.Prelude.{◌≡◌};

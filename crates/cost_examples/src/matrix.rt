@@ -1,4 +1,4 @@
-//! What does it cost from each of many sources to each of many targets?
+//! The costs from each of many sources to each of many targets.
 
 ghost use Rattle.std.specs.Prelude.{◌≡◌, IfOk};
 ghost use Rattle.least_costs.specs.Costs.{IsCostTo};

@@ -1,4 +1,4 @@
-//! From which depot is a vertex reached at the least cost?
+//! The depot from which a vertex is reached at the least cost.
 
 ghost use Rattle.std.specs.Prelude.{◌≡◌, ◌<◌, ℕ, List, [], ◌∷◌, ◌++◌, IfOk};
 ghost use Rattle.least_costs.specs.Costs.{IsCostTo};

@@ -71,7 +71,7 @@ fn expect_costs(rt: &impl Abort, row: usize, network: &Network, costs: &Costs, w
     }
 }
 
-/// The same of costs within a bound.
+/// Asserts that these costs within a bound are those of a row of a table.
 fn expect_within(
     rt: &impl Abort,
     row: usize,

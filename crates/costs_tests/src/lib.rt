@@ -1,4 +1,4 @@
-//! What do the library's public calls on costs do that no contract says?
+//! Tests of what the library's public calls on costs do that no contract says.
 //!
 //! Tests of `least_costs`, which know its public calls and contracts alone. They stand in a crate of their own, since a
 //! crate is proved once more for the tests that it has.

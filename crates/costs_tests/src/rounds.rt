@@ -32,7 +32,7 @@ fn part_at(
     }
 }
 
-/// What is taken at each place below 8, by so many teams of four workers.
+/// Returns the part that is taken at each place below 8, by so many teams of four workers.
 fn taken<H: Threads + Wait + Abort + Sync>(
     rt: &H,
     alloc: Global,

@@ -1,4 +1,4 @@
-//! Over which vertices does a least walk go?
+//! Tests of the vertices over which least walks go.
 
 mod refusals;
 

@@ -1,4 +1,4 @@
-//! What is true of every graph in rows. These functions do nothing: each contract is a law.
+//! Laws of every graph in rows. Each is the contract of a function that does nothing.
 
 ghost use Rattle.csr_graph.specs.Graph.{RowsAreRuns, RowsDetermine, RunsAreRows};
 

@@ -1,6 +1,6 @@
-//! What does an arc lead to?
+//! The target of an arc.
 
-/// What an arc leads to: the vertex at its head, counted from 0, and its weight.
+/// The target of an arc: the vertex at its head, counted from 0, and its weight.
 #[derive(Clone, Copy, Debug, PartialEq, Eq)]
 pub struct Target {
     pub head: u32,

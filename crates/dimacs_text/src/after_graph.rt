@@ -1,9 +1,10 @@
-//! What one line says that follows a graph.
+//! The meaning of one line that follows a graph.
 //!
 //! It says what a line of a job says there, and may also be a head that no job has. That of a section of walks,
-//! `p aux sp walk K`, is read as the head of a section of pairs: K pairs whose walks are wanted. That of a section within
-//! a bound, `p aux sp within COST K`, is read as the head of a section of sources: K sources, of which those vertices are
-//! wanted that cost at most COST.
+//! `p aux sp walk K`, is read as the head of K pairs whose walks are wanted.
+//!
+//! That of a section within a bound, `p aux sp within COST K`, is read as the head of K sources. Of each the vertices
+//! are wanted that cost at most COST.
 
 ghost use Rattle.std.specs.Prelude.{◌≡◌, ◌≢◌, ◌∷◌, [], true, false, drop, length, MatchOption, Some};
 ghost use Rattle.dimacs_text.specs.Lines.{fields, without_cr};
@@ -19,19 +20,19 @@ use crate::form::{
 use crate::line::{next_field, number_of, trim_cr};
 use route_walks::INF;
 
-/// How much a request asks for.
+/// The extent of a request: what it asks for.
 #[derive(Clone, Copy, Debug, PartialEq, Eq)]
 pub enum Extent {
-    /// As much as the answer has in any case.
+    /// The extent that the answer has in any case.
     Plain,
     /// The walks of its pairs too.
     Walks,
-    /// Of each source the vertices that cost at most the bound, which is less than `INF`.
+    /// The vertices of each source that cost at most the bound, which is less than `INF`.
     Within { bound: u64 },
 }
 
 impl Extent {
-    /// How much a line that follows a graph asks for.
+    /// Returns the extent that a line which follows a graph asks for.
     pub fn of(line: &[u8]) -> Extent
         ensures { result ≡ extent_of line.now }
     {
@@ -44,7 +45,7 @@ impl Extent {
         }
     }
 
-    /// The same of a line that is no head of a section within a bound.
+    /// Returns the extent that a line asks for which is no head of a section within a bound.
     fn of_unbounded(line: &[u8]) -> Extent
         requires { begins_within line.now ≡ false }
         ensures { result ≡ extent_of line.now }
@@ -82,7 +83,7 @@ fn within_leading() -> &'static [&'static [u8]]
     &[b"p", b"aux", b"sp", b"within"]
 }
 
-/// What follows the leading fields, if a line is the head of a section of walks.
+/// Returns the fields after the leading ones, if a line is the head of a section of walks.
 fn strip_walks(line: &[u8]) -> Option<&[u8]>
     ensures { MatchOption result (begins_walks line.now ≡ false) (λ rest. (begins_walks line.now ≡ true)
         × (fields rest.now ≡ drop 4 (fields (without_cr line.now)))) }
@@ -90,7 +91,7 @@ fn strip_walks(line: &[u8]) -> Option<&[u8]>
     strip_leading(trim_cr(line), walks_leading())
 }
 
-/// What follows the leading fields, if a line is the head of a section within a bound.
+/// Returns the fields after the leading ones, if a line is the head of a section within a bound.
 fn strip_within(line: &[u8]) -> Option<&[u8]>
     ensures { MatchOption result (begins_within line.now ≡ false) (λ rest. (begins_within line.now ≡ true)
         × (fields rest.now ≡ drop 4 (fields (without_cr line.now)))) }
@@ -98,14 +99,14 @@ fn strip_within(line: &[u8]) -> Option<&[u8]>
     strip_leading(trim_cr(line), within_leading())
 }
 
-/// Whether a line is the head of a section of walks, whatever else stands in it.
+/// Tells if a line is the head of a section of walks, whatever else stands in it.
 fn begins_walks(line: &[u8]) -> bool
     ensures { result ≡ begins_walks line.now }
 {
     strip_walks(line).is_some()
 }
 
-/// Whether a line is the head of a section within a bound, whatever else stands in it.
+/// Tells if a line is the head of a section within a bound, whatever else stands in it.
 fn begins_within(line: &[u8]) -> bool
     ensures { result ≡ begins_within line.now }
 {
@@ -129,8 +130,8 @@ fn two_fields(args: &[u8]) -> Option<(&[u8], &[u8])>
     }
 }
 
-/// The numbers of the head of a section within a bound, the bound and how many sources there are; or the first kind that
-/// is wrong with them.
+/// The numbers of the head of a section within a bound, the bound and how many sources there are; or the first kind
+/// that is wrong with them.
 fn read_two(args: &[u8]) -> Result<(u64, u32), LineKind>
     ensures { two_said result ≡ numbers_within within_limits (fields args.now) }
 {
@@ -152,8 +153,8 @@ fn read_two(args: &[u8]) -> Result<(u64, u32), LineKind>
     Ok((bound, count as u32))
 }
 
-/// Whether a line is the head of a section that can follow a graph, whatever else stands in it: of sources, with a bound
-/// or without, of pairs, of walks or of added arcs.
+/// Tells if a line is the head of a section that can follow a graph, whatever else stands in it. Such a section is of
+/// sources, with a bound or without, of pairs, of walks or of added arcs.
 pub fn begins_section(line: &[u8]) -> bool
     ensures { result ≡ begins_section line.now }
 {
@@ -169,7 +170,7 @@ pub fn begins_section(line: &[u8]) -> bool
     }
 }
 
-/// Whether a form is that of a section that can follow a graph.
+/// Tells if a form is that of a section that can follow a graph.
 fn is_later(form: Form) -> bool
     ensures { result ≡ is_later (Some form) }
 {
@@ -184,7 +185,7 @@ fn is_later(form: Form) -> bool
     }
 }
 
-/// What a line says that follows a graph of this many vertices.
+/// Reads a line that follows a graph of this many vertices.
 pub fn read_line_after(line: &[u8], vertices: u32) -> Result<Option<Entry>, LineKind>
     ensures { said_by result ≡ reading_after vertices line.now }
 {
@@ -197,7 +198,7 @@ pub fn read_line_after(line: &[u8], vertices: u32) -> Result<Option<Entry>, Line
     }
 }
 
-/// The same of a line that is no head of a section within a bound.
+/// Reads a line that is no head of a section within a bound.
 fn read_unbounded(line: &[u8], vertices: u32) -> Result<Option<Entry>, LineKind>
     requires { begins_within line.now ≡ false }
     ensures { said_by result ≡ reading_after vertices line.now }

@@ -37,7 +37,7 @@ pub struct ArcRun {
 }
 
 impl ArcRun {
-    /// No arcs, of whatever piece.
+    /// Makes a run of no arcs, of whatever piece.
     fn new(alloc: Global) -> ArcRun
         ensures { (bytes : List ℕ) → IsArcRun bytes result }
     {
@@ -49,7 +49,7 @@ impl ArcRun {
         }
     }
 
-    /// No arcs, at a place of a piece.
+    /// Begins a run of no arcs, at a place of a piece.
     fn begin(&mut self, start: usize, vertices: u32)
         ensures start { self.new.start ≡ start }
         ensures vertices { self.new.vertices ≡ vertices }
@@ -76,8 +76,8 @@ impl ArcRun {
     }
 }
 
-/// Whether there is room for this many arcs more. Where there is none it is made, and some beyond, since the next
-/// part may be a few bytes longer: a list that grows by a little would take twice the memory, and be copied.
+/// Tells if there is room for this many arcs more, after it made room if there was none. It makes some beyond, since
+/// the next part may be a few bytes longer: a list that grows by a little would take twice the memory, and be copied.
 fn has_room(arcs: &mut Vec<ArcRec>, count: usize) -> bool
     ensures items { arcs.new.items ≡ arcs.old.items }
     ensures room { OnTrue result (vec_len arcs.new + count ≤ vec_capacity arcs.new) }
@@ -101,7 +101,7 @@ pub struct Parts<'a> {
 }
 
 impl<'a> Parts<'a> {
-    /// All parts of a piece, for this many threads, where vertices count to this number.
+    /// Cuts a piece into all of its parts, for this many threads. Vertices count to this number.
     pub fn new(bytes: &'a [u8], vertices: u32, threads: usize) -> Parts<'a>
         ensures bytes { result.bytes.now ≡ bytes.now }
         ensures share { most_parts result ≤ 2 * (length bytes.now / PART / max threads 1) + 1 }
@@ -133,7 +133,7 @@ pub struct ArcRuns {
 }
 
 impl ArcRuns {
-    /// Nothing is read ahead, of whatever piece.
+    /// Makes a value of which nothing is read ahead yet, whatever the piece is.
     fn new(alloc: Global) -> ArcRuns
         ensures { (bytes : List ℕ) → AreRunsOf bytes result }
     {
@@ -143,7 +143,7 @@ impl ArcRuns {
         }
     }
 
-    /// Nothing is read ahead any more, of whatever piece.
+    /// Forgets what was read ahead, of whatever piece.
     fn clear(&mut self)
         ensures runs { (bytes : List ℕ) → AreRunsOf bytes self.new }
         ensures count { run_count self.new ≡ run_count self.old }
@@ -151,7 +151,7 @@ impl ArcRuns {
         empty_all(&mut self.runs);
     }
 
-    /// Opens a run at a place, where none is yet. False where memory for it is refused.
+    /// Opens a run at a place that has none yet. Returns false if memory for it is refused.
     fn open(&mut self, place: usize) -> bool
         requires next { place ≤ run_count self.old }
         ensures runs { (bytes : List ℕ) → AreRunsOf bytes self.old → AreRunsOf bytes self.new }
@@ -162,7 +162,7 @@ impl ArcRuns {
     }
 
     /// Reads parts of a piece ahead until all are given out, or twice this thread's share is read. What is no plain
-    /// line of an arc ends what is read of its part, and where memory is refused no more is read.
+    /// line of an arc ends what is read of its part, and if memory is refused no more is read.
     pub fn read(&mut self, parts: &Parts)
         ensures runs { AreRunsOf parts.now.bytes.now self.new }
         ensures few { run_count self.new ≤ max (run_count self.old) (most_parts parts.now) }
@@ -179,7 +179,7 @@ impl ArcRuns {
         }
     }
 
-    /// Of the runs that begin at a place or after it, and of one more, the one that begins first.
+    /// The run that begins first, of those that begin at a place or after it, and of one more.
     fn first_from<'a>(&'a self, from: usize, other: Option<&'a ArcRun>) -> Option<&'a ArcRun>
         ensures { (bytes : List ℕ) → AreRunsOf bytes self.now
             → IfSome other.entry (λ run. IsRunFrom bytes from run.now)
@@ -207,8 +207,8 @@ fn earlier<'a>(run: &'a ArcRun, other: Option<&'a ArcRun>) -> Option<&'a ArcRun>
     }
 }
 
-/// What threads have read ahead in a piece of a text: a hint for `JobReader::feed_with`. Each thread has a list of
-/// its own, and those of two threads, which have other work to do first, have names.
+/// The arcs that threads have read ahead in a piece of a text: a hint for `JobReader::feed_with`. Each thread has a
+/// list of its own, and those of two threads, which have other work to do first, have names.
 #[derive(Debug, Drop)]
 pub struct ReadAhead {
     pub one: ArcRuns,
@@ -218,7 +218,7 @@ pub struct ReadAhead {
 }
 
 impl ReadAhead {
-    /// Nothing is read ahead, of whatever piece.
+    /// Makes a value of which nothing is read ahead yet, whatever the piece is.
     pub fn new(alloc: Global) -> ReadAhead
         ensures { (bytes : List ℕ) → IsReadAhead bytes result }
     {
@@ -230,7 +230,7 @@ impl ReadAhead {
         }
     }
 
-    /// Nothing is read ahead any more, of whatever piece.
+    /// Forgets what was read ahead, of whatever piece.
     pub fn clear(&mut self)
         ensures { (bytes : List ℕ) → IsReadAhead bytes self.new }
     {
@@ -239,7 +239,7 @@ impl ReadAhead {
         clear_all(&mut self.others);
     }
 
-    /// Makes lists for as many threads, or fewer where memory is refused.
+    /// Makes lists for as many threads, or fewer if memory is refused.
     pub fn open(&mut self, threads: usize)
         ensures ahead { (bytes : List ℕ) → IsReadAhead bytes self.old → IsReadAhead bytes self.new }
         ensures few { length self.new.others.items ≤ max (length self.old.others.items) (threads - 2) }
@@ -251,7 +251,7 @@ impl ReadAhead {
         }
     }
 
-    /// How many threads have lists.
+    /// The number of threads that have lists.
     pub fn threads(&self) -> usize {
         self.others.len() + 2
     }
@@ -304,8 +304,8 @@ fn clear_all(lists: &mut [ArcRuns])
     }
 }
 
-/// Where a part of a piece begins: the first after the first line feed, since what stands
-/// before that may be the end of a line. Where the part after the last would begin, the last line ends.
+/// The place where a part of a piece begins: the first after the first line feed, since what stands before that may be
+/// the end of a line. The part after the last would begin where the last line ends.
 fn cut_at(bytes: &[u8], part: usize, parts: usize) -> usize
     ensures place { result ≤ length bytes.now }
     ensures ended { EndsWithFeed (take result bytes.now) }

@@ -25,11 +25,11 @@ use std::alloc::{AllocError, Global};
 /// Arcs for which room is made at first.
 const FIRST_ARCS: usize = 1 << 15;
 
-/// When that room is full, room is made for this many times the arcs that are there. To move a long list is slow,
-/// and room that isn't written takes no memory.
+/// The factor by which that room grows once it is full. To move a long list is slow, and room that isn't written takes
+/// no memory.
 const GROWTH: usize = 1 << 10;
 
-/// What the lines so far have said. Vertices count to `vertices`.
+/// The content of the lines so far. Vertices count to `vertices`.
 #[derive(Debug, Drop)]
 pub struct Draft {
     pub stage: Stage,
@@ -39,15 +39,15 @@ pub struct Draft {
     pub pairs: Vec<(u32, u32)>,
     /// The arcs of the added section; those of the problem are apart.
     pub added: Vec<ArcRec>,
-    /// Where the reader stood before the added section, once that has begun.
+    /// The stage of the reader before the added section, once that has begun.
     pub before_added: Stage,
     /// The number of the line that begins the section, once one has begun.
     pub head: u64,
-    /// Of the line that is wrong, once one is.
+    /// The explanation of the line that is wrong, once one is.
     pub explanation: Option<Explanation>,
 }
 
-/// What is asked by the section that the reader is in.
+/// The question of the section that the reader is in.
 fn ask_at(stage: Stage, sources: Vec<u32>, pairs: Vec<(u32, u32)>) -> Ask
     ensures { question_of result ≡ question_at stage sources.items pairs.items }
 {
@@ -64,8 +64,8 @@ fn ask_at(stage: Stage, sources: Vec<u32>, pairs: Vec<(u32, u32)>) -> Ask
     }
 }
 
-/// Makes room for `count` arcs, and where there wasn't, for more of those that are to come, of which there are
-/// `missing`. Where memory is refused there is as much room as before.
+/// Makes room for `count` arcs, and if there wasn't, for more of those that are to come, of which there are
+/// `missing`. If memory is refused there is as much room as before.
 fn make_room(arcs: &mut Vec<ArcRec>, count: usize, missing: u32)
     ensures items { arcs.new.items ≡ arcs.old.items }
     ensures missing { vec_capacity arcs.new ≤ max (vec_capacity arcs.old) (vec_len arcs.old + missing) }
@@ -91,7 +91,7 @@ impl Draft {
     ghost use Rattle.dimacs_text.specs.reader.Requests.{is_complete_at, is_request_at};
     ghost use Rattle.std.specs.Prelude.{Some, MatchOption};
 
-    /// Nothing is read yet.
+    /// Makes a draft for which nothing is read yet.
     pub fn new(alloc: Global) -> Draft
         ensures stage { result.stage ≡ Stage.Start }
         ensures vertices { result.vertices ≡ MAX_VERTICES }
@@ -134,7 +134,8 @@ impl Draft {
         self.stage.missing_arcs().map(|_| self.vertices)
     }
 
-    /// How many arcs of the graph were read, and how many the problem line counts. None before that line.
+    /// The number of arcs of the graph that were read, and the number that the problem line counts. `None` before that
+    /// line.
     pub fn arcs_so_far(&self) -> Option<(usize, usize)> {
         let read = self.arcs.len();
         match self.stage {
@@ -168,7 +169,7 @@ impl Draft {
         Ok(())
     }
 
-    /// Takes an entry that fits, and where it begins a section the number of its line.
+    /// Takes an entry that fits, and if it begins a section the number of its line.
     pub fn take(&mut self, entry: Entry, line: u64) -> Result<(), AllocError>
         requires fits { misfit_at self.old.stage (record_of entry).form ≡ None }
         ensures takes { OnOk result
@@ -272,7 +273,7 @@ impl Draft {
     }
 
     /// Makes room for arcs of which `missing` are to come, and gives how many can be added before there has
-    /// to be more room: none where memory is refused.
+    /// to be more room: none if memory is refused.
     fn room_for_arcs(&mut self, missing: u32) -> u32
         ensures same { progress_of self.new ≡ progress_of self.old }
         ensures room { vec_len self.new.arcs + result ≤ vec_capacity self.new.arcs }
@@ -303,7 +304,7 @@ impl Draft {
         (u64::from(count), after)
     }
 
-    /// Adds the arcs of a run, whose lines come next. False where they don't fit, or memory is refused.
+    /// Adds the arcs of a run, whose lines come next. Returns false if they don't fit, or memory is refused.
     pub fn take_run(&mut self, run: &ArcRun) -> bool
         ensures taken { result ≡ true → (text : List ℕ)
             → AreArcLines run.now.vertices text run.now.arcs.items → (line : ℕ)
@@ -359,7 +360,7 @@ impl Draft {
         Ok(line)
     }
 
-    /// The job, where nothing is missing. The number is that of the line one past the last.
+    /// The job, if nothing is missing. The number is that of the line one past the last.
     pub fn finish(self, line: u64) -> Result<Job, ExplainedFault>
         ensures job { IfOk result (λ job. (progress_of self).records ≡ records_of (content_of job)) }
         ensures fault { IfErr result (λ refused. IsLackOf self line refused.fault) }
@@ -376,7 +377,7 @@ impl Draft {
         Ok(self.into_job())
     }
 
-    /// What is missing, if something is.
+    /// Returns the kind of what is missing, if something is.
     fn lack(&self) -> Option<LineKind>
         ensures { MatchOption result (is_complete_at self.now.stage ≡ true) (IsLackAt self.now.stage) }
     {
@@ -387,7 +388,7 @@ impl Draft {
         }
     }
 
-    /// The job, where nothing is missing.
+    /// The job, if nothing is missing.
     pub fn into_job(self) -> Job
         requires complete { is_complete_at self.stage ≡ true }
         ensures job { (progress_of self).records ≡ records_of (content_of result) }

@@ -1,4 +1,4 @@
-//! What does a person need to know of a line that is wrong?
+//! The explanation of a line that is wrong, for a person.
 //!
 //! The number of the line and the kind of its fault are what contracts speak of. An explanation says the rest, in words
 //! that may change: it is made of the one line that is wrong, once that is found, and keeps its first bytes alone.
@@ -14,10 +14,10 @@ use route_walks::MAX_VERTICES;
 use std::error::Error;
 use std::fmt;
 
-/// How many bytes of a line an explanation keeps at most.
+/// The most bytes of a line that an explanation keeps.
 pub const MAX_KEPT: usize = 80;
 
-/// No form has more numbers than this.
+/// A bound on the numbers of a form.
 const MOST_NUMBERS: usize = 3;
 
 /// The first bytes of a line. Printed it is one line of plain ASCII: a backslash and each byte that is no
@@ -25,14 +25,14 @@ const MOST_NUMBERS: usize = 3;
 #[derive(Clone, Copy, Debug, PartialEq, Eq)]
 pub struct Beginning {
     bytes: [u8; MAX_KEPT],
-    /// How many bytes the whole line has.
+    /// The number of bytes of the whole line.
     length: usize,
 }
 
 impl Beginning {
     ghost use Rattle.dimacs_text.specs.Explaining.{kept_of};
 
-    /// Of this line.
+    /// The beginning of this line.
     pub(crate) fn of(line: &[u8]) -> Beginning
         ensures kept { kept_of result ≡ take MAX_KEPT line.now }
         ensures length { result.length ≡ length line.now }
@@ -53,7 +53,7 @@ impl Beginning {
         &self.bytes[..MAX_KEPT.min(self.length)]
     }
 
-    /// How many bytes the whole line has.
+    /// The number of bytes of the whole line.
     pub fn length(&self) -> usize
         ensures { result ≡ self.now.length }
     {
@@ -82,9 +82,9 @@ pub struct Place {
     pub section: Section,
     /// The number of the line that begins the section.
     pub head: u64,
-    /// How many items that line announces.
+    /// The number of items that line announces.
     pub announced: u64,
-    /// How many of them came before.
+    /// The number of them that came before.
     pub came: u64,
 }
 
@@ -105,23 +105,23 @@ impl fmt::Display for Place {
     }
 }
 
-/// What belongs where something is wrong.
+/// The text that belongs where something is wrong.
 #[derive(Clone, Copy, Debug, PartialEq, Eq)]
 pub enum Expected {
     /// The problem line.
     Problem,
     /// An item of this section.
     Item(Section),
-    /// What may follow this section: another one, or the end of the text.
+    /// Another section that may follow this one, or the end of the text.
     Next(Section),
     /// This many numbers, in a line of this form.
     Numbers(Form, usize),
-    /// A number within this limit: a vertex where the least is 1.
+    /// A number within this limit: a vertex if the least is 1.
     Number(Limit),
 }
 
 impl Expected {
-    /// What may come next, where lines stand in this place, or before the problem line.
+    /// The text that may come next at this place, or before the problem line.
     fn at(place: Option<Place>) -> Expected {
         match place {
             None => Expected::Problem,
@@ -187,28 +187,28 @@ fn pattern(form: Form) -> &'static str {
     }
 }
 
-/// What is wrong with a text, for a person: where, and what belongs there.
+/// The explanation of what is wrong with a text, for a person: the place, and what belongs there.
 #[derive(Clone, Copy, Debug, PartialEq, Eq)]
 pub struct Explanation {
     /// The number of the line, counted from 1.
     pub line: u64,
     pub kind: LineKind,
-    /// The line. There is none where the text ends too early.
+    /// The line, and `None` if the text ends too early.
     pub text: Option<Beginning>,
-    /// How many fields the line has.
+    /// The number of fields of the line.
     pub fields: usize,
-    /// Which field is wrong, counted from 1, if one is. Where one is missing, it is the next after the last.
+    /// The field that is wrong, counted from 1, if one is. If one is missing, it is the next after the last.
     pub field: Option<usize>,
-    /// What belongs there, or in place of the line.
+    /// The text that belongs there, or in place of the line.
     pub expected: Expected,
-    /// Where the line stands. There is no section before the problem line.
+    /// The place of the line. There is no section before the problem line.
     pub place: Option<Place>,
 }
 
 impl Explanation {
     ghost use Rattle.dimacs_text.specs.reader.Drafts.{IsOfEnd, IsOfLine};
 
-    /// Of a line with its number and what is wrong with it, where vertices count to the number given.
+    /// The explanation of a line with its number and what is wrong with it. Vertices count to the number given.
     pub(crate) fn of_line(
         text: &[u8],
         line: u64,
@@ -234,7 +234,7 @@ impl Explanation {
         }
     }
 
-    /// Of a text that ends too early, with the number of the line that would be next.
+    /// The explanation of a text that ends too early, with the number of the line that would be next.
     pub(crate) fn of_end(line: u64, kind: LineKind, place: Option<Place>) -> Explanation
         ensures { IsOfEnd line line kind result }
     {
@@ -250,11 +250,11 @@ impl Explanation {
     }
 }
 
-/// Why a text gave no job, with what a person needs to mend it.
+/// The reason for which a text gave no job, with what a person needs to mend it.
 #[derive(Clone, Copy, Debug, PartialEq, Eq)]
 pub struct ExplainedFault {
     pub fault: TextFault,
-    /// There is none where memory was refused.
+    /// The explanation of the fault, and `None` if memory was refused.
     pub explanation: Option<Explanation>,
 }
 
@@ -286,7 +286,7 @@ fn wrong_count(line: &[u8], vertices: u32) -> Option<(usize, Option<Expected>)> 
     Some((field, Some(Expected::Numbers(form, count))))
 }
 
-/// The first field that is no number, or where all are numbers the first outside its limit.
+/// The first field that is no number, or if all are numbers the first outside its limit.
 fn wrong_number(line: &[u8], kind: LineKind, vertices: u32) -> Option<(usize, Option<Expected>)> {
     let (form, args) = find_form(line)?;
     let leading = count_fields(line).saturating_sub(count_fields(args));
@@ -321,7 +321,7 @@ fn limit_at(form: Form, place: usize, vertices: u32) -> Option<Limit> {
     }
 }
 
-/// How many numbers a line of the form has.
+/// The number of numbers that a line of the form has.
 fn count_numbers(form: Form, vertices: u32) -> usize {
     for place in 0..MOST_NUMBERS {
         if limit_at(form, place, vertices).is_none() {
@@ -331,7 +331,7 @@ fn count_numbers(form: Form, vertices: u32) -> usize {
     MOST_NUMBERS
 }
 
-/// How many fields a line has.
+/// The number of fields of a line.
 fn count_fields(line: &[u8]) -> usize {
     let mut count: usize = 0;
     let mut is_after_blank = true;
@@ -345,7 +345,7 @@ fn count_fields(line: &[u8]) -> usize {
     count
 }
 
-/// How many fields of a line are those by which some form is known.
+/// The number of fields of a line by which some form is known.
 fn leading_fields(line: &[u8]) -> usize {
     let mut most = 0;
     for form in FORMS {
@@ -354,7 +354,7 @@ fn leading_fields(line: &[u8]) -> usize {
     most
 }
 
-/// With how many of these fields a line begins.
+/// The number of these fields with which a line begins.
 fn fields_in_common(line: &[u8], leading: &[&[u8]]) -> usize {
     let mut rest = line;
     for (i, expected) in leading.iter().enumerate() {

@@ -1,9 +1,9 @@
 //! A fast way through the lines of arcs.
 //!
 //! Most lines of a text are arcs, `a U V W` with one blank before each number. Such a line is read in one
-//! pass over its bytes, with no search for its end and no test of a bound: the bytes end with a line feed,
-//! so a byte that is none has one after it. What is odd in any way is left to the reader of all lines:
-//! `None` says no more than that.
+//! pass over its bytes, with no search for its end and no test of a bound. The bytes end with a line feed, so any
+//! other byte has one after it. What is odd in any way is left to the reader of all lines: `None` says no more than
+//! that.
 
 ghost use Rattle.std.specs.Prelude.{◌≡◌, ◌<◌, ◌≤◌, ◌+◌, ◌-◌, ◌∷◌, [], length, drop, vec_len, vec_capacity, IfSome};
 ghost use Rattle.dimacs_text.specs.reader.FastArc.{EndsWithFeed, AreDigits, LeadsSpaced};
@@ -77,7 +77,7 @@ fn line_end_at(bytes: &[u8], start: usize) -> Option<usize>
     }
 }
 
-/// Whether the numbers of an arc's line are within their limits.
+/// Tells if the numbers of an arc's line are within their limits.
 #[inline(always)]
 fn admits_arc(vertices: u32, tail: u64, head: u64, weight: u64) -> bool
     ensures { result ≡ in_limits (limits vertices (Counted Arc)) (tail ∷ head ∷ weight ∷ []) }
@@ -113,9 +113,9 @@ pub fn arc_at(bytes: &[u8], start: usize, vertices: u32) -> Option<(ArcRec, usiz
     Some((arc, after))
 }
 
-/// Reads the arcs whose lines come one after the other from a place on, and adds them to those that are
-/// there: how many they are, and the place after them. A run ends at a line that is odd in any way, and
-/// where the vector has no more room.
+/// Reads the arcs whose lines come one after the other from a place on, and adds them to those that are there. Returns
+/// how many they are, and the place after them. A run ends at a line that is odd in any way, and if the vector has no
+/// more room.
 // Apart, so that its loop has the registers for itself.
 #[inline(never)]
 pub fn read_run(

@@ -1,4 +1,4 @@
-//! What can be wrong with a text.
+//! Faults of a text.
 
 ghost use Rattle.std.specs.Prelude.{◌≡◌};
 ghost use Rattle.dimacs_text.specs.declared.fault.TextFault.TheVariants.{Memory};
@@ -7,7 +7,7 @@ use std::alloc::{AllocError, AllocFailed};
 use std::error::Error;
 use std::fmt;
 
-/// What is wrong with a line. Within a line the kinds are looked for in this order.
+/// The kind of a fault in a line. Within a line the kinds are looked for in this order.
 #[derive(Clone, Copy, Debug, PartialEq, Eq)]
 pub enum LineKind {
     /// The first fields are those of no form of line.
@@ -31,7 +31,7 @@ pub enum LineKind {
 impl LineKind {
     ghost use Rattle.dimacs_text.specs.Faults.{words_of};
 
-    /// What is wrong, in words.
+    /// The fault, in words.
     pub fn words(self) -> &'static str
         ensures { result.now ≡ words_of self }
     {
@@ -54,12 +54,12 @@ impl fmt::Display for LineKind {
     }
 }
 
-/// Why a text gave no job.
+/// The reason for which a text gave no job.
 #[derive(Clone, Copy, Debug, PartialEq, Eq)]
 pub enum TextFault {
     /// The system refused memory.
     Memory,
-    /// The first line that is wrong, counted from 1, and what is wrong with it. Where something is
+    /// The first line that is wrong, counted from 1, and what is wrong with it. If something is
     /// missing at the end of the text, the line is one past the last.
     Line { line: u64, kind: LineKind },
 }

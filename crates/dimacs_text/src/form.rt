@@ -46,7 +46,7 @@ impl Section {
         }
     }
 
-    /// What an item of this section is called.
+    /// The name of an item of this section.
     pub fn item_name(self) -> &'static str {
         match self {
             Section::Problem => "arc",
@@ -68,7 +68,7 @@ impl Section {
         }
     }
 
-    /// Whether a section may follow this one.
+    /// Tells if a section may follow this one.
     pub fn may_be_followed(self, next: Section) -> bool
         ensures { result ≡ may_follow self next }
     {
@@ -76,7 +76,7 @@ impl Section {
     }
 }
 
-/// What a head counts.
+/// The item that a head counts.
 #[derive(Clone, Copy, Debug, PartialEq, Eq)]
 pub enum Item {
     /// The line `a U V W`.
@@ -138,7 +138,7 @@ impl Limit {
         Limit { least: 0, most }
     }
 
-    /// A vertex in a text, where there are this many.
+    /// The limit of a vertex in a text that has this many.
     pub fn vertex(vertices: u32) -> Limit
         ensures { result ≡ vertex_limit vertices }
     {
@@ -148,7 +148,7 @@ impl Limit {
         }
     }
 
-    /// Whether a number is within the limit.
+    /// Tells if a number is within the limit.
     pub fn admits(self, value: u64) -> bool
         ensures admits { result ≡ (nat_le self.least value && nat_le value self.most) }
         // What a limit admits fits 32 bits.
@@ -189,7 +189,7 @@ impl Entry {
     }
 }
 
-/// What follows the leading fields, where a line begins with them.
+/// Returns the bytes after the leading fields, if a line begins with them.
 pub fn strip_leading<'a>(line: &'a [u8], leading: &[&[u8]]) -> Option<&'a [u8]>
     ensures { MatchOption result
         (begins_with (fields_of leading.now) (fields line.now) ≡ false)
@@ -250,7 +250,7 @@ fn read_numbers<const N: usize>(args: &[u8], limits: [Limit; N]) -> Result<[u32;
     }
 }
 
-/// What a line of the form says by what follows its leading fields.
+/// Reads a line of the form by the fields after its leading ones.
 pub fn read_form(form: Form, args: &[u8], vertices: u32) -> Result<Entry, LineKind>
     ensures { entry_said result
         ≡ in_form form (numbers_within (limits vertices form) (fields args.now)) }
@@ -294,8 +294,8 @@ pub fn read_form(form: Form, args: &[u8], vertices: u32) -> Result<Entry, LineKi
     }
 }
 
-/// What a line says, where vertices are counted to the number given: nothing, an entry, or the first
-/// kind that is wrong with it.
+/// Reads a line, if vertices are counted to the number given: nothing, an entry, or the first kind that is wrong with
+/// it.
 pub fn read_line(line: &[u8], vertices: u32) -> Result<Option<Entry>, LineKind>
     ensures { said_by result ≡ reading vertices line.now }
 {

@@ -1,8 +1,8 @@
-//! What a text asks for.
+//! The job of a text: its graph and what it asks for.
 
 use route_walks::ArcRec;
 
-/// Which labels a text asks for: from each source to all vertices, or for each pair.
+/// The labels that a text asks for: from each source to all vertices, or for each pair.
 #[derive(Debug, Drop)]
 pub enum Ask {
     /// The text has no section of queries.
@@ -20,8 +20,8 @@ pub struct Job {
     pub n: u32,
     /// The arcs of the graph in the order of the text.
     pub arcs: Vec<ArcRec>,
-    /// Which labels are asked for.
+    /// The labels that are asked for.
     pub ask: Ask,
-    /// The arcs of the added section in the order of the text; `None` where the text has none.
+    /// The arcs of the added section in the order of the text; `None` if the text has none.
     pub added: Option<Vec<ArcRec>>,
 }

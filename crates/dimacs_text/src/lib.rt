@@ -1,10 +1,11 @@
-//! Which job is this text, or which line is wrong?
+//! The job of a text, or its first wrong line.
 //!
-//! A job is a graph file (`.gr`) followed by an auxiliary file of sources (`.ss`) or of pairs (`.p2p`), in
-//! the formats of the 9th DIMACS Implementation Challenge on shortest paths, and perhaps by arcs that are
-//! added to the graph, a section of this project's own. `read_job` gives the job of a text, or the number
-//! of the first line that is wrong and what is wrong with it, and `JobReader` the same of a text that
-//! comes in pieces. In the interfaces vertices are counted from 0; in the texts they are counted from 1.
+//! A job is a graph file (`.gr`) and then an auxiliary file of sources (`.ss`) or of pairs (`.p2p`). The formats are
+//! those of the 9th DIMACS Implementation Challenge on shortest paths. Arcs that are added to the graph may follow, a
+//! section of this project's own.
+//!
+//! `read_job` gives the job of a text, or the number of the first wrong line and its fault. `JobReader` does so for a
+//! text that comes in pieces. In the interfaces vertices are counted from 0; in the texts they are counted from 1.
 //!
 //! It stands on `route_walks`, whose arcs a job holds. The `put_` calls of `answer_lines`, which append the
 //! lines of an answer, can be called by this crate's name too.

@@ -25,7 +25,7 @@ pub fn line_end(bytes: &[u8], start: usize) -> usize
     end
 }
 
-/// The place after the last line feed, or 0 where there is none.
+/// The place after the last line feed, or 0 if the bytes have no line feed.
 pub fn after_last_feed(bytes: &[u8]) -> usize
     ensures place { result ≤ length bytes.now }
     ensures ended { EndsWithFeed (take result bytes.now) }
@@ -48,14 +48,14 @@ pub fn trim_cr(line: &[u8]) -> &[u8]
     &line[..line.len() - 1]
 }
 
-/// Whether a byte is a space or a tab.
+/// Tells if a byte is a space or a tab.
 pub fn is_blank_byte(byte: u8) -> bool
     ensures { result ≡ is_blank byte }
 {
     byte == b' ' || byte == b'\t'
 }
 
-/// What comes after the blanks at the start.
+/// Returns the bytes after the blanks at the start.
 pub fn skip_blanks(bytes: &[u8]) -> &[u8]
     ensures { SkipsBlanks bytes.now result.now }
 {
@@ -67,8 +67,8 @@ pub fn skip_blanks(bytes: &[u8]) -> &[u8]
     &bytes[bytes.len()..]
 }
 
-/// Tells whether the bytes are known to begin a comment, whatever comes after them on their line. Only the first of them
-/// are looked at, so that it costs the same each time more of a long line has come.
+/// Tells if the bytes are known to begin a comment, whatever comes after them on their line. Only the first of
+/// them are looked at, so that it costs the same each time more of a long line has come.
 pub fn begins_comment(bytes: &[u8]) -> bool
     ensures { OnTrue result (begins_comment bytes.now ≡ true) }
 {
@@ -102,7 +102,7 @@ pub fn next_field(line: &[u8]) -> Option<(&[u8], &[u8])>
     Some(split_run(rest))
 }
 
-/// The number that a field is, or 2^64 - 1 where it is larger.
+/// The number that a field is, or 2^64 - 1 if it is larger.
 pub fn number_of(field: &[u8]) -> Option<u64>
     ensures { result ≡ option_map capped (number field.now) }
 {

@@ -1,4 +1,4 @@
-//! From a text to its job.
+//! The way from a text to its job.
 //!
 //! A text comes whole, or in pieces of any size. Each whole line is read at once, and its bytes are let go:
 //! only those of the last line are kept until the rest of it comes. A comment says nothing, so its bytes are let go
@@ -36,7 +36,7 @@ struct LineReader {
     draft: Draft,
     /// The number of the next line, or of the first that is wrong.
     line: u64,
-    /// What is wrong with that line, where something is.
+    /// The fault of that line, if it has one.
     fault: Option<LineKind>,
 }
 
@@ -61,8 +61,8 @@ impl LineReader {
         Ok(())
     }
 
-    /// Takes a run of arcs whose lines come next. False where they don't fit, or memory is refused, and then
-    /// none is taken.
+    /// Takes a run of arcs whose lines come next. Returns false if they don't fit, or memory is refused, and then none
+    /// is taken.
     fn take_run(&mut self, run: &ArcRun) -> bool
         requires right { self.old.fault ≡ None }
         ensures taken { OnTrue result ((text lines : List ℕ) → HasReadLines self.old text
@@ -136,7 +136,7 @@ pub struct JobReader {
 }
 
 impl JobReader {
-    /// Nothing is read yet.
+    /// Makes a reader that has read nothing yet.
     pub fn new(alloc: Global) -> JobReader
         ensures { HasRead result [] }
     {
@@ -184,8 +184,8 @@ impl JobReader {
         self.feed(&bytes[at..])
     }
 
-    /// Takes a run of arcs that comes next. False where it begins within a line or doesn't fit, and then it
-    /// isn't taken.
+    /// Takes a run of arcs that comes next. Returns false if it begins within a line or doesn't fit, and then it isn't
+    /// taken.
     fn take_run(&mut self, run: &ArcRun) -> bool
         ensures taken { OnTrue result ((lines : List ℕ)
             → AreArcLines run.now.vertices lines run.now.arcs.items
@@ -253,7 +253,7 @@ impl JobReader {
         Ok(())
     }
 
-    /// Tells whether bytes of a line have come and its line feed hasn't.
+    /// Tells if bytes of a line have come and its line feed hasn't.
     fn has_begun_line(&self) -> bool
         ensures none { result ≡ false → (self.now.in_comment ≡ false) × (self.now.unfinished.items ≡ []) }
         ensures comment { self.now.in_comment ≡ true → result ≡ true }
@@ -262,7 +262,7 @@ impl JobReader {
         self.in_comment || !self.unfinished.is_empty()
     }
 
-    /// The number of bytes that end the line that was begun, 0 if there is none.
+    /// The number of bytes that end the line that was begun, or 0 if no line was begun.
     fn left_of_line(&self, lines: &[u8]) -> usize
         requires filled { 0 < length lines.now }
         requires ended { EndsWithFeed lines.now }
@@ -282,7 +282,8 @@ impl JobReader {
         self.lines.draft.arcs_ahead()
     }
 
-    /// How many arcs of the graph were read, and how many the problem line counts. None before that line.
+    /// The number of arcs of the graph that were read, and the number that the problem line counts. `None` before that
+    /// line.
     pub fn arcs_so_far(&self) -> Option<(usize, usize)> {
         self.lines.draft.arcs_so_far()
     }
@@ -309,21 +310,21 @@ impl JobReader {
         self.lines.line
     }
 
-    /// Whether a line is wrong.
+    /// Tells if a line is wrong.
     pub fn is_refused(&self) -> bool
         ensures { OnTrue result (HasFault self.now) }
     {
         self.lines.fault.is_some()
     }
 
-    /// Tells whether no more bytes are read of the graph: it is whole, or a line is wrong.
+    /// Tells if no more bytes are read of the graph: it is whole, or a line is wrong.
     pub fn is_graph_over(&self) -> bool
         ensures { OnTrue result (IsGraphOver self.now) }
     {
         self.is_refused() || self.has_graph()
     }
 
-    /// Whether the problem line and all arcs that it counts were read, nothing after them, and no line is wrong.
+    /// Tells if the problem line and all arcs that it counts were read, nothing after them, and no line is wrong.
     pub fn has_graph(&self) -> bool
         ensures whole { OnTrue result (HasGraph self.now) }
         ensures told { HasGraph self.now → result ≡ true }
@@ -334,7 +335,7 @@ impl JobReader {
         matches!(self.lines.draft.stage.missing_arcs(), Some(0))
     }
 
-    /// How many of the next bytes are surely of the graph: each arc that is missing has a line of its own.
+    /// The number of the next bytes that are surely of the graph: each arc that is missing has a line of its own.
     fn graph_part(&self, bytes: &[u8]) -> usize
         requires some { 0 < length bytes.now }
         ensures some { 0 < result }
@@ -395,7 +396,7 @@ impl JobReader {
         }
     }
 
-    /// The same, where a text that is no job's is refused with what a person needs to mend it besides.
+    /// Finishes as `finish` does, and says of a text that is no job's also what a person needs to mend it.
     pub fn finish_explained(self) -> Result<Job, ExplainedFault>
         ensures job { (text : List ℕ) → HasRead self text
             → IfOk result (λ job. IsJobText text (content_of job)) }
@@ -433,13 +434,13 @@ fn after_feeds(bytes: &[u8], count: usize) -> usize
     bytes.len()
 }
 
-/// The job of a text: the text of a graph file (`.gr`), perhaps followed by that of a file of sources
-/// (`.ss`) or of pairs (`.p2p`), in the formats of the 9th DIMACS Implementation Challenge on shortest
-/// paths, and perhaps by an added section, the line `p aux sp add K` and K arcs.
+/// The job of a text. It is the text of a graph file (`.gr`), perhaps followed by that of a file of sources (`.ss`)
+/// or of pairs (`.p2p`). An added section may come last: the line `p aux sp add K` and K arcs. The formats of the
+/// files are those of the 9th DIMACS Implementation Challenge on shortest paths.
 ///
-/// A text that is no job's is refused with the number of its first wrong line and what is wrong there.
-/// `Memory` comes only where the system refused to let the job grow. The text is gone through once, and
-/// memory grows with the lines that are there, whatever the heads count.
+/// Any other text is refused with the number of its first wrong line and what is wrong there. `Memory` comes only if
+/// the system refused to let the job grow. The text is read once, and memory grows with the lines that are there,
+/// whatever the heads count.
 pub fn read_job(alloc: Global, bytes: &[u8]) -> Result<Job, TextFault>
     requires { length bytes.now ≤ 2 ^ 36 }
     // It is the job of the text, and keeps the limits.

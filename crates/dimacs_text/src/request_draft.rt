@@ -42,7 +42,7 @@ fn read_after(draft: &mut Draft, text: &[u8], line: u64) -> Result<(), TextFault
 }
 
 impl RequestDraft {
-    /// No line is read yet after a graph of this many vertices.
+    /// Makes a draft after a graph of this many vertices, for which no line is read yet.
     pub fn new(alloc: Global, vertices: u32) -> RequestDraft
         ensures read { HasReadAfter vertices [] result }
         ensures begun { is_whole result ≡ false }
@@ -52,8 +52,8 @@ impl RequestDraft {
         }
     }
 
-    /// Reads the next line, without its line feed. Its number is given. A line is refused where it is wrong whatever
-    /// comes after it, or where memory is refused.
+    /// Reads the next line, without its line feed. Its number is given. A line is refused if it is wrong whatever
+    /// comes after it, or if memory is refused.
     pub fn read(&mut self, text: &[u8], line: u64) -> Result<(), TextFault>
         ensures reads { (n : ℕ) (ls : List (List ℕ)) → HasReadAfter n ls self.old
             → OnOk result (HasReadAfter n (ls ++ text.now ∷ []) self.new) }
@@ -63,7 +63,7 @@ impl RequestDraft {
         read_after(&mut self.draft, text, line)
     }
 
-    /// Whether the lines are a whole request: a section was read to its end.
+    /// Tells if the lines are a whole request: a section was read to its end.
     pub fn is_whole(&self) -> bool
         ensures is { result ≡ is_whole self.now }
         // The lines of a whole request leave no doubt.
@@ -73,9 +73,9 @@ impl RequestDraft {
         self.draft.stage.is_request()
     }
 
-    /// Whether a section has begun that lacks lines.
+    /// Tells if a section has begun that lacks lines.
     pub fn is_short(&self) -> bool
-        // Where the lines end there, that is what is wrong.
+        // If the lines end there, that is what is wrong.
         ensures short { (n : ℕ) (ls : List (List ℕ)) → HasReadAfter n ls self.now → result ≡ true
             → IsFirstAmong (after_graph n ls) (length ls + 2) LineKind.TooFew }
         // If none has begun, the lines say nothing.

@@ -1,16 +1,16 @@
-//! Where the reader stands, and which lines can come there.
+//! The stages of a reader, and the lines that can come there.
 
 ghost use Rattle.std.specs.Prelude.{ℕ, ◌≡◌, IfSome};
 
 use crate::fault::LineKind;
 use crate::form::{Form, Section};
 
-/// Where the reader stands after the lines so far.
+/// The stage of the reader after the lines so far.
 #[derive(Clone, Copy, Debug, PartialEq, Eq)]
 pub enum Stage {
     /// Before the problem line.
     Start,
-    /// In a section, with the number of items that are still to come.
+    /// A section, with the number of items that are still to come.
     Within { section: Section, missing: u32 },
 }
 
@@ -18,7 +18,7 @@ impl Stage {
     ghost use Rattle.dimacs_text.specs.reader.Machine.{can_come, misfit_at, one_less, phase_of};
     ghost use Rattle.dimacs_text.specs.reader.Requests.{is_request_at, is_section_at};
 
-    /// Whether a line of the form can come here with some counts.
+    /// Tells if a line of the form can come here with some counts.
     pub fn can_come(self, form: Form) -> bool
         ensures { result ≡ can_come (phase_of self) form }
     {
@@ -30,7 +30,7 @@ impl Stage {
         }
     }
 
-    /// What is wrong with a line of the form here, if something is.
+    /// Returns the kind of what is wrong with a line of the form here, if something is.
     pub fn misfit(self, form: Form) -> Option<LineKind>
         ensures { result ≡ misfit_at self form }
     {
@@ -47,7 +47,7 @@ impl Stage {
         }
     }
 
-    /// How many arcs are missing, where arcs come next.
+    /// The number of arcs that are missing, if arcs come next.
     pub fn missing_arcs(self) -> Option<u32>
         ensures some { IfSome result (λ missing. self ≡ Stage.Within Section.Problem missing) }
         ensures told { (missing : ℕ) → self ≡ Stage.Within Section.Problem missing → result ≡ Some missing }
@@ -61,7 +61,7 @@ impl Stage {
         }
     }
 
-    /// Whether a section after the graph has begun.
+    /// Tells if a section after the graph has begun.
     pub fn is_in_section(self) -> bool
         ensures { result ≡ is_section_at self }
     {
@@ -76,7 +76,7 @@ impl Stage {
         }
     }
 
-    /// Whether a section after the graph is complete.
+    /// Tells if a section after the graph is complete.
     pub fn is_request(self) -> bool
         ensures { result ≡ is_request_at self }
     {

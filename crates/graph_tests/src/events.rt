@@ -227,7 +227,7 @@ fn the_schedule_by_replay(rt: HostRuntime) -> Result<(), Fail> {
     Ok(())
 }
 
-// Where a list of events stops, or nothing where it is a run.
+// The place where a list of events stops, or nothing if it is a run.
 fn expect_stop(
     rt: &impl Abort,
     alloc: Global,

@@ -1,7 +1,8 @@
-//! What do the public calls on graphs, on their labels and on walks do that no contract says?
+//! Tests of what the public calls on graphs, on their labels and on walks do that no contract says.
 //!
 //! Tests of `route_walks`, `csr_graph`, `relax_core`, `label_words`, `walk_report` and `near_labels`, which know their
-//! public calls and contracts alone. They stand in a crate of their own, since a crate is proved once more for the tests that it has.
+//! public calls and contracts alone. They stand in a crate of their own, since a crate is proved once more for the
+//! tests that it has.
 
 #![tactic(auto)]
 

@@ -122,7 +122,7 @@ fn walks_from(rt: &impl Abort, alloc: Global, csr: &Csr, s: u32) -> Result<Vec<V
     Ok(walks)
 }
 
-/// Tells whether these are the vertices whose labels are at most the bound, in rising order, each with its label.
+/// Tells if these are the vertices whose labels are at most the bound, in rising order, each with its label.
 fn are_within(found: &[(u32, u64)], labels: &[u64], bound: u64) -> bool {
     let mut rest = found.iter();
     for (v, label) in ALL.iter().zip(labels) {
@@ -133,14 +133,14 @@ fn are_within(found: &[(u32, u64)], labels: &[u64], bound: u64) -> bool {
     rest.next().is_none()
 }
 
-/// Tells whether these are the labels of the targets.
+/// Tells if these are the labels of the targets.
 fn are_labels(found: &[u64], targets: &[u32], want: &Want) -> bool {
     let mut each = found.iter().zip(targets);
     found.len() == targets.len()
         && each.all(|(label, target)| want.labels.get(*target as usize) == Some(label))
 }
 
-/// Tells whether these are the labels of all vertices, and the walks to them.
+/// Tells if these are the labels of all vertices, and the walks to them.
 fn are_walks(found: &WalksFound, want: &Want) -> bool {
     let mut each = found.walks.iter().zip(want.walks);
     found.labels.as_slice() == want.labels
@@ -148,7 +148,7 @@ fn are_walks(found: &WalksFound, want: &Want) -> bool {
         && each.all(|(walk, want)| walk.as_slice() == *want)
 }
 
-/// Tells whether the answer to a question is what is expected; `None` where there is no answer. Takes no memory of its
+/// Tells if the answer to a question is what is expected; `None` if there is no answer. Takes no memory of its
 /// own.
 fn is_right(
     rt: &impl Abort,
@@ -189,7 +189,7 @@ fn is_right(
     }
 }
 
-/// Asserts that each answer is what is expected, and that there is one where enough visits are allowed. Returns how
+/// Asserts that each answer is what is expected, and that there is one if enough visits are allowed. Returns how
 /// often there is none.
 fn expect_answers(
     rt: &impl Abort,

@@ -46,14 +46,14 @@ fn distances_below(alloc: Global, csr: &Csr, s: u32, limit: u64) -> Result<Vec<u
     Ok(labels)
 }
 
-/// Whether these are vertices of a graph of `n`.
+/// Tells if these are vertices of a graph of `n`.
 pub(crate) fn are_below(n: u32, targets: &[u32]) -> bool
     ensures { result ≡ true → All (λ t. t < n) targets.now }
 {
     targets.iter().all(|t| *t < n)
 }
 
-/// What is expected of a graph: for each vertex its hop, its parent and its walk, empty for none.
+/// The expected report of a graph: for each vertex its hop, its parent and its walk, empty for none.
 #[derive(Clone, Copy)]
 struct Want<'a> {
     hops: &'a [u32],

@@ -60,7 +60,7 @@ fn six(rt: &impl Abort, alloc: Global) -> Result<Csr, Fail>
     Ok(Csr::build(alloc, 6, &GIVEN)?)
 }
 
-/// Looks whether a graph has this number of vertices and these arcs, by tail.
+/// Asserts that a graph has this number of vertices and these arcs, by tail.
 fn expect_rows(
     rt: &impl Abort,
     alloc: Global,
@@ -73,7 +73,7 @@ fn expect_rows(
     Ok(())
 }
 
-/// Looks where the row of a vertex begins and ends.
+/// Asserts where the row of a vertex begins and ends.
 fn expect_row(rt: &impl Abort, csr: &Csr, u: u32, first: usize, end: usize)
     requires { u < csr.now.n }
 {
@@ -81,7 +81,7 @@ fn expect_row(rt: &impl Abort, csr: &Csr, u: u32, first: usize, end: usize)
     assert_eq!(rt; csr.end(u), end, "end of {u}");
 }
 
-/// Looks whether an arc is at a place.
+/// Asserts that an arc is at a place.
 fn expect_arc(rt: &impl Abort, csr: &Csr, k: usize, arc: ArcRec)
     requires { k < length csr.now.arcs }
 {
@@ -179,7 +179,7 @@ fn streets(alloc: Global) -> Result<Vec<ArcRec>, Memory> {
     Ok(arcs)
 }
 
-/// Looks whether several threads make of arcs the rows that one makes.
+/// Asserts that several threads make of arcs the rows that one makes.
 fn expect_same_rows<H: Abort + Threads + Sync>(
     rt: &H,
     alloc: Global,

@@ -1,4 +1,4 @@
-//! Do labels, arcs and seeds come out as worked by hand?
+//! Tests of labels, arcs and seeds beside those that were worked out by hand.
 
 mod refusals;
 
@@ -10,7 +10,7 @@ use std::alloc::Global;
 use std::process::Abort;
 use std::test::Fail;
 
-/// The labels of a graph, and whether they are settled.
+/// Asserts the labels of a graph, and whether they are settled.
 fn expect_labels(
     rt: &impl Abort,
     alloc: Global,

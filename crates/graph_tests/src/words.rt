@@ -54,7 +54,7 @@ enum Call {
 
 use Call::{Finish, GiveBack, Keep, Lowers, Raise, RaiseBy, Read, See, SetMark, Take};
 
-// What two seats of the words of four vertices do, and what the words are then: settled where no vertex is marked.
+// What two seats of the words of four vertices do, and what the words are then: settled if no vertex is marked.
 struct Script {
     seeds: &'static [Seed],
     // Which of the two seats calls, what it calls, and the credits that it has then.

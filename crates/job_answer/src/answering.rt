@@ -1,4 +1,4 @@
-//! From the bytes of a job text to the bytes of its answer.
+//! The way from the bytes of a job text to the bytes of its answer.
 
 ghost use Rattle.std.specs.Prelude.{◌≡◌, ◌↔◌, false, IfOk, IfErr, IsTrue, OnErr, OnOk};
 ghost use Rattle.dimacs_text.specs.Jobs.{Content, content_of, question_of, IsWithinLimits};
@@ -65,7 +65,7 @@ pub fn answer<H: Threads + Wait + Clock + Sync, R: Read, W: Write, G: Gate + Syn
     answer_watched(rt, alloc, reader, writer, asked, gate, &mut NoWatch)
 }
 
-/// Does what `answer` does, and tells how far it is.
+/// Does what `answer` does, and shows a watch how far it is.
 pub fn answer_watched<H: Threads + Wait + Clock + Sync, R: Read, W: Write, G: Gate + Sync>(
     rt: &H,
     alloc: Global,
@@ -107,7 +107,7 @@ pub fn answer_bytes<H: Threads + Wait + Clock + Sync, G: Gate + Sync>(
     let mut bytes = Vec::new(alloc);
     match answer(rt, alloc, &mut reader, &mut bytes, asked, gate) {
         Ok(()) => Ok(bytes),
-        // A vector fails to take bytes only where it is refused memory.
+        // A vector fails to take bytes only if it is refused memory.
         Err(Fault::Write) => Err(Fault::Memory),
         Err(fault) => Err(fault),
     }
@@ -188,8 +188,8 @@ fn count_sources(pairs: &[(u32, u32)]) -> usize {
     count
 }
 
-/// Writes the answer to a question: exactly the bytes that answer a job of the same graph which asks the same. Nothing is
-/// written after the answer, and the writer is flushed once, at its end.
+/// Writes the answer to a question: exactly the bytes that answer a job of the same graph which asks the same. Nothing
+/// is written after the answer, and the writer is flushed once, at its end.
 ///
 /// What is kept from one question to the next is taken, and given back with the answer.
 pub fn answer_question<H: Threads + Wait + Clock + Sync, W: Write, G: Gate + Sync>(
@@ -221,7 +221,7 @@ pub fn answer_question<H: Threads + Wait + Clock + Sync, W: Write, G: Gate + Syn
     write_text(&context, writer, question, kept, watch)
 }
 
-/// Tells whether a job asks for nothing: it has no section of queries, and the answer needs one.
+/// Tells if a job asks for nothing: it has no section of queries, and the answer needs one.
 pub fn is_unasked(answer: Answer, ask: &Ask) -> bool
     ensures { result ≡ is_unasked answer (question_of ask.now) }
 {
@@ -234,7 +234,7 @@ pub fn is_unasked(answer: Answer, ask: &Ask) -> bool
     }
 }
 
-/// Tells whether the job has pairs, though a bound asks for sources.
+/// Tells if the job has pairs, though a bound asks for sources.
 fn has_no_sources(answer: Answer, lines: Lines, ask: &Ask) -> bool
     ensures { IsTrue result ↔ HasNoSources answer lines (question_of ask.now) }
 {

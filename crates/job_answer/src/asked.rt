@@ -24,14 +24,14 @@ pub enum Answer {
 /// The lines that the block of a source has.
 #[derive(Clone, Copy, Debug, PartialEq, Eq)]
 pub enum Lines {
-    /// One of each vertex, and its walk after it where walks are asked for.
+    /// One of each vertex, and its walk after it if walks are asked for.
     Each { walks: bool },
     /// Those of the vertices that cost at most the bound, which is less than `INF`.
     Within { walks: bool, bound: u64 },
     /// The least label of each vertex as 8 bytes, its little end first, after the line of the source.
     Raw,
-    /// In place of a block one line: how many vertices a walk reaches, the sum of their costs, the greatest, and the
-    /// least vertex that has it.
+    /// One line in place of a block: the number of vertices that a walk reaches, the sum of their costs, the
+    /// greatest, and the least vertex that has it.
     Totals,
 }
 
@@ -49,7 +49,7 @@ impl Lines {
         }
     }
 
-    /// Tells whether walks are asked for.
+    /// Tells if walks are asked for.
     pub fn has_walks(self) -> bool
         ensures { result ≡ has_walks self }
     {
@@ -59,7 +59,7 @@ impl Lines {
         }
     }
 
-    /// Tells whether each vertex has its line and nothing else.
+    /// Tells if each vertex has its line and nothing else.
     pub(crate) fn is_plain(self) -> bool
         ensures { IsTrue result ↔ (self ≡ lines.Each false) }
     {
@@ -76,7 +76,7 @@ impl Lines {
         }
     }
 
-    /// Tells whether the bound, if there is one, is a cost: less than `INF`.
+    /// Tells if the bound, if there is one, is a cost: less than `INF`.
     fn has_cost(self) -> bool
         ensures { IsTrue result ↔ IsLinesAsked self }
     {
@@ -117,7 +117,7 @@ pub struct Asked {
     pub limit: u64,
     /// The number of sources that are solved at the same time.
     pub at_once: AtOnce,
-    /// One worker works alone where the graph is so small that more of them gain less than they take. No answer depends
+    /// One worker works alone if the graph is so small that more of them gain less than they take. No answer depends
     /// on it.
     pub saves: bool,
     ghost within: { IsAsked answer lines limit },

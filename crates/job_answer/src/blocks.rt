@@ -53,8 +53,8 @@ impl<'a> Tasks<BlockText> for SourceTasks<'a> {
     ghost is_part = { IsBlockText };
 }
 
-/// Puts the block of each source in turn: the least costs from it, with their walks where they are asked
-/// for. Where the network grows, the same in the grown one comes after each block.
+/// Puts the block of each source in turn: the least costs from it, with their walks if they are asked
+/// for. If the network grows, the same in the grown one comes after each block.
 pub fn put_sources<H: Threads + Wait + Clock + Sync, W: Write, G: Gate + Sync>(
     context: &Context<'_, H, G>,
     sink: &mut Sink<'_, W>,
@@ -212,7 +212,7 @@ fn held_block<H: Threads + Wait + Clock + Sync, G: Gate + Sync>(
     Ok(BlockText { bytes })
 }
 
-/// Solves from a start, and puts the block of the costs, or that of a list of near vertices. Where the network grows,
+/// Solves from a start, and puts the block of the costs, or that of a list of near vertices. If the network grows,
 /// what comes after it is put too.
 pub fn put_solved<H: Threads + Wait + Clock + Sync, W: Write, G: Gate + Sync>(
     env: &Env<'_, H>,

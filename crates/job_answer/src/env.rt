@@ -10,8 +10,8 @@ pub struct Env<'a, H> {
     pub alloc: Global,
 }
 
-/// All that the answers to one caller have in common: the runtime, the allocator, the choices, and the gate that watches
-/// workers.
+/// All that the answers to one caller have in common: the runtime, the allocator, the choices, and the gate that
+/// watches workers.
 #[derive(Drop)]
 pub struct Context<'a, H, G> {
     pub rt: &'a H,

@@ -15,7 +15,7 @@ use route_walks::{ArcRec, Memory};
 use std::alloc::Global;
 use std::thread::Threads;
 
-/// The network in which the costs of an answer are least, for all of its sources, and where the job adds arcs
+/// The network in which the costs of an answer are least, for all of its sources, and if the job adds arcs
 /// the one with them.
 #[derive(Drop)]
 pub struct Graphs {

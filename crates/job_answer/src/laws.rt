@@ -116,9 +116,9 @@ pub fn totals_add_up()
     least_labels_are_unique();
 }
 
-/// If the sources or the pairs of a job are cut in two, the answers of the two parts, one after the other, are the
-/// answer of the job by the same lines. So a job can be cut anywhere, and into any number of parts. Each part has the
-/// graph and the added arcs.
+/// The answer of a job is that of its parts. If its sources or its pairs are cut in two, the answers of the two
+/// parts, one after the other, are the job's answer by these lines. So a job can be cut anywhere, and into any number
+/// of parts. Each part has the graph and the added arcs.
 pub fn answers_of_parts_join()
     ensures { AnswersOfPartsJoin }
 {}

@@ -21,9 +21,10 @@
 //!
 //! It stands on `job_reader`, which reads a job by several threads, on `dimacs_text` for what a job is, and on
 //! `answer_lines`, which writes lines. The labels come from the workers of `obim_engine`, over the rows of `csr_graph`,
-//! and from the teams of `least_costs`, which solve several sources at the same time. Walks come from `walk_report`,
-//! and near ones from `near_labels`. `route_walks` says what least labels are, and `thiserror` makes the texts of
-//! faults.
+//! and from the teams of `least_costs`, which solve several sources at the same time.
+//!
+//! Walks come from `walk_report`, and near ones from `near_labels`. `route_walks` says what least labels are, and
+//! `thiserror` makes the texts of faults.
 #![tactic(auto)]
 
 mod answering;

@@ -1,4 +1,4 @@
-//! By which walks are labels, and how is the line of one put?
+//! The walks of labels, and the line of each one.
 
 ghost use Rattle.std.specs.Prelude.{◌≡◌, ◌<◌, ◌++◌, IfOk, OnOk, slice_index};
 ghost use Rattle.route_walks.specs.Limit.{AreLeastLabelsUpTo};
@@ -12,7 +12,7 @@ use route_walks::Memory;
 use std::alloc::Global;
 use walk_report::{hops_below, parents, walk_to};
 
-/// By which walks labels are: hops and parents, as `walk_report` gives them.
+/// The walks of labels: hops and parents, as `walk_report` gives them.
 #[derive(Drop)]
 pub struct LineWalks {
     pub hops: Vec<u32>,
@@ -37,7 +37,7 @@ pub fn walks_below(
     Ok(LineWalks { hops, parents })
 }
 
-/// Puts the line of the walk to a vertex, where one leads to it.
+/// Puts the line of the walk to a vertex, if one leads to it.
 pub fn put_walk_line(
     alloc: Global,
     out: &mut Vec<u8>,

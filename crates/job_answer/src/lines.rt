@@ -99,7 +99,7 @@ pub fn put_totals<W: Write>(
     sink.send_if_full()
 }
 
-/// Puts the line of a source and those of the labels from it that are at most the bound, each with its walk where
+/// Puts the line of a source and those of the labels from it that are at most the bound, each with its walk if
 /// there are walks. All labels are at most `INF`.
 pub fn put_within<W: Write>(
     alloc: Global,
@@ -150,7 +150,7 @@ pub fn put_listed<W: Write>(
     Ok(())
 }
 
-/// Puts the line of a vertex whose label is at most the bound, and that of its walk where there are walks and one leads
+/// Puts the line of a vertex whose label is at most the bound, and that of its walk if there are walks and one leads
 /// to it.
 fn put_vertex(
     alloc: Global,

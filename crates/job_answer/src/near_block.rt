@@ -29,7 +29,7 @@ pub(crate) struct NearBlock {
     pub found: Vec<(u32, u64)>,
 }
 
-/// The vertices of the block of a start, if the thread that asks finds them by itself. `None` where the block has other
+/// The vertices of the block of a start, if the thread that asks finds them by itself. `None` if the block has other
 /// lines than those within a bound without walks, or arcs are added.
 pub(crate) fn near_block<G: Gate + Sync>(
     alloc: Global,

@@ -83,7 +83,7 @@ pub(crate) fn put_found<W: Write>(
     Ok(())
 }
 
-/// Puts the line of a pair and, where a walk leads to its target, the line of the walk.
+/// Puts the line of a pair and, if a walk leads to its target, the line of the walk.
 fn put_found_pair(
     out: &mut Vec<u8>,
     source: u32,

@@ -45,8 +45,8 @@ impl<W: Watch> Progress for PairWatch<'_, W> {
     }
 }
 
-/// Puts the lines of each pair in turn: the least cost from its source to its target, with its walk where
-/// walks are asked for. Where the network grows, the same in the grown one comes after each pair's lines.
+/// Puts the lines of each pair in turn: the least cost from its source to its target, with its walk if
+/// walks are asked for. If the network grows, the same in the grown one comes after each pair's lines.
 ///
 /// Targets near their source are found without workers, if what is kept has room for that.
 ///
@@ -77,7 +77,7 @@ pub fn put_pairs<H: Threads + Wait + Clock + Sync, W: Write, G: Gate + Sync>(
     put_lines(sink, &queries, &costs)
 }
 
-/// The costs of the pairs, and where the network grows those in the grown one.
+/// The costs of the pairs, and if the network grows those in the grown one.
 fn costs_between<H: Threads + Wait + Clock + Sync, G: Gate + Sync>(
     context: &Context<'_, H, G>,
     queries: &PairQueries<'_>,
@@ -137,7 +137,7 @@ fn put_lines<W: Write>(
     Ok(())
 }
 
-/// Puts the line of a pair, which is at this place, and where the network grows that in the grown one.
+/// Puts the line of a pair, which is at this place, and if the network grows that in the grown one.
 fn put_pair_lines(
     out: &mut Vec<u8>,
     graphs: &Graphs,

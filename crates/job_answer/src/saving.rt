@@ -1,4 +1,4 @@
-//! By how many workers is a question answered, where those are saved that gain less than they take?
+//! The number of workers that answer a question: those are saved that gain less than they take.
 //!
 //! No answer depends on what is said here.
 
@@ -13,14 +13,15 @@ use obim_engine::{MAX_CHUNK, Settings};
 /// question. Those of each of several sources or pairs count.
 const FEW: usize = 1 << 14;
 
-/// That number for a single source or pair, which workers share: each step takes longer there, so they gain later.
+/// The number of vertices and arcs at which a second worker gains that for a single source or pair, which workers
+/// share. Each step takes longer there, so they gain later.
 const FEW_SHARED: usize = 1 << 17;
 
-/// That number for two workers, which gain the least.
+/// The number in place of `FEW_SHARED` for two workers, which gain the least.
 const FEW_SHARED_BY_TWO: usize = 3 << 18;
 
-/// Gives the question with the settings by which it is answered: by one worker, if workers are saved and there is so
-/// little to do that no other gains what it takes.
+/// Gives the question with the settings by which it is answered. It is answered by one worker if workers are saved and
+/// there is so little to do that no other gains what it takes.
 pub(crate) fn asked_for(asked: &Asked, graphs: &Graphs, ask: &Ask) -> Asked
     ensures answer { result.answer ≡ asked.now.answer }
 {
@@ -30,7 +31,7 @@ pub(crate) fn asked_for(asked: &Asked, graphs: &Graphs, ask: &Ask) -> Asked
     *asked
 }
 
-/// Tells whether one worker goes over so few vertices and arcs that no other gains what it takes.
+/// Tells if one worker goes over so few vertices and arcs that no other gains what it takes.
 fn is_little(asked: &Asked, graphs: &Graphs, ask: &Ask) -> bool {
     let rows = graphs.network.rows();
     let size = rows.arc_count().saturating_add(rows.n() as usize);
@@ -38,7 +39,7 @@ fn is_little(asked: &Asked, graphs: &Graphs, ask: &Ask) -> bool {
     size.saturating_mul(count) <= few_for(count, asked.settings.workers)
 }
 
-/// For how many sources a graph is solved at most.
+/// The number of sources for which a graph is solved at most.
 fn count_of(answer: Answer, ask: &Ask) -> usize {
     match (answer, ask) {
         (Answer::Components, _) | (_, Ask::Absent) => 1,
@@ -47,7 +48,7 @@ fn count_of(answer: Answer, ask: &Ask) -> usize {
     }
 }
 
-/// Up to how many vertices and arcs one worker answers alone, where this many sources or pairs are asked for.
+/// The number of vertices and arcs up to which one worker answers alone, for this many sources or pairs.
 fn few_for(count: usize, workers: u32) -> usize {
     if count > 1 {
         FEW

@@ -26,7 +26,7 @@ pub struct Sink<'a, W> {
 }
 
 impl<'a, W: Write> Sink<'a, W> {
-    /// Writes what waits where it makes a piece.
+    /// Writes what waits if it makes a piece.
     pub fn send_if_full(&mut self) -> Result<(), Fault>
         ensures same { IsSame self.old self.new }
         ensures put { OnOk result (Puts W.contents (Is []) self.old self.new) }

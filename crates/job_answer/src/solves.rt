@@ -38,7 +38,7 @@ pub fn costs_from<H: Threads + Wait + Clock + Sync, G: Gate + Sync>(
 }
 
 /// The costs of the grown network from the same start that serve a goal, from what the run before left. Only what the
-/// added arcs change is visited, and what the goal wants besides.
+/// added arcs change is visited, and what else the goal wants.
 pub fn costs_after<H: Threads + Wait + Clock + Sync, G: Gate + Sync>(
     env: &Env<'_, H>,
     network: &Network,

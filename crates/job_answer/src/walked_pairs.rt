@@ -186,7 +186,8 @@ fn take_lines<H: Threads + Wait + Clock + Sync, G: Gate + Sync>(
     )
 }
 
-/// The lines of the pairs from a place on that have one source. `None` if memory is refused, or if walks make them long.
+/// The lines of the pairs from a place on that have one source. `None` if memory is refused, or if walks make them
+/// long.
 fn make_lines<H: Threads + Wait + Clock + Sync, G: Gate + Sync>(
     env: &Env<'_, H>,
     tasks: &WalkTasks<'_>,
@@ -418,7 +419,7 @@ fn put_walked<W: Write>(
     Ok(())
 }
 
-/// Puts the lines of a pair, and where the network grows those in the grown one.
+/// Puts the lines of a pair, and if the network grows those in the grown one.
 fn put_walked_lines(
     alloc: Global,
     out: &mut Vec<u8>,
@@ -444,7 +445,7 @@ fn put_walked_lines(
     }
 }
 
-/// Puts the line of a pair and, where a walk leads to its target, the line of the walk.
+/// Puts the line of a pair and, if a walk leads to its target, the line of the walk.
 fn put_walked_pair(
     alloc: Global,
     out: &mut Vec<u8>,

@@ -13,8 +13,8 @@ pub enum Phase {
     Writing,
 }
 
-/// Told by `answer_watched` how far it is once the job is read, by the caller's own thread. No byte of an answer
-/// depends on it.
+/// A watch that `answer_watched` shows how far it is once the job is read, in the caller's own thread. No byte of an
+/// answer depends on it.
 pub trait Watch {
     /// The rows have this number of vertices and of arcs. For components each arc is there both ways.
     fn see_rows(&mut self, _vertices: u32, _arcs: usize) {}
@@ -32,7 +32,7 @@ pub trait Watch {
     fn end<C: Clock>(&mut self, _clock: &C, _phase: Phase) {}
 }
 
-/// A caller that wants to be told nothing.
+/// A watch that looks at nothing.
 #[derive(Clone, Copy, Debug, PartialEq, Eq)]
 pub struct NoWatch;
 

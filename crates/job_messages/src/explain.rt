@@ -5,8 +5,8 @@ use dimacs_text::{Explanation, LineKind, MAX_KEPT};
 use job_answer::{Fault, MAX_BYTES};
 use std::{fmt, io};
 
-/// Prints the lines that explain a fault, at most four. What is wrong with a text stands in its explanation, and what the
-/// system said of a read or a write that failed is its failure; without these nothing is printed of such a fault.
+/// Prints the lines that explain a fault, at most four. What is wrong with a text stands in its explanation, and what
+/// the system said of a read or a write that failed is its failure. Without these nothing is printed of such a fault.
 pub fn print_explanation<H: Eprint>(
     rt: &H,
     fault: Fault,
@@ -52,7 +52,7 @@ fn print_line<H: Eprint>(rt: &H, explanation: &Explanation) {
     }
 }
 
-/// Prints one of the lines. Where standard error is closed, nobody reads it.
+/// Prints one of the lines. If standard error is closed, nobody reads it.
 fn say<H: Eprint>(rt: &H, words: Words) {
     let _ = eprintln!(rt; "obim_query: why: {words}");
 }
@@ -60,7 +60,7 @@ fn say<H: Eprint>(rt: &H, words: Words) {
 /// One of the lines.
 #[derive(Clone, Copy)]
 enum Words<'a> {
-    /// The line itself, or that there is none.
+    /// The line itself, or that there is no line.
     Line(&'a Explanation),
     /// The text that belongs there, and in place of which field.
     Expected(&'a Explanation),

@@ -7,7 +7,7 @@ use std::time::{Clock, Duration};
 #[derive(Clone, Copy, Debug, PartialEq, Eq)]
 pub struct Figures {
     pub vertices: u32,
-    /// Of the rows: components take each arc both ways.
+    /// The arcs of the rows: components take each arc both ways.
     pub arcs: usize,
     /// The number of times that labels were worked out: once for each source, and once for components.
     pub solves: usize,
@@ -22,7 +22,7 @@ pub struct Figures {
 }
 
 impl Figures {
-    /// Of nothing, from now on.
+    /// The figures of nothing, from now on.
     pub fn new<C: Clock>(clock: &C) -> Figures {
         Figures {
             vertices: 0,

@@ -153,7 +153,7 @@ fn table_of(line: &[u8]) -> Option<&'static str> {
     None
 }
 
-/// Tells whether the words are in the line, but not at its beginning.
+/// Tells if the words are in the line, but not at its beginning.
 fn has_later(line: &[u8], words: &[u8]) -> bool {
     for at in 1..line.len() {
         if line[at..].starts_with(words) {

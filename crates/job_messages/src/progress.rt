@@ -19,9 +19,9 @@ const TERMINAL_PACE: u64 = 200;
 #[derive(Clone, Copy, PartialEq)]
 pub enum Shown {
     Nowhere,
-    /// In lines of their own.
+    /// Progress in lines of their own.
     Lines,
-    /// In one line, which is replaced.
+    /// Progress in one line, which is replaced.
     Terminal,
 }
 
@@ -44,7 +44,7 @@ pub struct Progress<'a, H> {
 }
 
 impl<'a, H: Eprint + Clock> Progress<'a, H> {
-    /// Of a job of which nothing is read yet: its time begins now.
+    /// The progress of a job of which nothing is read yet: its time begins now.
     pub fn new(rt: &'a H, shown: Shown) -> Progress<'a, H> {
         let mut progress = Progress {
             rt,
@@ -87,7 +87,7 @@ impl<'a, H: Eprint + Clock> Progress<'a, H> {
         Some(now)
     }
 
-    /// Prints a line, if one is due. Where standard error is closed, nobody reads it.
+    /// Prints a line, if one is due. If standard error is closed, nobody reads it.
     fn tell(&mut self, step: Step) {
         let Some(now) = self.due() else {
             return;

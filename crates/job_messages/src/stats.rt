@@ -5,19 +5,19 @@ use crate::figures::Figures;
 use job_answer::Asked;
 use obim_engine::{Buckets, Settings};
 
-/// More buckets than these cost time: each is looked into again as workers go on to the next.
+/// The number of buckets above which they cost time: each is looked into again as workers go on to the next.
 const MANY: u64 = 4000;
 
-/// With fewer buckets than these, labels may fall again and again: where a vertex is visited more than
-/// `OFTEN` hundredths of a time, they do.
+/// The number of buckets below which labels may fall again and again: if a vertex is visited more than `OFTEN`
+/// hundredths of a time, they do.
 const FEW: u64 = 20;
 
 const OFTEN: u64 = 200;
 
-/// Prints a line for each of the figures and for the visits of each worker, and a hint where they say that the default
+/// Prints a line for each of the figures and for the visits of each worker, and a hint if they say that the default
 /// shift would serve better.
 pub fn print_stats<H: Eprint>(rt: &H, asked: &Asked, figures: &Figures, counter: &Counter) {
-    // Where standard error is closed, nobody reads them.
+    // If standard error is closed, nobody reads them.
     let _ = eprintln!(rt; "vertices: {}", figures.vertices);
     let _ = eprintln!(rt; "arcs: {}", figures.arcs);
     let _ = eprintln!(rt; "solves: {}", figures.solves);
@@ -62,7 +62,7 @@ fn hundredths(visits: u64, figures: &Figures) -> u64 {
     visits.saturating_mul(100) / each.max(1)
 }
 
-/// Tells whether a shift was given that makes too many buckets, or so few that vertices are visited again and again.
+/// Tells if a shift was given that makes too many buckets, or so few that vertices are visited again and again.
 fn misfits(settings: &Settings, buckets: u64, rate: u64) -> bool {
     settings.buckets != Buckets::Widening && (buckets > MANY || buckets < FEW && rate > OFTEN)
 }

@@ -1,8 +1,8 @@
-//! Which arcs of a graph are sure to come, so that several threads may wait for their bytes?
+//! The arcs of a graph that are sure to come, so that several threads may wait for their bytes.
 //!
-//! A reader that stays open, as one end of a conversation, may give nothing after a graph until it is answered: so no
-//! more bytes may be waited for than the graph has. Each arc that is missing has a line of its own, of which the length
-//! is at least `SHORTEST_ARC`; the first of these lines may have been begun.
+//! A reader that stays open, as one end of a conversation, may give nothing after a graph until it is answered. So no
+//! more bytes may be waited for than the graph has. Each arc that is missing has a line of its own, of which the
+//! length is at least `SHORTEST_ARC`; the first of these lines may have been begun.
 
 ghost use Rattle.std.specs.Prelude.{◌≡◌, ◌≤◌, ◌+◌, [], IfOk, IfErr, length};
 ghost use Rattle.job_reader.specs.Pieces.{Feeds};
@@ -22,13 +22,13 @@ use std::time::Clock;
 /// Bytes of the shortest line of an arc, `a 1 1 0` and a line feed.
 const SHORTEST_ARC: usize = 8;
 
-/// Where fewer bytes are sure to come, threads aren't worth it.
+/// The fewest bytes sure to come for which threads are worth it.
 const LEAST: usize = 1 << 20;
 
 /// Reads on in a graph by several threads, as long as many of its arcs are missing, and no more bytes than surely are
-/// the graph's: how many it read, at most `limit`. It reads none where that isn't worth it, or by one thread. It stops
-/// at the reader's end, and soon after a line that is wrong. At most `threads` threads work at that, and no more than
-/// 16. After an `Err`, which is `Read` or `Memory`, nothing is known of the job.
+/// the graph's. Returns how many it read, at most `limit`. It reads none if that isn't worth it, or by one thread. It
+/// stops at the reader's end, and soon after a line that is wrong. At most `threads` threads work at that, and no more
+/// than 16. After an `Err`, which is `Read` or `Memory`, nothing is known of the job.
 pub fn read_arcs_from<H: Threads + Clock + Sync, R: Read>(
     rt: &H,
     alloc: Global,
@@ -49,7 +49,7 @@ pub fn read_arcs_from<H: Threads + Clock + Sync, R: Read>(
     read_sure(rt, reader, job, limit, Readers::new(threads), &mut pieces)
 }
 
-/// The same, through pieces that have no byte yet.
+/// Reads arcs that are sure to come, through pieces that have no byte yet.
 fn read_sure<H: Threads + Clock + Sync, R: Read>(
     rt: &H,
     reader: &mut R,
@@ -72,7 +72,7 @@ fn read_sure<H: Threads + Clock + Sync, R: Read>(
         if next == 0 && pieces.front.len() == 0 && pieces.back.len() == 0 {
             return Ok(limit - left);
         }
-        // Where no more bytes are sure, those at hand are fed first: then more may be.
+        // If no more bytes are sure, those at hand are fed first: then more may be.
         let ends = step(rt, reader, job, &mut readers, pieces, left, next)?;
         left -= pieces.spare.len();
         ended = ended || ends;
@@ -82,7 +82,7 @@ fn read_sure<H: Threads + Clock + Sync, R: Read>(
     Err(ReadFault::Read)
 }
 
-/// How many bytes the next piece has, of those that are left: none after the reader's end.
+/// The number of bytes of the next piece, of those that are left: none after the reader's end.
 fn next_piece(
     job: &JobReader,
     readers: &Readers,
@@ -101,7 +101,7 @@ fn next_piece(
     }
 }
 
-/// How many bytes are sure to come of a graph besides those at hand.
+/// The number of a graph's bytes that are sure to follow, without those at hand.
 fn sure_bytes(job: &JobReader, at_hand: usize) -> usize {
     match job.arcs_so_far() {
         Some((read, all)) if !job.is_refused() => all

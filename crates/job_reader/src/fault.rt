@@ -1,4 +1,4 @@
-//! Why does a reader give no job?
+//! The reasons for which a reader gives no job.
 
 ghost use Rattle.std.specs.Prelude.{◌≡◌};
 ghost use Rattle.job_reader.specs.declared.fault.ReadFault.TheVariants as fault;
@@ -7,7 +7,7 @@ ghost use Rattle.job_reader.specs.Request.{fault_of};
 use dimacs_text::{LineKind, TextFault};
 use thiserror::Error;
 
-/// Why a reader gave no job.
+/// The reason for which a reader gave no job.
 #[derive(Clone, Copy, Debug, PartialEq, Eq, Error)]
 pub enum ReadFault {
     /// The reader failed.

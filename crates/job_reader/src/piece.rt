@@ -35,7 +35,7 @@ impl Model for Piece {
 }
 
 impl Piece {
-    /// No bytes yet, with room for `room`.
+    /// Makes a piece with no bytes yet, and with room for `room`.
     pub(crate) fn new(alloc: Global, room: usize) -> Result<Piece, Memory>
         requires { 0 < room }
         ensures { IfOk result (λ piece. piece ≡ []) }
@@ -48,15 +48,15 @@ impl Piece {
         })
     }
 
-    /// How many bytes there are.
+    /// The number of its bytes.
     pub(crate) fn len(&self) -> usize
         ensures { result ≡ length self.now }
     {
         self.count
     }
 
-    /// Takes the next bytes of the reader in place of those that are there: as many as the limit, or where
-    /// memory for them is refused as there is room for. True where the reader has ended. Each error is `Read`.
+    /// Takes the next bytes of the reader in place of those that are there. They are as many as the limit or, if
+    /// memory for them is refused, as there is room for. Returns true if the reader has ended. Each error is `Read`.
     pub(crate) fn fill<R: Read>(&mut self, reader: &mut R, limit: usize) -> Result<bool, ReadFault>
         ensures bytes { OnOk result (Consumes
             (R.remaining reader.old) (R.remaining reader.new) self.new) }
@@ -106,7 +106,7 @@ impl Piece {
     }
 }
 
-/// Makes a buffer as long as the limit, if it is shorter. Where memory is refused it stays as long as it was.
+/// Makes a buffer as long as the limit, if it is shorter. If memory is refused it stays as long as it was.
 fn make_room(buffer: &mut Vec<u8>, limit: usize)
     ensures { length buffer.old.items ≤ length buffer.new.items }
 {
@@ -115,7 +115,7 @@ fn make_room(buffer: &mut Vec<u8>, limit: usize)
     }
 }
 
-/// Reads `room` bytes into a buffer, or fewer where the reader ends: how many came. Each error is `Read`.
+/// Reads `room` bytes into a buffer, or fewer if the reader ends: how many came. Each error is `Read`.
 fn read_block<R: Read>(reader: &mut R, buffer: &mut [u8], room: usize) -> Result<usize, ReadFault>
     requires { room ≤ length buffer.old }
     ensures count { IfOk result (λ count. count ≤ room) }

@@ -1,4 +1,4 @@
-//! Which pieces of a text are at work at the same time?
+//! The pieces of a text that are at work at the same time.
 
 ghost use Rattle.std.specs.Prelude.{◌≡◌, [], IfOk};
 
@@ -20,7 +20,7 @@ pub(crate) struct Pieces {
 }
 
 impl Pieces {
-    /// No piece has bytes yet.
+    /// Makes pieces that have no bytes yet.
     pub(crate) fn new(alloc: Global) -> Result<Pieces, Memory>
         ensures front { IfOk result (λ pieces. pieces.front ≡ []) }
         ensures back { IfOk result (λ pieces. pieces.back ≡ []) }

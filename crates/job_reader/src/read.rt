@@ -1,4 +1,4 @@
-//! From what a reader gives to the job in it: what is read, and up to where?
+//! The way from a reader to the job in its text, and how far the text is read.
 
 ghost use Rattle.std.specs.Prelude.{◌≡◌, ◌^◌, ◌≤◌, [], IfOk, IfErr, List, ℕ};
 ghost use Rattle.dimacs_text.specs.Faults.{IsFaultOf};
@@ -39,7 +39,7 @@ pub fn read_job_from<H: Threads + Clock + Sync, R: Read>(
     read_pieces(rt, alloc, reader, limit, readers, &mut pieces, watch)
 }
 
-/// The same, through pieces that have no byte yet.
+/// Reads a job through pieces that have no byte yet.
 fn read_pieces<H: Threads + Clock + Sync, R: Read>(
     rt: &H,
     alloc: Global,
@@ -82,7 +82,7 @@ fn read_pieces<H: Threads + Clock + Sync, R: Read>(
     Ok(finish(job, watch)?)
 }
 
-/// The job of the text that a reader has read. Where the text is refused, the watch is told why.
+/// The job of the text that a reader has read. If the text is refused, the watch sees why.
 fn finish(reader: JobReader, watch: &mut impl ReadWatch) -> Result<Job, TextFault>
     ensures job { (text : List ℕ) → HasRead reader text
         → IfOk result (λ job. IsJobText text (content_of job)) }

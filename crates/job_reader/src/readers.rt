@@ -1,4 +1,4 @@
-//! By how many threads is the next piece of a text read?
+//! The number of threads that read the next piece of a text.
 
 ghost use Rattle.std.specs.Prelude.{◌<◌, ◌≤◌, ◌^◌};
 ghost use Rattle.job_reader.specs.declared.readers.TheConstants.{MOST_THREADS};
@@ -11,7 +11,7 @@ pub(crate) const BLOCK: usize = 1 << 16;
 /// Bytes of a piece for each of several threads, so that starting them costs little beside it.
 const PART: usize = 1 << 20;
 
-/// More threads than this read no faster.
+/// The number of threads above which more read no faster.
 const MOST_THREADS: usize = 16;
 
 /// Bytes that one thread reads at first.
@@ -21,7 +21,7 @@ const FIRST_ALONE: usize = 8 * BLOCK;
 /// many each time.
 const NEXT_ALONE: usize = 1 << 24;
 
-/// Several are slower where a piece takes them longer than it took one by more than this part of its time: less is
+/// Several are slower if a piece takes them longer than it took one by more than this part of its time: less is
 /// chance.
 const TOLERANCE: u128 = 4;
 
@@ -32,12 +32,12 @@ pub(crate) struct Readers {
     threads: usize,
     /// Bytes that one thread reads from now on.
     alone: usize,
-    /// How many that will be when several are slower again.
+    /// The number that will be once several are slower again.
     next_alone: usize,
-    /// What one thread read the last time, and the nanoseconds that it took.
+    /// The bytes that one thread read the last time, and the nanoseconds that it took.
     read_alone: u128,
     spent_alone: u128,
-    /// Whether several were slower at the last piece. One such piece may be chance.
+    /// True if several were slower at the last piece. One such piece may be chance.
     were_slower: bool,
     ghost within: { threads ≤ MOST_THREADS },
 }
@@ -55,7 +55,7 @@ impl Readers {
         }
     }
 
-    /// How many threads read the next piece.
+    /// The number of threads that read the next piece.
     pub(crate) fn threads(&self) -> usize
         ensures some { 1 ≤ result }
         ensures few { result ≤ MOST_THREADS }
@@ -67,7 +67,7 @@ impl Readers {
         }
     }
 
-    /// How many bytes the piece after that should have.
+    /// The number of bytes that the piece after that should have.
     pub(crate) fn piece(&self) -> usize
         ensures some { 0 < result }
         ensures few { result ≤ 2 ^ 24 }
@@ -78,7 +78,7 @@ impl Readers {
         }
     }
 
-    /// `threads` threads took `spent` for a piece of `count` bytes.
+    /// Takes note that `threads` threads took `spent` for a piece of `count` bytes.
     pub(crate) fn see(&mut self, threads: usize, count: usize, spent: Duration) {
         // A piece that was taken for another number of threads says nothing.
         if count == 0 || (threads > 1) != (count > BLOCK) {

@@ -1,4 +1,4 @@
-//! How is one piece of a text fed while the next bytes are taken, by one thread or several?
+//! One step of reading: a piece of a text is fed while the next bytes are taken, by one thread or several.
 
 ghost use Rattle.std.specs.Prelude.{◌≡◌, ◌≤◌, ◌+◌, ◌-◌, IfOk, IfErr, OnOk, All};
 ghost use Rattle.std.specs.Thread.{IsSync};
@@ -16,8 +16,8 @@ use std::thread::{Threads, join_mut};
 use std::time::{Clock, Duration};
 
 /// Feeds the front piece and takes the next bytes of the reader into the spare one, up to the limit. Meanwhile
-/// other threads read ahead in the back one, if arcs come there and that is faster. True where the reader has
-/// ended. Where memory is refused or the reader fails, at most `left` bytes were taken.
+/// other threads read ahead in the back one, if arcs come there and that is faster. Returns true if the reader has
+/// ended. If memory is refused or the reader fails, at most `left` bytes were taken.
 pub(crate) fn step<H: Threads + Clock + Sync, R: Read>(
     rt: &H,
     reader: &mut R,
@@ -36,7 +36,7 @@ pub(crate) fn step<H: Threads + Clock + Sync, R: Read>(
     let Some(vertices) = job.arcs_ahead() else {
         return feed_and_fill(reader, job, &pieces.front, &mut pieces.spare, limit);
     };
-    // The byte past the limit is taken only after the front piece was fed: where memory for that is refused,
+    // The byte past the limit is taken only after the front piece was fed: if memory for that is refused,
     // no more than the limit may have been read.
     let threads = if limit > left { 1 } else { readers.threads() };
     let count = pieces.front.len();
@@ -51,8 +51,8 @@ pub(crate) fn step<H: Threads + Clock + Sync, R: Read>(
     Ok(ended)
 }
 
-/// Feeds the front piece and takes the next bytes of the reader into the spare one, up to the limit. True
-/// where the reader has ended.
+/// Feeds the front piece and takes the next bytes of the reader into the spare one, up to the limit. Returns true if
+/// the reader has ended.
 fn feed_and_fill<R: Read>(
     reader: &mut R,
     job: &mut JobReader,
@@ -68,7 +68,7 @@ fn feed_and_fill<R: Read>(
     spare.fill(reader, limit)
 }
 
-/// The same side by side, by `threads` threads in all, which read ahead in the back piece.
+/// Does a step by `threads` threads in all, which read ahead in the back piece.
 fn step_beside<H: Threads + Sync, R: Read>(
     rt: &H,
     reader: &mut R,
@@ -92,8 +92,8 @@ fn step_beside<H: Threads + Sync, R: Read>(
 }
 
 /// Has another thread feed the front piece, and meanwhile takes the next bytes of the reader into the spare one, up to
-/// the limit; further threads read ahead in the back one, and so does whichever of these two has done its work. True
-/// where the reader has ended.
+/// the limit. Further threads read ahead in the back one, and so does whichever of these two has done its work.
+/// Returns true if the reader has ended.
 fn feed_fill_and_read<H: Threads + Sync, R: Read>(
     rt: &H,
     reader: &mut R,
@@ -144,7 +144,7 @@ fn feed_fill_and_read<H: Threads + Sync, R: Read>(
 }
 
 /// Takes the next bytes of the reader into a piece, up to the limit, while other threads read ahead for lists of their
-/// own, and then reads ahead too. True where the reader has ended.
+/// own, and then reads ahead too. Returns true if the reader has ended.
 fn fill_beside<H: Threads + Sync, R: Read>(
     rt: &H,
     reader: &mut R,
@@ -179,8 +179,8 @@ fn fill_beside<H: Threads + Sync, R: Read>(
     filled
 }
 
-/// Takes the next bytes of the reader into a piece, up to the limit, and then reads ahead. True where the reader has
-/// ended.
+/// Takes the next bytes of the reader into a piece, up to the limit, and then reads ahead. Returns true if the reader
+/// has ended.
 fn fill_then_read<R: Read>(
     reader: &mut R,
     spare: &mut Piece,

@@ -1,4 +1,4 @@
-//! What the words leave when a run ends.
+//! The rest that words leave when a run ends.
 
 ghost use Rattle.std.specs.Prelude.{◌≡◌, ◌+◌, ◌*◌, ◌≤◌, [], length};
 ghost use Rattle.std.specs.Slots.{slots_items, slots_len, IsFull};
@@ -11,17 +11,17 @@ use crate::pause::Paused;
 use atomic_table::Closed as LastWords;
 use std::alloc::Global;
 
-/// What the words leave.
+/// The rest that the words leave.
 #[derive(Debug, Drop)]
 pub enum Closed {
     /// The seat saw the total at 0: the least label of each vertex.
     Settled(Vec<u64>),
-    /// It didn't: labels, and the vertices whose arcs are to be relaxed again.
+    /// The seat didn't see the total at 0: labels, and the vertices whose arcs are to be relaxed again.
     Paused(Paused),
 }
 
 impl Closed {
-    /// The label of each vertex: a cost, or `INF` where no walk was found.
+    /// The label of each vertex: a cost, or `INF` if no walk was found.
     pub fn labels(&self) -> &[u64]
         ensures { result.now ≡ closed_labels self.now }
     {

@@ -1,4 +1,4 @@
-//! What a seat knows, and the rule of the words.
+//! The knowledge of a seat, and the rule of the words.
 
 use atomic_table::{Seat, Table, TableRule};
 use csr_graph::Csr;
@@ -8,8 +8,8 @@ use std::alloc::Global;
 use std::collections::LinkedList;
 use std::snapshot::Snapshot;
 
-/// What a seat knows: its view in the core, the labels that it read or lowered, each with its vertex,
-/// and the graph and the seeds that the words were opened over. No value of it is made.
+/// The knowledge of a seat. It is its view in the core, the labels that it read or lowered, each with its vertex, and
+/// the graph and the seeds that the words were opened over. No value of it is made.
 pub struct Known {
     pub view: View,
     pub labels: LinkedList<(u32, u64)>,
@@ -17,8 +17,8 @@ pub struct Known {
     pub seeds: LinkedList<Seed>,
 }
 
-/// What the words are told once: the graph, the seeds that a run begins with, and the labels that it goes
-/// on from, which are seeds too. One of the two lists is empty. For the contracts alone: it takes no room.
+/// The graph, the seeds that a run begins with, and the labels that it goes on from, which are seeds too. The words
+/// learn them once. One of the two lists is empty. For the contracts alone: it takes no room.
 pub(crate) type Key = (Snapshot<Csr>, Snapshot<Vec<Seed>>, Snapshot<Vec<u64>>);
 
 pub(crate) struct WordsRule;

@@ -8,7 +8,7 @@ ghost use Rattle.label_words.specs.Laws.{SeeIsItsEvent, SplitIsItsEvent, JoinIsI
 ghost use Rattle.label_words.specs.Laws.{LawfulWordsHoldACore, UnmarkedPauseIsLeast};
 ghost use Rattle.label_words.specs.Laws.{ResumedRunsEndAlike, PausesAreLeastUpTo};
 
-/// What the rule of the words keeps between any two steps is a lawful core.
+/// States that the rule of the words keeps a lawful core between any two steps.
 pub fn lawful_words_hold_a_core()
     ensures { LawfulWordsHoldACore }
 {}
@@ -39,14 +39,14 @@ pub fn unmarked_pauses_are_least()
     ensures { UnmarkedPauseIsLeast }
 {}
 
-/// A run that goes on from the labels of a pause ends with the least labels of the pause's own seeds, or
-/// with a pause of them; and no label rises.
+/// A run that goes on from the labels of a pause ends with the least labels of the pause's own seeds, or with a pause
+/// of them. No label rises.
 pub fn resumed_runs_end_alike()
     ensures { ResumedRunsEndAlike }
 {}
 
 /// A pause in which each marked vertex has a label of at least a limit has labels that are least up to the
-/// limit. So a run may stop before it is done where labels above a limit aren't wanted.
+/// limit. So a run may stop before it is done if labels above a limit aren't wanted.
 pub fn pauses_are_least_up_to()
     ensures { PausesAreLeastUpTo }
 {}

@@ -1,9 +1,8 @@
-//! Where the words of a run lie.
+//! The places of the words of a run.
 //!
 //! Word 0 is the pending total, which every worker steps on; its line of the cache has no other word in
-//! use. From word 8 on, 64 bytes later, each vertex has two words: its label and then its mark, which
-//! begin at a multiple of 16 bytes from there and so lie in one line. Nothing outside this file reckons
-//! with that.
+//! use. From word 8 on, 64 bytes later, each vertex has two words: its label and then its mark. They begin at a
+//! multiple of 16 bytes from there and so lie in one line. Nothing outside this file reckons with that.
 
 ghost use Rattle.std.specs.Prelude.{◌≡◌, ◌≤◌, [], replicate, IfOk};
 ghost use Rattle.route_walks.specs.declared.graph.TheConstants.{MAX_VERTICES};

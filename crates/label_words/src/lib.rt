@@ -1,14 +1,14 @@
-//! How do many seats share the words of a run, one atomic step at a time?
+//! The words of a run, which many seats share, one atomic step at a time.
 //!
 //! The words of a run are the pending total, a label and a mark for each vertex. They lie in one table
 //! of `atomic_table`. A worker steps with its `WorkSeat`, and seats are split and joined. Each of these calls
-//! is one atomic step on one word, but for `relax` at a row's end, which takes none; the hints (`marked_label`,
+//! is one atomic step on one word, but for `relax` at a row's end, which takes none. The hints (`marked_label`,
 //! `label_hint`, `prefetch_label`, `prefetch_labels`) are plain loads and no steps. None of them takes a lock or
 //! memory, and none waits.
 //!
-//! Between any two steps the words and what all seats hold are a lawful core: labels are sound, every
-//! arc is relaxed or its tail marked or some seat holds it, and the total is the account of marks and
-//! credits. So a seat that saw the total at 0 closes the words to least labels.
+//! Between any two steps the words and what all seats hold are a lawful core. Labels are sound, every arc is relaxed
+//! or its tail marked or some seat holds it, and the total is the account of marks and credits. So a seat that saw the
+//! total at 0 closes the words to least labels.
 //!
 //! A worker's turn at vertex `u`, with a seat of its own:
 //!
@@ -31,12 +31,11 @@
 //! }
 //! ```
 //!
-//! A worker that finds nothing to take calls `see`, and is done where it returns true.
+//! A worker that finds nothing to take calls `see`, and is done if it returns true.
 //!
 //! The total is the one word that all workers would step on at each mark. A worker that keeps its credits
-//! hardly steps on it: it raises many at once by `raise_by`, ends its row by `keep`, and has the next marks
-//! paid by what it kept. No seat sees 0 as long as one keeps credits, so a worker calls `give_back` before
-//! it calls `see`.
+//! hardly steps on it. It raises many at once by `raise_by`, ends its row by `keep`, and has the next marks paid by
+//! what it kept. No seat sees 0 as long as one keeps credits, so a worker calls `give_back` before it calls `see`.
 //!
 //! Stands on `relax_core` for the law of each event, on `csr_graph` for the rows and on `atomic_table`.
 #![tactic(auto)]

@@ -13,8 +13,8 @@ use crate::layout::{TOTAL, cleared, label_word, mark_word, word_count};
 use route_walks::{Memory, Seed};
 use std::alloc::Global;
 
-/// The words of `n` vertices: seeded ones have their least start as label and are marked, the others
-/// have `INF` and no mark, and the total is the number of marks.
+/// The words of `n` vertices. Seeded ones have their least start as label and are marked. The others have `INF` and no
+/// mark, and the total is the number of marks.
 pub(crate) fn lay(alloc: Global, n: u32, seeds: &[Seed]) -> Result<Vec<u64>, Memory>
     requires vertices { n ≤ MAX_VERTICES }
     requires seeds { AreSeeds n seeds.now }

@@ -1,4 +1,4 @@
-//! What is left of a run that is paused.
+//! The rest of a run that is paused.
 
 ghost use Rattle.std.specs.Prelude.{◌≡◌, ◌<◌, ℕ, List, true, false, length, slice_set, All, IfOk};
 ghost use Rattle.route_walks.specs.declared.graph.Seed.{Seed};
@@ -12,8 +12,8 @@ use route_walks::Memory;
 use std::alloc::Global;
 use std::marker::Model;
 
-/// Labels and marks as a run left them, before it was done; or labels that are settled, where a graph is to
-/// get more arcs and the run is to go on.
+/// Labels and marks as a run left them, before it was done. They may also be settled labels, if a graph is to get more
+/// arcs and the run is to go on.
 #[derive(Debug, Drop)]
 pub struct Paused {
     pub(crate) labels: Vec<u64>,
@@ -29,9 +29,9 @@ impl Model for Paused {
 }
 
 impl Paused {
-    /// These labels, and no mark. Where they are the least labels of a graph and seeds, that is a pause of
-    /// them in which nothing is left to do: a run that goes on from it visits no vertex, but for those that
-    /// are marked since. Takes a byte a vertex; at `Memory` the labels are gone.
+    /// Makes a pause of these labels and no mark. If they are the least labels of a graph and seeds, that is a pause
+    /// of them in which nothing is left to do. A run that goes on from it visits no vertex, but for those that are
+    /// marked since. Takes a byte a vertex; at `Memory` the labels are gone.
     pub fn settled(alloc: Global, labels: Vec<u64>) -> Result<Paused, Memory>
         ensures labels { IfOk result (λ rest. rest.labels ≡ labels.items) }
         ensures marks { IfOk result (λ rest. length rest.marks ≡ length labels.items) }
@@ -46,7 +46,7 @@ impl Paused {
         Ok(Paused { labels, marks })
     }
 
-    /// The label of each vertex: a cost, or `INF` where no walk was found yet.
+    /// The label of each vertex: a cost, or `INF` if no walk was found yet.
     pub fn labels(&self) -> &[u64]
         ensures { result.now ≡ self.now.labels }
     {
@@ -60,8 +60,8 @@ impl Paused {
         self.labels
     }
 
-    /// Whether no vertex with a label below the limit is marked. Then labels are least up to the limit, where
-    /// this is a pause. Looks at every mark.
+    /// Tells if no vertex with a label below the limit is marked. Labels are least up to the limit then, if this is a
+    /// pause. Looks at every mark.
     pub fn is_unmarked_below(&self, limit: u64) -> bool
         requires { length self.now.labels ≡ length self.now.marks }
         ensures unmarked { result ≡ true → AreUnmarkedBelow limit self.now }
@@ -75,7 +75,7 @@ impl Paused {
         true
     }
 
-    /// Whether a vertex is marked: its arcs are to be relaxed again.
+    /// Tells if a vertex is marked: its arcs are to be relaxed again.
     pub fn marked(&self, v: u32) -> bool
         requires { v < length self.now.marks }
         ensures { result ≡ mark_of self.now.marks v }

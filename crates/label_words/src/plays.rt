@@ -1,4 +1,4 @@
-//! What each kind of step tells the seat that takes it.
+//! The knowledge that each kind of step gives the seat that takes it.
 
 use crate::known::Known;
 use atomic_table::{Join, Play, Split};

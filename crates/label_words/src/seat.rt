@@ -38,7 +38,7 @@ impl fmt::Debug for WorkSeat {
 }
 
 impl WorkSeat {
-    /// What the seat holds.
+    /// The hand of the seat: what it holds.
     pub fn hand(&self) -> Hand
         ensures { result ≡ hand_of self.now }
     {
@@ -52,14 +52,14 @@ impl WorkSeat {
         self.view.credits
     }
 
-    /// Whether the seat saw the pending total at 0.
+    /// Tells if the seat saw the pending total at 0.
     pub fn saw(&self) -> bool
         ensures { result ≡ self.now.known.view.saw }
     {
         self.view.saw
     }
 
-    /// Of the 65536 shares that all seats have together.
+    /// The part of the 65536 shares that all seats have together.
     pub fn share(&self) -> u32
         ensures share { result ≡ self.now.known.view.share }
         ensures most { result ≤ SHARES }

@@ -36,7 +36,7 @@ use std::snapshot::Snapshot;
 /// The most heads of a row whose labels `prefetch_labels` asks for.
 const PREFETCHED_HEADS: usize = 16;
 
-/// What `relax` did.
+/// The outcome of `relax`.
 #[derive(Clone, Copy, Debug, PartialEq, Eq)]
 pub enum Step {
     /// The label of `head` fell to `label`, and the seat owes `head` a mark.
@@ -69,10 +69,9 @@ impl fmt::Debug for Words {
 }
 
 impl Words {
-    /// The words that a run over this graph begins with: each seeded vertex has its least start as label
-    /// and is marked, the others have `INF` and no mark, and the total is the number of marks. The one
-    /// seat is idle, has all shares, and knows no label. Takes 32 bytes a vertex while it works, and
-    /// leaves 16.
+    /// The words that a run over this graph begins with. Each seeded vertex has its least start as label and is
+    /// marked, the others have `INF` and no mark, and the total is the number of marks. The one seat is idle, has all
+    /// shares, and knows no label. Takes 32 bytes a vertex while it works, and leaves 16.
     pub fn open(alloc: Global, csr: &Csr, seeds: &[Seed]) -> Result<(Words, WorkSeat), Memory>
         requires { AreSeeds csr.now.n seeds.now }
         ensures seat { IfOk result
@@ -122,8 +121,8 @@ impl Words {
         Ok((Words { table }, WorkSeat { table_seat, view }))
     }
 
-    /// The label at which `v` is marked, or `None` where it isn't marked. It is a look that takes no step
-    /// and promises nothing, by a load of each word, between which others may step: a hint, for the first
+    /// The label at which `v` is marked, or `None` if it isn't marked. It is a look that takes no step
+    /// and promises nothing, by a load of each word, between which others may step. It is a hint, for the first
     /// vertices that are handed to a worklist.
     pub fn marked_label(&self, seat: &WorkSeat, v: u32) -> Option<u64>
         requires words { seat.now.words ≡ self.now }
@@ -149,8 +148,8 @@ impl Words {
         self.table.shared.peek(label_word(v))
     }
 
-    /// Takes the mark of `u` away by one swap. Where it was set, the seat holds `u`, has the mark's credit
-    /// besides those that it kept, and this returns true.
+    /// Takes the mark of `u` away by one swap. If it was set, the seat holds `u`, has the mark's credit
+    /// in addition to those that it kept, and this returns true.
     pub fn take(&self, seat: &mut WorkSeat, u: u32) -> bool
         requires words { seat.old.words ≡ self.now }
         requires no_vertex { HasNoVertex seat.old }
@@ -182,9 +181,9 @@ impl Words {
         d
     }
 
-    /// Prefetches the labels of the first heads of a row, up to 16. It takes no step and promises nothing:
-    /// they come from memory side by side here, and one after the other where each is first asked for as
-    /// its arc is relaxed. Plain loads do this, since the language has no other.
+    /// Prefetches the labels of the first heads of a row, up to 16. It takes no step and promises nothing. They come
+    /// from memory side by side here, and one after the other if each is first asked for as its arc is relaxed. Plain
+    /// loads do this, since the language has no other.
     #[inline(always)]
     pub fn prefetch_labels(&self, seat: &WorkSeat, csr: &Csr, u: u32)
         requires words { seat.now.words ≡ self.now }
@@ -225,7 +224,7 @@ impl Words {
         self.relax_before(seat, csr, csr.end(u))
     }
 
-    /// `relax` where the row's end is known, which spares a look at it for each arc.
+    /// Does as `relax` with the row's end known, which spares a look at it for each arc.
     #[inline(always)]
     pub fn relax_before(&self, seat: &mut WorkSeat, csr: &Csr, end: usize) -> Step
         requires words { seat.old.words ≡ self.now }
@@ -280,7 +279,7 @@ impl Words {
         seat.view.raise_by(count);
     }
 
-    /// Sets the mark that the seat owes, by one swap. Where it was not set before, one credit goes to it
+    /// Sets the mark that the seat owes, by one swap. If it was not set before, one credit goes to it
     /// and this returns true; otherwise the seat keeps all.
     pub fn set_mark(&self, seat: &mut WorkSeat) -> bool
         requires words { seat.old.words ≡ self.now }
@@ -314,8 +313,8 @@ impl Words {
         seat.view.finish();
     }
 
-    /// At the end of its row the seat lets go of the row and keeps its credits, by one load of the total, which
-    /// stays as it is. It has room for one more then, that of the next vertex that it takes. The graph says
+    /// Lets go of the row at its end and keeps the seat's credits, by one load of the total, which
+    /// stays as it is. The seat has room for one more then, that of the next vertex that it takes. The graph says
     /// where the row ends.
     pub fn keep(&self, seat: &mut WorkSeat, csr: &Csr)
         requires words { seat.old.words ≡ self.now }
@@ -332,7 +331,7 @@ impl Words {
         seat.view.keep();
     }
 
-    /// Takes this many of the credits that the seat kept from the total, by one `fetch_sub`. Where none is left
+    /// Takes this many of the credits that the seat kept from the total, by one `fetch_sub`. If none is left
     /// the seat is idle. No seat sees the total at 0 while one keeps credits.
     pub fn give_back(&self, seat: &mut WorkSeat, count: u8)
         requires words { seat.old.words ≡ self.now }
@@ -346,7 +345,7 @@ impl Words {
         seat.view.give_back(count);
     }
 
-    /// Looks at the total, by one load. True, and the seat saw, where it was 0.
+    /// Looks at the total, by one load. True, and the seat saw, if it was 0.
     pub fn see(&self, seat: &mut WorkSeat) -> bool
         requires words { seat.old.words ≡ self.now }
         requires idle { IsIdle seat.old }
@@ -390,7 +389,7 @@ impl Words {
     }
 
     /// Ends the run. The seat saw the total at 0, or it has all shares. After `Memory` the run is lost.
-    /// Labels take eight bytes a vertex; where the seat didn't see 0, the marks take one more.
+    /// Labels take eight bytes a vertex; if the seat didn't see 0, the marks take one more.
     pub fn close(self, alloc: Global, seat: WorkSeat) -> Result<Closed, Memory>
         requires words { seat.words ≡ self }
         requires idle { IsIdle seat }
@@ -400,7 +399,7 @@ impl Words {
     {
         let n = vertex_count(self.table.word_count());
         let mut labels = Vec::with_capacity(alloc, n)?;
-        // Where the seat saw 0 there are no marks to read.
+        // If the seat saw 0 there are no marks to read.
         let mut marks = vec![in alloc; false; if seat.view.saw { 0 } else { n }]?;
         let WorkSeat { table_seat, view } = seat;
         let last = self.table.close_with(table_seat);

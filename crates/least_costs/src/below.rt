@@ -1,4 +1,4 @@
-//! What does a run know of costs that goes no further than its goal?
+//! Costs that are least up to a limit.
 
 ghost use Rattle.std.specs.Prelude.{◌≡◌, ◌≤◌};
 ghost use Rattle.label_words.specs.Closed.{IsEnd, closed_labels};
@@ -15,7 +15,7 @@ use std::snapshot::Snapshot;
 
 /// The labels of a run from a start that went no further than its goal. They are least up to a limit: one of at most
 /// the limit is what its vertex costs, and one above it is what some walk costs, or `INF`. Contracts see in which
-/// network; of that it keeps nothing. It takes 8 bytes a vertex, and 1 more where the run stopped before its end.
+/// network; of that it keeps nothing. It takes 8 bytes a vertex, and 1 more if the run stopped before its end.
 #[derive(Drop)]
 pub struct CostsBelow {
     closed: Closed,
@@ -51,7 +51,7 @@ impl CostsBelow {
         }
     }
 
-    /// The label of each vertex: its least cost where it is at most the limit, and else no less than that. `INF` if no
+    /// The label of each vertex: its least cost if it is at most the limit, and else no less than that. `INF` if no
     /// walk was found.
     pub fn labels(&self) -> &[u64]
         ensures labels { result.now ≡ self.now.labels }
@@ -60,7 +60,7 @@ impl CostsBelow {
         self.closed.labels()
     }
 
-    /// Up to which limit labels are least: `INF` where all are.
+    /// The limit up to which labels are least: `INF` if all are.
     pub fn limit(&self) -> u64
         ensures limit { result ≡ self.now.limit }
         ensures low { result ≤ INF }
@@ -68,7 +68,7 @@ impl CostsBelow {
         self.limit
     }
 
-    /// Where the walks begin.
+    /// The start of the walks.
     pub fn start(&self) -> Start
         ensures start { result ≡ self.now.start }
         ensures costs { AreCostsBelow self.now }
@@ -76,7 +76,7 @@ impl CostsBelow {
         self.start
     }
 
-    /// The labels, given up.
+    /// Returns the labels by value.
     pub fn into_labels(self) -> Vec<u64>
         ensures labels { result.items ≡ self.labels }
         ensures least { AreLeastBelow self }
@@ -84,7 +84,7 @@ impl CostsBelow {
         self.closed.into_labels()
     }
 
-    /// What the run left, given up: another one can go on from it.
+    /// Returns by value what the run left, so that another run can go on from it.
     pub(crate) fn into_closed(self) -> Closed
         ensures end { IsEnd (graph_of self.net) (seeds_at self.net.n self.start) result }
     {

@@ -1,6 +1,6 @@
-//! What does an arc cost?
+//! The cost of an arc.
 
-/// What an arc of a network costs.
+/// The cost of an arc of a network.
 #[derive(Clone, Copy, Debug, PartialEq, Eq)]
 pub enum Cost {
     /// Its weight.

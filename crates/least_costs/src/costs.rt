@@ -1,4 +1,4 @@
-//! What does it cost at least to get to each vertex, in which network and from which start?
+//! The least cost to each vertex of a network from a start.
 
 ghost use Rattle.std.specs.Prelude.{◌≡◌, ◌<◌, All, IfNone, IfOk, IfSome, length};
 ghost use Rattle.least_costs.specs.Costs.{AreCosts, AreCostsTo, AreLeastAt, AreLeastFrom, IsLeastCost, IsUnreached};
@@ -67,7 +67,7 @@ impl Costs {
         &self.labels
     }
 
-    /// Where the walks begin.
+    /// The start of the walks.
     pub fn start(&self) -> Start
         ensures start { result ≡ self.now.start }
         ensures costs { AreCosts self.now }
@@ -75,7 +75,7 @@ impl Costs {
         self.start
     }
 
-    /// The same costs once more. They are of this network.
+    /// Copies the costs, which are of this network.
     pub fn copied(&self, alloc: Global, network: &Network) -> Result<Costs, Memory>
         requires { network.now ≡ self.now.net }
         ensures { IfOk result (λ copy. copy ≡ self.now) }
@@ -83,7 +83,7 @@ impl Costs {
         Ok(Costs::new(network, self.start, self.labels.to_vec(alloc)?))
     }
 
-    /// The labels, given up.
+    /// Returns the labels by value.
     pub fn into_labels(self) -> Vec<u64>
         ensures labels { result.items ≡ self.labels }
         ensures least { AreLeastFrom self.net self.start self.labels }
@@ -141,7 +141,7 @@ pub(crate) fn costs_in_order(
     Ok(costs)
 }
 
-/// What a least label says of the cost.
+/// The cost that a least label says.
 fn cost_of(least: u64) -> Option<u64>
     ensures some { IfSome result (λ cost. (cost ≡ least) × (least < INF)) }
     ensures none { IfNone result (least ≡ INF) }

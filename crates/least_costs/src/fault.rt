@@ -1,10 +1,10 @@
-//! Why is there no network?
+//! The reasons for which no network is made.
 
 use route_walks::Memory;
 use std::error::Error;
 use std::fmt;
 
-/// Why no network was made.
+/// The reason for which no network was made.
 #[derive(Clone, Copy, Debug, PartialEq, Eq)]
 pub enum NetworkFault {
     /// There are more vertices than `MAX_VERTICES`.

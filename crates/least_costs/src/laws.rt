@@ -1,4 +1,4 @@
-//! Which laws hold of networks, costs and teams? Each is the contract of a function that does nothing.
+//! Laws of networks, costs and teams. Each is the contract of a function that does nothing.
 
 ghost use Rattle.least_costs.specs.Laws.{CostsAreLabels, CostsFollowTheArcs, NetworksGrow};
 ghost use Rattle.least_costs.specs.Teams.{TeamsShareWorkers};
@@ -25,8 +25,8 @@ pub fn costs_are_labels()
     inf_means_no_walk();
 }
 
-/// Where teams share the workers, each worker is in one team, and no team is without one if there are no more teams
-/// than workers.
+/// States that each worker is in one team if teams share the workers, and that each team has a worker if there are no
+/// more teams than workers.
 pub fn teams_share_workers()
     ensures { TeamsShareWorkers }
 {}

@@ -1,12 +1,14 @@
-//! What does it cost at least to get from here to there?
+//! Least costs in a network.
 //!
-//! A `Network` is made once, of arcs and of what an arc costs: its weight, one, or nothing and both ways. A
-//! `Solver` asks it, as often as one likes: `from` one source, from `each` of many, which are worked out side by
-//! side and handed over in their order, `between` pairs, `within` a bound, from everywhere for components, and after
-//! arcs were added. It gives `Costs`, of which contracts know in which network and from which start they are: `to` a
-//! vertex is the least cost of a walk, and `None` exactly if there is no walk. `Costs::walks` gives the vertices
-//! of least walks with the fewest arcs. The only fault of a call that solves is that memory is refused. How many
-//! workers there are, and how they share the work, is a `Plan`, on which no cost depends.
+//! A `Network` is made once, of arcs and of what an arc costs: its weight, one, or nothing and both ways. A `Solver`
+//! asks it, as often as one likes: `from` one source, `between` pairs, `within` a bound, from everywhere for
+//! components, and after arcs were added. The costs from `each` of many sources are worked out at the same time, and
+//! come in the order of the sources.
+//!
+//! It gives `Costs`, of which contracts know the network and the start. The cost `to` a vertex is the least cost of a
+//! walk, and `None` exactly if there is no walk. `Costs::walks` gives the vertices of least walks with the fewest arcs.
+//! The only fault of a call that solves is that memory is refused. A `Plan` says how many workers there are and how
+//! they share the work; no cost depends on it.
 //!
 //! ```text
 //! let network = Network::new(&rt, alloc, 3, arcs, Cost::Weight, 2)?; // 0 to 1 costs 7, 1 to 2 costs 5
@@ -19,14 +21,13 @@
 //! }
 //! ```
 //!
-//! `Rounds` is what `Each` stands on: tasks of any kind that are done side by side before their turn, by teams
-//! that keep what they need from one to the next, as `Workers` keep their pool, a `Runner`. Workers are asked for the
-//! costs that serve a goal, and go no further: that gives `CostsBelow`, labels that are least up to a limit.
+//! `Each` is made of `Rounds`: tasks of any kind that teams do at the same time, before their turn. A team keeps what
+//! it needs from one task to the next, as `Workers` keep their pool, a `Runner`. Workers are asked for the costs that
+//! serve a goal, and go no further: that gives `CostsBelow`, labels that are least up to a limit.
 //!
-//! Stands on `obim_engine`, whose workers give the costs, and on its pools in `obim_pool`, on `walk_report` for
-//! walks, on `csr_graph` for the rows, on `label_words` for what a pause is, and on `route_walks`, which says
-//! what walks cost. It starts threads and waits: a call returns only if its workers do, which no contract
-//! promises.
+//! Stands on `obim_engine`, whose workers give the costs, on its pools in `obim_pool`, and on `near_labels` for near
+//! vertices. Walks come from `walk_report`, rows from `csr_graph`, and pauses from `label_words`; `route_walks` says
+//! what walks cost. It starts threads and waits: a call returns only if its workers do, which no contract promises.
 #![tactic(auto)]
 
 mod below;

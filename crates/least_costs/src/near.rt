@@ -45,7 +45,7 @@ pub(crate) struct Near {
 }
 
 impl Near {
-    /// Room that the first question makes.
+    /// Makes a value whose room the first question makes.
     pub(crate) fn new() -> Near {
         Near {
             forward: None,
@@ -67,7 +67,7 @@ impl Near {
         self.spent = 0;
     }
 
-    /// The costs of these targets from a source, if they are near: from both ends where there is one target, and the
+    /// The costs of these targets from a source, if they are near: from both ends if there is one target, and the
     /// network has reversed rows.
     pub(crate) fn costs_to(
         &mut self,

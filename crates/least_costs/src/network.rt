@@ -1,4 +1,4 @@
-//! Along which arcs are costs least?
+//! The arcs along which costs are least.
 
 ghost use Rattle.std.specs.Prelude.{◌≡◌, ◌+◌, ◌≤◌, ◌<◌, ◌^◌, ◌↔◌, ◌++◌, length, All};
 ghost use Rattle.std.specs.Prelude.{IfErr, IfNone, IfOk, IfSome, IsTrue};
@@ -124,7 +124,8 @@ impl Network {
     }
 
     /// Makes the rows of the reversed arcs, so that pairs are searched from both ends. Takes the time and the memory of
-    /// the rows, and 12 bytes an arc for a while. Without them, as where memory is refused, the network serves as well.
+    /// the rows, and 12 bytes an arc for a while. Without them, for example after a refusal of memory, the network
+    /// serves as well.
     pub fn reverse(&mut self, alloc: Global)
         ensures { self.new ≡ self.old }
     {
@@ -149,7 +150,7 @@ impl Network {
     }
 }
 
-/// The place of the first arc that has an end which is none of `n` vertices.
+/// The place of the first arc that has an end outside of `n` vertices.
 fn first_outside(n: u32, arcs: &[ArcRec]) -> Option<usize>
     ensures none { IfNone result (IsGraph n arcs.now) }
     ensures light { IfNone result (AreLight arcs.now) }
@@ -163,7 +164,7 @@ fn first_outside(n: u32, arcs: &[ArcRec]) -> Option<usize>
     None
 }
 
-/// Whether the ends of an arc are among `n` vertices.
+/// Tells if the ends of an arc are among `n` vertices.
 fn is_within(n: u32, arc: ArcRec) -> bool
     ensures within { IsTrue result ↔ IsArcBelow n arc }
     ensures light { arc.weight < 2 ^ 32 }

@@ -70,10 +70,10 @@ impl<'a, G: Gate + Sync> Solver<'a, G> {
         Ok(found.costs)
     }
 
-    /// The same, and where a network is given that this one grew to by `with_arcs`, the costs there as well. Each
-    /// source is solved once in each network; in the second only what the added arcs change is visited.
+    /// Does what `between` does, and gives the costs in a network that this one grew to by `with_arcs`, if there is
+    /// one. Each source is solved once in each network; in the second only what the added arcs change is visited.
     ///
-    /// What callers keep from one call to the next is taken, and given back where no memory is refused. Targets near
+    /// What callers keep from one call to the next is taken, and given back if no memory is refused. Targets near
     /// their source are found without workers, if it has room for that.
     pub fn between_grown<H: Threads + Wait + Clock + Sync>(
         &self,
@@ -116,7 +116,7 @@ impl<'a, G: Gate + Sync> Solver<'a, G> {
     }
 }
 
-/// Room for the costs of pairs in the grown network, if there is one.
+/// Makes room for the costs of pairs in the grown network, if there is one.
 fn room_after(alloc: Global, asked: &Pairs<'_>) -> Result<Vec<Option<u64>>, Memory>
     ensures { IfOk result (λ after.
         IfSome asked.now.grown (λ _. length after.items ≡ length asked.now.pairs.now)) }
@@ -171,8 +171,8 @@ fn fill_all<H: Threads + Wait + Clock + Sync, G: Gate + Sync>(
     Ok(())
 }
 
-/// The costs of the pairs of the source at a place: by the thread that asks if they are near, else as they were worked
-/// out before their turn, and else by all workers.
+/// The costs of the pairs of the source at a place. They are found by the thread that asks if they are near, else as
+/// they were worked out before their turn, and else by all workers.
 fn costs_next<H: Threads + Wait + Clock + Sync, G: Gate + Sync>(
     rt: &H,
     alloc: Global,

@@ -1,4 +1,4 @@
-//! Which settings serve every network, and how many sources are solved at the same time?
+//! Settings that serve every network, and the number of sources that are solved at the same time.
 
 ghost use Rattle.std.specs.Prelude.{◌≡◌, ◌≤◌, max, min};
 ghost use Rattle.least_costs.specs.Teams.{IsAtMost};
@@ -10,19 +10,19 @@ use crate::network::Network;
 use csr_graph::Csr;
 use obim_engine::{Buckets, MAX_CHUNK, MAX_WORKERS, Settings};
 
-/// How many vertices a chunk of two workers has: they gain more by sharing seldom.
+/// The number of vertices of a chunk of two workers: they gain more by sharing seldom.
 const CHUNK_OF_TWO: usize = 128;
 
-/// How many vertices a chunk of more workers has.
+/// The number of vertices of a chunk of more workers.
 const SHARED_CHUNK: usize = 64;
 
 /// In a graph with at least so many vertices, and so many arcs a vertex, workers gain more from one source than from a
-/// source each: the labels of several sources don't fit into the processors' caches.
+/// source each. The labels of several sources don't fit into the processors' caches.
 const MANY_VERTICES: u32 = 1 << 17;
 
 const MANY_ARCS: usize = 8;
 
-/// How many sources are solved at the same time, each by its own share of the workers.
+/// The number of sources that are solved at the same time, each by its own share of the workers.
 #[derive(Clone, Copy, Debug, PartialEq, Eq)]
 pub enum AtOnce {
     /// As many as there are workers, and one in a large graph whose vertices have many arcs.
@@ -32,7 +32,7 @@ pub enum AtOnce {
 }
 
 impl AtOnce {
-    /// How many sources are solved at the same time in the graph with these rows, by so many workers.
+    /// The number of sources that so many workers solve at the same time in the graph with these rows.
     pub fn teams(self, rows: &Csr, workers: u32) -> usize
         ensures workers { result ≤ workers }
         ensures most { IsAtMost self result }
@@ -46,21 +46,21 @@ impl AtOnce {
     }
 }
 
-/// Whether the graph has many vertices, and many arcs a vertex.
+/// Tells if the graph has many vertices, and many arcs a vertex.
 fn is_large(rows: &Csr) -> bool {
     rows.n() >= MANY_VERTICES && rows.arc_count() / MANY_ARCS >= rows.n() as usize
 }
 
-/// How costs are worked out. No cost depends on it.
+/// The settings by which costs are worked out. No cost depends on them.
 #[derive(Clone, Copy, Debug, PartialEq, Eq)]
 pub struct Plan {
-    /// How many workers there are, and what they share.
+    /// The number of workers, and what they share.
     pub settings: Settings,
     pub at_once: AtOnce,
 }
 
 impl Plan {
-    /// What serves every network that was tried, for this many workers: from 1 to `MAX_WORKERS`, nearest to
+    /// The plan that serves every network that was tried, for this many workers: from 1 to `MAX_WORKERS`, nearest to
     /// the number given.
     pub fn usual(workers: u32) -> Plan
         ensures workers { result.settings.workers ≡ min (max workers 1) MAX_WORKERS }
@@ -84,7 +84,7 @@ impl Plan {
         }
     }
 
-    /// How many sources are solved at the same time in this network.
+    /// The number of sources that are solved at the same time in this network.
     pub fn teams(&self, network: &Network) -> usize
         ensures workers { result ≤ self.now.settings.workers }
         ensures most { IsAtMost self.now.at_once result }

@@ -1,15 +1,15 @@
-//! What is a caller told while the costs of many pairs are worked out?
+//! Progress of a call that works out the costs of many pairs.
 
 use std::time::Clock;
 
-/// Told how far a call is, by the caller's own thread. No cost depends on it.
+/// A watch that sees how far a call is, in the caller's own thread. No cost depends on it.
 pub trait Progress {
     /// Of all pairs, in the order in which their sources are solved, `done` have their costs. `solves` starts were
-    /// solved since this was told last, and at most `teams` sources at the same time.
+    /// solved since the call before, and at most `teams` sources at the same time.
     fn see<C: Clock>(&mut self, clock: &C, done: usize, all: usize, solves: usize, teams: usize);
 }
 
-/// Is told nothing.
+/// A watch that does nothing.
 #[derive(Clone, Copy, Debug)]
 pub struct Unwatched;
 

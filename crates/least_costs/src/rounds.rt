@@ -24,14 +24,14 @@ pub trait Tasks<P>: Sync {
     }
 }
 
-/// What the task at a place gave.
+/// The part that the task at a place gave.
 #[derive(Drop)]
 pub struct Made<P> {
     pub place: usize,
     pub part: P,
 }
 
-/// What a team keeps from task to task, and what it made in this round.
+/// A team's own room, kept from task to task, and what it made in this round.
 #[derive(Drop)]
 struct Crew<P> {
     kept: Option<Workspace>,
@@ -69,7 +69,7 @@ struct Round<'a, T, F, G> {
 /// gave waits for its turn. What a team keeps, as its pool of work, it keeps to the end.
 #[derive(Drop)]
 pub struct Rounds<'a, P, G> {
-    /// What was made and not taken yet.
+    /// The parts that were made and not taken yet.
     pub made: Vec<Made<P>>,
     /// All workers, for a task that is done in its turn. Teams are made of as many.
     pub workers: Workers<'a, G>,
@@ -79,7 +79,7 @@ pub struct Rounds<'a, P, G> {
     end: usize,
     /// The number of places.
     len: usize,
-    /// How many teams work at the same time. With fewer than two nothing is made before its turn.
+    /// The number of teams that work at the same time. With fewer than two nothing is made before its turn.
     teams: usize,
     /// The most teams that worked at the same time so far.
     most: usize,
@@ -193,7 +193,7 @@ impl<'a, P: Send + Drop, G: Gate + Sync> Rounds<'a, P, G> {
     }
 }
 
-/// How many tasks the teams do before the first of them is used, of those that are left.
+/// The number of tasks that the teams do before the first of them is used, of those that are left.
 fn count_ahead(teams: usize, left: usize) -> usize
     requires { teams ≤ left }
     ensures left { result ≤ left }

@@ -1,4 +1,4 @@
-//! Which pool serves one source after another?
+//! A pool that serves one source after another.
 
 ghost use Rattle.std.specs.Prelude.{◌≡◌, All, IfOk, IfSome, length};
 ghost use Rattle.route_walks.specs.Walk.{AreSeeds};
@@ -50,8 +50,8 @@ enum Kind {
     Fitted(Fitted),
 }
 
-/// Workers' pool that is kept from one source to the next, so that its bags are made once. What a source
-/// leaves in it the next one draws in vain. It serves any network, and best the one that it was opened for.
+/// A pool of workers that is kept from one source to the next, so that its bags are made once. What a source
+/// leaves in it the next one draws and ignores. It serves any network, and best the one that it was opened for.
 #[derive(Drop)]
 pub struct Runner {
     kind: Kind,
@@ -67,7 +67,7 @@ impl Runner {
         Ok(Runner { kind })
     }
 
-    /// How many workers it has.
+    /// The number of its workers.
     pub fn workers(&self) -> u32 {
         match &self.kind {
             Kind::Even(even) => even.settings.workers,
@@ -92,7 +92,7 @@ impl Runner {
         Ok(Costs::new(network, start, reached.closed.into_labels()))
     }
 
-    /// What a run from a start reaches in a network that goes no further than its goal.
+    /// Runs from a start in a network, and no further than the goal wants.
     pub(crate) fn reach<H: Threads + Wait + Clock + Sync, G: Gate + Sync>(
         &mut self,
         rt: &H,
@@ -122,7 +122,7 @@ impl Runner {
         }
     }
 
-    /// The same in a network that another one grew to, from a pause of a run from this start. Only what the arcs change
+    /// Goes on in a network that another one grew to, from a pause of a run from this start. Only what the arcs change
     /// that leave its marked vertices is visited.
     pub(crate) fn resume<H: Threads + Wait + Clock + Sync, G: Gate + Sync>(
         &mut self,
@@ -156,8 +156,8 @@ impl Runner {
     }
 }
 
-/// What a run from this start left in a network, as a pause of one that it grew to. The tails of the added arcs are
-/// marked there.
+/// Makes a pause in the grown network of what a run from this start left in the network before. The tails of the added
+/// arcs are marked there.
 pub(crate) fn pause_after(
     alloc: Global,
     network: &Network,
@@ -191,7 +191,7 @@ fn seeds_of(alloc: Global, network: &Network, start: Start) -> Result<Vec<Seed>,
     }
 }
 
-/// What a run from these seeds, or from a pause of theirs, reaches over the pool.
+/// Runs from these seeds, or from a pause of theirs, over the pool.
 fn run_over<H: Threads + Wait + Clock + Sync, G: Gate + Sync>(
     rt: &H,
     alloc: Global,
@@ -213,7 +213,7 @@ fn run_over<H: Threads + Wait + Clock + Sync, G: Gate + Sync>(
     }
 }
 
-/// What a run from these seeds, or from a pause of theirs, reaches over a pool.
+/// Runs from these seeds, or from a pause of theirs, over a pool.
 fn run_on<H: Threads + Wait + Clock + Sync, P: WorkPool + Sync, G: Gate + Sync>(
     rt: &H,
     alloc: Global,
@@ -325,7 +325,7 @@ fn run_fitted<H: Threads + Wait + Clock + Sync, G: Gate + Sync>(
     Ok(reached)
 }
 
-/// What was counted of the sides since then. The buckets are those that there are.
+/// The counts of the sides since then. The buckets are those that there are.
 fn worklist_since(before: Worklist, sides: &[ObimSide]) -> Worklist {
     let now = Worklist::of(sides);
     Worklist {

@@ -1,4 +1,4 @@
-//! Which costs of a network are asked for, and by which plan?
+//! A network that is asked for costs, by a plan.
 
 ghost use Rattle.std.specs.Prelude.{◌≡◌, ◌<◌, IfOk};
 ghost use Rattle.least_costs.specs.Costs.{IsFrom};
@@ -71,7 +71,7 @@ impl<'a, G: Gate + Sync> Solver<'a, G> {
         Ok(CostsWithin::new(network, source, bound, reached))
     }
 
-    /// The least costs from a start. From everywhere, where arcs are free both ways, they are components.
+    /// The least costs from a start. From everywhere, if arcs are free both ways, they are components.
     pub fn costs_from<H: Threads + Wait + Clock + Sync>(
         &self,
         rt: &H,

@@ -1,11 +1,11 @@
-//! Where do walks begin?
+//! The start of walks.
 
-/// Where the walks begin whose costs are least.
+/// The start of the walks whose costs are least.
 #[derive(Clone, Copy, Debug, PartialEq, Eq)]
 pub enum Start {
     /// At this vertex, at cost 0.
     At(u32),
-    /// At each vertex, at its number. Where arcs are free both ways, the least cost of a vertex is then the
+    /// At each vertex, at its number. If arcs are free both ways, the least cost of a vertex is then the
     /// least number of its component.
     Everywhere,
 }

@@ -1,4 +1,4 @@
-//! Which workers do a task, where several tasks are done at the same time?
+//! Teams: the workers of each of several tasks that are done at the same time.
 
 ghost use Rattle.std.specs.Prelude.{◌≡◌, ◌<◌, ◌≤◌};
 ghost use Rattle.obim_engine.specs.declared.settings.TheConstants.{MAX_WORKERS};
@@ -32,7 +32,7 @@ impl Team {
         }
     }
 
-    /// These settings for the workers of the team.
+    /// Returns these settings for the workers of the team.
     pub fn settings(self, settings: &Settings) -> Settings
         ensures workers { result.workers ≡ self.workers }
         ensures chunk { result.chunk ≡ settings.now.chunk }

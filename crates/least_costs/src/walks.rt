@@ -1,4 +1,4 @@
-//! By which walk does one get from the source to a vertex at the least cost?
+//! The walks from a source to vertices at the least cost.
 
 ghost use Rattle.std.specs.Prelude.{◌≡◌, ◌≢◌, ◌<◌, IfNone, IfOk, IfSome};
 ghost use Rattle.least_costs.specs.Costs.{IsUnreached};
@@ -38,7 +38,7 @@ impl Model for Walks {
 
 impl Costs {
     /// The walks of these costs, which are of this network and from one source. Takes time in proportion to
-    /// vertices and arcs, and for a while 4 bytes a vertex besides.
+    /// vertices and arcs, and for a while 4 more bytes a vertex.
     pub fn walks(&self, alloc: Global, network: &Network) -> Result<Walks, Memory>
         requires network { network.now ≡ self.now.net }
         requires source { self.now.start ≢ Everywhere }

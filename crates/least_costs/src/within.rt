@@ -1,4 +1,4 @@
-//! Which vertices cost no more than a bound from a source, and how much?
+//! The costs from a source that are at most a bound.
 
 ghost use Rattle.std.specs.Prelude.{◌≡◌, ◌<◌, IfNone, IfSome};
 ghost use Rattle.obim_engine.specs.Goal.{HasReached};
@@ -65,7 +65,7 @@ impl CostsWithin {
         Some(label)
     }
 
-    /// Where the walks begin.
+    /// The start of the walks.
     pub fn source(&self) -> u32
         ensures { result ≡ self.now.source }
     {

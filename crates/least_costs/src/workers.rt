@@ -1,4 +1,4 @@
-//! Who solves one start after another?
+//! Workers that solve one start after another.
 
 ghost use Rattle.std.specs.Prelude.{◌≡◌, ◌<◌, All, IfOk, IfSome};
 ghost use Rattle.route_walks.specs.declared.graph.TheConstants.{INF};
@@ -22,11 +22,11 @@ use std::sync::Wait;
 use std::thread::Threads;
 use std::time::Clock;
 
-/// Workers that solve one start after another, and keep their pool from one to the next. Beside it they keep room for the
-/// searches that the thread that asks makes before it asks them.
+/// Workers that solve one start after another, and keep their pool from one to the next. Beside it they keep room for
+/// the searches that the thread that asks makes before it asks them.
 #[derive(Drop)]
 pub struct Workers<'a, G> {
-    /// How many there are, and what they share.
+    /// The number of workers, and what they share.
     pub settings: Settings,
     /// Watches them.
     pub gate: &'a G,
@@ -115,8 +115,9 @@ impl<'a, G: Gate + Sync> Workers<'a, G> {
         Ok(CostsBelow::new(network, start, reached))
     }
 
-    /// The same in a network that another one grew to by `with_arcs`, from the same start, from what a run left there,
-    /// whichever goal it had. Only what the added arcs change is visited, and what the goal wants besides.
+    /// The costs in a network that another one grew to by `with_arcs`, from the same start, that serve a goal. Workers
+    /// go on from what a run left there, whichever goal it had: they visit what the added arcs change, and what the
+    /// goal wants.
     pub fn costs_for_after<H: Threads + Wait + Clock + Sync>(
         &mut self,
         rt: &H,
@@ -139,8 +140,8 @@ impl<'a, G: Gate + Sync> Workers<'a, G> {
         Ok(CostsBelow::new(grown, start, reached))
     }
 
-    /// Returns the least labels of these targets from a source and the walks to them, if the thread that asks finds them by
-    /// itself. `None` where it doesn't search, or they aren't near, or memory is refused.
+    /// Returns the least labels of these targets from a source and the walks to them, if the thread that asks finds
+    /// them by itself. `None` if it doesn't search, or they aren't near, or memory is refused.
     pub fn near_walks(
         &mut self,
         alloc: Global,
@@ -159,8 +160,8 @@ impl<'a, G: Gate + Sync> Workers<'a, G> {
         }
     }
 
-    /// Returns the vertices that cost at most a bound from a source, in rising order, each with its cost, if the thread that
-    /// asks finds them by itself. `None` where it doesn't search, or they aren't near, or memory is refused.
+    /// Returns the vertices that cost at most a bound from a source, in rising order, each with its cost, if the
+    /// thread that asks finds them by itself. `None` if it doesn't search, or they aren't near, or memory is refused.
     pub fn near_within(
         &mut self,
         alloc: Global,
@@ -179,7 +180,7 @@ impl<'a, G: Gate + Sync> Workers<'a, G> {
         }
     }
 
-    /// What a run from a start reaches in a network that goes no further than its goal.
+    /// Runs from a start in a network, and no further than the goal wants.
     pub(crate) fn reach<H: Threads + Wait + Clock + Sync>(
         &mut self,
         rt: &H,
@@ -198,7 +199,7 @@ impl<'a, G: Gate + Sync> Workers<'a, G> {
         Ok(reached)
     }
 
-    /// The same in a network that another one grew to by `with_arcs`, from what a run from this start left there.
+    /// Goes on in a network that another one grew to by `with_arcs`, from what a run from this start left there.
     pub(crate) fn reach_after<H: Threads + Wait + Clock + Sync>(
         &mut self,
         rt: &H,

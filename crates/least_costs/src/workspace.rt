@@ -42,8 +42,8 @@ impl Workspace {
         self.searches
     }
 
-    /// Reverses the rows of a network before a question, if searches have visited so much of it that those from both ends
-    /// gain more than that takes.
+    /// Reverses the rows of a network before a question, if searches have visited so much of it that those from both
+    /// ends gain more than that takes.
     pub fn prepare(&mut self, alloc: Global, network: &mut Network)
         ensures { network.new ≡ network.old }
     {

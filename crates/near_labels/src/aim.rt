@@ -38,8 +38,8 @@ impl<'a> Aim<'a> {
         }
     }
 
-    /// Tells if what is asked for is known, where no label below `next` waits. The targets before the place `seen` are
-    /// known already. A hint.
+    /// Tells if what is asked for is known, given that no label below `next` waits. The targets before the place
+    /// `seen` are known already. A hint.
     pub(crate) fn is_reached(&self, labels: &[u64], seen: &mut usize, next: u64) -> bool
         requires { All (λ t. t < length labels.now) (targets_of self.now) }
     {
@@ -69,7 +69,7 @@ fn first_above(labels: &[u64], targets: &[u32], from: usize, label: u64) -> usiz
     place
 }
 
-/// The greatest label of the targets; 0 where there are none.
+/// The greatest label of the targets; 0 if there are none.
 fn farthest(labels: &[u64], targets: &[u32]) -> u64
     requires { All (λ t. t < length labels.now) targets.now }
     ensures { All (λ t. slice_index labels.now t ≤ result) targets.now }

@@ -1,5 +1,5 @@
-//! A search from both ends: by turns, the lowest label first, until what waits on both sides has no lower sum than the
-//! labels of a vertex where the two have met.
+//! A search from both ends. It goes by turns, the lowest label first, until what waits on both sides has no lower sum
+//! than the labels of a vertex where the two have met.
 
 ghost use Rattle.std.specs.Prelude.{◌≡◌, ◌<◌, true, [], length, IfSome, slice_index};
 ghost use Rattle.route_walks.specs.Label.{IsLeast};
@@ -14,7 +14,7 @@ use crate::state::State;
 use csr_graph::Csr;
 
 /// Returns the least cost from the source to the target, by two blank states: one over the graph, one over the reversed
-/// graph. `None` where the visits that are allowed don't do, or memory is refused.
+/// graph. `None` if the visits that are allowed don't do, or memory is refused.
 pub(crate) fn cost_from_both(
     forward: &mut State,
     backward: &mut State,
@@ -51,7 +51,7 @@ pub(crate) fn cost_from_both(
 }
 
 /// Visits vertices on both sides, each time on the side where fewer wait, until what waits has no lower sum than the
-/// labels where the two have met. False where memory is refused.
+/// labels where the two have met. Returns false if memory is refused.
 fn come_near(
     forward: &mut State,
     backward: &mut State,

@@ -14,7 +14,7 @@ use label_words::laws::pauses_are_least_up_to;
 use std::cmp::Reverse;
 
 /// Searches from the source of a blank state until labels serve the aim. Returns the limit up to which they are least;
-/// `None` where the visits that are allowed don't do, or memory is refused.
+/// `None` if the visits that are allowed don't do, or memory is refused.
 pub(crate) fn search(state: &mut State, csr: &Csr, source: u32, aim: Aim<'_>) -> Option<u64>
     requires count { length state.old.labels.items ≡ csr.now.n }
     requires blank { IsBlank state.old.labels.items state.old.marks.items }

@@ -76,7 +76,7 @@ impl SearchSpace {
         self.state.reached
     }
 
-    /// Returns the least labels of these targets from the source, in their order; `None` where the visits that are
+    /// Returns the least labels of these targets from the source, in their order; `None` if the visits that are
     /// allowed don't do, or memory is refused. Takes the time of the vertices that are nearer than the farthest target.
     pub fn labels_to(
         &mut self,
@@ -101,7 +101,7 @@ impl SearchSpace {
         labels
     }
 
-    /// Returns the least labels of these targets and the walks to them, those that `walk_report` prints; `None` where the
+    /// Returns the least labels of these targets and the walks to them, those that `walk_report` prints; `None` if the
     /// visits that are allowed don't do, or memory is refused. Takes some three times as long as `labels_to`.
     pub fn walks_to(
         &mut self,
@@ -131,9 +131,9 @@ impl SearchSpace {
         found
     }
 
-    /// Returns the vertices whose least label from the source is at most the bound, in rising order, each with its label;
-    /// `None` where the visits that are allowed don't do, or memory is refused. Takes the time of the vertices within
-    /// the bound.
+    /// Returns the vertices whose least label from the source is at most the bound, in rising order, each with its
+    /// label. Returns `None` if the visits that are allowed don't do, or memory is refused. Takes the time of the
+    /// vertices within the bound.
     pub fn within(
         &mut self,
         alloc: Global,
@@ -157,7 +157,7 @@ impl SearchSpace {
         list
     }
 
-    /// Returns the least cost from the source to the target, `INF` if there is no walk; `None` where the visits that are
+    /// Returns the least cost from the source to the target, `INF` if there is no walk; `None` if the visits that are
     /// allowed don't do, or memory is refused. Searches from the source here, and from the target in the other space,
     /// over the reversed graph.
     pub fn cost_between(

@@ -35,7 +35,7 @@ pub(crate) struct State {
 }
 
 impl State {
-    /// No vertex of `n` has come up.
+    /// Makes a state in which no vertex of `n` has come up.
     pub(crate) fn new(alloc: Global, n: u32) -> Result<State, Memory>
         ensures count { IfOk result (λ state. length state.labels.items ≡ n) }
         ensures blank { IfOk result (λ state. IsBlank state.labels.items state.marks.items) }
@@ -57,7 +57,7 @@ impl State {
         })
     }
 
-    /// Notes `v`, if it is blank. False where memory is refused.
+    /// Notes `v`, if it is blank. Returns false if memory is refused.
     #[inline(always)]
     fn note(&mut self, v: u32) -> bool
         requires noted { AreNoted self.old.labels.items self.old.marks.items self.old.noted.items }
@@ -89,7 +89,7 @@ impl State {
         }
     }
 
-    /// Lowers the label of `v`, marks it, and lets it wait. False, and no label and no mark changes, where memory is
+    /// Lowers the label of `v`, marks it, and lets it wait. False, and no label and no mark changes, if memory is
     /// refused. Looks at the other side's labels, if there are any.
     #[inline(always)]
     pub(crate) fn lower(&mut self, v: u32, label: u64, other: &[u64]) -> bool
@@ -115,8 +115,8 @@ impl State {
         true
     }
 
-    /// Relaxes the arcs that leave `u`, which isn't marked then. False where memory is refused. Looks at the other side's
-    /// labels, if there are any.
+    /// Relaxes the arcs that leave `u`, which isn't marked then. Returns false if memory is refused. Looks at the
+    /// other side's labels, if there are any.
     pub(crate) fn visit(&mut self, csr: &Csr, source: u32, u: u32, other: &[u64]) -> bool
         requires noted { AreNoted self.old.labels.items self.old.marks.items self.old.noted.items }
         requires pause { IsPause csr.now (seeds_from source) (rest_of self.old.labels.items self.old.marks.items) }
@@ -157,7 +157,7 @@ impl State {
         true
     }
 
-    /// Visits the next vertex that waits, if one does. False where memory is refused.
+    /// Visits the next vertex that waits, if one does. Returns false if memory is refused.
     pub(crate) fn step(&mut self, csr: &Csr, source: u32, other: &[u64]) -> bool
         requires noted { AreNoted self.old.labels.items self.old.marks.items self.old.noted.items }
         requires pause { IsPause csr.now (seeds_from source) (rest_of self.old.labels.items self.old.marks.items) }
@@ -176,7 +176,7 @@ impl State {
         }
     }
 
-    /// The lowest label that waits, or one below it; `INF` where none does. A hint.
+    /// The lowest label that waits, or one below it; `INF` if none does. A hint.
     pub(crate) fn next_label(&self) -> u64 {
         match self.queue.peek() {
             Some(Reverse((label, _))) => *label,
@@ -184,7 +184,7 @@ impl State {
         }
     }
 
-    /// The lowest label of a marked vertex; `INF` where there is none. Looks at the noted vertices alone.
+    /// The lowest label of a marked vertex, or `INF` if no vertex is marked. Looks at the noted vertices alone.
     pub(crate) fn lowest_marked(&self) -> u64
         requires { AreNoted self.now.labels.items self.now.marks.items self.now.noted.items }
         ensures { AreUnmarkedBelow result (rest_of self.now.labels.items self.now.marks.items) }
@@ -199,8 +199,8 @@ impl State {
         lowest
     }
 
-    /// The least that the label of a vertex and the other side's label make; `INF` where none makes less. Looks at what was
-    /// noted alone.
+    /// The least that the label of a vertex and the other side's label make; `INF` if none makes less. Looks at the
+    /// noted vertices alone.
     pub(crate) fn least_meeting(&self, other: &[u64]) -> u64
         requires noted { AreNoted self.now.labels.items self.now.marks.items self.now.noted.items }
         requires count { length other.now ≡ length self.now.labels.items }
@@ -214,7 +214,7 @@ impl State {
         least
     }
 
-    /// Puts the vertices that are noted into rising order. False where memory is refused.
+    /// Puts the vertices that are noted into rising order. Returns false if memory is refused.
     pub(crate) fn sort_noted(&mut self) -> bool
         requires { AreNoted self.old.labels.items self.old.marks.items self.old.noted.items }
         ensures labels { self.new.labels ≡ self.old.labels }

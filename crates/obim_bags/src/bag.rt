@@ -79,7 +79,7 @@ impl Bag {
         self.metric
     }
 
-    /// Puts a chunk at the back. It comes back where memory is refused or the bag took 2^62 chunks.
+    /// Puts a chunk at the back. It comes back if memory is refused or the bag took 2^62 chunks.
     pub fn put<R: Wait>(&self, rt: &R, pass: &mut BagPass, chunk: Chunk) -> Result<(), Chunk>
         requires pass { IsPassOf self.now pass.old }
         requires filled { chunk.vertices ≢ [] }
@@ -96,7 +96,7 @@ impl Bag {
         }
     }
 
-    /// `put` of a chunk in its box, which takes no memory for the chunk.
+    /// Does as `put`, of a chunk in its box, which takes no memory for the chunk.
     pub fn put_boxed<R: Wait>(
         &self,
         rt: &R,
@@ -112,7 +112,7 @@ impl Bag {
         self.queue.push_as::<Puts, R>(rt, &mut pass.pass, chunk)
     }
 
-    /// Takes the chunk at the front, which is never empty. `None` only where the bag was empty at a moment
+    /// Takes the chunk at the front, which is never empty. `None` only if the bag was empty at a moment
     /// of the call.
     pub fn get<R: Wait>(&self, rt: &R, pass: &mut BagPass) -> Option<Chunk>
         requires { IsPassOf self.now pass.old }
@@ -124,7 +124,7 @@ impl Bag {
         Some(Box::into_inner(self.get_boxed(rt, pass)?))
     }
 
-    /// `get` of a chunk in its box.
+    /// Does as `get`, of a chunk in its box.
     #[inline(always)]
     pub fn get_boxed<R: Wait>(&self, rt: &R, pass: &mut BagPass) -> Option<Box<Chunk>>
         requires { IsPassOf self.now pass.old }
@@ -139,8 +139,8 @@ impl Bag {
         self.take_front(rt, pass)
     }
 
-    /// A look by two loads, which doesn't wait. True only where the bag was empty at a moment of the call,
-    /// and then the pass has one empty find more.
+    /// A look by two loads, which doesn't wait. Returns true only if the bag was empty at a moment of the call, and
+    /// then the pass has one empty find more.
     #[inline(always)]
     pub fn finds_empty(&self, pass: &mut BagPass) -> bool
         requires { IsPassOf self.now pass.old }
@@ -155,7 +155,7 @@ impl Bag {
         empty
     }
 
-    // Takes the chunk at the front, where the bag doesn't look empty.
+    // Takes the chunk at the front, if the bag doesn't look empty.
     #[inline(never)]
     fn take_front<R: Wait>(&self, rt: &R, pass: &mut BagPass) -> Option<Box<Chunk>>
         requires { IsPassOf self.now pass.old }

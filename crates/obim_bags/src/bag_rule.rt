@@ -1,4 +1,4 @@
-//! What the passes of a bag know, and the rule of its queue.
+//! The knowledge of the passes of a bag, and the rule of its queue.
 
 use crate::chunk::Chunk;
 use crossbeam_queue::protocol::{Join, Lesson, Outcome, Protocol, Split};
@@ -6,8 +6,8 @@ use crossbeam_queue::{RuledSegQueue, SegPass};
 use std::alloc::Global;
 use std::collections::LinkedList;
 
-/// What a pass of a bag knows: the chunks that it put, those that it got, its share of the workers, and
-/// how many workers there are. No value of it is made.
+/// The knowledge of a pass of a bag: the chunks that it put, those that it got, its share of the workers, and their
+/// number. No value of it is made.
 pub struct Tally {
     pub share: u32,
     pub workers: u32,

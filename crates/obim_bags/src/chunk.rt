@@ -1,4 +1,4 @@
-//! Chunks of vertices, which a worker fills and hands on whole.
+//! Chunks of vertices, which a worker fills and shares whole.
 
 ghost use Rattle.std.specs.Prelude.{◌≡◌, ◌≢◌, ◌≤◌, ◌<◌, ◌++◌, ◌∷◌, [], length};
 ghost use Rattle.std.specs.Prelude.{IfNone, IfSome, OnErr, OnOk};
@@ -13,7 +13,7 @@ use std::marker::Model;
 /// The most vertices that a chunk takes.
 pub const MAX_SIZE: usize = 256;
 
-/// Who opened a chunk, and as which of its chunks, counted from 0.
+/// The worker that opened a chunk, and the number of the chunk among its own, counted from 0.
 #[derive(Clone, Copy, Debug, PartialEq, Eq)]
 pub struct ChunkId {
     pub worker: u32,
@@ -116,7 +116,7 @@ impl Chunk {
         !is_last
     }
 
-    /// Takes the last vertex, or returns `None` where there is none.
+    /// Takes the last vertex, or returns `None` if the chunk is empty.
     pub fn pop(&mut self) -> Option<u32>
         ensures last { IfSome result (λ v. self.old ≡ with_vertices (self.new.vertices ++ v ∷ []) self.new) }
         ensures empty { IfNone result (self.old.vertices ≡ []) }

@@ -1,4 +1,4 @@
-//! What stands in the slot of a log: its list of entries.
+//! The list of entries in the slot of a log.
 
 ghost use Rattle.std.specs.Prelude.{◌≡◌, ◌≢◌, ◌≤◌, ◌<◌, ◌++◌, ◌∷◌, ℕ, [], Some, length, map, slice_get};
 ghost use Rattle.std.specs.Prelude.{All, IsTrue, IfNone, IfOk, IfSome, OnErr, OnOk};
@@ -69,7 +69,7 @@ impl Entry {
         self.bag.metric()
     }
 
-    /// Whether the worker's place is still here.
+    /// Tells if the worker's place is still here.
     pub(crate) fn has(&self, worker: u32) -> bool
         ensures { IsTrue result → HasAccessOf worker self.now }
     {
@@ -91,7 +91,7 @@ impl Entry {
         }
     }
 
-    /// All passes that are still here, put last.
+    /// Puts all passes that are still here last.
     pub(crate) fn claim_all(&mut self, passes: &mut Vec<BagPass>) -> Result<(), Memory>
         ensures bag { self.new.bag ≡ self.old.bag }
         ensures added { OnOk result (AreAdded self.old.bag passes.old.items passes.new.items) }
@@ -130,7 +130,7 @@ fn keep(place: Option<Access>, passes: &mut Vec<BagPass>) -> Result<(), Memory>
     Ok(())
 }
 
-/// The entries of a log, by place. No metric stands twice.
+/// The entries of a log, by place. Each metric has at most one.
 #[derive(Drop)]
 pub(crate) struct Entries {
     pub(crate) list: Vec<Entry>,
@@ -147,7 +147,7 @@ impl Model for Entries {
 }
 
 impl Entries {
-    /// No entry. Takes no memory.
+    /// Returns a list without entries. Takes no memory.
     pub(crate) fn none(alloc: Global) -> Entries
         ensures { result ≡ record { list = [] } }
     {
@@ -192,7 +192,7 @@ impl Entries {
         Ok(())
     }
 
-    /// Whether the worker's place is still here in each entry from this one on.
+    /// Tells if the worker's place is still here in each entry from this one on.
     pub(crate) fn has_from(&self, worker: u32, first: usize) -> bool
         ensures { IsTrue result → HasAccessesFrom worker first self.now }
     {

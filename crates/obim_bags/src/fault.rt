@@ -1,4 +1,4 @@
-//! Why a call on bags was refused.
+//! The reasons for which a call on bags is refused.
 
 ghost use Rattle.std.specs.Prelude.{◌≡◌};
 ghost use Rattle.obim_bags.specs.declared.fault.SettleFault.TheVariants.{Memory};
@@ -8,7 +8,7 @@ use std::alloc::{AllocError, AllocFailed};
 use std::error::Error;
 use std::fmt;
 
-/// Why a bag or a log wasn't settled.
+/// The reason for which a bag or a log wasn't settled.
 #[derive(Clone, Copy, Debug, PartialEq, Eq)]
 pub enum SettleFault {
     /// The passes handed in aren't all.
@@ -44,7 +44,7 @@ impl<T: Drop> From<AllocFailed<T>> for SettleFault {
     }
 }
 
-/// Why a mirror didn't learn of a bag. The mirror is unchanged.
+/// The reason for which a mirror didn't learn of a bag. The mirror is unchanged.
 #[derive(Clone, Copy, Debug, PartialEq, Eq)]
 pub enum LogFault {
     /// The system refused memory. The log may have the new bag.

@@ -1,4 +1,4 @@
-//! Where is the bag of a metric? A list of metrics, looked up by a map.
+//! The place of the bag of a metric: a list of metrics, looked up by a map.
 
 ghost use Rattle.std.specs.Prelude.{◌≡◌, ◌<◌, ◌++◌, ◌∷◌, ℕ, [], Some, length, slice_get};
 ghost use Rattle.std.specs.Prelude.{IfNone, IfSome, OnErr, OnOk};
@@ -59,7 +59,7 @@ impl Index {
         self.places.get(&metric).copied()
     }
 
-    /// Puts a metric last. Unchanged where memory is refused.
+    /// Puts a metric last. Unchanged if memory is refused.
     pub(crate) fn push(&mut self, metric: u64) -> Result<(), Memory>
         requires { Lacks metric self.old }
         ensures last { OnOk result (self.new ≡ self.old ++ metric ∷ []) }

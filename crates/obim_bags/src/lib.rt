@@ -1,9 +1,9 @@
-//! Where are the chunks? Nothing lost, nothing twice, one bag a metric.
+//! Chunks in bags: nothing lost, nothing twice, one bag a metric.
 //!
-//! What waits for workers lies in chunks of vertices, the chunks in bags, and there is one bag for each metric.
-//! A `Bag` is a queue without a lock, of which each worker has a `BagPass`. A `BagLog` is the list of all bags,
-//! which only grows; each worker has a `Mirror` of it with a pass of each bag, so it takes the log's slot only
-//! where it asks for a metric that its mirror doesn't have, or catches up.
+//! Vertices that wait for workers lie in chunks, the chunks in bags, and there is one bag for each metric. A `Bag` is a
+//! queue without a lock, of which each worker has a `BagPass`. A `BagLog` is the list of all bags, which only grows.
+//! Each worker has a `Mirror` of it with a pass of each bag. So it takes the log's slot only if it asks for a metric
+//! that its mirror doesn't have, or catches up.
 //!
 //! Between any two steps of any threads the chunks that all passes of a bag put are those that they got and
 //! those in the bag, each as often. So `drain`, which takes all passes, gives what is left and nothing else.
@@ -19,8 +19,8 @@
 //! log.get_at(&rt, &mut mirrors[1], place) // the chunk, unless another worker got it
 //! ```
 //!
-//! Stands on `crossbeam_queue` for the queue, on `atomic_table` for the log's word and slot, on `arrayvec` for
-//! the chunks, on `crossbeam_utils` for the pause between two tries, and on `route_walks` for `Memory`.
+//! Stands on `crossbeam_queue` for the queue, on `atomic_table` for the log's word and slot, and on `arrayvec` for the
+//! chunks. `crossbeam_utils` has the pause between two tries, and `route_walks` has `Memory`.
 #![tactic(auto)]
 
 mod access;

@@ -88,8 +88,8 @@ impl BagLog {
         Ok((log, mirrors))
     }
 
-    /// The place of the metric's bag. A metric that the mirror has is answered without a wait; otherwise
-    /// the mirror catches up with the log and, where no bag has the metric, a new one is appended.
+    /// The place of the metric's bag. A metric that the mirror has is answered without a wait. Otherwise the mirror
+    /// catches up with the log and, if no bag has the metric, a new one is appended.
     pub fn find_or_append<R: Wait>(
         &self,
         rt: &R,
@@ -131,7 +131,7 @@ impl BagLog {
         caught
     }
 
-    /// `Bag::put` on the bag at a place, through the mirror's pass.
+    /// Does as `Bag::put` on the bag at a place, through the mirror's pass.
     pub fn put_at<R: Wait>(
         &self,
         rt: &R,
@@ -155,7 +155,7 @@ impl BagLog {
         }
     }
 
-    /// `Bag::put_boxed` on the bag at a place, through the mirror's pass.
+    /// Does as `Bag::put_boxed` on the bag at a place, through the mirror's pass.
     #[inline(always)]
     pub fn put_boxed_at<R: Wait>(
         &self,
@@ -174,7 +174,7 @@ impl BagLog {
         mirror.accesses.put_boxed(rt, place, chunk)
     }
 
-    /// `Bag::get` on the bag at a place, through the mirror's pass.
+    /// Does as `Bag::get` on the bag at a place, through the mirror's pass.
     pub fn get_at<R: Wait>(&self, rt: &R, mirror: &mut Mirror, place: usize) -> Option<Chunk>
         requires log { mirror.old.log ≡ self.now }
         requires place { place < length mirror.old.accesses }
@@ -186,7 +186,7 @@ impl BagLog {
         Some(Box::into_inner(self.get_boxed_at(rt, mirror, place)?))
     }
 
-    /// `Bag::get_boxed` on the bag at a place, through the mirror's pass.
+    /// Does as `Bag::get_boxed` on the bag at a place, through the mirror's pass.
     #[inline(always)]
     pub fn get_boxed_at<R: Wait>(
         &self,
@@ -204,7 +204,7 @@ impl BagLog {
         mirror.accesses.get_boxed(rt, place)
     }
 
-    /// `Bag::finds_empty` on the bag at a place, through the mirror's pass: the cheapest look.
+    /// Does as `Bag::finds_empty` on the bag at a place, through the mirror's pass: the cheapest look.
     #[inline(always)]
     pub fn finds_empty_at(&self, mirror: &mut Mirror, place: usize) -> bool
         requires log { mirror.old.log ≡ self.now }

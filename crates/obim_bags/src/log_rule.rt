@@ -1,4 +1,4 @@
-//! What the seats of a log know, the rule of its table, and its four kinds of step.
+//! The knowledge of the seats of a log, the rule of its table, and its four kinds of step.
 
 use crate::bag::Bag;
 use crate::entries::Entries;
@@ -6,8 +6,8 @@ use atomic_table::{Join, Play, Seat, Table, TableRule};
 use std::alloc::Global;
 use std::collections::LinkedList;
 
-/// What a seat of a log knows: the list of bags that it saw, the lists that seats joined into it saw, and
-/// whether it holds the slot. No value of it is made.
+/// The knowledge of a seat of a log: the list of bags that it saw, the lists that seats joined into it saw, and if it
+/// holds the slot. No value of it is made.
 pub struct LogKnown {
     pub list: LinkedList<Bag>,
     pub others: LinkedList<LinkedList<Bag>>,
@@ -29,7 +29,7 @@ pub(crate) type LogTable = Table<Entries, LogKnown, (), LogRule, Global>;
 
 pub(crate) type LogSeat = Seat<Entries, LogKnown>;
 
-// The word becomes 1. Where it was 0 the seat takes the slot, and its list becomes the whole list.
+// The word becomes 1. If it was 0 the seat takes the slot, and its list becomes the whole list.
 pub(crate) struct Acquires;
 
 impl Play<Entries, LogKnown> for Acquires {

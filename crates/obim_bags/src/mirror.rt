@@ -45,7 +45,7 @@ impl Mirror {
         self.accesses.len()
     }
 
-    /// The place of a metric's bag, or `None` where the mirror doesn't have it.
+    /// The place of a metric's bag, or `None` if the mirror doesn't have it.
     #[inline(always)]
     pub fn place_of(&self, metric: u64) -> Option<usize>
         ensures at { IfSome result (λ place. IsAlone metric place (metrics_in self.now.accesses)) }
@@ -63,7 +63,7 @@ impl Mirror {
         self.accesses.metric_at(place)
     }
 
-    /// How often this worker found the bag at a place empty, modulo 2^64.
+    /// The number of times that this worker found the bag at a place empty, modulo 2^64.
     pub fn empty_finds_at(&self, place: usize) -> u64
         requires { place < length self.now.accesses }
         ensures { IfSome (slice_get self.now.accesses place) (λ seen. seen.pass.empties ≡ result) }

@@ -93,7 +93,7 @@ pub(crate) fn cut_shares(
     passes
 }
 
-/// The passes as one, or `None` where they don't have all shares.
+/// The passes as one, or `None` if they don't have all shares.
 pub(crate) fn join_all(
     queue: &ChunkQueue,
     workers: u32,

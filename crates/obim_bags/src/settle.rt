@@ -25,9 +25,9 @@ use std::alloc::Global;
 use std::sync::Wait;
 
 impl BagLog {
-    /// What is left in each bag of the log, by place and then in the order of its queue. Passes that no
-    /// mirror has claimed are joined in. `Missing` where no mirror is handed in or the passes of some bag
-    /// aren't all: tests show that, and no clause says it. The mirrors are gone after a fault.
+    /// Drains the log: all that is left in each bag, by place and then in the order of its queue. Passes that no mirror
+    /// has claimed are joined in. `Missing` if no mirror is handed in or the passes of some bag aren't all: tests show
+    /// that, and no clause says it. The mirrors are gone after a fault.
     pub fn drain<R: Wait>(
         &self,
         rt: &R,
@@ -164,7 +164,7 @@ fn claimed(
     Ok(passes)
 }
 
-// The pass at a place, where the list is so long, put last.
+// The pass at a place, if the list is so long, put last.
 fn move_last(
     accesses: &mut Vec<Access>,
     place: usize,

@@ -1,4 +1,4 @@
-//! How many visits has a worker left?
+//! The visits that a worker has left.
 
 ghost use Rattle.std.specs.Prelude.{◌≡◌, ◌<◌, ◌+◌, None, IfSome, true, false};
 
@@ -10,7 +10,7 @@ pub(crate) struct Budget {
 }
 
 impl Budget {
-    /// As many visits as these; without a number there is no limit.
+    /// A budget of this number of visits; without a number there is no limit.
     pub(crate) fn new(visits: Option<u64>) -> Budget
         ensures limit { visits ≡ None → result.has_limit ≡ false }
         ensures left { IfSome visits (λ count. result.left ≡ count) }
@@ -26,12 +26,12 @@ impl Budget {
         self.left
     }
 
-    /// The visits that were made, where there is no limit.
+    /// The visits that were made, if there is no limit.
     pub(crate) fn made(&self) -> u64 {
         u64::MAX - self.left
     }
 
-    /// Whether no visit is left.
+    /// Tells if no visit is left.
     #[inline(always)]
     pub(crate) fn is_spent(&mut self) -> bool
         ensures limit { self.new.has_limit ≡ self.old.has_limit }
@@ -46,7 +46,7 @@ impl Budget {
         self.ends()
     }
 
-    /// Whether there is a limit; otherwise there are as many visits again.
+    /// Tells if there is a limit; otherwise there are as many visits again.
     #[inline(never)]
     fn ends(&mut self) -> bool
         ensures limit { self.new.has_limit ≡ self.old.has_limit }

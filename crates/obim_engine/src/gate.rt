@@ -3,13 +3,13 @@
 use obim_pool::Worklist;
 use std::sync::Wait;
 
-/// Called by a worker each time that it has taken a vertex, before it reads the vertex's label: a place
+/// A gate that a worker calls each time that it has taken a vertex, before it reads the vertex's label. It is a place
 /// to watch workers, or to hold one back. No label depends on it.
 pub trait Gate {
-    /// `worker` counts from 0, and so does `vertex`.
+    /// Passes a visit. `worker` counts from 0, and so does `vertex`.
     fn pass<H: Wait>(&self, rt: &H, worker: u32, vertex: u32);
 
-    /// Called by an operator when the workers of a run are done: what their worklist held.
+    /// Sees what the worklist of a run's workers held. An operator calls it when they are done.
     fn end<H: Wait>(&self, _rt: &H, _worklist: Worklist) {}
 }
 

@@ -20,7 +20,7 @@ impl fmt::Debug for Recorder {
 }
 
 impl Recorder {
-    /// No vertex has passed.
+    /// Makes a recorder that no vertex has passed.
     pub fn new(alloc: Global) -> Recorder {
         Recorder {
             passed: Mutex::new(Vec::new(alloc)),
@@ -35,7 +35,7 @@ impl Recorder {
 
 impl Gate for Recorder {
     fn pass<H: Wait>(&self, rt: &H, _worker: u32, vertex: u32) {
-        // Where memory is refused a vertex is left out, which a test notices.
+        // If memory is refused a vertex is left out, which a test notices.
         let _ = self.passed.lock(rt).push(vertex);
     }
 }

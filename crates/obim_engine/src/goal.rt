@@ -1,4 +1,4 @@
-//! Which labels are wanted of a run, and when does it have them?
+//! The labels that are wanted of a run, and the point at which it has them.
 
 ghost use Rattle.std.specs.Prelude.{◌≡◌, ◌↔◌, ◌<◌, ◌≤◌, IsTrue, length, slice_index, All};
 ghost use Rattle.obim_engine.specs.Goal.{IsGoalWithin, IsServedBy, limit_past, targets_of};
@@ -6,23 +6,23 @@ ghost use Rattle.obim_engine.specs.Goal.{IsGoalWithin, IsServedBy, limit_past, t
 use label_words::Closed;
 use route_walks::INF;
 
-/// Which labels are wanted of a run. It goes on until it has these, and may stop then.
+/// The labels that are wanted of a run. It goes on until it has these, and may stop then.
 #[derive(Clone, Copy, Debug)]
 pub enum Goal<'a> {
     /// Those of all vertices: the run goes to its end.
     EachVertex,
-    /// Those of these vertices. The run goes as far as the greatest of them, and to its end where one of them
+    /// Those of these vertices. The run goes as far as the greatest of them, and to its end if one of them
     /// can't be reached.
     Targets(&'a [u32]),
     /// Those of these vertices, and of each vertex on a walk of least cost to one of them, so that walks to them
-    /// can be told from the labels. The run goes a little further than for the vertices alone.
+    /// can be found from the labels. The run goes a little further than for the vertices alone.
     WalksTo(&'a [u32]),
     /// All that are at most this bound.
     Within(u64),
 }
 
 impl<'a> Goal<'a> {
-    /// Whether the vertices that are named are below `n`: for callers that have them from outside.
+    /// Tells if the vertices that are named are below `n`: for callers that have them from outside.
     pub fn is_within(&self, n: u32) -> bool
         ensures { IsTrue result ↔ IsGoalWithin n self.now }
     {
@@ -40,7 +40,7 @@ impl<'a> Goal<'a> {
         }
     }
 
-    /// The least limit that serves, where this is the greatest label of the vertices that are named.
+    /// The least limit that serves, if this is the greatest label of the vertices that are named.
     pub(crate) fn limit_past(&self, farthest: u64) -> u64
         ensures { result ≡ limit_past self.now farthest }
     {
@@ -61,16 +61,16 @@ impl<'a> Goal<'a> {
     }
 }
 
-/// What a run gives that may stop once its goal is reached.
+/// The result of a run that may stop once its goal is reached.
 #[derive(Debug, Drop)]
 pub struct Reached {
-    /// Least labels where the run came to its end, or else a pause, from which it can go on.
+    /// Least labels if the run came to its end, or else a pause, from which it can go on.
     pub closed: Closed,
-    /// Labels are least up to this limit: `INF` where all are.
+    /// Labels are least up to this limit: `INF` if all are.
     pub limit: u64,
 }
 
-/// The greatest label of the targets; 0 where there are none.
+/// The greatest label of the targets; 0 if there are none.
 fn farthest(labels: &[u64], targets: &[u32]) -> u64
     requires { All (λ t. t < length labels.now) targets.now }
     ensures { All (λ t. slice_index labels.now t ≤ result) targets.now }

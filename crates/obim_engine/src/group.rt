@@ -16,7 +16,7 @@ use std::time::Clock;
 
 /// One worker for each side, numbered from `first`, until each of them saw the pending total at 0, spent its
 /// budget or has nothing left to do that is wanted. The seat comes and goes by value, so that a worker's lies in
-/// registers. Where no thread can be started, the workers that should have had one run after the others, on
+/// registers. If no thread can be started, the workers that should have had one run after the others, on
 /// this thread.
 #[cycle(group)]
 pub(crate) fn run_group<H, S, P, G>(

@@ -9,10 +9,10 @@ ghost use Rattle.obim_engine.specs.Grown.{IsGrown, TailsAreMarked};
 use label_words::Paused;
 use route_walks::ArcRec;
 
-/// Turns a pause of a graph into one of the graph with these arcs added, which `with_arcs` of `Csr` gives:
-/// the tail of each added arc is marked, so that a run which goes on from it relaxes the added arcs, and
-/// the labels stay. `resume` over the grown graph then ends with the labels that a run from the seeds would
-/// give there. Only what the added arcs change is visited, and each marked vertex once.
+/// Turns a pause of a graph into one of the graph with these arcs added, which `with_arcs` of `Csr` gives. The tail of
+/// each added arc is marked, so that a run which goes on from it relaxes the added arcs, and the labels stay. `resume`
+/// over the grown graph then ends with the labels that a run from the seeds would give there. Only what the added arcs
+/// change is visited, and each marked vertex once.
 ///
 /// Labels that a run gave are a pause by `Paused::settled`. Takes no memory.
 pub fn grow(mut rest: Paused, added: &[ArcRec]) -> Paused

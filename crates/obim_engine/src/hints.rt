@@ -1,4 +1,5 @@
-//! Hints: how wide buckets are, what is asked of memory ahead of a visit, and when a worker waits, naps, sweeps or leaves.
+//! Hints: how wide buckets are, what is asked of memory ahead of a visit, and when a worker waits, naps, sweeps or
+//! leaves.
 //!
 //! No label depends on what these say, so they promise nothing of labels.
 

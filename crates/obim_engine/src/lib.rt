@@ -1,4 +1,4 @@
-//! Who works, when is it over, what are the labels?
+//! Workers, the end of a run, and its labels.
 //!
 //! `run` gives the least labels of a graph and seeds by any number of workers. Each worker draws a
 //! vertex from a pool, takes its mark, relaxes the arcs that leave it, and hands the vertices whose

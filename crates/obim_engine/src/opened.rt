@@ -1,4 +1,4 @@
-//! With which words does a run begin?
+//! The words with which a run begins.
 
 ghost use Rattle.std.specs.Prelude.{◌≡◌, All, IfOk, IfSome};
 ghost use Rattle.std.proofs.Props.{props};
@@ -19,7 +19,7 @@ pub(crate) struct Opened {
     pub words: Words,
     /// The seat that they were opened with, which has all shares.
     pub seat: WorkSeat,
-    /// The one vertex that is seeded, where there are no others: then only it is marked.
+    /// The one vertex that is seeded, if there are no others: then only it is marked.
     pub only: Option<u32>,
     ghost words_are: { seat.words ≡ words },
     ghost shares: { seat.known.view.share ≡ SHARES },
@@ -38,7 +38,7 @@ impl Opened {
         Ok(Opened { words, seat, only })
     }
 
-    /// Words with the labels and marks of a pause, which is given up.
+    /// Makes words with the labels and marks of a pause, and drops it.
     pub(crate) fn from_pause(alloc: Global, csr: &Csr, rest: Paused) -> Result<Opened, Memory>
         requires { CanGoOn csr.now rest }
         ensures { IfOk result (λ opened. opened.seat.known ≡ first_known csr.now (seeds_of rest.labels)) }
@@ -53,7 +53,7 @@ impl Opened {
     }
 }
 
-/// The one vertex that is seeded, where there are no others.
+/// The one vertex that is seeded, if there are no others.
 fn only_seeded(seeds: &[Seed]) -> Option<u32>
     ensures { IfSome result (λ v. All (λ seed. seed.vertex ≡ v) seeds.now) }
 {

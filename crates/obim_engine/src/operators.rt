@@ -29,7 +29,7 @@ use std::thread::Threads;
 use std::time::Clock;
 
 /// The least label of each vertex from any seeds, by workers over a pool of their own: an `ObimPool`, or
-/// a `WideningPool` where the settings say so. The seeds are given back before the workers start.
+/// a `WideningPool` if the settings say so. The seeds are given back before the workers start.
 pub fn least_labels<H: Threads + Wait + Clock + Sync, G: Gate + Sync>(
     rt: &H,
     alloc: Global,
@@ -46,7 +46,7 @@ pub fn least_labels<H: Threads + Wait + Clock + Sync, G: Gate + Sync>(
     Ok(reached.closed.into_labels())
 }
 
-/// `least_labels` that may stop as soon as those that are wanted are least.
+/// Does as `least_labels`, but may stop as soon as those that are wanted are least.
 pub fn least_labels_until<H: Threads + Wait + Clock + Sync, G: Gate + Sync>(
     rt: &H,
     alloc: Global,
@@ -65,9 +65,9 @@ pub fn least_labels_until<H: Threads + Wait + Clock + Sync, G: Gate + Sync>(
     reach_alone(rt, alloc, csr, opened, goal, settings, gate)
 }
 
-/// The least label of each vertex of a graph from the seeds of a pause: workers go on from the pause, which
-/// is of this graph, to the end, over a pool of their own as for `least_labels`. Only what the marked
-/// vertices change is visited. After a fault the pause is gone.
+/// The least label of each vertex of a graph from the seeds of a pause. Workers go on from the pause, which is of this
+/// graph, to the end, over a pool of their own as for `least_labels`. Only what the marked vertices change is visited.
+/// After a fault the pause is gone.
 pub fn least_labels_resumed<H: Threads + Wait + Clock + Sync, G: Gate + Sync>(
     rt: &H,
     alloc: Global,
@@ -94,7 +94,7 @@ pub fn least_labels_resumed<H: Threads + Wait + Clock + Sync, G: Gate + Sync>(
     Ok(reached.closed.into_labels())
 }
 
-/// `least_labels_resumed` that may stop as soon as those that are wanted are least.
+/// Does as `least_labels_resumed`, but may stop as soon as those that are wanted are least.
 pub fn least_labels_resumed_until<H: Threads + Wait + Clock + Sync, G: Gate + Sync>(
     rt: &H,
     alloc: Global,
@@ -165,7 +165,7 @@ fn reach_alone<H: Threads + Wait + Clock + Sync, G: Gate + Sync>(
     }
 }
 
-/// The least cost of a walk from the source to each vertex, `INF` where there is none. Takes as long as a `run`.
+/// The least cost of a walk from the source to each vertex, or `INF` if no walk leads there. Takes as long as a `run`.
 pub fn distances<H: Threads + Wait + Clock + Sync, G: Gate + Sync>(
     rt: &H,
     alloc: Global,
@@ -182,7 +182,7 @@ pub fn distances<H: Threads + Wait + Clock + Sync, G: Gate + Sync>(
     Ok(reached.closed.into_labels())
 }
 
-/// `distances` that may stop as soon as those that are wanted are least.
+/// Does as `distances`, but may stop as soon as those that are wanted are least.
 pub fn distances_until<H: Threads + Wait + Clock + Sync, G: Gate + Sync>(
     rt: &H,
     alloc: Global,
@@ -200,7 +200,7 @@ pub fn distances_until<H: Threads + Wait + Clock + Sync, G: Gate + Sync>(
     least_labels_until(rt, alloc, csr, seeds, goal, settings, gate)
 }
 
-/// The fewest arcs of a walk from the source to each vertex, `INF` where there is none. Each call makes
+/// The fewest arcs of a walk from the source to each vertex, or `INF` if no walk leads there. Each call makes
 /// the graph with weights of 1 anew: for many sources make it once, and ask for `distances` in it.
 pub fn levels<H: Threads + Wait + Clock + Sync, G: Gate + Sync>(
     rt: &H,

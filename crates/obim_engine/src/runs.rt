@@ -27,12 +27,12 @@ use std::sync::Wait;
 use std::thread::Threads;
 use std::time::Clock;
 
-/// Why a run gives no labels. The sides are still sides of the pool.
+/// The reason for which a run gives no labels. The sides are still sides of the pool.
 #[derive(Clone, Copy, Debug, PartialEq, Eq)]
 pub enum RunFault {
     /// The system refused memory, before the workers started or while the words were closed.
     Memory,
-    /// The system refused a thread. No run returns it: where a thread can't be started, its workers run
+    /// The system refused a thread. No run returns it: if a thread can't be started, its workers run
     /// on the thread that wanted it.
     Spawn,
 }
@@ -170,7 +170,7 @@ where
 {
     match run_workers(rt, alloc, opened, run, sides)? {
         Closed::Settled(labels) => Ok(labels),
-        // Where all labels are wanted, without a budget, the seat saw the total at 0.
+        // If all labels are wanted, without a budget, the seat saw the total at 0.
         Closed::Paused(_) => unreachable!(),
     }
 }
@@ -205,7 +205,7 @@ where
     Ok(words.close(alloc, seat)?)
 }
 
-/// Hands each marked vertex to the pool, in rising order, or `only` one where the others aren't marked.
+/// Hands each marked vertex to the pool, in rising order, or `only` one if the others aren't marked.
 fn push_marked<H: Wait, P: WorkPool, G>(
     rt: &H,
     shared: &Shared<'_, P, G>,
@@ -227,7 +227,7 @@ fn push_marked<H: Wait, P: WorkPool, G>(
     };
     for v in first..end {
         if let Some(label) = shared.words.marked_label(seat, v) {
-            // Where the pool refuses the vertex, it stays marked all the same.
+            // If the pool refuses the vertex, it stays marked all the same.
             if !run.pool.push(rt, side, v, run.metric_of(label)) {
                 shared.pace.lose();
             }

@@ -1,4 +1,4 @@
-//! How a run is set up.
+//! The settings of a run.
 
 ghost use Rattle.std.specs.Prelude.{◌≡◌, ◌↔◌, ◌≤◌, IsSome, IfSome};
 ghost use Rattle.obim_engine.specs.Settings.{AreSettings, shift_of};
@@ -13,7 +13,7 @@ pub const MAX_SHIFT: u32 = 63;
 /// A chunk has at most this many vertices.
 pub const MAX_CHUNK: usize = 256;
 
-/// Which labels share a bucket.
+/// The buckets that labels share.
 #[derive(Clone, Copy, Debug, PartialEq, Eq)]
 pub enum Buckets {
     /// Each bucket spans 2^bits labels: a label is shifted right by so many bits, from 0 to `MAX_SHIFT`, to give its
@@ -24,18 +24,18 @@ pub enum Buckets {
     Widening,
 }
 
-/// How labels are worked out. No setting changes a label.
+/// The settings by which labels are worked out. None of them changes a label.
 #[derive(Clone, Copy, Debug, PartialEq, Eq)]
 pub struct Settings {
-    /// How many workers, from 1 to `MAX_WORKERS`.
+    /// The number of workers, from 1 to `MAX_WORKERS`.
     pub workers: u32,
     pub buckets: Buckets,
-    /// How many vertices are handed on at a time, from 1 to `MAX_CHUNK`.
+    /// The number of vertices that are shared at a time, from 1 to `MAX_CHUNK`.
     pub chunk: usize,
     ghost within: { AreSettings workers (shift_of buckets) chunk },
 }
 
-/// How a run is set up: by which settings, over which pool and past which gate.
+/// The setup of a run: its settings, its pool, and the gate that watches it.
 #[derive(Drop)]
 pub struct Setup<'a, P, G> {
     pub settings: &'a Settings,
@@ -44,7 +44,7 @@ pub struct Setup<'a, P, G> {
 }
 
 impl Settings {
-    /// The settings with even buckets, or `None` where one is outside its limits.
+    /// The settings with even buckets, or `None` if one is outside its limits.
     pub fn new(workers: u32, shift: u32, chunk: usize) -> Option<Settings>
         ensures within { IsSome result ↔ AreSettings workers shift chunk }
         ensures workers { IfSome result (λ settings. settings.workers ≡ workers) }
@@ -64,7 +64,7 @@ impl Settings {
         })
     }
 
-    /// These settings with buckets that widen: they fit every graph that was tried.
+    /// Returns these settings with buckets that widen: they fit every graph that was tried.
     pub fn with_widening_buckets(self) -> Settings
         ensures workers { result.workers ≡ self.workers }
         ensures buckets { result.buckets ≡ buckets.Widening }
@@ -77,7 +77,7 @@ impl Settings {
         }
     }
 
-    /// These settings with so many workers.
+    /// Returns these settings with so many workers.
     pub fn with_workers(self, workers: u32) -> Settings
         requires { (1 ≤ workers) × (workers ≤ MAX_WORKERS) }
         ensures workers { result.workers ≡ workers }
@@ -91,7 +91,7 @@ impl Settings {
         }
     }
 
-    /// By how many bits labels are shifted right, where the graph isn't asked.
+    /// The number of bits by which labels are shifted right, if the graph isn't asked.
     pub(crate) fn shift(&self) -> u32
         ensures { result ≤ MAX_SHIFT }
     {

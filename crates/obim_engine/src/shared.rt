@@ -1,4 +1,4 @@
-//! What is a run, and what do its workers share?
+//! A run, and what its workers share.
 
 ghost use Rattle.std.specs.Prelude.{◌≡◌, ◌≤◌, None};
 ghost use Rattle.obim_engine.specs.declared.settings.TheConstants.{MAX_SHIFT};
@@ -16,9 +16,9 @@ pub(crate) struct Run<'a, P, G> {
     pub csr: &'a Csr,
     pub pool: &'a P,
     pub gate: &'a G,
-    /// By how many bits a label is shifted right to give its metric.
+    /// The number of bits by which a label is shifted right to give its metric.
     pub shift: u32,
-    /// How many vertices each worker may visit, where there is a limit.
+    /// The number of vertices that each worker may visit, if there is a limit.
     pub budget: Option<u64>,
     pub goal: Goal<'a>,
     ghost within: { shift ≤ MAX_SHIFT },
@@ -83,7 +83,7 @@ impl<'a, P, G> Run<'a, P, G> {
         }
     }
 
-    /// The same to the end.
+    /// This run without a goal, to its end.
     pub(crate) fn to_end(&self) -> Run<'a, P, G>
         ensures csr { result.csr.now ≡ self.now.csr.now }
         ensures pool { result.pool.now ≡ self.now.pool.now }
@@ -107,7 +107,7 @@ impl<'a, P, G> Run<'a, P, G> {
     }
 }
 
-/// What all workers of a run share.
+/// All that the workers of a run share.
 #[derive(Drop)]
 pub(crate) struct Shared<'a, P, G> {
     pub run: Run<'a, P, G>,

@@ -1,8 +1,8 @@
 //! Runs that may stop early, once the labels that are wanted are least.
 //!
 //! When workers leave is a hint. That the labels are least is seen from the pause that they leave: no vertex is marked
-//! whose label is below the limit that serves the goal. Where one is, as where the pool has lost it, the run goes on to
-//! its end.
+//! whose label is below the limit that serves the goal. If one is, for example since the pool has lost it, the run
+//! goes on to its end.
 
 ghost use Rattle.std.specs.Prelude.{◌≡◌, ◌≤◌, length, None, All, IfOk};
 ghost use Rattle.route_walks.specs.Walk.{AreSeeds};
@@ -27,10 +27,10 @@ use std::thread::Threads;
 use std::time::Clock;
 
 /// A `run` that may stop as soon as the labels that are wanted are least. The limit up to which labels are least is the
-/// least one that serves the goal where it stopped, and `INF` where it came to its end.
+/// least one that serves the goal if it stopped early, and `INF` if it came to its end.
 ///
-/// It visits about the vertices whose labels are below the limit, once each if the pool gives low labels first, and takes
-/// besides some passes over all vertices.
+/// It visits about the vertices whose labels are below the limit, once each if the pool gives low labels first. It also
+/// takes some passes over all vertices.
 pub fn run_until<H: Threads + Wait + Clock + Sync, P: WorkPool + Sync, G: Gate + Sync>(
     rt: &H,
     alloc: Global,
@@ -81,8 +81,8 @@ where
     reach(rt, alloc, opened, &Run::of(csr, goal, setup), sides)
 }
 
-/// A run on open words until its goal is reached: what workers leave that left early, as it is where the labels that
-/// are wanted are seen to be least, else it goes on to the end.
+/// A run on open words until its goal is reached. If the labels that are wanted are seen to be least, what the
+/// workers left is returned as it is. Otherwise the run goes on to the end.
 pub(crate) fn reach<H: Threads + Wait + Clock + Sync, P: WorkPool + Sync, G: Gate + Sync>(
     rt: &H,
     alloc: Global,
@@ -117,7 +117,7 @@ where
     Ok(settled(labels))
 }
 
-/// What a run gives that came to its end.
+/// The result of a run that came to its end.
 fn settled(labels: Vec<u64>) -> Reached
     ensures { result ≡ record { closed = Closed.Settled labels; limit = INF } }
 {

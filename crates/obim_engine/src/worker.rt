@@ -1,10 +1,10 @@
-//! One worker: draw a vertex, take it, relax its arcs, and again until the pending total is 0, the worker's
-//! budget is spent, or nothing is left below the limit of what is wanted.
+//! One worker: it draws a vertex, takes it, relaxes its arcs, and begins again. It ends if the pending total is 0,
+//! its budget is spent, or nothing is left below the limit of what is wanted.
 //!
-//! The pending total is the one word on which every worker would step at each mark and after each visit. So a
-//! worker keeps its credits from visit to visit: the credit of a vertex that it took pays for the mark of a
-//! head, and where it has none for a mark it raises many at once. As long as it keeps some the total isn't 0,
-//! so it gives all back before it looks at the total, naps, sweeps or leaves.
+//! The pending total is the one word on which every worker would step at each mark and after each visit. So a worker
+//! keeps its credits from visit to visit. The credit of a vertex that it took pays for the mark of a head, and if it
+//! has none for a mark it raises many at once. As long as it keeps some the total isn't 0, so it gives all back
+//! before it looks at the total, naps, sweeps or leaves.
 
 ghost use Rattle.std.specs.Prelude.{◌≡◌, ◌≢◌, ◌≤◌, ◌<◌, true, false, IfNone, IfSome};
 ghost use Rattle.relax_core.specs.declared.views.Hand.TheVariants.{Idle, Fresh};
@@ -32,14 +32,14 @@ use route_walks::INF;
 use std::sync::Wait;
 use std::time::Clock;
 
-/// How many credits a worker raises at once, where it has none for a mark.
+/// The number of credits that a worker raises at once, if it has none for a mark.
 const RAISED: u8 = 64;
 
-/// The most credits that a worker keeps after a visit. Where it has more it gives all back.
+/// The most credits that a worker keeps after a visit. If it has more it gives all back.
 const MOST_KEPT: u8 = 128;
 
 /// Works until the seat sees the pending total at 0, the worker has visited as many vertices as its budget
-/// lets it, or nothing is left to do that is wanted. Where all is wanted no label is compared with a limit.
+/// lets it, or nothing wanted is left to do. If all is wanted, no label is compared with a limit.
 pub(crate) fn work<H: Wait + Clock, P: WorkPool, G: Gate>(
     rt: &H,
     shared: &Shared<'_, P, G>,
@@ -59,8 +59,8 @@ pub(crate) fn work<H: Wait + Clock, P: WorkPool, G: Gate>(
     }
 }
 
-/// Works until nothing is left to do that is wanted, where that is not all: without a limit until each target has a
-/// label, and from then on with one. Where it finds them late, it goes on to the end.
+/// Works until nothing is left to do that is wanted, if that is not all: without a limit until each target has a
+/// label, and from then on with one. If it finds them late, it goes on to the end.
 fn work_until<H: Wait + Clock, P: WorkPool, G: Gate>(
     rt: &H,
     shared: &Shared<'_, P, G>,
@@ -91,7 +91,7 @@ fn work_until<H: Wait + Clock, P: WorkPool, G: Gate>(
 }
 
 /// Works until the seat sees the pending total at 0, the worker has visited as many vertices as its budget
-/// lets it, nothing is left to do that is wanted, or it is to take another aim. The seat comes and goes by value, so
+/// lets it, or nothing wanted is left to do. It also ends if another aim is due. The seat comes and goes by value, so
 /// that it lies in registers meanwhile.
 fn work_with<H: Wait + Clock, P: WorkPool, G: Gate, A: Aim>(
     rt: &H,
@@ -202,7 +202,7 @@ fn give_all_back(words: &Words, seat: &mut WorkSeat)
     }
 }
 
-/// Whether the pending total is 0. A worker that looked with credits of its own would never see that.
+/// Tells if the pending total is 0. A worker that looked with credits of its own would never see that.
 #[inline(always)]
 fn is_over(words: &Words, seat: &mut WorkSeat) -> bool
     requires words { seat.old.words ≡ words.now }
@@ -215,7 +215,7 @@ fn is_over(words: &Words, seat: &mut WorkSeat) -> bool
     words.see(seat)
 }
 
-/// Looks at what is wanted, after so many visits, and at the other workers, and naps where it is far ahead of one:
+/// Looks at what is wanted, after so many visits, and at the other workers, and naps if it is far ahead of one:
 /// without credits then.
 #[inline(never)]
 fn look<C: Clock, P, G, A: Aim>(
@@ -244,7 +244,7 @@ fn look<C: Clock, P, G, A: Aim>(
 }
 
 /// Shows other workers the metric of the vertex that the worker is about to take, if it is marked, and `INF`
-/// where there is no vertex.
+/// if there is no vertex.
 fn show<P, G>(shared: &Shared<'_, P, G>, worker: u32, seat: &WorkSeat, vertex: Option<u32>)
     requires words { seat.now.words ≡ shared.now.words.now }
     requires graph { shared.now.run.csr.now ≡ seat.now.known.graph }
@@ -301,7 +301,7 @@ fn sweep<H: Wait, P: WorkPool, G: Gate, A: Aim>(
 }
 
 /// Relaxes the row of the vertex that the seat took, and keeps the credits that are left, for marks to come. A head
-/// whose label fell is marked, and handed to the pool where the label is below the limit.
+/// whose label fell is marked, and handed to the pool if the label is below the limit.
 #[inline(always)]
 fn visit<H: Wait, P: WorkPool, G: Gate, A: Aim>(
     rt: &H,
@@ -335,7 +335,7 @@ fn visit<H: Wait, P: WorkPool, G: Gate, A: Aim>(
         }
         let metric = run.metric_of(label);
         let pushed = run.pool.push_now(side, head, metric) || run.pool.push(rt, side, head, metric);
-        // Where the pool refuses the head, it stays marked all the same.
+        // If the pool refuses the head, it stays marked all the same.
         if !pushed {
             shared.pace.lose();
         }
@@ -377,7 +377,7 @@ fn next_lowered(
     }
 }
 
-/// Sets the mark that is owed, with a credit that the worker has besides the one of its vertex.
+/// Sets the mark that is owed, with a credit other than the one of the worker's vertex.
 #[inline(always)]
 fn mark(words: &Words, seat: &mut WorkSeat, u: u32)
     requires words { seat.old.words ≡ words.now }

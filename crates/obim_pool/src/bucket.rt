@@ -1,4 +1,4 @@
-//! Which bucket has a label, where buckets widen with it?
+//! The bucket of a label, if buckets widen with it.
 
 ghost use Rattle.std.specs.Prelude.{◌≡◌, ◌<◌};
 ghost use Rattle.obim_pool.specs.Scales.{widening_bucket};
@@ -10,9 +10,9 @@ const NARROW: u64 = 1 << 8;
 /// There are this many buckets for all labels of 64 bits.
 pub const BUCKETS: u64 = 7424;
 
-/// The bucket of a label: a label below 256 itself, and a larger one rounded down to its leading eight
-/// bits, so that it is wider than no 128th of its labels. Buckets rise with labels and leave no number
-/// out. There are 128 of them for each doubling of the label, so a thousand or two for most graphs.
+/// The bucket of a label. It is the label itself below 256, and a larger label rounded down to its leading eight bits.
+/// So it is wider than no 128th of its labels. Buckets rise with labels and leave no number out. There are 128 of them
+/// for each doubling of the label, so a thousand or two for most graphs.
 ///
 /// It is the rounding of a floating-point number with seven bits of fraction, and of the buckets of
 /// [HdrHistogram](http://hdrhistogram.org).

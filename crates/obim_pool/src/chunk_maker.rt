@@ -1,4 +1,4 @@
-//! Opens chunks by name, in boxes that were used before where there are some.
+//! Opens chunks by name, in boxes that were used before if there are some.
 
 ghost use Rattle.std.specs.Prelude.{◌≡◌, ◌≤◌, [], IfSome};
 ghost use Rattle.obim_bags.specs.declared.chunk.TheConstants.{MAX_SIZE};
@@ -41,12 +41,12 @@ impl ChunkMaker {
         self.size
     }
 
-    /// How many chunks it opened.
+    /// The number of chunks that it opened.
     pub(crate) fn opened(&self) -> u64 {
         self.next.serial
     }
 
-    /// An empty chunk with the next serial. `None` where memory is refused or the serials ran out.
+    /// An empty chunk with the next serial. `None` if memory is refused or the serials ran out.
     pub(crate) fn open(&mut self) -> Option<Box<Chunk>>
         ensures { IfSome result (λ chunk. chunk.value.vertices ≡ []) }
     {

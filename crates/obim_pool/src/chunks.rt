@@ -8,13 +8,13 @@ ghost use Rattle.obim_pool.specs.Held.{held_of, vertices_in};
 use crate::chunk_maker::ChunkMaker;
 use obim_bags::Chunk;
 
-/// Of one bag, the chunk that pushes fill and the chunk that pops drain, each perhaps absent.
+/// The chunks of one bag: the one that pushes fill and the one that pops drain, each perhaps absent.
 #[derive(Drop)]
 pub(crate) struct BagChunks {
     pub filling: Option<Box<Chunk>>,
     pub draining: Option<Box<Chunk>>,
-    /// How many chunks were put into the bag since it was found empty, less those that were got from it: a hint, since
-    /// other sides put and get too.
+    /// The number of chunks that were put into the bag since it was found empty, less those that were got from it. A
+    /// hint, since other sides put and get too.
     pub waiting: u32,
 }
 
@@ -29,7 +29,7 @@ impl BagChunks {
         }
     }
 
-    /// Whether both chunks are absent.
+    /// Tells if both chunks are absent.
     #[inline(always)]
     pub(crate) fn are_absent(&self) -> bool
         ensures { OnTrue result (held_of self.now ≡ []) }
@@ -37,7 +37,7 @@ impl BagChunks {
         self.filling.is_none() && self.draining.is_none()
     }
 
-    /// Puts `v` into the filling chunk. False where that is absent or full.
+    /// Puts `v` into the filling chunk. Returns false if that is absent or full.
     #[inline(always)]
     pub(crate) fn add(&mut self, v: u32) -> bool
         ensures added { OnTrue result (AreSame (held_of self.new) (v ∷ held_of self.old)) }
@@ -61,7 +61,7 @@ impl BagChunks {
         }
     }
 
-    /// Whether the filling chunk is there and has fewer vertices than these.
+    /// Tells if the filling chunk is there and has fewer vertices than these.
     pub(crate) fn has_room(&self, size: usize) -> bool {
         match &self.filling {
             Some(chunk) => chunk.len() < size,
@@ -78,7 +78,7 @@ impl BagChunks {
         }
     }
 
-    /// Takes the last vertex of the draining chunk. A chunk whose last vertex is taken gives up its box.
+    /// Takes the last vertex of the draining chunk. A chunk whose last vertex is taken leaves its box to the maker.
     #[inline(always)]
     pub(crate) fn take_last(&mut self, maker: &mut ChunkMaker) -> Option<u32>
         ensures taken { IfSome result (λ v. AreSame (v ∷ held_of self.new) (held_of self.old)) }
@@ -96,8 +96,8 @@ impl BagChunks {
         last
     }
 
-    /// `take_last`, or else the vertex of the filling chunk where it has only one and no chunk waits, as where vertices are
-    /// visited one after another: no chunk has to be handed over for it.
+    /// Does as `take_last`, or else takes the vertex of the filling chunk, if it has only one and no chunk waits.
+    /// This is so if vertices are visited one after another: no chunk has to be handed over for it.
     #[inline(always)]
     pub(crate) fn take_near(&mut self, maker: &mut ChunkMaker) -> Option<u32>
         ensures taken { IfSome result (λ v. AreSame (v ∷ held_of self.new) (held_of self.old)) }
@@ -157,7 +157,8 @@ impl BagChunks {
         self.waiting = self.waiting.saturating_sub(1);
     }
 
-    /// Where the bag was found empty: makes the filling chunk, if there is one, the draining one, which was empty or absent.
+    /// Makes the filling chunk, if there is one, the draining one, which was empty or absent. The bag was found empty
+    /// before.
     pub(crate) fn drain_filling(&mut self, maker: &mut ChunkMaker)
         requires { vertices_in self.old.draining ≡ [] }
         ensures same { AreSame (held_of self.new) (held_of self.old) }

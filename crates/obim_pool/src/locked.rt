@@ -56,13 +56,13 @@ impl LockedPool {
         Ok((pool, sides))
     }
 
-    /// Puts `v` last into the bag of its metric. False, and nothing is kept, where memory is refused
+    /// Puts `v` last into the bag of its metric. False, and nothing is kept, if memory is refused
     /// or the pool has `u64::MAX` vertices.
     pub fn push<H: Wait>(&self, rt: &H, _side: &mut LockedSide, v: u32, metric: u64) -> bool {
         self.bags.lock(rt).push(metric, v).is_ok()
     }
 
-    /// Takes the last vertex of the lowest bag, or `None` where the pool is empty.
+    /// Takes the last vertex of the lowest bag, or `None` if the pool is empty.
     pub fn pop<H: Wait>(&self, rt: &H, _side: &mut LockedSide) -> Option<u32> {
         self.bags.lock(rt).pop()
     }

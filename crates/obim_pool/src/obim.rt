@@ -19,9 +19,8 @@ use std::fmt;
 use std::marker::Model;
 use std::sync::Wait;
 
-/// A pool in the manner of OBIM, the worklist of the Galois system ordered by integer metric: vertices of
-/// one metric share a bag, which is a queue of chunks, and each worker draws from the lowest bag that it
-/// knows, softly.
+/// A pool in the manner of OBIM, the worklist of the Galois system ordered by integer metric. Vertices of one metric
+/// share a bag, which is a queue of chunks, and each worker draws from the lowest bag that it knows, softly.
 ///
 /// A side belongs to the pool that opened it, and to no other.
 #[derive(Drop)]
@@ -46,7 +45,7 @@ impl fmt::Debug for ObimPool {
 
 impl ObimPool {
     /// A pool without bags, and a side of it for each worker. A chunk takes `chunk` vertices, 1 to 256. It is
-    /// handed on when it is full: smaller ones are shared sooner, larger ones cost less a vertex.
+    /// shared when it is full: smaller ones are shared sooner, larger ones cost less a vertex.
     pub fn open(
         alloc: Global,
         workers: u32,
@@ -67,7 +66,7 @@ impl ObimPool {
     }
 
     /// Puts `v` into the bag of its metric, which is current then if it is lower than the current one. False,
-    /// and `v` is not kept, where memory is refused or this side opened 2^62 chunks.
+    /// and `v` is not kept, if memory is refused or this side opened 2^62 chunks.
     #[inline(always)]
     pub fn push<R: Wait>(&self, rt: &R, side: &mut ObimSide, v: u32, metric: u64) -> bool
         requires { IsSideOf self.now side.old }
@@ -80,8 +79,8 @@ impl ObimPool {
         side.push_near(v, metric) || side.push_far(rt, &self.log, self.alloc, v, metric)
     }
 
-    /// Takes a vertex out of the current bag, and where that gives none, out of the lowest bag of this
-    /// side that gives one, which is current then. `None` where no bag does; another side may still hold
+    /// Takes a vertex out of the current bag, and if that gives none, out of the lowest bag of this
+    /// side that gives one, which is current then. `None` if no bag does; another side may still hold
     /// vertices. Takes the same time whatever the pool holds while the current bag gives one, and else a look
     /// at each bag of this side up to the one that does.
     #[inline(always)]
@@ -95,15 +94,15 @@ impl ObimPool {
         side.pop(rt, &self.log, self.alloc)
     }
 
-    /// The vertex that the `by`th pop of this side from now on takes, if none is pushed to another bag or got
-    /// from one before: a hint, which ends with the chunk that the side drains.
+    /// The vertex that the `by`th pop of this side from now on takes, if none is pushed to another bag or got from one
+    /// before. It is a hint, which ends with the chunk that the side drains.
     #[inline(always)]
     pub fn ahead(&self, side: &ObimSide, by: usize) -> Option<u32> {
         side.ahead(by)
     }
 
     /// Ends the pool: the chunks left in its bags, by their place in the log and then in the order of the
-    /// bag. `Missing` where sides that know a bag are withheld: tests show that, and no clause says it. What
+    /// bag. `Missing` if sides that know a bag are withheld: tests show that, and no clause says it. What
     /// sides still held in chunks of their own is dropped.
     pub fn settle<R: Wait>(
         self,

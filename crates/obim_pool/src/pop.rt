@@ -1,4 +1,4 @@
-//! How a vertex gets out of a bag: one bag of a side, its two chunks and its place in the mirror.
+//! The way of a vertex out of a bag: one bag of a side, its two chunks and its place in the mirror.
 
 ghost use Rattle.std.specs.Prelude.{◌≡◌, ◌≤◌, ◌<◌, [], length, IfNone, IfSome};
 ghost use Rattle.std.specs.Bool.{OnFalse, OnTrue};
@@ -14,8 +14,8 @@ use crate::order::OwnBag;
 use obim_bags::{BagLog, Mirror};
 use std::sync::Wait;
 
-/// Whether a bag has nothing for the side, which is so of most that it looks into: two chunks that are absent,
-/// and two loads. It doesn't wait.
+/// Tells if a bag has nothing for the side, which is so of most that it looks into: two chunks that are absent, and two
+/// loads. It doesn't wait.
 #[inline(always)]
 fn is_bare(log: &BagLog, mirror: &mut Mirror, place: usize, chunks: &BagChunks) -> bool
     requires log { IsMirrorOf log.now mirror.old }
@@ -50,7 +50,7 @@ pub(crate) fn pop_at<R: Wait>(
     }
 }
 
-/// The same where no vertex is in the draining chunk.
+/// Takes a vertex as `pop` does, if no vertex is in the draining chunk.
 #[inline(never)]
 fn refill<R: Wait>(
     rt: &R,

@@ -1,4 +1,4 @@
-//! How a vertex gets into a bag: one bag of a side, its two chunks and its place in the mirror.
+//! The way of a vertex into a bag: one bag of a side, its two chunks and its place in the mirror.
 
 ghost use Rattle.std.specs.Prelude.{◌≡◌, ◌<◌, [], ◌∷◌, length};
 ghost use Rattle.std.specs.Bool.{OnFalse, OnTrue};
@@ -12,7 +12,7 @@ use crate::chunks::BagChunks;
 use obim_bags::{BagLog, Mirror};
 use std::sync::Wait;
 
-/// Puts `v` into the bag at a place. False where memory or a serial was refused.
+/// Puts `v` into the bag at a place. Returns false if memory or a serial was refused.
 pub(crate) fn push_at<R: Wait>(
     rt: &R,
     log: &BagLog,
@@ -37,7 +37,7 @@ pub(crate) fn push_at<R: Wait>(
     true
 }
 
-/// Opens a filling chunk where it is absent. Where it is full, since its put was refused, it is put first.
+/// Opens a filling chunk if it is absent. If it is full, since its put was refused, it is put first.
 /// What is refused stays as it is.
 fn start_chunk<R: Wait>(
     rt: &R,
@@ -58,7 +58,7 @@ fn start_chunk<R: Wait>(
     open(maker, chunks);
 }
 
-/// Opens a filling chunk where it is absent.
+/// Opens a filling chunk if it is absent.
 fn open(maker: &mut ChunkMaker, chunks: &mut BagChunks)
     ensures { held_of chunks.new ≡ held_of chunks.old }
 {
@@ -67,7 +67,7 @@ fn open(maker: &mut ChunkMaker, chunks: &mut BagChunks)
     }
 }
 
-/// Puts the filling chunk into the bag, if it has a vertex. Where the put is refused, it stays.
+/// Puts the filling chunk into the bag, if it has a vertex. If the put is refused, it stays.
 #[inline(never)]
 fn put_filling<R: Wait>(
     rt: &R,

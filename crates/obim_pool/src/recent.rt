@@ -1,6 +1,6 @@
-//! Where was the bag of a metric the last time?
+//! The places where the bags of metrics were found last.
 
-/// How many places are remembered.
+/// The number of places that are remembered.
 const SLOTS: usize = 16;
 
 /// By the lowest bits of a metric, the place at which a bag of such a metric was found last. It is a hint:
@@ -16,7 +16,7 @@ impl Recent {
         Recent { places: [0; SLOTS] }
     }
 
-    /// Where the bag of the metric may be.
+    /// The place where the bag of the metric may be.
     #[inline(always)]
     pub(crate) fn place_of(&self, metric: u64) -> usize {
         self.places[metric as usize % SLOTS]

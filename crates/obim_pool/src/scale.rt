@@ -1,4 +1,4 @@
-//! How wide are buckets, for labels of a graph of this size?
+//! The width of buckets for labels of a graph of this size.
 
 ghost use Rattle.std.specs.Prelude.{◌≡◌, ◌<◌, min};
 ghost use Rattle.obim_pool.specs.Scales.{scale_bucket};
@@ -7,7 +7,7 @@ ghost use Rattle.obim_pool.specs.declared.scale.TheConstants.{MOST_BUCKETS};
 use crate::bucket::bucket_of;
 use std::marker::Model;
 
-/// No scale makes more buckets of labels of 64 bits.
+/// A bound on the buckets that a scale makes of labels of 64 bits.
 pub const MOST_BUCKETS: u64 = 15_616;
 
 /// Below this number of widths of a scale no bucket of `bucket_of` is wider than one width.
@@ -22,8 +22,8 @@ const WIDEST: u32 = 51;
 /// A bucket is as wide as `bucket_of` makes it, but no wider than 2^`shift` while the label is below
 /// `even` times that.
 ///
-/// So buckets widen with the label up to a width that fits the weights of a graph, then are even, and
-/// widen again where there would be too many of them. Each lies in one bucket of `bucket_of`.
+/// So buckets widen with the label up to a width that fits the weights of a graph. Then they are even, and they widen
+/// again if there would be too many of them. Each lies in one bucket of `bucket_of`.
 #[derive(Clone, Copy, Debug, PartialEq, Eq)]
 pub struct Scale {
     shift: u32,

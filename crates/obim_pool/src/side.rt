@@ -23,8 +23,8 @@ use std::fmt;
 use std::marker::Model;
 use std::sync::Wait;
 
-/// What a worker has of an `ObimPool`: its mirror of the log of bags, of each bag the chunk that it fills
-/// and the chunk that it drains, and the metric that it draws from.
+/// A worker's side of an `ObimPool`. It has a mirror of the log of bags, of each bag the chunk that it fills and the
+/// chunk that it drains, and the metric that it draws from.
 #[derive(Drop)]
 pub struct ObimSide {
     mirror: Mirror,
@@ -87,8 +87,8 @@ impl ObimSide {
         }
     }
 
-    /// `ObimPool::push` where the bag is at the place that is remembered and no chunk of it has to be opened
-    /// or put. It doesn't wait, and most pushes need no more.
+    /// Does as `ObimPool::push` if the bag is at the place that is remembered and no chunk of it has to be opened or
+    /// put. It doesn't wait, and most pushes need no more.
     #[inline(always)]
     pub(crate) fn push_near(&mut self, v: u32, metric: u64) -> bool
         ensures keeps { Keeps self.old self.new }
@@ -107,7 +107,7 @@ impl ObimSide {
         true
     }
 
-    /// `ObimPool::push`, whatever it takes.
+    /// Does as `ObimPool::push`, whatever it takes.
     #[inline(never)]
     pub(crate) fn push_far<R: Wait>(
         &mut self,
@@ -152,7 +152,7 @@ impl ObimSide {
         true
     }
 
-    /// Makes this bag the current one where none is, or where the current one has a larger metric.
+    /// Makes this bag the current one if none is, or if the current one has a larger metric.
     #[inline(always)]
     fn lower(&mut self, at: OwnBag)
         requires { IsAt (metrics_in self.old.mirror.accesses) (length self.old.held) at }
@@ -166,7 +166,7 @@ impl ObimSide {
         }
     }
 
-    /// `ObimPool::pop`.
+    /// Does as `ObimPool::pop`.
     #[inline(always)]
     pub(crate) fn pop<R: Wait>(&mut self, rt: &R, log: &BagLog, alloc: Global) -> Option<u32>
         requires { IsSideOf log.now self.old }
@@ -181,8 +181,8 @@ impl ObimSide {
         self.pop_far(rt, log, alloc)
     }
 
-    /// `pop` where the current bag's draining chunk has a vertex, or the filling one has a single vertex. It doesn't wait,
-    /// and most pops need no more.
+    /// Does as `pop` if the current bag's draining chunk has a vertex, or the filling one has a single vertex. It
+    /// doesn't wait, and most pops need no more.
     #[inline(always)]
     pub(crate) fn pop_near(&mut self) -> Option<u32>
         ensures keeps { Keeps self.old self.new }
@@ -195,7 +195,7 @@ impl ObimSide {
         Some(v)
     }
 
-    /// `pop`, whatever it takes.
+    /// Does as `pop`, whatever it takes.
     #[inline(never)]
     fn pop_far<R: Wait>(&mut self, rt: &R, log: &BagLog, alloc: Global) -> Option<u32>
         requires { IsSideOf log.now self.old }
@@ -210,7 +210,7 @@ impl ObimSide {
         }
     }
 
-    /// `ObimPool::ahead`.
+    /// Does as `ObimPool::ahead`.
     #[inline(always)]
     pub(crate) fn ahead(&self, by: usize) -> Option<u32> {
         let at = self.current?;

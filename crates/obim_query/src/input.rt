@@ -11,9 +11,10 @@ pub(crate) struct Input<R> {
     pub(crate) inner: R,
     /// The system's error of a read that failed.
     pub(crate) failure: Option<io::Error>,
-    /// Nobody reads this. It keeps what `main` calls away from the part of the stack that starting a process writes to. At
-    /// the first allocation glibc 2.36 reads the system's setting of large pages into memory there that it doesn't clear,
-    /// and on past what it read: it takes the setting for another one, unless nothing was ever written there.
+    /// Nobody reads this. It keeps what `main` calls away from the part of the stack that starting a process writes
+    /// to. At the first allocation glibc 2.36 reads the system's setting of large pages into memory there that it
+    /// doesn't clear, and on past what it read. It takes the setting for another one, unless nothing was ever written
+    /// there.
     _apart: [u8; APART],
 }
 

@@ -1,12 +1,12 @@
-//! The program: which job, and where do its bytes go?
+//! The program `obim_query`.
 //!
-//! `obim_query` reads a job from standard input and writes its answer to standard output. What it
-//! writes, and what a fault leaves, is the contract of `answer` of `job_answer`, and of a session that of
-//! `answer_session`; this crate prints help and faults, and gives the status.
+//! It reads a job from standard input and writes its answer to standard output. What it writes, and what a fault
+//! leaves, is the contract of `answer` of `job_answer`, and of a session that of `answer_session`. This crate prints
+//! help and faults, and gives the status.
 //!
 //! It stands on `command_line` for what is asked for, and on `job_answer` and `session_answer` for the answers. For
-//! standard error it stands on `job_messages` and `dimacs_text`, for an open gate on `obim_engine`, and for its help on
-//! `clap`.
+//! standard error it stands on `job_messages` and `dimacs_text`, for an open gate on `obim_engine`, and for its help
+//! on `clap`.
 #![tactic(auto)]
 
 ghost use Rattle.std.specs.Prelude.{◌≡◌, map};
@@ -228,8 +228,8 @@ fn answer_with_figures<H: AllocGlobal + Eprint + Threads + Wait + Clock + Sync, 
     Ok(())
 }
 
-/// Prints the fault's text, and what explains it if that is asked for, and gives its status. A terminal is told of
-/// the option where a text is refused.
+/// Prints the fault's text, and what explains it if that is asked for, and gives its status. If a text is refused, a
+/// terminal gets a hint at the option.
 fn print_whole_fault<H: Eprint>(
     rt: &H,
     fault: Fault,
@@ -260,7 +260,7 @@ fn print_fault<H: Eprint>(rt: &H, fault: Fault) -> u8
 fn print_error<H: Eprint, T: fmt::Display + Drop>(rt: &H, text: T, status: u8) -> u8
     ensures { result ≡ status }
 {
-    // Where standard error is closed too, the status has to say it.
+    // If standard error is closed too, the status has to say it.
     let _ = eprintln!(rt; "obim_query: {text}");
     status
 }

@@ -7,13 +7,13 @@ pub enum Event {
     Take(usize, u32),
     /// A seat reads the label of the vertex that it holds.
     Read(usize),
-    /// A seat relaxes the next arc of its row. Where the head's label falls, the seat owes a mark.
+    /// A seat relaxes the next arc of its row. If the head's label falls, the seat owes a mark.
     Relax(usize),
     /// A seat that owes a mark adds one to the pending total, for that mark.
     Raise(usize),
     /// A seat that owes a mark adds this many to the pending total, for that mark and others to come.
     RaiseBy(usize, u8),
-    /// A seat sets the mark that it owes. Where it was set already, the seat keeps the credit.
+    /// A seat sets the mark that it owes. If it was set already, the seat keeps the credit.
     SetMark(usize),
     /// A seat at its row's end gives its credits back to the total and is idle.
     Finish(usize),

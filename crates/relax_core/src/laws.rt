@@ -35,7 +35,7 @@ ghost use Rattle.relax_core.specs.Laws.{
   ZeroIsLeast,
 };
 
-/// What a seat takes was marked, so it stays covered, and the mark's credit is the seat's.
+/// States that what a seat takes was marked, so it stays covered, and that the mark's credit is the seat's.
 pub fn taking()
     ensures cover { TakingKeepsCover }
     ensures account { TakingKeepsAccount }
@@ -47,7 +47,7 @@ pub fn reading()
     ensures account { ReadingKeepsAccount }
 {}
 
-/// A seat that relaxes an arc owes the head a mark where its label fell.
+/// A seat that relaxes an arc owes the head a mark if its label fell.
 pub fn relaxing()
     ensures cover { RelaxingKeepsCover }
     ensures account { RelaxingKeepsAccount }
@@ -113,8 +113,8 @@ pub fn bound()
     ensures { TotalIsBounded }
 {}
 
-/// When nothing is marked and nobody holds anything, every arc is relaxed; a total of 0 says so, and
-/// then the labels are least.
+/// States that every arc is relaxed once nothing is marked and nobody holds anything. A total of 0 says so, and then
+/// the labels are least.
 pub fn closing()
     ensures settled { QuietIsSettled }
     ensures least { ZeroIsLeast }
@@ -126,8 +126,8 @@ pub fn running()
     ensures run { RunsKeepLawful }
 {}
 
-/// A list of events is a run from the opening or stops, never both, and at one place alone. So what
-/// `replay` returns is told by the list.
+/// A list of events is a run from the opening or stops, never both, and at one place alone. So the list
+/// determines what `replay` returns.
 pub fn stopping()
     ensures run { RunsDontStop }
     ensures once { StopsOnce }

@@ -14,7 +14,7 @@ use std::alloc::Global;
 use std::error::Error;
 use std::fmt;
 
-/// Why a list of events gives no core.
+/// The reason for which a list of events gives no core.
 #[derive(Clone, Copy, Debug, PartialEq, Eq)]
 pub enum ReplayFault {
     /// There was no memory for the core, or for the new seat of a `Split`.

@@ -36,7 +36,7 @@ impl Model for Core {
 }
 
 impl Core {
-    /// The label of a vertex: a cost, or `INF` where no walk was found yet.
+    /// The label of a vertex: a cost, or `INF` if no walk was found yet.
     pub fn label(&self, v: u32) -> u64
         requires { v < length self.now.labels }
         ensures { result ≡ slice_index self.now.labels v }
@@ -44,7 +44,7 @@ impl Core {
         self.labels[v as usize]
     }
 
-    /// Whether a vertex is marked: its arcs are to be relaxed again.
+    /// Tells if a vertex is marked: its arcs are to be relaxed again.
     pub fn mark(&self, v: u32) -> bool
         requires { v < length self.now.marks }
         ensures { result ≡ mark_of self.now.marks v }
@@ -104,7 +104,7 @@ fn start(labels: &mut [u64], marks: &mut [bool], seeds: &[Seed])
     }
 }
 
-/// How many vertices are marked.
+/// The number of marked vertices.
 fn count_marks(marks: &[bool]) -> u64
     requires { length marks.now ≤ MAX_VERTICES }
     ensures { result ≡ count_by (λ mark. mark) marks.now }

@@ -1,4 +1,4 @@
-//! What each event does to a core.
+//! The changes of a core by each event.
 
 ghost use Rattle.std.specs.Prelude.{◌≡◌, ◌↔◌, ◌<◌, None, Some, List, length};
 ghost use Rattle.std.specs.Prelude.{IfOk, IfSome, IsSome, OnErr, OnOk};
@@ -15,7 +15,7 @@ use std::alloc::Global;
 use std::error::Error;
 use std::fmt;
 
-/// Why an event wasn't done. The core is unchanged.
+/// The reason for which an event wasn't done. The core is unchanged.
 #[derive(Clone, Copy, Debug, PartialEq, Eq)]
 pub enum CoreFault {
     /// The event can't happen in this core.
@@ -301,8 +301,8 @@ impl Core {
     }
 }
 
-/// Does an event exactly where it is enabled; elsewhere, and where a `Split` finds no memory, the core
-/// stays as it was. The core is one of this graph.
+/// Does an event exactly if it is enabled. Otherwise, and if a `Split` finds no memory, the core stays as it was. The
+/// core is one of this graph.
 pub fn apply(_alloc: Global, core: &mut Core, csr: &Csr, event: Event) -> Result<(), CoreFault>
     requires { IsOf csr.now core.old }
     ensures done { OnOk result (after csr.now core.old event ≡ Some core.new) }

@@ -1,4 +1,4 @@
-//! What a worker holds, what is known of one seat, and what each event makes of a seat's view.
+//! The hands of workers, the views of seats, and the change of a seat's view by each event.
 
 ghost use Rattle.std.specs.Prelude.{◌≡◌, ◌+◌, ◌-◌, ◌^◌, ◌<◌, ◌≤◌, true};
 ghost use Rattle.relax_core.specs.declared.views.Hand.TheVariants.{Open, Owe};
@@ -9,7 +9,7 @@ ghost use Rattle.relax_core.specs.Views.{kept_half, new_half, joined};
 /// The shares of all seats together.
 pub const SHARES: u32 = 65536;
 
-/// What a worker holds.
+/// The vertex, the label and the mark that a worker holds.
 #[derive(Clone, Copy, Debug, PartialEq, Eq)]
 pub enum Hand {
     /// Nothing.
@@ -20,17 +20,17 @@ pub enum Hand {
     Fresh { u: u32 },
     /// The row of `u` from place `k` on, relaxed with `d`, the label that it read.
     Open { u: u32, d: u64, k: usize },
-    /// The same, and a mark for `head`, whose label it lowered.
+    /// The row of `u` as in `Row`, and a mark for `head`, whose label it lowered.
     Owe { u: u32, d: u64, k: usize, head: u32 },
 }
 
-/// What is known of one seat.
+/// All that is known of one seat.
 #[derive(Clone, Copy, Debug, PartialEq, Eq)]
 pub struct View {
     pub hand: Hand,
     /// The part of the pending total that stands for what the hand holds and for marks to come: 0 to 255.
     pub credits: u8,
-    /// Whether the seat saw the pending total at 0.
+    /// True if the seat saw the pending total at 0.
     pub saw: bool,
     /// Of the `SHARES` that all seats have together. A view of share 0 is spent: its seat is gone.
     pub share: u32,
@@ -62,7 +62,7 @@ impl View {
         };
     }
 
-    /// `Take`: where the mark of `u` was set, the seat holds `u`, and the mark's credit besides its own.
+    /// `Take`: if the mark of `u` was set, the seat holds `u`, and the mark's credit in addition to its own.
     pub fn take(&mut self, was_marked: bool, u: u32)
         requires { self.old.credits < 255 }
         ensures { self.new ≡ taken was_marked u self.old }
@@ -84,7 +84,7 @@ impl View {
         self.hand = Hand::Open { u, d, k };
     }
 
-    /// `Relax`: the arc at place `k` is done, and its `head` is owed a mark where its label fell. The
+    /// `Relax`: the arc at place `k` is done, and its `head` is owed a mark if its label fell. The
     /// caller hands in the parts of the open hand, which it has at hand.
     pub fn relax(&mut self, fell: bool, u: u32, d: u64, k: usize, head: u32)
         requires hand { self.old.hand ≡ Open u d k }
@@ -142,7 +142,7 @@ impl View {
         self.hand = Hand::Kept;
     }
 
-    /// `Return`: this many credits less. Where none is left, nothing is held.
+    /// `Return`: this many credits less. If none is left, nothing is held.
     pub fn give_back(&mut self, count: u8)
         requires { count ≤ self.old.credits }
         ensures { self.new ≡ gave_back count self.old }
@@ -178,7 +178,7 @@ impl View {
         ensures { self.new ≡ joined self.old other }
     {
         self.saw = self.saw || other.saw;
-        // Shares are never more than all: the rule of a run says it, and this where no run is at hand.
+        // Shares are never more than all: the rule of a run says it, and this if no run is at hand.
         self.share = (self.share + other.share).min(SHARES);
     }
 }

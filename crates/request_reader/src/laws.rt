@@ -2,12 +2,12 @@
 
 ghost use Rattle.request_reader.specs.Laws.{AJobIsOneRequest, EachRequestHasItsSectionLine, LinesComeToOneList, WhatWasSaidStays};
 
-/// Where memory is not refused, lines after a graph come to at most one list of outcomes.
+/// States that lines after a graph come to at most one list of outcomes, if memory is not refused.
 pub fn lines_come_to_one_list()
     ensures { LinesComeToOneList }
 {}
 
-/// What a reader has said of lines is the front of what all lines come to, whatever more of them come.
+/// States that what a reader has said of lines is a prefix of what all lines come to, whatever more of them come.
 pub fn what_was_said_stays()
     ensures { WhatWasSaidStays }
 {}
@@ -17,8 +17,8 @@ pub fn a_job_is_one_request()
     ensures { AJobIsOneRequest }
 {}
 
-/// There are as many outcomes as section lines, or one more: lines at the end may be refused without one. A request that
-/// lacks lines at the end has one too, and no outcome.
+/// There are as many outcomes as section lines, or one more: lines at the end may be refused without one. A request
+/// that lacks lines at the end has one too, and no outcome.
 pub fn each_request_has_its_section_line()
     ensures { EachRequestHasItsSectionLine }
 {}

@@ -1,8 +1,10 @@
-//! Which requests follow this graph, or which line of one is wrong?
+//! The requests after a graph, or the wrong line of one.
 //!
-//! A request follows a graph: a section of sources (`p aux sp ss K` and K lines), of sources within a bound
-//! (`within COST K`), of pairs (`p2p`), of pairs whose walks are wanted (`walk`), or of arcs that are to be added (`add`).
-//! `RequestReader` takes the lines after the graph one by one. Of each it says what comes of it: a request that is whole
+//! A request follows a graph. It is a section of sources (`p aux sp ss K` and K lines), of sources within a bound
+//! (`within COST K`), or of pairs (`p2p`). It is one of pairs whose walks are wanted (`walk`), or of arcs that are to
+//! be added (`add`).
+//!
+//! `RequestReader` takes the lines after the graph one by one. For each it returns the outcome: a request that is whole
 //! with it, or one that is refused at it.
 //!
 //! A request is the lines after the one before, up to its own last record. One that is refused is the lines up to the

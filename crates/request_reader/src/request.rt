@@ -1,8 +1,8 @@
-//! What comes of the lines after a graph.
+//! The outcomes of the lines after a graph.
 
 use dimacs_text::{Extent, Job, LineKind};
 
-/// What a request asks for, or why it is refused.
+/// A request, or the reason for which it is refused.
 #[derive(Debug, Drop)]
 pub enum Request {
     /// The sources, the pairs or the arcs that are to be added, as a job whose graph has no arcs; and how much is asked
@@ -14,7 +14,7 @@ pub enum Request {
     NoMemory { line: u64 },
 }
 
-/// What comes of a line: first the request that ends before it, and then the one that it completes or that is refused
+/// The outcomes of a line: first the request that ends before it, and then the one that it completes or that is refused
 /// at it.
 #[derive(Debug, Drop)]
 pub struct Came {

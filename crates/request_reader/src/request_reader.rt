@@ -1,4 +1,4 @@
-//! From the lines after a graph to the requests in them.
+//! The way from the lines after a graph to the requests in them.
 
 ghost use Rattle.std.specs.Prelude.{◌≡◌, ◌≤◌, ◌&&◌, ◌++◌, ◌∷◌, [], ℕ, List, true, false, IfNone, IfSome};
 ghost use Rattle.route_walks.specs.declared.graph.TheConstants.{MAX_VERTICES};
@@ -19,23 +19,24 @@ use std::mem::replace;
 #[derive(Debug, Drop)]
 pub struct RequestReader {
     draft: RequestDraft,
-    /// To what vertices count.
+    /// The number to which vertices count.
     vertices: u32,
     /// The number of the next line.
     line: u64,
-    /// Has the section line of the request come?
+    /// True if the section line of the request has come.
     has_section: bool,
-    /// How much does it ask for?
+    /// The extent of what it asks for.
     extent: Extent,
-    /// Was the request refused? Then its other lines are passed by.
+    /// True if the request was refused. Then its other lines are skipped.
     is_refused: bool,
-    /// The number of the last line with which a request was whole, and had its section line come?
+    /// The number of the last line with which a request was whole.
     last: u64,
+    /// True if that request had its section line.
     had_section: bool,
     alloc: Global,
 }
 
-/// How much a line asks for. One that is no section line asks for no more.
+/// The extent that a line asks for. One that is no section line asks for no more.
 fn extent_by(line: &[u8], begins: bool) -> Extent
     requires begins { begins ≡ begins_section line.now }
     ensures { result ≡ extent_of line.now }
@@ -48,7 +49,7 @@ fn extent_by(line: &[u8], begins: bool) -> Extent
 }
 
 impl RequestReader {
-    /// After a graph of this many vertices. The next line has this number.
+    /// Makes a reader after a graph of this many vertices. The next line has this number.
     pub fn new(alloc: Global, vertices: u32, line: u64) -> RequestReader
         ensures requests { HasRequests result line [] [] }
         ensures vertices { vertices_of result ≡ vertices }
@@ -66,7 +67,7 @@ impl RequestReader {
         }
     }
 
-    /// Reads the next line, without its line feed, and says what comes of it.
+    /// Reads the next line, without its line feed, and returns its outcome.
     pub fn read(&mut self, line: &[u8]) -> Came
         ensures requests { (first : ℕ) (all : List (List ℕ)) (outcomes : List Outcome)
             → HasRequests self.old first all outcomes
@@ -90,8 +91,8 @@ impl RequestReader {
         Came { cut, found }
     }
 
-    /// Ends the request if the next line is a second section line in it. What is wrong with it, if it wasn't refused
-    /// before?
+    /// Ends the request if the next line is a second section line in it. Returns what is wrong with it, if it wasn't
+    /// refused before.
     fn end(&mut self, begins: bool) -> Option<Request>
         ensures requests { (first : ℕ) (all : List (List ℕ)) (line : List ℕ) (outcomes : List Outcome)
             → HasRequests self.old first all outcomes → begins ≡ begins_section line
@@ -196,8 +197,8 @@ impl RequestReader {
         self.line = self.line.saturating_add(1);
     }
 
-    /// Refuses the request that was whole with the last line, for want of memory, and gives the number of that line. What
-    /// follows up to the next section line is passed by.
+    /// Refuses the request that was whole with the last line, for want of memory, and gives the number of that line.
+    /// What follows up to the next section line is skipped.
     pub fn refuse(&mut self) -> u64
         ensures line { result ≡ last_of self.old }
         ensures refused { (first : ℕ) (all : List (List ℕ)) (outcomes : List Outcome)

@@ -1,18 +1,18 @@
-//! Are these the arcs and the seeds of a graph of `n` vertices? For callers that have them from outside.
+//! Checks of the arcs and the seeds of a graph of `n` vertices, for callers that have them from outside.
 
 ghost use Rattle.std.specs.Prelude.{◌↔◌, IsTrue};
 ghost use Rattle.route_walks.specs.Walk.{AreSeeds, IsGraph};
 
 use crate::graph::{ArcRec, Seed};
 
-/// Whether both ends of each arc are below `n`.
+/// Tells if both ends of each arc are below `n`.
 pub fn is_graph(n: u32, arcs: &[ArcRec]) -> bool
     ensures { IsTrue result ↔ IsGraph n arcs.now }
 {
     arcs.iter().all(|arc| arc.tail < n && arc.head < n)
 }
 
-/// Whether the vertex of each seed is below `n`.
+/// Tells if the vertex of each seed is below `n`.
 pub fn are_seeds(n: u32, seeds: &[Seed]) -> bool
     ensures { IsTrue result ↔ AreSeeds n seeds.now }
 {

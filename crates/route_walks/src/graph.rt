@@ -1,4 +1,4 @@
-//! What is an arc, what is a seed, and which label does an arc offer its head?
+//! Arcs, seeds, and the label that an arc offers its head.
 
 ghost use Rattle.std.specs.Prelude.{◌≡◌};
 ghost use Rattle.route_walks.specs.Label.{offer};
@@ -30,7 +30,7 @@ impl ArcRec {
 }
 
 /// A vertex, counted from 0, where walks may begin, and the number that a walk from there starts
-/// with: a cost of at most 2^60, where a caller makes it.
+/// with: a cost of at most 2^60, if a caller makes it.
 #[derive(Clone, Copy, Debug, PartialEq, Eq)]
 pub struct Seed {
     pub vertex: u32,
@@ -47,7 +47,7 @@ impl Seed {
 }
 
 /// The label that an arc of this weight offers its head, from a tail of this label: their sum, or
-/// `INF` where the sum is above it.
+/// `INF` if the sum is above it.
 pub fn offer(label: u64, weight: u32) -> u64
     ensures { result ≡ offer label weight }
 {

@@ -1,4 +1,4 @@
-//! Which laws hold of walks, labels and components? Each is the contract of a function that does nothing.
+//! Laws of walks, labels and components. Each is the contract of a function that does nothing.
 
 ghost use Rattle.route_walks.specs.Walk.{WalksCanBeCut};
 ghost use Rattle.route_walks.specs.Label.{SettledAndSoundAreLeast, LeastLabelsAreSettled};
@@ -9,8 +9,8 @@ ghost use Rattle.route_walks.specs.Limit.{LeastUpToAgrees, WithinIsExact, WalksB
 ghost use Rattle.route_walks.specs.Component.{LeastLabelsAreComponents};
 ghost use Rattle.route_walks.specs.Existence.{LeastLabelsExist};
 
-/// Among `n` vertices each walk can be cut to at most `n - 1` arcs, at no more cost: what lies between
-/// two visits of one vertex can be left out.
+/// Among `n` vertices each walk can be cut to at most `n - 1` arcs, at no more cost. What lies between two visits of
+/// one vertex can be left out.
 pub fn walks_can_be_cut()
     ensures { WalksCanBeCut }
 {}
@@ -22,7 +22,7 @@ pub fn settled_and_sound_are_least()
 {}
 
 /// And least labels are settled and sound: no seed and no arc can lower one. So labels are least exactly
-/// where they are settled and sound.
+/// if they are settled and sound.
 pub fn least_labels_are_settled()
     ensures { LeastLabelsAreSettled }
 {}
@@ -44,34 +44,34 @@ pub fn least_labels_follow_the_arcs()
     ensures { LeastLabelsFollowTheArcs }
 {}
 
-/// A least label of `INF` means that no walk from a seed ends there: a walk that is cut costs less than
-/// 2^60, as at most 2^28 vertices are on it. So `INF` stands for no number that is too large.
+/// A least label of `INF` means that no walk from a seed ends there. A walk that is cut costs less than 2^60, as at
+/// most 2^28 vertices are on it. So `INF` stands for no number that is too large.
 pub fn inf_means_no_walk()
     ensures { InfMeansNoWalk }
 {}
 
-/// Where each vertex is a seed that starts at its own number, and each arc is taken both ways at no
-/// cost, the least label of a vertex is the least number of a vertex connected with it.
+/// States that least labels are components if each vertex is a seed that starts at its own number, and each arc is
+/// taken both ways at no cost. The least label of a vertex is then the least number of a vertex connected with it.
 pub fn least_labels_are_components()
     ensures { LeastLabelsAreComponents }
 {}
 
-/// Where labels are attained or `INF`, and no seed can lower one, the vertices with labels below `INF`
-/// serve as seeds that start at their labels: the least labels from them are the least labels from the
-/// seeds. So a run that was paused goes on from its labels alone.
+/// States that labels serve as seeds if they are attained or `INF`, and no seed can lower one. The vertices with labels
+/// below `INF` are seeds that start at their labels: the least labels from them are the least labels from the seeds. So
+/// a run that was paused goes on from its labels alone.
 pub fn labels_serve_as_seeds()
     ensures { LabelsServeAsSeeds }
 {}
 
-/// Labels are least up to a limit where each seed is met, each is attained or `INF`, and each arc that can
+/// Labels are least up to a limit if each seed is met, each is attained or `INF`, and each arc that can
 /// lower one offers no less than the limit. So an engine may stop before labels are settled.
 pub fn settled_up_to_a_limit_is_least()
     ensures { SettledUpToIsLeastUpTo }
 {}
 
-/// What labels are worth that are least up to a limit. One of at most the limit is least, and cut at the limit
-/// each is the least one that is cut there; within a bound below the limit they are exact. Least labels are
-/// least up to each limit.
+/// States what labels are worth that are least up to a limit. One of at most the limit is least, and cut at the limit
+/// each is the least one that is cut there. Within a bound below the limit they are exact. Least labels are least up
+/// to each limit.
 pub fn least_up_to_a_limit()
     ensures least { LeastUpToIsLeast }
     ensures all { LeastIsLeastUpTo }
@@ -79,9 +79,9 @@ pub fn least_up_to_a_limit()
     ensures within { WithinIsExact }
 {}
 
-/// Where labels are least up to a limit, each vertex on a walk of least cost has its least label, if that of
-/// the walk's end is below the limit. A vertex whose label is just the limit may have such a walk through one
-/// whose label isn't least, where arcs are free.
+/// States that walks below a limit are tight, if labels are least up to it. Each vertex on a walk of least cost has its
+/// least label then, if that of the walk's end is below the limit. A vertex whose label is just the limit may have such
+/// a walk through one whose label isn't least, if arcs are free.
 pub fn walks_below_a_limit_are_tight()
     ensures { WalksBelowAreTight }
 {}

@@ -1,4 +1,4 @@
-//! Which arcs and which seeds give distances, hop levels and components?
+//! The arcs and the seeds that give distances, hop levels and components.
 
 ghost use Rattle.std.specs.Prelude.{◌≡◌, ℕ, ◌*◌, ◌<◌, ◌^◌, length, IfOk};
 ghost use Rattle.route_walks.specs.Walk.{IsGraph, AreSeeds};

@@ -1,5 +1,4 @@
-//! What are the least labels, worked out the plain way? By rounds over all arcs until no label falls, as
-//! Bellman and Ford have them.
+//! Least labels, worked out the plain way: by rounds over all arcs until no label falls, as Bellman and Ford have them.
 
 ghost use Rattle.std.specs.Prelude.{◌≡◌, ◌↔◌, length, vec_len, slice_index, All, IsTrue, IfOk};
 ghost use Rattle.route_walks.specs.Walk.{IsGraph, AreSeeds};
@@ -9,7 +8,7 @@ use crate::graph::{ArcRec, INF, Seed, offer};
 use crate::refusal::Memory;
 use std::alloc::Global;
 
-/// The least label of each of `n` vertices, which are `INF` where no walk from a seed ends. Each round
+/// The least label of each of `n` vertices, which are `INF` if no walk from a seed ends. Each round
 /// goes over all arcs, and there are at most `n` rounds: for small graphs, and to compare with.
 pub fn plain_labels(
     alloc: Global,
@@ -27,7 +26,7 @@ pub fn plain_labels(
     Ok(labels)
 }
 
-/// Whether no seed and no arc could lower a label. There is a label for each vertex, `INF` among them.
+/// Tells if no seed and no arc could lower a label. There is a label for each vertex, `INF` among them.
 pub fn is_settled(labels: &[u64], arcs: &[ArcRec], seeds: &[Seed]) -> bool
     requires graph { IsGraph (length labels.now) arcs.now }
     requires seeds { AreSeeds (length labels.now) seeds.now }

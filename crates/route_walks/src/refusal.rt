@@ -1,4 +1,4 @@
-//! What does a call return where the system refuses memory?
+//! The error of a call that is refused memory.
 
 use std::alloc::{AllocError, AllocFailed};
 use std::error::Error;
@@ -40,7 +40,7 @@ macro_rules! refusable {
     }};
 }
 
-/// For tests: the same, and where the call answered this fault, what a second call gives: the same one,
+/// For tests: does as `refusable!`, and if the call answered this fault, gives what a second call gives: the same one,
 /// unless another is named.
 #[macro_export]
 macro_rules! tried_again {

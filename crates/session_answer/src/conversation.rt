@@ -37,9 +37,9 @@ pub(crate) struct Conversation {
     pub(crate) requests: RequestReader,
     /// The bytes of the last line, whose line feed hasn't come. Those of a comment are let go.
     pub(crate) unfinished: Vec<u8>,
-    /// The last line is a comment whose line feed hasn't come.
+    /// True if the last line is a comment whose line feed hasn't come.
     pub(crate) in_comment: bool,
-    /// Kept from one request to the next. None after a request was refused memory.
+    /// The workspace that is kept from one request to the next. `None` after a request was refused memory.
     pub(crate) kept: Option<Workspace>,
 }
 
@@ -287,7 +287,7 @@ impl Conversation {
         self.take_line(context, writer, &line)
     }
 
-    /// After the last byte. In the middle of a request that is a fault.
+    /// Ends the conversation after the last byte. In the middle of a request that is a fault.
     pub(crate) fn end<H: Threads + Wait + Clock + Sync, W: Write, G: Gate + Sync>(
         &mut self,
         context: &Context<'_, H, G>,

@@ -25,9 +25,9 @@ pub(crate) struct Front {
     pub(crate) graph: Job,
     /// The number of the next line.
     pub(crate) line: u64,
-    /// Of the bytes that were read last, those from this place on come after the graph,
+    /// The place in the bytes that were read last from which on they come after the graph.
     pub(crate) at: usize,
-    /// up to this one.
+    /// The place up to which they do.
     pub(crate) end: usize,
     /// The input ended with the graph.
     pub(crate) has_ended: bool,
@@ -77,7 +77,7 @@ pub(crate) fn read_front<H: Threads + Clock + Sync, R: Read>(
     Err(Fault::TooLong)
 }
 
-/// Tells whether no more bytes are to be read of the graph, of which this many were fed and this many came.
+/// Tells if no more bytes are to be read of the graph, of which this many were fed and this many came.
 fn is_over(job: &JobReader, fed: usize, came: usize) -> bool
     requires { fed < came → IsGraphOver job.now }
     ensures fed { result ≡ false → came ≤ fed }
@@ -133,7 +133,7 @@ fn ended_front(job: JobReader) -> Result<Front, Fault>
     }
 }
 
-/// Tells whether a job is a graph alone.
+/// Tells if a job is a graph alone.
 fn is_graph(job: &Job) -> bool
     ensures { OnTrue result (((content_of job.now).question ≡ absent) × ((content_of job.now).added ≡ None)) }
 {

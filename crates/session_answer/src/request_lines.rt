@@ -9,7 +9,8 @@ ghost use Rattle.session_answer.specs.Replies.{lines_by, lines_for};
 use dimacs_text::{Ask, Extent};
 use job_answer::Lines;
 
-/// The lines of a request: within its bound if it has one, with walks if it asks for them, or else those of the session.
+/// The lines of a request: within its bound if it has one, with walks if it asks for them, or else those of the
+/// session.
 pub(crate) fn lines_by(extent: Extent, lines: Lines) -> Lines
     requires extent { IsExtentWithin extent }
     requires lines { IsLinesAsked lines }
@@ -26,7 +27,7 @@ pub(crate) fn lines_by(extent: Extent, lines: Lines) -> Lines
     }
 }
 
-/// The lines of the answer to a question, where these are asked for.
+/// The lines of the answer to a question, if these are asked for.
 pub(crate) fn lines_for(lines: Lines, ask: &Ask) -> Lines
     requires lines { IsLinesAsked lines }
     ensures lines { result ≡ lines_for lines (question_of ask.now) }

@@ -79,7 +79,7 @@ impl Session {
         })
     }
 
-    /// Replies to a request: what it asks for, or in one line why it is refused. Where memory is refused for what it asks
+    /// Replies to a request: what it asks for, or in one line why it is refused. If memory is refused for what it asks
     /// before the first byte of the reply, nothing is done.
     pub(crate) fn reply<H: Threads + Wait + Clock + Sync, W: Write, G: Gate + Sync>(
         &mut self,
@@ -127,7 +127,7 @@ impl Session {
         }
     }
 
-    /// Reverses the rows of the network, where searches from both ends gain more than that takes.
+    /// Reverses the rows of the network, if searches from both ends gain more than that takes.
     fn prepare(&mut self, alloc: Global, kept: &mut Option<Workspace>)
         ensures { self.new ≡ self.old }
     {
@@ -136,7 +136,7 @@ impl Session {
         }
     }
 
-    /// Replies to what is asked. A short reply is made in memory first, so that nothing was given where memory is refused.
+    /// Replies to what is asked. A short reply is made in memory first, so that nothing was given if memory is refused.
     fn reply_asked<H: Threads + Wait + Clock + Sync, W: Write, G: Gate + Sync>(
         &self,
         context: &Context<'_, H, G>,
@@ -298,7 +298,7 @@ impl Session {
         answer_question(context, writer, &question, kept, &mut NoWatch)
     }
 
-    /// Adds arcs to the graph, and writes how many they are. Where memory is refused, nothing is done.
+    /// Adds arcs to the graph, and writes how many they are. If memory is refused, nothing is done.
     fn grow<H: Threads + Sync, W: Write, G>(
         &mut self,
         context: &Context<'_, H, G>,

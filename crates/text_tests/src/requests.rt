@@ -5,8 +5,8 @@ use std::alloc::{AllocError, Global};
 use std::process::Abort;
 use std::test::Fail;
 
-/// Lines, the first of which has the number 2; what each request comes to; and the line one past the last, where the last
-/// request lacks lines.
+/// Lines, the first of which has the number 2; what each request comes to; and the line one past the last, where the
+/// last request lacks lines.
 type Row = (&'static [&'static str], &'static str, Option<u64>);
 
 const ROWS: [Row; 38] = [
@@ -171,7 +171,7 @@ const ROWS: [Row; 38] = [
         "e 2 unknown line\n",
         None,
     ),
-    // A vertex that the graph doesn't have; what follows is passed by.
+    // A vertex that the graph doesn't have; what follows is skipped.
     (
         &["p aux sp ss 2", "s 3", "s 1", "s 1", "p aux sp ss 1", "s 2"],
         "e 3 out of range\nSources([1]) None Plain\n",

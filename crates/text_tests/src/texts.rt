@@ -26,7 +26,7 @@ fn joined(alloc: Global, front: &str, tail: &[u8]) -> Result<Vec<u8>, TextFault>
     Ok(text)
 }
 
-/// What a text gives.
+/// Returns the job of a text, or its fault.
 fn read(alloc: Global, front: &str, tail: &[u8]) -> Result<Job, TextFault> {
     let text = joined(alloc, front, tail)?;
     if text.len() > 1000 {
@@ -35,7 +35,7 @@ fn read(alloc: Global, front: &str, tail: &[u8]) -> Result<Job, TextFault> {
     read_job(alloc, &text)
 }
 
-/// What a text gives that comes in pieces of `size` bytes.
+/// Returns the job, or the fault, of a text that comes in pieces of `size` bytes.
 fn read_pieces(alloc: Global, text: &[u8], size: usize) -> Result<Job, TextFault> {
     let mut reader = JobReader::new(alloc);
     for piece in text.chunks(size.max(1)) {
@@ -46,7 +46,7 @@ fn read_pieces(alloc: Global, text: &[u8], size: usize) -> Result<Job, TextFault
     reader.finish()
 }
 
-/// Whether a text has that first fault, whole and in pieces.
+/// Tells if a text has that first fault, whole and in pieces.
 fn fails(alloc: Global, front: &str, tail: &[u8], line: u64, kind: LineKind) -> bool {
     let want = TextFault::Line { line, kind };
     for size in [1, 2, 5, 64] {
@@ -150,7 +150,7 @@ const AFTER_A_GRAPH: [(&str, u64, LineKind); 32] = [
     ("p aux sp p2p 1\nq 1 6\nq 1 6\n", 12, LineKind::TooMany),
     ("p aux sp p2p 0\nq 1 6\n", 11, LineKind::TooMany),
     ("p aux sp p2p 1\nq 1 6\na 1 2 1\n", 12, LineKind::Misplaced),
-    // A second section of queries is misplaced, of whichever form and also where the first lacks some.
+    // A second section of queries is misplaced, of whichever form and also if the first lacks some.
     ("p aux sp p2p 0\np aux sp ss 0\n", 11, LineKind::Misplaced),
     ("p aux sp ss 1\np aux sp p2p 1\n", 11, LineKind::Misplaced),
     ("p aux sp p2p 1\np aux sp p2p 1\n", 11, LineKind::Misplaced),
@@ -181,7 +181,7 @@ const ADDED_SECTIONS: [(&str, u64, LineKind); 31] = [
         14,
         LineKind::TooMany,
     ),
-    // It comes after all queries, and queries never come after it, also where it lacks arcs.
+    // It comes after all queries, and queries never come after it, also if it lacks arcs.
     ("p aux sp ss 1\np aux sp add 1\n", 11, LineKind::TooFew),
     (
         "p aux sp p2p 2\nq 1 6\np aux sp add 1\n",
@@ -242,7 +242,7 @@ fn assert_pairs(rt: &impl Abort, job: &Job, pairs: &[(u32, u32)]) {
     assert!(rt; same);
 }
 
-/// What comes after `GRAPH`, and the pairs that it asks for.
+/// The text after `GRAPH`, and the pairs that it asks for.
 const PAIRS: [(&[u8], &[(u32, u32)]); 3] = [
     (b"p aux sp p2p 0", &[]),
     (b"p aux sp p2p 1\nq 6 6\n", &[(5, 5)]),
@@ -296,8 +296,8 @@ const BACK: ArcRec = ArcRec {
     weight: 0,
 };
 
-/// What comes after `GRAPH`, what it asks for, and the arcs that it adds. No sources and no pairs are asked for all
-/// the same.
+/// The text after `GRAPH`, what it asks for, and the arcs that it adds. A section of no sources or of no pairs counts
+/// as asked for.
 const ADDING: [(&[u8], &str, &[ArcRec]); 8] = [
     (b"p aux sp add 0", "Absent", &[]),
     (b"p aux sp add 1\na 1 6 4", "Absent", &[SHORT]),

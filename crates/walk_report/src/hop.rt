@@ -15,7 +15,7 @@ use std::alloc::Global;
 pub const NONE: u32 = u32::MAX;
 
 /// The hop of each vertex from `s`: the fewest arcs of a walk that costs the vertex's least label.
-/// Takes time in proportion to vertices and arcs, and four bytes a vertex besides the answer.
+/// Takes time in proportion to vertices and arcs, and four bytes a vertex in addition to the answer.
 pub fn hops(alloc: Global, csr: &Csr, labels: &[u64], s: u32) -> Result<Vec<u32>, Memory>
     requires source { s < csr.now.n }
     requires least { AreLeastLabels csr.now.n csr.now.arcs (seeds_from s) labels.now }
@@ -27,8 +27,8 @@ pub fn hops(alloc: Global, csr: &Csr, labels: &[u64], s: u32) -> Result<Vec<u32>
     hops_below(alloc, csr, labels, s, INF)
 }
 
-/// The hop of each vertex from `s` whose label is below a limit, where labels are least up to that limit. `NONE` for
-/// the others, though a walk may reach them. A vertex whose label is just the limit is one of them: where arcs cost
+/// The hop of each vertex from `s` whose label is below a limit, if labels are least up to that limit. `NONE` for
+/// the others, though a walk may reach them. A vertex whose label is just the limit is one of them: if arcs cost
 /// nothing, a shorter walk to it may go through one whose label isn't least.
 ///
 /// Takes time in proportion to the vertices below the limit and their arcs, and to all vertices for the answer.
@@ -53,8 +53,8 @@ pub fn hops_below(
     Ok(hops)
 }
 
-/// Gives each vertex whose label is below the limit its hop, where no vertex has one yet, and puts it into the queue.
-/// Where memory is refused, each vertex that has a hop is in the queue.
+/// Gives each vertex whose label is below the limit its hop, if no vertex has one yet, and puts it into the queue.
+/// If memory is refused, each vertex that has a hop is in the queue.
 pub(crate) fn search(
     csr: &Csr,
     labels: &[u64],
@@ -126,7 +126,7 @@ fn visit(
     Ok(())
 }
 
-/// Whether going along the arc gives its head's label, which is below the limit.
+/// Tells if going along the arc gives its head's label, which is below the limit.
 fn is_tight(labels: &[u64], limit: u64, arc: &ArcRec) -> bool
     requires tail { arc.now.tail < length labels.now }
     requires head { arc.now.head < length labels.now }

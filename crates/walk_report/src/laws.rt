@@ -1,5 +1,4 @@
-//! What a printed walk is, and what hops and parents depend on. These functions do nothing: their
-//! contracts are the laws.
+//! Laws of printed walks, and of what hops and parents depend on. Each is the contract of a function that does nothing.
 
 ghost use Rattle.walk_report.specs.Parent.{HopsAndParentsFollowTheArcs, HopsAndParentsAreUnique};
 ghost use Rattle.walk_report.specs.Printed.{PrintedWalksAreWalks, PrintedWalksBelowAreWalks, WalksBelowAgree};
@@ -13,13 +12,14 @@ pub fn printed_walks_are_walks()
     ensures { PrintedWalksAreWalks }
 {}
 
-/// The same of a vertex whose label is below a limit, by the hops below the limit.
+/// States that printed walks are walks for each vertex whose label is below a limit, by the hops below the limit.
 pub fn printed_walks_below_are_walks()
     ensures { PrintedWalksBelowAreWalks }
 {}
 
-/// Where labels are least up to a limit, the label, the hop and the printed walk of a vertex whose label is below it
-/// are those that the least labels give. So a run may stop before all labels are least, and print the same walks.
+/// States that walks below a limit agree if labels are least up to it. The label, the hop and the printed walk of a
+/// vertex whose label is below it are those that the least labels give. So a run may stop before all labels are least,
+/// and print the same walks.
 pub fn walks_below_agree()
     ensures { WalksBelowAgree }
 {}

@@ -12,7 +12,7 @@ use std::alloc::Global;
 
 /// The parent of each vertex: the least vertex from which an arc leads to it along least labels and
 /// from one hop nearer. A least label alone would not do: arcs that cost nothing can form a circle.
-/// `NONE` where there is no hop, so of hops below a limit these are the parents below it. Takes time in
+/// `NONE` if there is no hop, so of hops below a limit these are the parents below it. Takes time in
 /// proportion to all vertices, and to the arcs of those that have a hop.
 pub fn parents(alloc: Global, csr: &Csr, labels: &[u64], hops: &[u32]) -> Result<Vec<u32>, Memory>
     requires { AreFromOneSource csr.now.n csr.now.arcs labels.now hops.now }
@@ -28,7 +28,7 @@ pub fn parents(alloc: Global, csr: &Csr, labels: &[u64], hops: &[u32]) -> Result
     Ok(parents)
 }
 
-/// Gives each vertex that has a hop its parent, where no vertex has one yet. Reads the rows of the given vertices
+/// Gives each vertex that has a hop its parent, if no vertex has one yet. Reads the rows of the given vertices
 /// alone: those that have a hop, in any order.
 pub(crate) fn parents_among(
     csr: &Csr,
@@ -72,7 +72,7 @@ fn lead_from(csr: &Csr, labels: &[u64], hops: &[u32], tail: u32, parents: &mut [
     }
 }
 
-/// Whether the arc joins the labels of its ends, and its tail is one hop nearer than its head.
+/// Tells if the arc joins the labels of its ends, and its tail is one hop nearer than its head.
 fn is_leading(labels: &[u64], hops: &[u32], arc: &ArcRec) -> bool
     requires tail { (arc.now.tail < length labels.now) × (arc.now.tail < length hops.now) }
     requires head { (arc.now.head < length labels.now) × (arc.now.head < length hops.now) }

@@ -9,7 +9,7 @@ use crate::hop::NONE;
 use route_walks::Memory;
 use std::alloc::Global;
 
-/// The vertices of the printed walk to `v`, the source first; `None` where no walk reaches `v`.
+/// The vertices of the printed walk to `v`, the source first; `None` if no walk reaches `v`.
 /// Takes time in proportion to the walk, and one allocation of its size.
 pub fn walk_to(
     alloc: Global,
@@ -39,7 +39,7 @@ pub fn walk_to(
     Ok(Some(walk))
 }
 
-/// The walks to these vertices, in their order; no vertices where none leads.
+/// The walks to these vertices, in their order; no vertices if none leads.
 pub(crate) fn walks_by(
     alloc: Global,
     hops: &[u32],
@@ -59,7 +59,7 @@ pub(crate) fn walks_by(
     Ok(walks)
 }
 
-/// The walk to `v`; no vertices where none leads.
+/// The walk to `v`; no vertices if none leads.
 fn walk_or_none(alloc: Global, hops: &[u32], parents: &[u32], v: u32) -> Result<Vec<u32>, Memory>
     requires vertex { v < length hops.now }
     requires back { LeadBack hops.now parents.now }

@@ -46,7 +46,7 @@ impl WalkSpace {
     }
 
     /// The vertices of the printed walk to each of some targets, in their order, by labels that are least up to a
-    /// limit. No vertices where no walk leads to the target, or where its label is not below the limit. Takes time in
+    /// limit. No vertices if no walk leads to the target, or if its label is not below the limit. Takes time in
     /// proportion to the vertices whose label is below the limit and their arcs, and to the walks.
     pub fn walks_to(
         &mut self,

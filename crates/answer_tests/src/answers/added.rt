@@ -66,7 +66,7 @@ const RUNS: [(Answer, bool, &[u8], usize); 11] = [
     (Answer::Components, false, ONE, 2),
 ];
 
-// Where arcs are added labels are worked out twice as often: before and after.
+// If arcs are added labels are worked out twice as often: before and after.
 #[test]
 fn runs_with_added_arcs(rt: HostRuntime) -> Result<(), Fail> {
     for (kind, walks, sections, runs) in RUNS {

@@ -1,4 +1,4 @@
-//! Sources side by side: which workers solve them, and what happens where walks are long.
+//! Sources side by side: which workers solve them, and what happens if walks are long.
 
 use crate::answers::answer_with_figures;
 use crate::answers::gates::Meeting;
@@ -28,7 +28,7 @@ pub fn asked_at_once(rt: &impl Abort, workers: u32, at_once: AtOnce) -> Asked {
     asked_for(rt, false, workers, at_once)
 }
 
-/// The same with walks or without.
+/// Distances by this number of workers, and of sources at once, with walks or without.
 fn asked_for(rt: &impl Abort, walks: bool, workers: u32, at_once: AtOnce) -> Asked {
     let settings = Settings::new(workers, 0, 16).expect(rt, "settings within their limits");
     let asked = Asked::new(Answer::Distances, settings, walks, 1 << 20).expect(rt, "distances");
@@ -76,7 +76,7 @@ fn figures_of_sources_at_once(rt: HostRuntime) -> Result<(), Fail> {
     Ok(())
 }
 
-// The same visits, all of them by one worker, where that one works alone in a small graph.
+// The same visits, all of them by one worker, if that one works alone in a small graph.
 #[test]
 fn sources_of_one_worker_alone(rt: HostRuntime) -> Result<(), Fail> {
     let counter = Counter::open(rt.alloc(), 8)?;
@@ -118,7 +118,7 @@ fn long_pairs(alloc: Global) -> Result<Vec<u8>, Fail> {
     path(alloc, &queries)
 }
 
-// With walks the text of each solve has more than 64 bytes a vertex, so none is kept: the two that were tried are
+// With walks the text of each solve has more than 64 bytes a vertex, so none is kept. The two that were tried are
 // solved once more, and then one at a time.
 #[test]
 fn long_walks_are_not_kept(rt: HostRuntime) -> Result<(), Fail> {

@@ -1,4 +1,4 @@
-//! What does a caller learn at a fault? Each clause is proved from the contract of `answer` alone.
+//! The facts that a caller learns at a fault. Each clause is proved from the contract of `answer` alone.
 
 ghost use Rattle.std.specs.Prelude.{◌≡◌, ◌≢◌, ◌+◌, ◌≤◌, ◌++◌, ℕ, List, length, IfErr};
 ghost use Rattle.dimacs_text.specs.Jobs.{Content, IsJobText};
@@ -15,8 +15,8 @@ use std::sync::Wait;
 use std::thread::Threads;
 use std::time::Clock;
 
-/// Appends the answer to the vector: the vector is as it was where the text is refused, and has at most
-/// a prefix of the answer more at a fault after that.
+/// Appends the answer to the vector. The vector is as it was if the text is refused, and has at most a prefix of the
+/// answer more at a fault after that.
 pub(crate) fn append_answer<H: Threads + Wait + Clock + Sync, G: Gate + Sync>(
     rt: &H,
     alloc: Global,
@@ -44,8 +44,8 @@ pub(crate) fn append_answer<H: Threads + Wait + Clock + Sync, G: Gate + Sync>(
     answer(rt, alloc, &mut reader, bytes, asked, gate)
 }
 
-/// How many bytes of the text are left after a fault: one more than the limit is gone where the text is
-/// too long, and at most the limit at any other.
+/// Returns the number of bytes of the text that are left after a fault. One more than the limit is gone if the text
+/// is too long, and at most the limit at any other fault.
 pub(crate) fn left_after_fault<H: Threads + Wait + Clock + Sync, G: Gate + Sync>(
     rt: &H,
     alloc: Global,

@@ -64,7 +64,7 @@ fn beginnings_of_a_job(rt: HostRuntime) {
     }
 }
 
-/// Looks what comes of the first bytes of the job of six vertices, and what is written.
+/// Asserts the outcome of the first bytes of the job of six vertices, and what is written.
 fn expect_beginning(
     rt: &(impl Abort + Threads + Wait + Clock + Sync),
     alloc: Global,
@@ -90,8 +90,8 @@ fn behind_a_comment(alloc: Global, inside: usize) -> Result<Vec<u8>, AllocError>
     Ok(text)
 }
 
-/// Answers a text that comes in a first read and then in others of a size, up to each of two limits: the whole
-/// text, and a byte less.
+/// Asserts the answers of a text that comes in a first read and then in others of a size, up to each of two limits.
+/// They are the whole text, and a byte less.
 fn assert_cut(
     rt: &(impl Abort + Threads + Wait + Clock + Sync),
     alloc: Global,

@@ -31,7 +31,7 @@ impl Meeting {
         self.workers.load(Ordering::SeqCst)
     }
 
-    /// Whether the first call saw the second before its turns ran out.
+    /// Tells if the first call saw the second before its turns ran out.
     pub fn met(&self) -> bool {
         self.met.load(Ordering::SeqCst) > 0
     }

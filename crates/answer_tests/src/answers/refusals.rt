@@ -1,6 +1,6 @@
-//! Each call with one allocation of it refused, inside a worker's push too: `Memory` or `Spawn` then, with a prefix of
-//! the answer, and made once more it writes the answer that was worked by hand. `tests/refusals` refuses each in
-//! turn; `tests/refusals.tsv` has the calls.
+//! Each call with one allocation of it refused, inside a worker's push too. It gives `Memory` or `Spawn` then, with a
+//! prefix of the answer, and made once more it writes the answer that was worked by hand. `tests/refusals` refuses
+//! each in turn; `tests/refusals.tsv` has the calls.
 
 use crate::answers::added::{SIX_ADDED, SIX_ADDED_WALKS};
 use crate::answers::at_once::{SIX_SOURCES, SIX_SOURCES_ANSWER, asked_at_once};

@@ -28,7 +28,7 @@ impl<'a> Source<'a> {
         }
     }
 
-    /// The same, which fails where there are no more.
+    /// A reader that gives all in such reads, and fails if no bytes are left.
     pub fn failing(bytes: &'a [u8], step: usize) -> Source<'a> {
         let mut source = Source::new(bytes, step, step);
         source.fails = true;
@@ -53,7 +53,7 @@ impl Read for Source<'_> {
 }
 
 /// Takes bytes in writes of at most `step`, and once it has `room` of them fails, or takes none. Counts
-/// its flushes, of which each fails where it is told so.
+/// its flushes, each of which fails if `flush_fails` is set.
 #[derive(Drop)]
 pub(crate) struct Sink {
     pub taken: Vec<u8>,
@@ -77,7 +77,7 @@ impl Sink {
         }
     }
 
-    /// The same with room for this number of bytes, after which it fails or takes none.
+    /// A writer with room for this number of bytes, after which it fails or takes none.
     pub fn with_room(alloc: Global, step: usize, room: usize, fails: bool) -> Sink {
         let mut sink = Sink::new(alloc, step);
         sink.room = room;
@@ -85,7 +85,7 @@ impl Sink {
         sink
     }
 
-    /// The same, but each flush fails.
+    /// A writer that takes all in writes of at most `step`, but each flush fails.
     pub fn never_flushed(alloc: Global, step: usize) -> Sink {
         let mut sink = Sink::new(alloc, step);
         sink.flush_fails = true;

@@ -30,7 +30,7 @@ const LINES: [(&[u8], u64); 10] = [
 const REPLIES: &[u8] =
     b"r 2 0\nq 1 2 inf\nr 2 0\ne 6 out of range\ng 1\nr 2 1\nq 1 2 5\nw 2 5 1 2\nr 2 1\n";
 
-/// The part of a session that a client sees: the number of replies that have come, and whether bytes wait for a flush.
+/// The part of a session that a client sees: the number of replies that have come, and true if bytes wait for a flush.
 #[derive(Drop)]
 struct Wire {
     replies: AtomicU64,
@@ -45,7 +45,7 @@ impl Wire {
         }
     }
 
-    /// Tells whether this number of replies has come, and nothing waits.
+    /// Tells if this number of replies has come, and nothing waits.
     fn has(&self, replies: u64) -> bool {
         self.replies.load(Ordering::SeqCst) == replies && self.waiting.load(Ordering::SeqCst) == 0
     }
@@ -141,7 +141,7 @@ fn each_reply_is_out_before_more_is_read(rt: HostRuntime) -> Result<(), Fail> {
     Ok(())
 }
 
-// Of each row the limit, what comes of the session, and what is written.
+// Of each row the limit, the outcome of the session, and what is written.
 const LIMITS: [(u64, Result<(), Fault>, &[u8]); 3] = [
     (9, Ok(()), b"r 2 0\n"),
     (8, Err(Fault::TooLong), b""),

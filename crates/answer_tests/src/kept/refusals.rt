@@ -1,5 +1,5 @@
-//! Each call with one allocation of it refused: `Memory` or `Spawn` then, and made once more it gives what was worked by
-//! hand. `tests/refusals` refuses each in turn; `tests/refusals.tsv` has the calls.
+//! Each call with one allocation of it refused: `Memory` or `Spawn` then, and made once more it gives what was worked
+//! by hand. `tests/refusals` refuses each in turn; `tests/refusals.tsv` has the calls.
 
 use crate::kept::asked;
 use dimacs_text::Ask;
@@ -105,7 +105,7 @@ fn of_answer_session(rt: HostRuntime) -> Result<(), Fail> {
     Ok(())
 }
 
-/// Whether a request was refused for want of memory.
+/// Tells if a request was refused for want of memory.
 fn has_refusal(replies: &[u8]) -> bool {
     replies
         .windows(15)

@@ -1,4 +1,4 @@
-//! Networks at random: are the costs those of the plain way?
+//! Tests of networks at random: their costs are those of the plain way.
 
 ghost use Rattle.std.specs.Prelude.{◌≡◌, ◌≤◌};
 
@@ -62,7 +62,7 @@ fn plain_from(
     Ok(plain_labels(alloc, n, arcs, &seeds)?)
 }
 
-/// What a label says of the cost.
+/// Returns the cost that a label says.
 fn cost_of(label: u64) -> Option<u64> {
     if label == INF { None } else { Some(label) }
 }
@@ -81,7 +81,7 @@ fn expect_said(rt: &impl Abort, costs: &Costs, n: u32, labels: &[u64], source: u
 /// The sources that are asked for.
 const SOURCES: [u32; 3] = [1, 0, 1];
 
-/// Asks for the costs from two sources at once, and compares each with the plain way.
+/// Asserts that the costs from two sources at once are those of the plain way.
 fn expect_plain<H: Threads + Wait + Clock + Abort + Sync>(
     rt: &H,
     alloc: Global,

@@ -1,4 +1,4 @@
-//! What is kept serves one call after another: are the costs those of whole runs?
+//! Tests of calls one after another with what is kept: the costs are those of whole runs.
 
 ghost use Rattle.std.specs.Prelude.{◌≡◌, ◌<◌, true};
 ghost use Rattle.least_costs.specs.Pairs.{ArePairsWithin};
@@ -14,15 +14,15 @@ use std::test::Fail;
 use std::thread::Threads;
 use std::time::Clock;
 
-/// Tells whether these are pairs of vertices of a network of `n`.
+/// Tells if these are pairs of vertices of a network of `n`.
 fn are_within(n: u32, pairs: &[(u32, u32)]) -> bool
     ensures { result ≡ true → ArePairsWithin n pairs.now }
 {
     pairs.iter().all(|pair| pair.0 < n && pair.1 < n)
 }
 
-/// The calls in their order: whether the path of 3,000 vertices is asked, or the six vertices, and the pairs. In both a
-/// search gives up after 512 visits.
+/// The calls in their order: true if the path of 3,000 vertices is asked, and not the six vertices, and the pairs. In
+/// both a search gives up after 512 visits.
 const CALLS: [(bool, &[(u32, u32)]); 8] = [
     (false, &[(0, 5)]),
     (true, &[(10, 13), (20, 21)]),
@@ -144,7 +144,7 @@ struct Near<'a> {
     is_long: bool,
     source: u32,
     target: u32,
-    /// The label of the target and the walk to it; `INF` and no vertices where there is no walk.
+    /// The label of the target and the walk to it; `INF` and no vertices if there is no walk.
     walk: Option<(u64, &'a [u32])>,
     bound: u64,
     /// The vertices whose costs are at most the bound, each with its cost.
@@ -186,7 +186,7 @@ const NEAR: [Near<'static>; 4] = [
     },
 ];
 
-/// Asserts what the thread that asks finds; nothing where it doesn't search.
+/// Asserts what the thread that asks finds; nothing if it doesn't search.
 fn expect_near(
     rt: &impl Abort,
     alloc: Global,

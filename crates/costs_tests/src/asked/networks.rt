@@ -1,4 +1,4 @@
-//! Which costs does a network have that is worked by hand, and why is there none?
+//! Tests of networks that were worked out by hand: their costs, or the fault for which there is no network.
 
 ghost use Rattle.std.specs.Prelude.{◌≡◌, ◌<◌, ◌^◌, length};
 ghost use Rattle.least_costs.specs.Pairs.{ArePairsWithin};
@@ -92,7 +92,7 @@ fn costs_from_a_start(rt: HostRuntime) -> Result<(), Fail> {
 
 const SHORTER: [ArcRec; 1] = arcs![(0, 5, 4)];
 
-/// What an arc costs, and the costs from vertex 0 once there is the shorter arc.
+/// The cost of an arc, and the costs from vertex 0 once there is the shorter arc.
 const GROWN: [(Cost, &[Option<u64>]); 3] = [
     (
         Cost::Weight,
@@ -143,7 +143,7 @@ const FAULTS: [(u32, &[ArcRec], NetworkFault); 3] = [
     (0, &OUTSIDE, NetworkFault::Outside(0)),
 ];
 
-/// What each fault prints.
+/// The text that each fault prints.
 const TEXTS: [(NetworkFault, &str); 5] = [
     (NetworkFault::Vertices, "too many vertices"),
     (NetworkFault::Outside(1), "arc 1: an end is no vertex"),

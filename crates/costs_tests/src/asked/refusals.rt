@@ -31,7 +31,7 @@ const SHORTER_FROM_0: [Option<u64>; 6] = [Some(0), Some(10), Some(10), Some(12),
 
 const WITHIN_12: [Option<u64>; 6] = [Some(0), Some(10), Some(10), Some(12), Some(10), None];
 
-/// The network of the six vertices, asked once more where memory was refused.
+/// The network of the six vertices, asked once more if memory was refused.
 fn made_again<H: Threads + Abort + Sync>(
     rt: &H,
     alloc: Global,
@@ -56,7 +56,7 @@ fn of_network_new(rt: HostRuntime) -> Result<(), Fail> {
     Ok(())
 }
 
-/// The network with the shorter arc, asked once more where memory was refused.
+/// The network with the shorter arc, asked once more if memory was refused.
 fn grown_again<H: Threads + Abort + Sync>(
     rt: &H,
     alloc: Global,
@@ -81,7 +81,7 @@ fn of_network_with_arcs(rt: HostRuntime) -> Result<(), Fail> {
     Ok(())
 }
 
-/// What gives the costs of the six vertices, from vertex 0 but for `Everywhere`, and once there is the shorter arc.
+/// A call for the costs of the six vertices, from vertex 0 but for `Everywhere`, and once there is the shorter arc.
 #[derive(Clone, Copy)]
 enum Call {
     /// By so many workers.
@@ -123,7 +123,7 @@ fn costs_by<H: Threads + Wait + Clock + Sync>(
     }
 }
 
-/// The costs, asked once more where memory was refused, by the same runner.
+/// The costs, asked once more if memory was refused, by the same runner.
 fn asked_again<H: Threads + Wait + Clock + Sync>(
     rt: &H,
     alloc: Global,
@@ -168,7 +168,7 @@ fn costs_of<H: Threads + Wait + Clock + Sync>(
     asked_again(rt, alloc, call, network, grown, &mut runner)
 }
 
-/// Asserts what a call gives, by one more of it where memory was refused.
+/// Asserts what a call gives, by one more of it if memory was refused.
 fn expect_again<H: Threads + Wait + Clock + Abort + Sync>(
     rt: &H,
     alloc: Global,
@@ -205,7 +205,7 @@ fn of_runner_costs_from(rt: HostRuntime) -> Result<(), Fail> {
     expect_again(&rt, rt.alloc(), Call::FromRunner, &FROM_0)
 }
 
-/// The costs that serve walks to vertex 5, asked once more where memory was refused: workers open another pool then.
+/// The costs that serve walks to vertex 5, asked once more if memory was refused: workers open another pool then.
 fn served_again<H: Threads + Wait + Clock + Sync>(
     rt: &H,
     alloc: Global,
@@ -231,7 +231,7 @@ fn of_workers_costs_for(rt: HostRuntime) -> Result<(), Fail> {
     Ok(())
 }
 
-/// The same in the network with the shorter arc, from what a run left.
+/// The costs that serve walks to vertex 5 in the network with the shorter arc, from what a run left.
 fn served_after<H: Threads + Wait + Clock + Sync>(
     rt: &H,
     alloc: Global,
@@ -270,7 +270,7 @@ fn of_costs_copied(rt: HostRuntime) -> Result<(), Fail> {
     expect_again(&rt, rt.alloc(), Call::Copied, &FROM_0)
 }
 
-/// A runner by two workers, asked once more where memory was refused.
+/// A runner by two workers, asked once more if memory was refused.
 fn opened_again(alloc: Global, network: &Network) -> Result<Runner, Memory> {
     let settings = Plan::usual(2).settings;
     match refusable!(alloc, Runner::open(alloc, network, &settings)) {
@@ -287,7 +287,7 @@ fn of_runner_open(rt: HostRuntime) -> Result<(), Fail> {
     Ok(())
 }
 
-/// The costs from vertex 0 of at most 12, asked once more where memory was refused.
+/// The costs from vertex 0 of at most 12, asked once more if memory was refused.
 fn within_again<H: Threads + Wait + Clock + Sync>(
     rt: &H,
     alloc: Global,
@@ -352,10 +352,10 @@ fn of_solver_each(rt: HostRuntime) -> Result<(), Fail> {
     Ok(())
 }
 
-/// How many workers, and how many sources at once.
+/// The number of workers, and the number of sources at once.
 const PLANS: [(u32, u32); 3] = [(1, 1), (2, 2), (4, 2)];
 
-/// How many of four sources are refused memory. The others have their costs.
+/// Returns the number of four sources that are refused memory. The others have their costs.
 fn refused_of_each<H: Threads + Wait + Clock + Abort + Sync>(
     rt: &H,
     alloc: Global,
@@ -421,7 +421,7 @@ fn pairs_by<H: Threads + Wait + Clock + Sync>(
     Ok(PairCosts { costs, after })
 }
 
-/// Asserts the costs of the pairs, by one more call where memory was refused, with what that left.
+/// Asserts the costs of the pairs, by one more call if memory was refused, with what that left.
 fn expect_pairs<H: Threads + Wait + Clock + Abort + Sync>(
     rt: &H,
     alloc: Global,
@@ -479,7 +479,7 @@ fn of_network_reverse(rt: HostRuntime) -> Result<(), Fail> {
     Ok(())
 }
 
-// It waits for more searches in vain then, before it reverses the rows.
+// It waits for more fruitless searches then, before it reverses the rows.
 #[test]
 fn of_workspace_prepare(rt: HostRuntime) -> Result<(), Fail> {
     let alloc = rt.alloc();

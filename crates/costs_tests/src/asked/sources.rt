@@ -1,4 +1,4 @@
-//! Many sources: in which order do they come, and by which workers?
+//! Tests of many sources: the order in which they come, and the workers that solve them.
 
 ghost use Rattle.std.specs.Prelude.{◌≡◌, IfOk, IfSome};
 
@@ -27,7 +27,7 @@ const COSTS: [[Option<u64>; 6]; 5] = [
     FROM_0,
 ];
 
-/// Workers, whether buckets fit the network, and sources at once.
+/// The number of workers, true if buckets fit the network, and the sources at once.
 const PLANS: [(u32, bool, AtOnce); 6] = [
     (1, true, AtOnce::Auto),
     (2, true, AtOnce::Auto),
@@ -47,7 +47,7 @@ fn plan_of(rt: &impl Abort, workers: u32, fitted: bool, at_once: AtOnce) -> Plan
     Plan { settings, at_once }
 }
 
-/// Asserts that these are the costs of the source at a place, or that there is none.
+/// Asserts that these are the costs of the source at a place, or that there are none past the last source.
 fn expect_next(
     rt: &impl Abort,
     row: usize,
@@ -169,7 +169,7 @@ fn few_visits_of_near_targets(rt: HostRuntime) -> Result<(), Fail> {
     Ok(())
 }
 
-// Where the thread that asks finds the targets, workers visit none.
+// If the thread that asks finds the targets, workers visit none.
 #[test]
 fn no_visits_of_targets_found_before(rt: HostRuntime) -> Result<(), Fail> {
     let network = path(&rt, rt.alloc())?;

@@ -20,7 +20,7 @@ fn walk_by(alloc: Global, network: &Network, costs: &Costs) -> Result<Option<Vec
     costs.walks(alloc, network)?.to(alloc, 4)
 }
 
-/// That walk, asked for once more where memory was refused.
+/// That walk, asked for once more if memory was refused.
 fn walk_again(alloc: Global, network: &Network, costs: &Costs) -> Result<Option<Vec<u32>>, Memory>
     requires { IsFrom network.now 0 costs.now × (network.now.n ≡ 6) }
 {

@@ -37,7 +37,7 @@ impl Draws {
         }
     }
 
-    /// From 1 to 8 workers, with a shift and chunks that fit or don't, over a pool of any kind.
+    /// Draws a piece: from 1 to 8 workers, with a shift and chunks that fit or don't, over a pool of any kind.
     pub fn piece(&mut self, rt: &impl Abort) -> Piece {
         let (workers, shift) = (1 + self.below(8) % 8, self.below(16));
         let chunk = 1 + self.below(64) as usize % 64;

@@ -55,7 +55,7 @@ impl<'a, C: Clock> Gate for Holding<'a, C> {
     }
 }
 
-/// What a run gives, and how many visits and chunks it takes.
+/// The labels that a run gives, and the numbers of visits and chunks that it takes.
 #[derive(Drop)]
 struct Counted {
     labels: Vec<u64>,
@@ -89,9 +89,9 @@ pub(crate) fn settings_of(rt: &impl Abort, workers: u32, chunk: usize) -> Settin
     settings.expect(rt, "settings within their limits")
 }
 
-/// How many chunks of each size one worker opens on a star of 64 leaves: one for vertex 0, and those of the leaves,
-/// which share a bucket. Where buckets widen that is the one of vertex 0 too, whose chunk they go on with if it isn't
-/// full.
+/// The size of a chunk, and the number that one worker opens on a star of 64 leaves, with even buckets and with
+/// widening ones. One is for vertex 0, and the others are for the leaves, which share a bucket. Widening buckets put
+/// vertex 0 into that one too: the leaves go on with its chunk if it isn't full.
 const CHUNKS: &[(usize, u64, u64)] = &[
     (1, 65, 65),
     (3, 23, 22),
@@ -100,7 +100,7 @@ const CHUNKS: &[(usize, u64, u64)] = &[
     (256, 2, 1),
 ];
 
-/// How many chunks one worker opens.
+/// Returns the number of chunks that one worker opens.
 fn chunks_by<H: Threads + Wait + Clock + Abort + Sync>(
     rt: &H,
     alloc: Global,
@@ -123,8 +123,8 @@ fn chunks_are_of_the_size_asked(rt: HostRuntime) -> Result<(), Fail> {
     Ok(())
 }
 
-/// A shift, where buckets don't widen, and how many visits one worker makes at most of 3,000 vertices: a tenth more
-/// than it makes.
+/// A shift, if buckets don't widen, and the most visits that one worker makes of 3,000 vertices: a tenth more than it
+/// makes.
 const VISITS: &[(Option<u32>, u64)] = &[(None, 3_300), (Some(4), 3_300), (Some(10), 3_900)];
 
 /// Buckets by a shift, or those that widen.
@@ -220,7 +220,7 @@ fn grid(rt: &impl Abort, alloc: Global) -> Result<Csr, Fail> {
     rows_of(rt, alloc, 250_000, &arcs)
 }
 
-// A worker that is held with much of the work: the others wait for it, and don't visit vertices in vain.
+// A worker that is held with much of the work: the others wait for it, and make no fruitless visits.
 #[test]
 fn a_worker_that_is_held(rt: HostRuntime) -> Result<(), Fail> {
     let alloc = rt.alloc();

@@ -1,5 +1,5 @@
-//! Runs that stop once they have the labels that are wanted: beside whole runs on graphs of several shapes; over pools
-//! that lose, repeat and invent vertices; and by how few visits.
+//! Tests of runs that stop once they have the labels that are wanted: beside whole runs on graphs of several shapes,
+//! and over pools that lose, repeat and invent vertices. They also bound the visits.
 
 ghost use Rattle.std.specs.Prelude.{◌≡◌, ◌<◌, length, All, IfOk};
 ghost use Rattle.route_walks.specs.Label.{AreLeastLabels};
@@ -50,7 +50,7 @@ const SHAPES: [Shape; 5] = [
     Shape::Free,
 ];
 
-/// Arcs among 3,000 vertices: most lead to low ones where there are hubs.
+/// Arcs among 3,000 vertices: most lead to low ones if there are hubs.
 fn drawn_arcs(alloc: Global, hubs: bool, weights: u32) -> Result<Vec<ArcRec>, Memory> {
     let mut draws = Draws::new();
     let mut arcs = Vec::new(alloc);
@@ -86,7 +86,7 @@ fn graph_of(rt: &impl Abort, alloc: Global, shape: Shape) -> Result<Csr, Fail>
     rows_of(rt, alloc, 3_001, &arcs)
 }
 
-/// What is wanted, by places of vertices in the order of their labels.
+/// The goal of a run, by places of vertices in the order of their labels.
 #[derive(Clone, Copy, Debug)]
 enum Wanted {
     Each,
@@ -152,7 +152,7 @@ impl Named {
     }
 }
 
-/// Whether labels are the same as far as a limit.
+/// Tells if labels are the same as far as a limit.
 fn agree_up_to(limit: u64, labels: &[u64], whole: &[u64]) -> bool {
     let mut pairs = labels.iter().zip(whole);
     labels.len() == whole.len() && pairs.all(|(one, other)| *one.min(&limit) == *other.min(&limit))
@@ -170,8 +170,8 @@ impl Gate for Counting {
     }
 }
 
-/// Asserts that a run gives the labels of a whole run as far as its limit. How many visits it made, and whether it
-/// stopped before its end.
+/// Asserts that a run gives the labels of a whole run as far as its limit. Returns the number of its visits, and true
+/// if it stopped before its end.
 fn count_until<H: Threads + Wait + Clock + Abort + Sync>(
     rt: &H,
     alloc: Global,
@@ -245,7 +245,7 @@ const FEW: &[(Shape, Wanted, u64)] = &[
     (Shape::Path, Wanted::Within(1_500), 1_650),
 ];
 
-/// Whether one of eight runs stops early, after so many visits at most. Where the system holds back the worker at the
+/// Tells if one of eight runs stops early, after so many visits at most. If the system holds back the worker at the
 /// lowest labels, the others visit more.
 fn visits_few<H: Threads + Wait + Clock + Abort + Sync>(
     rt: &H,
@@ -326,7 +326,7 @@ where
     Ok(reached.closed.into_labels())
 }
 
-/// The same over a new pool of a kind.
+/// The labels of a run that stops at a goal and goes on to its end from there, over a new pool of a kind.
 fn over_pool<H: Threads + Wait + Clock + Sync>(
     rt: &H,
     alloc: Global,

@@ -13,7 +13,7 @@ use std::test::Fail;
 /// The distances from vertex 0 in the example.
 pub(crate) const SIX_LABELS: [u64; 6] = [0, 10, 10, 12, 10, 15];
 
-/// Whether rows of the arcs can be built.
+/// Tells if rows of the arcs can be built.
 pub(crate) fn fit_rows(n: u32, arcs: &[ArcRec]) -> bool
     ensures vertices { IsTrue result → n ≤ MAX_VERTICES }
     ensures places { IsTrue result → length arcs.now ≤ MAX_ARCS }
@@ -43,7 +43,7 @@ pub(crate) fn same_labels(rt: &impl Abort, row: usize, labels: &[u64], want: &[u
     assert!(rt; labels == want, "row {row}");
 }
 
-/// `count` arcs among `n` vertices, the same ones at each call.
+/// Returns `count` arcs among `n` vertices, the same ones at each call.
 pub(crate) fn random_arcs(alloc: Global, n: u32, count: usize) -> Result<Vec<ArcRec>, Memory> {
     let mut arcs = Vec::with_capacity(alloc, count)?;
     let mut draws = Draws::new();

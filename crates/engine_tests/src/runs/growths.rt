@@ -213,7 +213,7 @@ fn pauses_of_a_budget(rt: HostRuntime) -> Result<(), Fail> {
     Ok(())
 }
 
-// Where there is no vertex there is nothing left to do, whatever the budget.
+// If there is no vertex there is nothing left to do, whatever the budget.
 #[test]
 fn no_vertices_are_settled(rt: HostRuntime) -> Result<(), Fail> {
     let alloc = rt.alloc();
@@ -398,7 +398,7 @@ fn expect_visited<H: Threads + Wait + Clock + Abort + Sync>(
 /// Arcs that lower no label.
 const NO_SHORTER: [ArcRec; 3] = arcs![(17, 0, 3), (9, 9, 0), (17, 0, 3)];
 
-// The second run costs what the added arcs change: their tails are visited once each, and where a label falls the
+// The second run costs what the added arcs change: their tails are visited once each, and if a label falls the
 // vertices that this concerns, of however many there are.
 #[test]
 fn only_what_changes_is_visited(rt: HostRuntime) -> Result<(), Fail> {
@@ -410,7 +410,7 @@ fn only_what_changes_is_visited(rt: HostRuntime) -> Result<(), Fail> {
     expect_visited(&rt, alloc, &six(alloc)?, &SHORTER, &[0, 5])
 }
 
-// Where no label falls, nothing is pushed but the tails that are marked: each into a chunk of its own.
+// If no label falls, nothing is pushed but the tails that are marked: each into a chunk of its own.
 #[test]
 fn tails_of_added_arcs_are_handed_over(rt: HostRuntime) -> Result<(), Fail> {
     let alloc = rt.alloc();

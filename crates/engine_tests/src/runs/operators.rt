@@ -1,4 +1,4 @@
-//! What `run` and each call that brings a pool of its own gives: a table of graphs, with labels that another program
+//! Tests of `run` and of each call that brings a pool of its own: a table of graphs, with labels that another program
 //! worked out.
 
 ghost use Rattle.std.specs.Prelude.{◌≡◌, IfOk};
@@ -24,7 +24,7 @@ use std::test::Fail;
 use std::thread::Threads;
 use std::time::Clock;
 
-/// What is asked, with its source or its seeds.
+/// A call, with its source or its seeds.
 #[derive(Clone, Copy)]
 pub(crate) enum Ask {
     Run(&'static [Seed]),
@@ -283,7 +283,7 @@ fn labels_until<H: Threads + Wait + Clock + Abort + Sync>(
     }
 }
 
-/// What a call is to reach, where it may stop early.
+/// The goal of a call, if it may stop early.
 fn goal_in(ask: Ask) -> Option<Goal<'static>> {
     match ask {
         DistancesUntil(_, goal) => Some(goal),
@@ -326,7 +326,7 @@ pub(crate) fn labels_of<H: Threads + Wait + Clock + Abort + Sync>(
     }
 }
 
-/// How many workers there are, one, two or more than vertices, and whether buckets widen.
+/// The number of workers, one, two or more than vertices, and then true if buckets widen.
 const SETTINGS: &[(u32, bool)] = &[(1, false), (2, false), (8, false), (1, true), (8, true)];
 
 #[test]

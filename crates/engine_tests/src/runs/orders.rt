@@ -1,4 +1,4 @@
-//! In which order workers visit: what is pushed and what passes the gate.
+//! Tests of the order in which workers visit: what is pushed and what passes the gate.
 
 ghost use Rattle.std.specs.Prelude.{◌≡◌, length, IfOk};
 
@@ -16,8 +16,8 @@ use std::test::Fail;
 use std::thread::Threads;
 use std::time::Clock;
 
-/// What one worker does over a pool that gives the first pushed first, on the arcs of `n` vertices: what it is
-/// handed and pushes, at which metrics, what the gate sees, and the labels.
+/// The work of one worker over a pool that gives the first pushed first, on the arcs of `n` vertices. It is what the
+/// worker is handed and pushes, at which metrics, what the gate sees, and the labels.
 struct Order {
     n: u32,
     arcs: &'static [ArcRec],
@@ -180,7 +180,7 @@ const HANDED: &[(u64, &[(u32, u64)])] = &[
     (4, &[(4, 10), (5, 22)]),
 ];
 
-/// What is handed to a new pool by a run that goes on, but whose worker visits nothing.
+/// Returns what a run that goes on, but whose worker visits nothing, hands to a new pool.
 fn handed_after<H: Threads + Wait + Clock + Abort + Sync>(
     rt: &H,
     alloc: Global,
@@ -216,8 +216,8 @@ fn marked_vertices_are_handed_over(rt: HostRuntime) -> Result<(), Fail> {
     Ok(())
 }
 
-// A pool that gives a vertex again and again still has others: up to as many times as there are vertices
-// the worker takes them in the pool's order, and from then on in the order of their numbers.
+// A pool that gives a vertex again and again still has others. Up to as many times as there are vertices the worker
+// takes them in the pool's order, and from then on in the order of their numbers.
 #[test]
 fn a_pool_that_repeats_is_borne(rt: HostRuntime) -> Result<(), Fail> {
     let (alloc, seeds, n) = (rt.alloc(), EXAMPLE_SEEDS, 3000);

@@ -27,7 +27,7 @@ pub(crate) enum Kind {
     Widening,
     Misleading,
     Hostile(Draws),
-    /// Whether it says that it keeps a vertex, and what it gives.
+    /// A useless pool: true if it says that it keeps a vertex, and the vertex that it gives.
     Useless(bool, Option<u32>),
 }
 
@@ -39,7 +39,7 @@ pub(crate) struct Piece {
     pub budget: u64,
 }
 
-/// Which pieces a run goes on by: the same one again and again, or others that are drawn.
+/// The pieces by which a run goes on: the same one again and again, or others that are drawn.
 #[derive(Clone, Copy)]
 pub(crate) enum Plan {
     Same(Piece),
@@ -55,10 +55,10 @@ impl Plan {
     }
 }
 
-/// No run has more pieces.
+/// The most pieces of a run.
 const MOST_PIECES: u32 = 100_000;
 
-/// Goes on from a pause for a while, or begins where there is none.
+/// Goes on from a pause for a while, or begins without one.
 fn go_on_over<H: Threads + Wait + Clock + Sync, P: WorkPool + Sync>(
     rt: &H,
     alloc: Global,
@@ -92,7 +92,7 @@ where
     }
 }
 
-/// Goes on from a pause for a while, or begins where there is none, over a new pool of the piece's kind.
+/// Goes on from a pause for a while, or begins without one, over a new pool of the piece's kind.
 pub(crate) fn go_on<H: Threads + Wait + Clock + Sync>(
     rt: &H,
     alloc: Global,

@@ -11,7 +11,7 @@ use std::sync::{Mutex, Wait};
 /// Gives the first pushed first, to one worker.
 pub(crate) struct FirstIn;
 
-/// What was pushed, in order, and what of it waits.
+/// The pushes in order, and those of their vertices that wait.
 #[derive(Drop)]
 pub(crate) struct Queue {
     pub pushes: Vec<(u32, u64)>,
@@ -50,7 +50,7 @@ pub(crate) struct Repeating {
     pub times: u32,
 }
 
-/// What waits, and how many times the first was given.
+/// The vertices that wait, and the number of times that the first was given.
 #[derive(Drop)]
 pub(crate) struct Repeated {
     waiting: VecDeque<u32>,

@@ -28,7 +28,7 @@ use std::time::Clock;
 // So many workers, and whether buckets widen.
 const SETTINGS: &[(u32, bool)] = &[(1, false), (2, false), (1, true), (2, true)];
 
-// The labels of the six vertices, asked once more where memory was refused.
+// The labels of the six vertices, asked once more if memory was refused.
 fn asked_again<H: Threads + Wait + Clock + Abort + Sync>(
     rt: &H,
     alloc: Global,
@@ -128,7 +128,7 @@ const POOLS: &[(Kind, u32)] = &[
     (Kind::Obim, 2),
 ];
 
-// The pause after a piece, which is made once more where memory was refused.
+// The pause after a piece, which is made once more if memory was refused.
 fn begun_again<H: Threads + Wait + Clock + Abort + Sync>(
     rt: &H,
     alloc: Global,

@@ -1,4 +1,4 @@
-//! What a gate and a pool see of workers: their numbers, and marks before pushes; and workers that yield at random.
+//! Tests of what a gate and a pool see of workers (numbers, and marks before pushes), and of random yields.
 
 ghost use Rattle.std.specs.Prelude.{◌<◌, ⊤};
 
@@ -68,11 +68,11 @@ fn each_worker_has_its_number(rt: HostRuntime) -> Result<(), Fail> {
 /// again.
 #[derive(Drop)]
 struct Relay {
-    /// The vertex that waits, and 1 more; 0 where none does.
+    /// The vertex that waits, and 1 more; 0 if none does.
     waiting: AtomicU64,
-    /// How many pops there were since vertex 1 was given, that one counted.
+    /// The number of pops since vertex 1 was given, that one counted.
     pops: AtomicU64,
-    /// As many as there were when vertex 1 was visited.
+    /// The number of them when vertex 1 was visited.
     pops_at_visit: AtomicU64,
 }
 
@@ -130,8 +130,9 @@ fn a_vertex_is_marked_before_it_is_pushed(rt: HostRuntime) -> Result<(), Fail> {
     Ok(())
 }
 
-/// Holds a worker back before one visit in eight, drawn at random: for up to 248 turns of a loop, and before one visit
-/// in 2,048 until other processes have had the processor. That takes as long as these like, so it is seldom.
+/// Holds a worker back before one visit in eight, drawn at random. It holds it for up to 248 turns of a loop, and
+/// before one visit in 2,048 until other processes have had the processor. That takes as long as these like, so it is
+/// seldom.
 #[derive(Drop)]
 struct Dawdling {
     state: AtomicU64,

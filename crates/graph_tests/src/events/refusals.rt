@@ -1,6 +1,6 @@
-//! Each call that takes memory, with one allocation of it refused: its fault then, with the core as it was, and made
-//! once more it gives what the worked schedule shows. `tests/refusals` refuses each in turn; `tests/refusals.tsv`
-//! has the calls.
+//! Each call that takes memory, with one allocation of it refused. It gives its fault then, with the core as it was,
+//! and made once more it gives what the worked schedule shows. `tests/refusals` refuses each in turn;
+//! `tests/refusals.tsv` has the calls.
 
 ghost use Rattle.std.specs.Prelude.{◌≡◌};
 ghost use Rattle.relax_core.specs.State.{IsOf};

@@ -1,5 +1,6 @@
-//! Each call that takes memory, with one allocation of it refused: it finds nothing then, and made once more in the same
-//! lists it gives what was worked by hand. `tests/refusals` refuses each in turn; `tests/refusals.tsv` has the calls.
+//! Each call that takes memory, with one allocation of it refused: it finds nothing then, and made once more in the
+//! same lists it gives what was worked by hand. `tests/refusals` refuses each in turn; `tests/refusals.tsv` has the
+//! calls.
 
 use crate::near::Question::{Cost, Labels, Walks, Within};
 use crate::near::{ALL, ENOUGH, FROM_0, Question, is_right, room_of};
@@ -10,7 +11,7 @@ use std::alloc::Global;
 use std::process::Abort;
 use std::test::Fail;
 
-/// Asserts that the answer is right, by one more call where there is none.
+/// Asserts that the answer is right, by one more call if there was none.
 fn expect_again(rt: &impl Abort, alloc: Global, question: Question) -> Result<(), Fail> {
     let csr = build(rt, alloc, 6, &EXAMPLE_ARCS)?;
     let reversed = csr.reversed(alloc)?;

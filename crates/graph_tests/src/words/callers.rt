@@ -57,7 +57,7 @@ fn relax_row(words: &Words, seat: &mut WorkSeat, csr: &Csr, u: u32)
     words.finish(seat, csr);
 }
 
-// Takes a vertex, relaxes its row and finishes. Nothing happens where it isn't marked.
+// Takes a vertex, relaxes its row and finishes. Nothing happens if it isn't marked.
 fn visit(words: &Words, seat: &mut WorkSeat, csr: &Csr, u: u32)
     requires words { seat.old.words ≡ words.now }
     requires graph { csr.now ≡ seat.old.known.graph }
@@ -101,7 +101,7 @@ fn sweep_until_seen(words: &Words, seat: &mut WorkSeat, csr: &Csr)
     }
 }
 
-// Reads the label of a vertex that no arc leaves, and lets the vertex go; nothing where it isn't marked
+// Reads the label of a vertex that no arc leaves, and lets the vertex go; nothing if it isn't marked
 // or has an arc.
 fn read_leaf(words: &Words, seat: &mut WorkSeat, csr: &Csr, u: u32) -> Option<u64>
     requires words { seat.old.words ≡ words.now }
@@ -124,8 +124,8 @@ fn read_leaf(words: &Words, seat: &mut WorkSeat, csr: &Csr, u: u32) -> Option<u6
     Some(label)
 }
 
-// Reads the label of a vertex that no arc leaves by a seat that is split off, and joins one that was split off that one
-// since: it knows the label too.
+// Reads the label of a vertex that no arc leaves by a seat that is split off, and joins one that was split off that
+// one since. It knows the label too.
 fn read_by_others(words: &Words, seat: &mut WorkSeat, csr: &Csr, u: u32) -> Option<u64>
     requires words { seat.old.words ≡ words.now }
     requires graph { csr.now ≡ seat.old.known.graph }

@@ -1,5 +1,5 @@
-//! Each call that takes memory, in a script of its own with one allocation refused: `Memory` then, and made once more it
-//! gives what was worked by hand. `tests/refusals` refuses each in turn; `tests/refusals.tsv` has the calls.
+//! Each call that takes memory, in a script of its own with one allocation refused: `Memory` then, and made once more
+//! it gives what was worked by hand. `tests/refusals` refuses each in turn; `tests/refusals.tsv` has the calls.
 
 use crate::words::{NO_SEEDS, OPENED, SEVERAL_SEEDS, Script, TO_THE_END, graph, open_and_close};
 use route_walks::{Memory, refusable};

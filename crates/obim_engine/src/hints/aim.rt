@@ -1,9 +1,11 @@
-//! From which label on is there nothing to do that is wanted?
+//! The aim of a worker: the label from which on nothing is left to do that is wanted.
 //!
-//! Where targets are wanted, a worker looks at their labels now and then. Until each has one, no label is past what is
-//! wanted, and none is compared with a limit. From then on vertices with labels past the greatest are left alone: they
-//! stay marked, and a run may go on from there. A worker that draws nothing leaves, if no other one is at work below that.
-//! No label depends on it: whether those that are wanted are least is seen from the marks that are left.
+//! If targets are wanted, a worker looks at their labels now and then. Until each has one, no label is past what is
+//! wanted, and none is compared with a limit. From then on vertices with labels past the greatest are left alone:
+//! they stay marked, and a run may go on from there.
+//!
+//! A worker that draws nothing leaves if no other one is at work below that. No label depends on it: the marks that
+//! are left show if those that are wanted are least.
 
 ghost use Rattle.std.specs.Prelude.{◌≡◌, ◌≢◌, ◌<◌, true};
 ghost use Rattle.obim_engine.specs.declared.goal.Goal.TheVariants as goal;
@@ -16,25 +18,26 @@ use route_walks::INF;
 /// Visits between two looks at the labels of the targets: as many as there are targets, and at least so many.
 const VISITS: u32 = 64;
 
-/// Where there are other workers, a worker draws nothing this many times in a row before it leaves.
+/// The number of fruitless pops in a row before a worker leaves, if there are other workers.
 const POPS: u32 = 16;
 
-/// After this many it leaves whatever other workers do.
+/// The number of fruitless pops in a row after which it leaves, whatever other workers do.
 const MOST_POPS: u32 = 2048;
 
-/// A worker alone that has visited all vertices but one in so many before each target has a label goes on to the end: to
-/// stop would save less than it takes to look through what is left.
+/// A worker alone that has visited all vertices but one in so many before each target has a label goes on to the end.
+/// To stop would save less than it takes to look through what is left.
 const LAST: u32 = 32;
 
-/// What a worker leaves alone, and when it leaves. An aim that says nothing else leaves no vertex alone.
+/// An aim says which vertices a worker leaves alone, and when it leaves. One that says nothing else leaves no vertex
+/// alone.
 pub(crate) trait Aim {
-    /// Whether a head whose label fell to this is left alone: it is marked, and not handed to the pool.
+    /// Tells if a head whose label fell to this is left alone: it is marked, and not handed to the pool.
     #[inline(always)]
     fn is_past(&self, _label: u64) -> bool {
         false
     }
 
-    /// Whether a vertex is left alone: it isn't taken.
+    /// Tells if a vertex is left alone: it isn't taken.
     #[inline(always)]
     fn leaves<P, G>(&self, shared: &Shared<'_, P, G>, seat: &WorkSeat, v: u32) -> bool
         requires words { seat.now.words ≡ shared.now.words.now }
@@ -44,11 +47,11 @@ pub(crate) trait Aim {
         false
     }
 
-    /// Where the worker has visited a vertex since its last fruitless pop.
+    /// Takes note that the worker has visited a vertex since its last fruitless pop.
     #[inline(always)]
     fn renew(&mut self) {}
 
-    /// After a sweep, and whether it visited a vertex.
+    /// Takes note that the worker has swept, and whether the sweep visited a vertex.
     #[inline(always)]
     fn swept(&mut self, _has_visited: bool) {}
 
@@ -57,12 +60,12 @@ pub(crate) trait Aim {
         requires words { seat.now.words ≡ shared.now.words.now }
         requires graph { shared.now.run.csr.now ≡ seat.now.known.graph };
 
-    /// Whether a worker is to take another aim, as seen at the last look.
+    /// Tells if a worker is to take another aim, as seen at the last look.
     fn is_over<P, G>(&self, shared: &Shared<'_, P, G>) -> bool
         ensures { result ≡ true → shared.now.run.goal ≢ goal.EachVertex };
 
-    /// Whether a worker is to leave that drew nothing, or this vertex from a pool in which a sweep found nothing: what
-    /// is wanted is done, no other worker is at a label below the limit, and no sweep is due.
+    /// Tells if a worker is to leave that drew nothing, or this vertex from a pool in which a sweep found nothing. What
+    /// is wanted is done then, no other worker is at a label below the limit, and no sweep is due.
     fn is_reached<P, G>(
         &mut self,
         shared: &Shared<'_, P, G>,
@@ -135,7 +138,7 @@ impl Aim for Seeker {
 }
 
 impl Seeker {
-    /// Before the first visit.
+    /// Makes a seeker before its first visit.
     pub(crate) fn new() -> Seeker {
         Seeker {
             reached: 0,
@@ -143,12 +146,12 @@ impl Seeker {
         }
     }
 
-    /// Whether each target had a label at the last look.
+    /// Tells if each target had a label at the last look.
     pub(crate) fn has_found(&self, goal: &Goal<'_>) -> bool {
         self.reached >= goal.targets().len()
     }
 
-    /// Whether so little is left to do that the run may as well go on to its end.
+    /// Tells if so little is left to do that the run may as well go on to its end.
     pub(crate) fn is_late<P, G>(&self, shared: &Shared<'_, P, G>) -> bool {
         let n = shared.run.csr.n();
         shared.pace.is_alone() && self.visits > u64::from(n - n / LAST)
@@ -162,7 +165,7 @@ pub(crate) struct Wanted {
     limit: u64,
     /// Pops in a row that gave nothing.
     idle: u32,
-    /// Whether there was a sweep since the last visit that found no marked vertex below the limit.
+    /// True if there was a sweep since the last visit that found no marked vertex below the limit.
     has_swept: bool,
 }
 
@@ -174,7 +177,7 @@ impl Aim for Wanted {
 
     #[inline(always)]
     fn leaves<P, G>(&self, shared: &Shared<'_, P, G>, seat: &WorkSeat, v: u32) -> bool {
-        // Without a limit a vertex that has no label may be marked, as where arcs were added: it is taken too.
+        // Without a limit a vertex that has no label may be marked, for example if arcs were added: it is taken too.
         self.limit < INF && shared.words.label_hint(seat, v) >= self.limit
     }
 
@@ -240,7 +243,7 @@ impl Wanted {
         self.limit = goal.limit_past(farthest).min(self.limit);
     }
 
-    /// Whether a worker that drew nothing is to leave.
+    /// Tells if a worker that drew nothing is to leave.
     fn is_done<P, G>(&mut self, shared: &Shared<'_, P, G>, seat: &WorkSeat, worker: u32) -> bool
         requires words { seat.now.words ≡ shared.now.words.now }
         requires graph { shared.now.run.csr.now ≡ seat.now.known.graph }
@@ -309,7 +312,7 @@ fn farthest_now<P, G>(shared: &Shared<'_, P, G>, seat: &WorkSeat, targets: &[u32
     most
 }
 
-/// The label of a vertex now; 0 where there is no such vertex.
+/// The label of a vertex now; 0 if there is no such vertex.
 fn label_now<P, G>(shared: &Shared<'_, P, G>, seat: &WorkSeat, v: u32) -> u64
     requires words { seat.now.words ≡ shared.now.words.now }
     requires graph { shared.now.run.csr.now ≡ seat.now.known.graph }

@@ -1,9 +1,9 @@
-//! Does a worker go far ahead of another one, is one at work at low labels, and is a sweep due?
+//! The pace of workers: which is far ahead of another, which is at work at low labels, and if a sweep is due.
 //!
-//! Each worker has vertices in chunks of its own. Where the system takes the processor of one that has the
-//! lowest labels, the others go on with what is left, and all that they do falls again once the low labels
-//! come. So each worker shows the bucket of the metric that it visits, and one that is far ahead of another
-//! sleeps a little now and then. No label depends on it.
+//! Each worker has vertices in chunks of its own. If the system takes the processor of one that has the lowest
+//! labels, the others go on with what is left. All that they do falls again once the low labels come. So each worker
+//! shows the bucket of the metric that it visits, and one that is far ahead of another sleeps a little now and then.
+//! No label depends on it.
 
 ghost use Rattle.std.specs.Prelude.{◌≡◌, ◌<◌, false};
 
@@ -15,7 +15,7 @@ use std::sync::atomic::{AtomicBool, AtomicU64, Ordering};
 use std::thread::sleep;
 use std::time::{Clock, Duration};
 
-/// Visits between two looks at the others, for each worker of the run; where the worker was far ahead at
+/// Visits between two looks at the others, for each worker of the run; if the worker was far ahead at
 /// the last look, for all together.
 const VISITS: u32 = 64;
 
@@ -30,16 +30,16 @@ const NAP: u64 = 100;
 /// help.
 const NAPS: u32 = 128;
 
-/// What all workers of a run show.
+/// The figures that all workers of a run show.
 #[derive(Drop)]
 pub(crate) struct Pace {
     workers: u32,
-    /// By worker, the bucket of the metric of the vertex that it visits; that of `INF` while it has nothing to
+    /// The bucket of the metric of the vertex that a worker visits, by worker; that of `INF` while it has nothing to
     /// do.
     buckets: Vec<CachePadded<AtomicU64>>,
-    /// Whether since the last sweep the pool refused a vertex, or a worker left that had spent its budget.
+    /// True if since the last sweep the pool refused a vertex, or a worker left that had spent its budget.
     lost: AtomicBool,
-    /// Whether the first vertices have been drawn.
+    /// True if the first vertices have been drawn.
     begun: AtomicBool,
 }
 
@@ -57,12 +57,12 @@ impl Pace {
         })
     }
 
-    /// Whether the run has one worker, which need not show anything.
+    /// Tells if the run has one worker, which need not show anything.
     pub(crate) fn is_alone(&self) -> bool {
         self.workers == 1
     }
 
-    /// The worker visits a vertex with this metric, or rests where it is `INF`. Most visits have the bucket
+    /// The worker visits a vertex with this metric, or rests if it is `INF`. Most visits have the bucket
     /// of the visit before, and a store is a locked step.
     pub(crate) fn show(&self, worker: u32, metric: u64) {
         let bucket = bucket_of(metric);
@@ -89,7 +89,7 @@ impl Pace {
         self.lost.store(false, Ordering::Relaxed);
     }
 
-    /// Whether there is something that only a sweep finds, lost since the last one began.
+    /// Tells if there is something that only a sweep finds, lost since the last one began.
     pub(crate) fn has_lost(&self) -> bool {
         self.lost.load(Ordering::Relaxed)
     }
@@ -101,12 +101,12 @@ impl Pace {
         }
     }
 
-    /// Whether a worker has drawn the first vertices. Until then one that draws nothing may be early.
+    /// Tells if a worker has drawn the first vertices. Until then one that draws nothing may be early.
     pub(crate) fn has_begun(&self) -> bool {
         self.begun.load(Ordering::Relaxed)
     }
 
-    /// Whether no other worker shows a bucket below that of this metric.
+    /// Tells if no other worker shows a bucket below that of this metric.
     pub(crate) fn is_lowest(&self, worker: u32, metric: u64) -> bool {
         let bucket = bucket_of(metric);
         for (other, shown) in self.buckets.iter().enumerate() {
@@ -117,7 +117,7 @@ impl Pace {
         true
     }
 
-    /// Whether the metric that the worker shows is far above one that another shows.
+    /// Tells if the metric that the worker shows is far above one that another shows.
     fn is_far_ahead(&self, worker: u32) -> bool {
         let mut least = u64::MAX;
         for bucket in self.buckets.iter() {
@@ -136,12 +136,12 @@ pub(crate) struct Watch {
     worker: u32,
     /// Visits up to the next look.
     left: u32,
-    /// How many naps to take where it is far ahead then.
+    /// The number of naps to take if it is far ahead then.
     naps: u32,
 }
 
 impl Watch {
-    /// With a first look after this many visits at most.
+    /// A watch with a first look after this many visits at most.
     pub(crate) fn new(worker: u32, first: u32) -> Watch
         ensures { 0 < result.left }
     {
@@ -159,7 +159,7 @@ impl Watch {
         self.left = self.left.min(visits).max(1);
     }
 
-    /// After a visit: whether a look at the others is due, as it is every so often.
+    /// Tells, after a visit, if a look at the others is due, as it is every so often.
     #[inline(always)]
     pub(crate) fn visited(&mut self) -> bool
         requires { 0 < self.old.left }
@@ -169,12 +169,12 @@ impl Watch {
         self.left == 0
     }
 
-    /// Whether the worker is far ahead of another one.
+    /// Tells if the worker is far ahead of another one.
     pub(crate) fn is_far_ahead(&self, pace: &Pace) -> bool {
         pace.is_far_ahead(self.worker)
     }
 
-    /// After a look at the others: naps while the worker is far ahead, if it was.
+    /// Naps, after a look at the others, while the worker is far ahead, if it was.
     pub(crate) fn look<C: Clock>(&mut self, clock: &C, pace: &Pace, is_far: bool)
         ensures { 0 < self.new.left }
     {

@@ -1,13 +1,13 @@
-//! How long does a worker wait that has nothing to do?
+//! The waits of a worker that has nothing to do.
 
 use crossbeam_utils::Backoff;
 use std::thread::sleep;
 use std::time::{Clock, Duration};
 
 /// The first sleep, in microseconds; by how much each next one is longer; and the longest. So a worker
-/// that draws nothing 1,024 times in a row has slept for some 0.3 seconds: a worker that the system
-/// holds back with all the work comes back before others look for vertices at random. And a worker wakes
-/// soon after there is work: it sleeps for no more than a small part of the time that it had none.
+/// that draws nothing 1,024 times in a row has slept for some 0.3 seconds. A worker that the system holds back with
+/// all the work comes back before others look for vertices at random. And a worker wakes soon after there is work: it
+/// sleeps for no more than a small part of the time that it had none.
 const FIRST: u64 = 50;
 
 const LONGER: u64 = 1;
@@ -20,7 +20,7 @@ const LONGEST: u64 = 400;
 pub(crate) struct Pauses {
     backoff: Backoff,
     micros: u64,
-    /// Whether there was a pause since there was work: mostly there was none.
+    /// True if there was a pause since there was work: mostly there was none.
     has_waited: bool,
 }
 
@@ -41,7 +41,7 @@ impl Pauses {
         }
     }
 
-    /// Waits after a pop that gave nothing. Where a sweep is due, the sooner it comes the better: so the processor is
+    /// Waits after a pop that gave nothing. If a sweep is due, the sooner it comes the better: so the processor is
     /// kept. The clock only sleeps.
     pub(crate) fn wait<C: Clock>(&mut self, clock: &C, due: bool) {
         if due {

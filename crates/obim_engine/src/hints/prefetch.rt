@@ -1,4 +1,4 @@
-//! What will the next visits ask of memory?
+//! The memory that the next visits ask for.
 
 ghost use Rattle.std.specs.Prelude.{◌≡◌};
 
@@ -6,10 +6,9 @@ use crate::shared::Shared;
 use label_words::WorkSeat;
 use obim_pool::WorkPool;
 
-/// Asks for what the two vertices need that the pool is about to give: of the next one the first arc, of
-/// the one after it the words and the place of its row. They come from memory side by side, together with
-/// what this visit looks at. Plain loads do this, since the language has no other; no label depends on
-/// what they find.
+/// Asks for what the two vertices need that the pool is about to give. That is of the next one the first arc, of the
+/// one after it the words and the place of its row. They come from memory side by side, together with what this visit
+/// looks at. Plain loads do this, since the language has no other; no label depends on what they find.
 #[inline(always)]
 pub(crate) fn prefetch<P: WorkPool, G>(
     shared: &Shared<'_, P, G>,

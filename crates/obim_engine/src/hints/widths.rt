@@ -1,4 +1,4 @@
-//! How wide are the buckets of a graph, where no shift is given?
+//! The width of the buckets of a graph, if no shift is given.
 
 use csr_graph::Csr;
 use obim_pool::Scale;
@@ -15,19 +15,19 @@ const LIGHT_WEIGHTS: u32 = 3;
 /// A chain has some power of two of buckets, this one, if it is long.
 const CHAIN_BUCKETS: u32 = 9;
 
-/// How wide buckets are. A hint: no label depends on it.
+/// The widths of buckets. A hint: no label depends on it.
 #[derive(Clone, Copy, Debug, PartialEq, Eq)]
 pub struct Widths {
     /// At least 2^`shift` labels.
     pub shift: u32,
-    /// By how much wider they are then.
+    /// The scale by which they are wider then.
     pub scale: Scale,
 }
 
-/// The widths of the buckets that the operators take where no shift is given, by a sample of the weights.
+/// The widths of the buckets that the operators take if no shift is given, by a sample of the weights.
 ///
-/// Where no vertex has a light arc to another one of its bucket, no label falls again. So buckets are as
-/// wide as the light weights of a graph let them be, and narrower where vertices have more arcs.
+/// If no vertex has a light arc to another one of its bucket, no label falls again. So buckets are as
+/// wide as the light weights of a graph let them be, and narrower if vertices have more arcs.
 ///
 /// Larger labels have wider buckets, up to two to four times the weight of a usual arc: inside one, few
 /// labels fall again. There are about as many of these as the root of the number of vertices, so that the
@@ -64,7 +64,7 @@ pub fn widths_of(csr: &Csr) -> Widths {
     }
 }
 
-/// By how many bits a number is written; 0 has none.
+/// The number of bits with which a number is written; 0 has none.
 fn bit_length(number: u64) -> u32 {
     64_u32.saturating_sub(number.leading_zeros())
 }
@@ -74,7 +74,7 @@ fn step_of(csr: &Csr) -> usize {
     csr.arc_count() / SAMPLES | 1
 }
 
-/// Whether each head of a sampled arc is a link of a chain.
+/// Tells if each head of a sampled arc is a link of a chain.
 fn is_chain(csr: &Csr) -> bool {
     let step = step_of(csr);
     let mut place = 0_usize;
@@ -90,8 +90,8 @@ fn is_chain(csr: &Csr) -> bool {
     true
 }
 
-/// Whether a walk that comes to a vertex can go on in one way at most: it has one arc, or two to vertices that lead back
-/// and so are its neighbours on both sides.
+/// Tells if a walk that comes to a vertex can go on in one way at most. That is so if the vertex has one arc, or two
+/// to vertices that lead back and so are its neighbours on both sides.
 fn is_link(csr: &Csr, v: u32) -> bool {
     if v >= csr.n() {
         return false;
@@ -105,7 +105,7 @@ fn is_link(csr: &Csr, v: u32) -> bool {
     }
 }
 
-/// Whether a vertex has at most two arcs, of which one leads to another vertex.
+/// Tells if a vertex has at most two arcs, of which one leads to another vertex.
 fn leads_to(csr: &Csr, from: u32, to: u32) -> bool {
     if from >= csr.n() {
         return false;
@@ -119,7 +119,7 @@ fn leads_to(csr: &Csr, from: u32, to: u32) -> bool {
 struct Sample {
     count: u64,
     sum: u64,
-    /// How many of them have 0, 1, 2 and so on bits.
+    /// The number of them that have 0, 1, 2 and so on bits.
     lengths: [u64; 33],
 }
 
@@ -150,7 +150,7 @@ impl Sample {
         }
     }
 
-    /// How many bits the heaviest of the light weights has.
+    /// The number of bits of the heaviest of the light weights.
     fn light_bits(&self) -> u32 {
         let mut bits = 0_u32;
         let mut seen = 0_u64;

@@ -1,12 +1,12 @@
-//! What is told of a line that is wrong: texts beside words that were worked by hand. Rows of all kinds of faults, as
-//! the program prints them, stand in `tests/explanations.tsv`.
+//! Tests of explanations of wrong lines: texts beside words that were worked out by hand. Rows of all kinds of
+//! faults, as the program prints them, stand in `tests/explanations.tsv`.
 
 use dimacs_text::{ExplainedFault, Explanation, JobReader, LineKind, MAX_KEPT, TextFault};
 use std::alloc::Global;
 use std::process::Abort;
 use std::test::Fail;
 
-/// What a reader says of a text that comes in pieces of a size.
+/// Returns the fault that a reader explains of a text that comes in pieces of a size.
 fn refused(alloc: Global, text: &[u8], size: usize) -> Option<ExplainedFault> {
     let mut reader = JobReader::new(alloc);
     for piece in text.chunks(size.max(1)) {
@@ -25,7 +25,7 @@ fn line_of(alloc: Global, explanation: &Explanation) -> Result<String, Fail> {
     })
 }
 
-/// Where it stands.
+/// Returns the text of the line's place.
 fn place_of(alloc: Global, explanation: &Explanation) -> Result<String, Fail> {
     Ok(match explanation.place {
         Some(place) => format!(in alloc; "{place}")?,

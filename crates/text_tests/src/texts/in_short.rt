@@ -24,7 +24,7 @@ const TOTALS: [(&[u64], &str); 8] = [
         &[5, INF - 1, 1 << 63, INF - 1],
         "t 8 4 46116860184273879041 18446744073709551614 2\n",
     ),
-    // Where no label is a cost, there is no farthest vertex.
+    // If no label is a cost, there is no farthest vertex.
     (&[INF, INF], "t 8 0 0 0 3\n"),
 ];
 
@@ -54,7 +54,7 @@ const MANY: [u64; 300] = [INF - 1; 300];
 
 const WORD: &[u8] = b"\xfe\xff\xff\xff\xff\xff\xff\xff";
 
-// Also where labels are more than one group.
+// Also if labels are more than one group.
 #[test]
 fn raw_labels(rt: HostRuntime) -> Result<(), Fail> {
     let mut out = Vec::new(rt.alloc());

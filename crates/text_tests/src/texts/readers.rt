@@ -1,4 +1,4 @@
-//! Jobs that come from a reader: what its text gives, what a watch is told, and what is left.
+//! Tests of jobs that come from a reader: what its text gives, what a watch sees, and what is left.
 
 use dimacs_text::{Explanation, JobReader, LineKind};
 use job_reader::{ReadFault, ReadWatch, read_arcs_from, read_job_from};
@@ -9,7 +9,7 @@ use std::test::Fail;
 use std::thread::Threads;
 use std::time::Clock;
 
-/// What a watch was told.
+/// The calls that a watch has seen.
 #[derive(Clone, Copy, Debug, PartialEq, Eq)]
 pub struct Told {
     pub bytes: usize,
@@ -37,14 +37,14 @@ impl ReadWatch for Told {
 /// A job of one arc, in 17 bytes.
 pub const ONE_ARC: &[u8] = b"p sp 2 1\na 1 2 7\n";
 
-/// What the watch is told of that job.
+/// The calls that a watch sees of that job.
 const ALL: Told = Told {
     bytes: 17,
     arcs: Some((1, 1)),
     faults: 0,
 };
 
-/// Asserts the job, what the watch is told, and that nothing is left.
+/// Asserts the job, what the watch sees, and that nothing is left.
 fn expect_one_arc<H: Threads + Clock + Abort + Sync>(
     rt: &H,
     alloc: Global,
@@ -70,7 +70,7 @@ const UNKNOWN: ReadFault = ReadFault::Text {
     kind: LineKind::Unknown,
 };
 
-// Of each row the text, the limit, the fault, how many bytes are left, and how many faults the watch was told.
+// Of each row the text, the limit, the fault, how many bytes are left, and how many faults the watch has seen.
 const REFUSED: [(&[u8], u64, ReadFault, usize, u32); 4] = [
     (ONE_ARC, 16, ReadFault::TooLong, 0, 0),
     (ONE_ARC, 3, ReadFault::TooLong, 13, 0),

@@ -1,6 +1,6 @@
-//! Each call that takes memory, with one allocation of it refused: `Memory` then, with the vector as it was, and made
-//! once more it gives the job, the fault or the bytes that were worked by hand. `tests/refusals` refuses each in
-//! turn; `tests/refusals.tsv` has the calls.
+//! Each call that takes memory, with one allocation of it refused. It gives `Memory` then, with the vector as it was,
+//! and made once more it gives the job, the fault or the bytes that were worked by hand. `tests/refusals` refuses each
+//! in turn; `tests/refusals.tsv` has the calls.
 
 ghost use Rattle.std.specs.Prelude.{◌<◌, length};
 ghost use Rattle.dimacs_text.specs.Reading.{IsReadAhead};
@@ -76,7 +76,7 @@ fn put(out: &mut Vec<u8>, line: Line) -> Result<(), Memory> {
     }
 }
 
-// Asserts what comes of a line that is put into a vector without room, or of the vector as it was and then the line.
+// Asserts the outcome of a line that is put into a vector without room, or of the vector as it was and then the line.
 fn expect_put(rt: &impl Abort, alloc: Global, line: Line, want: &str) -> Result<(), Fail> {
     let mut out = Vec::from_slice(alloc, FRONT)?;
     if let Err(Memory) = refusable!(alloc, put(&mut out, line)) {
@@ -148,7 +148,7 @@ fn job_by<H: Threads + Clock + Sync>(
     }
 }
 
-// The job of a text, read once more where memory was refused.
+// The job of a text, read once more if memory was refused.
 fn read_again<H: Threads + Clock + Abort + Sync>(
     rt: &H,
     alloc: Global,
@@ -174,7 +174,7 @@ fn of_read_job(rt: HostRuntime) -> Result<(), Fail> {
 }
 
 // After a refusal nothing is known of the reader: the text goes to another one.
-// The job of a text in two pieces, by another reader where memory was refused.
+// The job of a text in two pieces, by another reader if memory was refused.
 fn fed_again(rt: &impl Abort, alloc: Global, text: &[u8], cut: usize) -> Result<(), Fail> {
     let (front, back) = text.split_at(text.len().min(cut));
     let mut reader = JobReader::new(alloc);
@@ -213,7 +213,7 @@ fn read_ahead(rt: &(impl Threads + Sync), ahead: &mut ReadAhead, text: &[u8])
     ahead.another.read(parts);
 }
 
-// Where reading ahead is refused memory, one thread reads all lines.
+// If reading ahead is refused memory, one thread reads all lines.
 #[test]
 fn of_read_side_by_side(rt: HostRuntime) -> Result<(), Fail> {
     let alloc = rt.alloc();
@@ -225,7 +225,7 @@ fn of_read_side_by_side(rt: HostRuntime) -> Result<(), Fail> {
     expect_large(&rt, reader)
 }
 
-// Where a run is refused memory its lines are read one by one; else as above.
+// If a run is refused memory its lines are read one by one; else as above.
 #[test]
 fn of_job_reader_feed_with(rt: HostRuntime) -> Result<(), Fail> {
     let alloc = rt.alloc();
@@ -412,7 +412,7 @@ fn of_put_totals(rt: HostRuntime) -> Result<(), Fail> {
     expect_put(&rt, rt.alloc(), Line::Totals, "c\nt 1 6 57 15 6\n")
 }
 
-// A section of one source, by another draft where memory was refused.
+// A section of one source, by another draft if memory was refused.
 fn drafted(alloc: Global, vertices: u32) -> Result<RequestDraft, TextFault> {
     let mut draft = refusable!(alloc, RequestDraft::new(alloc, vertices));
     draft.read(b"p aux sp ss 1", 10)?;
@@ -458,7 +458,7 @@ fn asked(found: Option<Request>) -> Result<Option<Job>, u64> {
     }
 }
 
-// Where memory is refused the request is refused, and the next one is answered.
+// If memory is refused the request is refused, and the next one is answered.
 #[test]
 fn of_request_reader_read(rt: HostRuntime) -> Result<(), Fail> {
     let alloc = rt.alloc();

@@ -22,7 +22,7 @@ pub(crate) enum Call {
     FindSome,
 }
 
-// A chunk in its box, where memory is there.
+// A chunk in its box, if memory is there.
 pub(crate) fn boxed<R: Abort>(
     rt: &R,
     alloc: Global,

@@ -1,4 +1,4 @@
-//! What does a caller learn of what it put? Each clause is proved from the contracts of bags and logs alone.
+//! The facts that a caller learns of what it put. Each clause is proved from the contracts of bags and logs alone.
 
 ghost use Rattle.std.specs.Prelude.{◌≡◌, ◌≢◌, ◌+◌, ◌<◌, ℕ, [], ◌∷◌, Some, length, slice_get};
 ghost use Rattle.std.specs.Prelude.{All, IfErr, IfNone, IfOk, IfSome, OnErr};
@@ -145,7 +145,7 @@ fn a_metric_has_one_place(rt: HostRuntime) {
     assert!(rt; ask_by_two(&rt, alloc, &log, first, second, 5) == Ok((1, 1)));
 }
 
-// A chunk is put at a place and one is got there: nothing else of the mirror changes. Where a bag has one worker, that
+// A chunk is put at a place and one is got there: nothing else of the mirror changes. If a bag has one worker, that
 // one finds the chunk that it put, if nothing was put before. A chunk that is refused comes back, and the mirror is as
 // it was.
 fn put_and_get_at<R: Wait>(

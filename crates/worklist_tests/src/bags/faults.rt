@@ -1,11 +1,11 @@
-//! What a fault says of itself.
+//! Tests of the texts of faults.
 
 use obim_bags::{Full, LogFault, SettleFault};
 use std::alloc::Global;
 use std::fmt::Display;
 use std::process::Abort;
 
-// What a fault says of itself is this text.
+// The text of a fault is this one.
 fn expect_text<T: Display>(rt: &impl Abort, alloc: Global, fault: &T, text: &str) {
     let said = format!(in alloc; "{fault}").expect(rt, "memory for a text");
     assert!(rt; said.as_str() == text);

@@ -1,4 +1,4 @@
-//! What the tests share: a bag with passes of their own, chunks of size 2, and a log with mirrors of their own.
+//! The helpers of the tests: a bag with passes of their own, chunks of size 2, and a log with mirrors of their own.
 
 ghost use Rattle.std.specs.Prelude.{◌≡◌, ◌≢◌, ◌≤◌, [], All, IfSome};
 ghost use Rattle.obim_bags.specs.Bags.{IsPassOf, after_put};

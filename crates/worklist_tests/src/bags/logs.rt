@@ -13,7 +13,7 @@ use std::sync::Wait;
 // A call on a log through a mirror, and what it gives.
 #[derive(Clone, Copy)]
 pub(crate) enum LogCall {
-    // The place of a metric, which is appended where the log hasn't it.
+    // The place of a metric, which is appended if the log hasn't it.
     Find(u64, Result<usize, LogFault>),
     // How many bags the mirror has then.
     CatchUp(Result<usize, LogFault>),
@@ -23,7 +23,7 @@ pub(crate) enum LogCall {
     Lacks(u64),
     // A call on the bag at this place.
     At(usize, Call),
-    // The places of so many metrics: they are appended where the log hasn't them, or the mirror has them.
+    // The places of so many metrics: they are appended if the log hasn't them, or the mirror has them.
     FindAll(usize),
     HasAll(usize),
 }

@@ -1,4 +1,4 @@
-//! Each call that may be refused memory, with one allocation of it refused: made once more the call gives what was
+//! Each call that may be refused memory, with one allocation of it refused. Made once more the call gives what was
 //! worked by hand, and nothing of the refused one is there. `tests/refusals` refuses each in turn;
 //! `tests/refusals.tsv` has the calls.
 
@@ -31,7 +31,7 @@ fn opens<R: Wait>(rt: &R, alloc: Global, is_log: bool) -> bool {
     }
 }
 
-// Opens it, once more where memory was refused.
+// Opens it, once more if memory was refused.
 fn open_again<R: Wait + Abort>(rt: &R, alloc: Global, is_log: bool) -> Result<(), Memory> {
     let opened = refusable!(alloc, opens(rt, alloc, is_log));
     assert!(rt; opened || opens(rt, alloc, is_log));
@@ -56,7 +56,7 @@ fn put_of(is_boxed: bool, serial: u64) -> Call {
     }
 }
 
-// One pass puts chunks, and the other gets each. Where a put is refused the bag is empty.
+// One pass puts chunks, and the other gets each. If a put is refused the bag is empty.
 fn hand_over<R: Wait + Abort>(
     rt: &R,
     alloc: Global,
@@ -227,7 +227,7 @@ fn of_bag_log_catch_up(rt: HostRuntime) {
     append_each(&rt, rt.alloc(), &log, &mut mirrors);
 }
 
-// Puts chunks into the second bag, and gets each. Where a put is refused the bag is empty.
+// Puts chunks into the second bag, and gets each. If a put is refused the bag is empty.
 fn put_each_at<R: Wait + Abort>(
     rt: &R,
     alloc: Global,

@@ -66,7 +66,7 @@ fn work<R: Wait + Abort>(
     }
 }
 
-// Gets a chunk of each bag, where there is one.
+// Gets a chunk of each bag, if there is one.
 fn get_each<R: Wait + Abort>(rt: &R, log: &BagLog, mirror: &mut Mirror, counts: &[AtomicU64])
     requires { mirror.old.log ≡ log.now }
     ensures { mirror.new.log ≡ log.now }

@@ -1,4 +1,4 @@
-//! What does a caller learn of its side? Each clause is proved from the contract of the pool alone.
+//! The facts that a caller learns of its side. Each clause is proved from the contract of the pool alone.
 
 ghost use Rattle.std.specs.Prelude.{◌≡◌, ◌<◌, ◌⊎◌, ℕ, [], ◌∷◌, None, Some, IfNone, IfOk, IfSome, length, get_or};
 ghost use Rattle.std.specs.Bool.{OnFalse, OnTrue};
@@ -12,7 +12,7 @@ use std::alloc::Global;
 use std::process::Abort;
 use std::sync::Wait;
 
-// Tries a push twice. Where one is accepted the vertex is in the bag of its metric once, and the lower of its
+// Tries a push twice. If one is accepted the vertex is in the bag of its metric once, and the lower of its
 // metric and the current one before is current; else nothing is.
 fn push_stubbornly<R: Wait>(
     rt: &R,

@@ -1,4 +1,4 @@
-//! Each call on a pool that may be refused memory, with one allocation of it refused: no vertex that was pushed is
+//! Each call on a pool that may be refused memory, with one allocation of it refused. No vertex that was pushed is
 //! lost or comes twice, and a refused push leaves the current metric. `tests/refusals` refuses each in turn;
 //! `tests/refusals.tsv` has the calls.
 
@@ -104,7 +104,7 @@ fn push_plainly<P: WorkPool, R: Wait + Abort>(rt: &R, pool: &P, side: &mut P::Si
     }
 }
 
-// A refused pop goes on with the bags that its side has, and where it has none gives none, once.
+// A refused pop goes on with the bags that its side has, and if it has none gives none, once.
 fn pop_again<P: WorkPool, R: Wait + Abort>(
     rt: &R,
     alloc: Global,
@@ -140,7 +140,7 @@ fn opens(alloc: Global, kind: Kind) -> bool {
     }
 }
 
-// Opens a pool, once more where memory was refused.
+// Opens a pool, once more if memory was refused.
 fn open_again(rt: &impl Abort, alloc: Global, kind: Kind) -> Result<(), Memory> {
     let opened = refusable!(alloc, opens(alloc, kind));
     assert!(rt; opened || opens(alloc, kind));
@@ -181,7 +181,7 @@ fn of_obim_pool_pop(rt: HostRuntime) {
     expect_pops(&rt, rt.alloc(), &pool, &mut sides);
 }
 
-// Settles a pool with a full chunk in each of two bags. False where memory is refused.
+// Settles a pool with a full chunk in each of two bags. False if memory is refused.
 fn settle<R: Wait + Abort>(rt: &R, alloc: Global) -> Result<bool, Memory> {
     let (pool, mut sides) = open_pool(rt, alloc, 1, 2);
     expect_calls(rt, &pool, &mut sides, 0, &[(0, PUSHES)]);

@@ -24,7 +24,7 @@ fn open_counts<R: Abort>(rt: &R, alloc: Global, workers: usize) -> Vec<AtomicU64
     counts
 }
 
-// Pops a vertex, and counts it where there is one.
+// Pops a vertex, and counts it if there is one.
 fn pop<P: WorkPool, R: Wait + Abort>(
     rt: &R,
     pool: &P,

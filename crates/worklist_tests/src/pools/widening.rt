@@ -58,7 +58,7 @@ fn buckets_of_labels(rt: HostRuntime) {
     }
 }
 
-// The next label has the same bucket or the next one, where buckets widen; and of a scale no bucket has labels of two
+// The next label has the same bucket or the next one, if buckets widen; and of a scale no bucket has labels of two
 // of those.
 fn expect_next(rt: &impl Abort, scale: Scale, label: u64) {
     let next = label.saturating_add(1);
