@@ -1,6 +1,6 @@
-# Draws the most memory by phase, from the README's table of memory: for distances and levels, and for components, a
+# Draws the most memory by phase, from the table of docs/TUNING.md: for distances and levels, and for components, a
 # bar a phase, what arcs take and after it what vertices take, in MB. The graph is the second of the README's table of
-# times. The worklist and added arcs are not drawn. Components have no pairs.
+# times, which is read before. The worklist and added arcs are not drawn. Components have no pairs.
 function text(at, down, anchor, words) {
     printf "<text x=\"%.1f\" y=\"%d\" text-anchor=\"%s\">%s</text>\n", at, down, anchor, words
 }
@@ -22,7 +22,7 @@ function bar(down, phase, bytes, more, arcs, vertices) {
     text(left - 10, down + 14, "end", name[phase])
     box(left, down, arcs * scale, 18, "#1b6ca8")
     box(left + arcs * scale, down, vertices * scale, 18, "#e0a030")
-    text(left + (arcs + vertices) * scale + 8, down + 14, "start", arcs + vertices (besides[phase] ~ /^the worklist/ ? " and the worklist" : ""))
+    text(left + (arcs + vertices) * scale + 8, down + 14, "start", arcs + vertices (more_of[phase] ~ /^the worklist/ ? " and the worklist" : ""))
 }
 
 BEGIN {
@@ -32,13 +32,13 @@ BEGIN {
 }
 /^## / { section = $0 }
 section == "## How fast" && $5 ~ /^[0-9.]+ s$/ && ++graphs == 2 { vertex_count = number($3); arc_count = number($4) }
-section == "## Limits" && $3 ~ /^[0-9]+/ {
+section == "## Memory" && $3 ~ /^[0-9]+/ {
     name[++phases] = $2
     for_arc[phases] = for_components[phases] = $3 + 0
     if (match($3, /for components [0-9]+/)) for_components[phases] = substr($3, RSTART + 15) + 0
     for_vertex[phases] = for_vertices[phases] = $4 + 0
     if (match($4, /for components [0-9]+/)) for_vertices[phases] = substr($4, RSTART + 15) + 0
-    besides[phases] = $5
+    more_of[phases] = $5
 }
 
 END {
