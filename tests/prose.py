@@ -25,7 +25,7 @@ MOST_WORDS = {"sentences": 30, "paragraphs": 90}
 
 OPENING = re.compile(r"(What|Which|Who|Whom|Whose|When|Where|Why|How|Whether|The same)\b")
 FENCE = re.compile(r"\s*(```|~~~)")
-ITEM = re.compile(r"\s*(?:[-*]|\d+\.) ")
+ITEM = re.compile(r"^\s*(?:[-*]|\d+\.) ")
 COMMENT = re.compile(r"\s*//([/!])(?!/) ?(.*)")
 PUBLIC_TYPE = re.compile(r"pub (?:struct|enum|trait|type|union) (\w+)")
 LINK = re.compile(r"\[((?:[^][]|\[[^][]*\])*)\]\(([^)\s]*)\)")
