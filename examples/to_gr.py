@@ -383,12 +383,13 @@ class BadRows:
 
 @contextlib.contextmanager
 def finished_only(name, encoding="utf-8"):
-    """A file to write, which is there by its name only once all that comes with it is written."""
+    """A file to write, which is there by its name only once all that comes with it is written. No encoding: of bytes."""
     is_device = name.startswith("/dev/") or (os.path.exists(name) and not os.path.isfile(name))
     path = name if is_device else os.path.realpath(name)
     unfinished = path if is_device else f"{path}.{os.getpid()}.unfinished"
     try:
-        with open(unfinished, "w", encoding=encoding, errors="surrogateescape", newline="") as out:
+        how = {"encoding": encoding, "errors": "surrogateescape", "newline": ""} if encoding else {}
+        with open(unfinished, "w" if encoding else "wb", **how) as out:
             yield out
         if not is_device:
             os.replace(unfinished, path)
@@ -424,12 +425,12 @@ def write_graph(count, many, arcs, beside):
         sys.stdout.flush()
 
 
-def end_quietly(name, fault=None):
-    """Ends with status 1 and no more than is wrong. What standard output still holds goes nowhere."""
+def end_quietly(name, fault=None, status=1):
+    """Ends with a status and no more than is wrong. What standard output still holds goes nowhere."""
     os.dup2(os.open(os.devnull, os.O_WRONLY), 1)
     if fault is not None:
         say(name, str(fault).split("\n"))
-    sys.exit(1)
+    sys.exit(status)
 
 
 def say(name, lines):
@@ -437,18 +438,18 @@ def say(name, lines):
         print(f"{name}: {line}", file=sys.stderr)
 
 
-def run(name, main):
-    """Calls main, and says what a user can mend in one line, not by a traceback."""
+def run(name, main, status=1):
+    """Calls main. What a user can mend is said in one line, not by a traceback, and the script ends with the status."""
     try:
         main()
     except Refused as fault:
-        end_quietly(name, fault)
+        end_quietly(name, fault, status)
     except BrokenPipeError:
-        end_quietly(name)
+        end_quietly(name, status=status)
     except OSError as fault:
-        end_quietly(name, f"{fault.filename or 'standard input or output'}: {fault.strerror or fault}")
+        end_quietly(name, f"{fault.filename or 'standard input or output'}: {fault.strerror or fault}", status)
     except MemoryError:
-        end_quietly(name, "out of memory")
+        end_quietly(name, "out of memory", status)
     except KeyboardInterrupt:
         sys.exit(130)
 
