@@ -171,6 +171,7 @@ def every_question(graph):
     yield lambda: graph.within(0, 9)
     yield lambda: graph.components()
     yield lambda: graph.matrix([0], [1])
+    yield lambda: graph.pairs([0], [1])
     yield lambda: graph.path(0, 1)
     yield lambda: graph.add([0], [1], [1])
 

@@ -43,6 +43,8 @@ class Costs(Case):
                 self.assertEqual(whole(graph.levels(range(n))), fewest)
                 self.assertEqual(graph.totals(range(n)), [totals_of(row) for row in wanted])
                 self.assertEqual(whole(graph.matrix(range(n), range(n))), wanted)
+                ends = [((7 * place) % n, place % n) for place in range(70)]
+                self.assertEqual(ints(graph.pairs(*zip(*ends))), [wanted[source][target] for source, target in ends])
                 self.check_within(graph, wanted)
                 self.check_paths(graph, n, arcs, wanted)
 
@@ -146,6 +148,12 @@ class Names(Case):
                 graph.distance("a", "z")
             graph.add(["c"], ["a"], [1])
             self.assertEqual(graph.path("c", "b"), ["c", "a", "b"])
+
+    def test_nodes(self):
+        with Graph.from_edges(self.EDGES, nodes=["z", "a", "z"]) as graph:
+            self.assertEqual(graph.names, ("z", "a", "b", "c", (1, 2)))
+            self.assertEqual(ints(graph.distances("a")), [INF, 0, 7, 13, INF])
+            self.assertEqual(ints(graph.pairs(["a", "z"], ["c", "z"])), [13, 0])
 
     @unittest.skipIf(pandas is None, "no pandas")
     def test_pandas(self):

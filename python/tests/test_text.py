@@ -114,6 +114,8 @@ class Vertices(Case):
         yield lambda: graph.within(vertex, 3)
         yield lambda: graph.matrix([vertex], [0])
         yield lambda: graph.matrix([0], [vertex])
+        yield lambda: graph.pairs([vertex], [0])
+        yield lambda: graph.pairs([0], [vertex])
         yield lambda: graph.add([0], [vertex], [1])
         yield lambda: graph.add([vertex], [0], [1])
 
@@ -206,6 +208,9 @@ class Rows(Case):
             self.assertEqual(whole(graph.matrix([0, 1], [])), [[], []])
             self.assertEqual(whole(graph.matrix([], [0, 1])), [])
             self.assertEqual(whole(graph.distances([])), [])
+            self.assertEqual(ints(graph.pairs([], [])), [])
+            with self.assertRaisesRegex(ValueError, "^2 sources and 1 targets"):
+                graph.pairs([0, 1], [2])
             self.assertEqual(graph.totals([]), [])
             graph.add([], [], [])
             self.assertEqual(graph.m, 2)
@@ -217,6 +222,7 @@ class Rows(Case):
                 self.assertEqual([list(row) for row in rows], [[0.0, 4294967295.0, 4294967301.0], [far, 0.0, 6.0]])
             self.assertEqual(sum(graph.distances(1, dtype=float)), far)
             self.assertEqual(list(graph.levels(1, dtype=float)), [far, 0.0, 1.0])
+            self.assertEqual(list(graph.pairs([1, 1], [0, 2], dtype=float)), [far, 6.0])
             with self.assertRaises(ValueError):
                 graph.distances(0, dtype=complex)
             if numpy is not None:

@@ -35,4 +35,8 @@ __all__ = [
     "Totals",
     "WrongProcess",
 ]
-__version__ = "0.1.0"
+try:
+    # Packages say of which commit they were made; a clone has git.
+    from ._build import COMMIT as __commit__, VERSION as __version__
+except ImportError:
+    __commit__, __version__ = None, "0.1.0"

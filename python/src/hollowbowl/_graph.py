@@ -6,7 +6,7 @@ from ._errors import NoPath
 from ._kept import Columns, File
 from ._names import Names
 from ._numbers import INF, MOST_VERTICES, MOST_WEIGHT, as_bound, as_column, as_floats, is_float, most_of, numpy, whole
-from ._questions import Components, Matrix, Near, Rows, Totals as TotalsOf, Walk
+from ._questions import Components, Matrix, Near, Pairs, Rows, Totals as TotalsOf, Walk
 from ._wire import Wire
 
 
@@ -49,9 +49,12 @@ class Graph:
         self._begin(Columns(count, tails, heads, weights), workers)
 
     @classmethod
-    def from_edges(cls, edges, *, workers=None):
-        """The graph of edges `(tail, head, weight)` whose ends are any hashable names, in the order in which they come."""
-        names = {}
+    def from_edges(cls, edges, *, nodes=(), workers=None):
+        """The graph of edges `(tail, head, weight)` whose ends are any hashable names, in the order in which they come.
+
+        `nodes` are names that come before these, as of vertices without edges.
+        """
+        names = {name: place for place, name in enumerate(dict.fromkeys(nodes))}
         tails, heads, weights = [], [], []
         for tail, head, weight in edges:
             tails.append(names.setdefault(tail, len(names)))
@@ -72,9 +75,9 @@ class Graph:
         return graph
 
     @classmethod
-    def from_pandas(cls, frame, source="source", target="target", weight="weight", *, workers=None):
-        """The graph of a DataFrame's rows, as `networkx.from_pandas_edgelist` takes it."""
-        return cls.from_edges(zip(frame[source], frame[target], frame[weight]), workers=workers)
+    def from_pandas(cls, frame, source="source", target="target", weight="weight", *, nodes=(), workers=None):
+        """The graph of a DataFrame's rows, as `networkx.from_pandas_edgelist` takes it; `nodes` as of `from_edges`."""
+        return cls.from_edges(zip(frame[source], frame[target], frame[weight]), nodes=nodes, workers=workers)
 
     @classmethod
     def from_networkx(cls, other, weight="weight", *, workers=None):
@@ -191,6 +194,20 @@ class Graph:
         else:
             rows = [costs[place * width : (place + 1) * width] for place in range(len(sources))]
         return as_floats(rows) if are_floats else rows
+
+    def pairs(self, sources, targets, *, dtype=None):
+        """The least cost from each source to the target at its place: a row, 2**64 - 1 where no walk leads.
+
+        With `dtype=float` costs are floats, with `inf` where no walk leads.
+        """
+        are_floats = is_float(dtype)
+        sources, targets = self._names.places("sources", sources), self._names.places("targets", targets)
+        if len(sources) != len(targets):
+            raise ValueError(f"{len(sources)} sources and {len(targets)} targets")
+        question = Pairs(sources, targets)
+        self._wire.ask("ask", question)
+        costs = question.costs
+        return as_floats([costs] if numpy is None else costs[None])[0] if are_floats else costs
 
     def path(self, source, target):
         """The vertices of a walk of least cost, with as few arcs as one can have; NoPath if there is none."""

@@ -25,11 +25,17 @@ _PAUSE = 50
 beginning = threading.Lock()
 
 
+# Where a wheel has the program.
+_OWN = os.path.join(os.path.dirname(os.path.abspath(__file__)), "_program", "bin", "obim_query")
+
+
 def program():
-    """The command that is run: that of the variable HOLLOWBOWL, or `obim_query` on the path."""
+    """The command that is run: that of the variable HOLLOWBOWL, else that of the package, or `obim_query` on the path."""
     named = os.environ.get("HOLLOWBOWL")
     if named:
         return os.path.abspath(named) if os.sep in named else named
+    if os.access(_OWN, os.X_OK):
+        return _OWN
     found = shutil.which("obim_query")
     if found is None:
         raise FileNotFoundError("obim_query is not on the path; set HOLLOWBOWL to the program")

@@ -66,10 +66,28 @@ class Totals(Question):
         self.found.extend(totals_in(body, self._sources[first:last]))
 
 
-class Matrix(Question):
-    """The cost from each source to each target, source by source; `costs` has them."""
+class Pairs(Question):
+    """The cost from each source to the target at its place; `costs` has them."""
 
     form = "pairs"
+
+    def __init__(self, sources, targets):
+        self.count = len(sources)
+        self.costs = labels_for(self.count)
+        self._sources, self._targets = sources, targets
+
+    def _ends(self, first, last):
+        return self._sources[first:last], self._targets[first:last]
+
+    def request(self, first, last):
+        return pairs_text(b"p2p", *self._ends(first, last))
+
+    def take(self, body, first, last):
+        self.costs[first:last] = pair_costs(body, *self._ends(first, last))
+
+
+class Matrix(Pairs):
+    """The cost from each source to each target, source by source."""
 
     def __init__(self, sources, targets):
         self.count = len(sources) * len(targets)
@@ -85,12 +103,6 @@ class Matrix(Question):
             return self._sources[places // self.step], self._targets[places % self.step]
         places = range(first, last)
         return [self._sources[place // self.step] for place in places], [self._targets[place % self.step] for place in places]
-
-    def request(self, first, last):
-        return pairs_text(b"p2p", *self._ends(first, last))
-
-    def take(self, body, first, last):
-        self.costs[first:last] = pair_costs(body, *self._ends(first, last))
 
 
 class Walk(Question):
