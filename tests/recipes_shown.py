@@ -10,7 +10,7 @@ from pathlib import Path
 
 
 def shell(command):
-    subprocess.run(["bash", "-c", command], check=True)
+    print(subprocess.run(["bash", "-c", command], check=True, stdout=subprocess.PIPE, text=True).stdout, end="")
 
 
 document, heading = sys.argv[1:]
@@ -18,8 +18,8 @@ section = re.search(rf"^## {heading}\n(.*?)(?=^## )", Path(document).read_text(e
 examples = []
 for language, block in re.findall(r"^```(console|python)\n(.*?)^```", section, re.M | re.S):
     if language == "console":
-        commands = re.findall(r"^\$ (.*)\n", block, re.M)
-        examples += [doctest.Example(f"shell({command!r})\n", "") for command in commands]
+        commands = re.findall(r"^\$ (.*)\n((?:(?!\$ ).*\n)*)", block, re.M)
+        examples += [doctest.Example(f"shell({command!r})\n", shown) for command, shown in commands]
     else:
         examples += doctest.DocTestParser().get_examples(block)
 if len(examples) < 2:

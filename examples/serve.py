@@ -1,0 +1,206 @@
+#!/usr/bin/env python3
+"""Answers questions about a graph over HTTP, by several processes: serve.py MAP.gr
+
+    GET /distance?from=1&to=6       {"distance": 15}, or null if no walk leads there
+    GET /path?from=1&to=6           {"distance": 15, "path": [1, 3, 5, 2, 4, 6]}
+    GET /within?from=1&cost=10      {"vertices": [1, 2, 3, 5], "costs": [0, 10, 10, 10]}
+    GET /health                     {"process": 4711, "vertices": 6, "arcs": 8}
+
+    --port NUMBER        in place of 8080; 0 takes a free one
+    --address ADDRESS    in place of 127.0.0.1, which this machine alone can ask
+    --processes COUNT    how many processes answer (2). Each has a program of its own, and so a graph in memory
+
+Vertices count from 1, as in the file. A question that is none has the status 400, a vertex that is not there 404, and
+503 a question for which memory lacks or whose program ended twice. /health asks the program: 200 says that it answers.
+
+If a program ends, another one begins at the next question, and that is asked again. If a process ends, another takes
+its place; if it can't begin, as with a graph that is refused, all end with status 2. SIGTERM and Ctrl-C end all.
+
+Needs the Python package hollowbowl (docs/PYTHON.md), the program, and the scripts beside it.
+"""
+
+import json
+import os
+import signal
+import socket
+import sys
+import time
+from http.server import BaseHTTPRequestHandler, ThreadingHTTPServer
+from urllib.parse import parse_qs, urlsplit
+
+sys.dont_write_bytecode = True
+import map_files
+from to_gr import Arguments, Refused, run
+
+QUIET = 1  # second for which a process has to live, or the next one waits as long
+
+
+class BadQuestion(Exception):
+    """What is wrong with a question, in words."""
+
+
+class Answers:
+    """A graph, and what each page answers."""
+
+    def __init__(self, graph, hollowbowl):
+        self.graph, self.hollowbowl = graph, hollowbowl
+        self.pages = {
+            "/distance": (self.distance, ["from", "to"]),
+            "/path": (self.path, ["from", "to"]),
+            "/within": (self.within, ["from", "cost"]),
+            "/health": (self.health, []),
+        }
+
+    def answer(self, target):
+        """The status and the answer to the target of a request."""
+        url = urlsplit(target)
+        if url.path not in self.pages:
+            return 404, {"error": f"no page {url.path}: there are {', '.join(self.pages)}"}
+        page, keys = self.pages[url.path]
+        try:
+            return 200, self.ask(page, numbers_of(url.query, keys))
+        except BadQuestion as fault:
+            return 400, {"error": str(fault)}
+        except self.hollowbowl.NoVertex as fault:
+            return 404, {"error": f"no vertex {fault.vertex + 1}"}
+        except ValueError as fault:
+            return 400, {"error": str(fault)}
+        except (self.hollowbowl.Error, OSError) as fault:
+            return 503, {"error": str(fault)}
+
+    def ask(self, page, numbers):
+        """What a page answers. If the program has ended meanwhile, another one begins at the second try."""
+        try:
+            return page(*numbers)
+        except self.hollowbowl.Closed:
+            raise
+        except self.hollowbowl.Ended:
+            return page(*numbers)
+
+    def distance(self, source, target):
+        try:
+            return {"distance": self.graph.distance(source - 1, target - 1)}
+        except self.hollowbowl.NoPath:
+            return {"distance": None}
+
+    def path(self, source, target):
+        found = self.distance(source, target)
+        path = [] if found["distance"] is None else self.graph.path(source - 1, target - 1)
+        return {**found, "path": [vertex + 1 for vertex in path] or None}
+
+    def within(self, source, cost):
+        vertices, costs = self.graph.within(source - 1, cost)
+        return {"vertices": [int(vertex) + 1 for vertex in vertices], "costs": [int(cost) for cost in costs]}
+
+    def health(self):
+        if self.graph.n:
+            self.graph.within(0, 0)
+        return {"process": os.getpid(), "vertices": self.graph.n, "arcs": self.graph.m}
+
+
+def numbers_of(query, keys):
+    """The whole numbers of a query by its keys, each once and no others."""
+    given = parse_qs(query, keep_blank_values=True)
+    if sorted(given) != sorted(keys) or any(len(words) > 1 for words in given.values()):
+        raise BadQuestion(f"wanted: {' and '.join(keys) or 'nothing'}, each once")
+    for key in keys:
+        if not (given[key][0].isascii() and given[key][0].isdigit() and len(given[key][0]) <= 20):
+            raise BadQuestion(f"{key} is no whole number")
+    return [int(given[key][0]) for key in keys]
+
+
+class Handler(BaseHTTPRequestHandler):
+    def do_GET(self):
+        status, answer = self.server.answers.answer(self.path)
+        body = json.dumps(answer).encode() + b"\n"
+        self.send_response(status)
+        self.send_header("Content-Type", "application/json")
+        self.send_header("Content-Length", str(len(body)))
+        self.end_headers()
+        self.wfile.write(body)
+
+    def log_message(self, *_):
+        """Says nothing: what stands before a service logs its requests."""
+
+
+class Server(ThreadingHTTPServer):
+    """One process: it takes requests from a socket that all share, a thread for each, and ends with its parent."""
+
+    def __init__(self, shared, answers):
+        super().__init__(shared.getsockname(), Handler, bind_and_activate=False)
+        self.socket.close()
+        self.socket, self.answers, self.parent = shared, answers, os.getppid()
+
+    def get_request(self):
+        try:
+            return super().get_request()
+        except BlockingIOError:
+            # Another process was quicker.
+            raise OSError("taken") from None
+
+    def service_actions(self):
+        if os.getppid() != self.parent:
+            raise SystemExit(0)
+
+
+def child(shared, graph_name):
+    """What one process does until it is ended."""
+    signal.signal(signal.SIGTERM, lambda *_: sys.exit(0))
+    with map_files.kept(graph_name) as graph:
+        Server(shared, Answers(graph, map_files.package())).serve_forever()
+
+
+def begin(shared, graph_name):
+    """Begins a process, and gives its number."""
+    number = os.fork()
+    if number:
+        return number
+    try:
+        run("serve.py", lambda: child(shared, graph_name), status=2)
+    except SystemExit as end:
+        os._exit(end.code if isinstance(end.code, int) else 0)
+    except BaseException as fault:
+        print(f"serve.py: process {os.getpid()}: {fault!r}", file=sys.stderr)
+    os._exit(1)
+
+
+def keep(shared, graph_name, count):
+    """Keeps so many processes, until a signal comes or one can't begin."""
+    born = {}
+    try:
+        for _ in range(count):
+            born[begin(shared, graph_name)] = time.monotonic()
+        while True:
+            number, status = os.wait()
+            age = time.monotonic() - born.pop(number)
+            if os.waitstatus_to_exitcode(status) == 2:
+                raise SystemExit(2)
+            print(f"serve.py: process {number} has ended; another begins", file=sys.stderr)
+            time.sleep(max(0, QUIET - age))
+            born[begin(shared, graph_name)] = time.monotonic()
+    finally:
+        for number in born:
+            os.kill(number, signal.SIGTERM)
+        for number in born:
+            os.waitpid(number, 0)
+
+
+def main():
+    parser = Arguments(__doc__)
+    parser.add_argument("graph")
+    parser.add_argument("--port", type=int, default=8080)
+    parser.add_argument("--address", default="127.0.0.1")
+    parser.add_argument("--processes", type=int, choices=range(1, 65), metavar="COUNT", default=2)
+    options = parser.parse_args()
+    if not os.access(options.graph, os.R_OK):
+        raise Refused(f"{options.graph} can't be read")
+    signal.signal(signal.SIGTERM, lambda *_: sys.exit(0))
+    with socket.create_server((options.address, options.port), backlog=128) as shared:
+        shared.setblocking(False)
+        address, port = shared.getsockname()
+        print(f"serve.py: http://{address}:{port}, {options.processes} processes", file=sys.stderr, flush=True)
+        keep(shared, options.graph, options.processes)
+
+
+if __name__ == "__main__":
+    run("serve.py", main, status=2)
