@@ -1,5 +1,5 @@
 #!/usr/bin/env python3
-"""Finds the streets that can be reached from a place within some minutes: isochrone.py MAP.gr LATITUDE LONGITUDE 5 10 15
+"""Finds the streets that are reached within some minutes: isochrone.py MAP.gr LATITUDE LONGITUDE 5 10 >reached.geojson
 
 MAP.gr and the files beside it are what osm_to_gr.py writes with --places places.txt. What comes is GeoJSON: for each
 number of minutes the streets that it adds to those before, each cut off where the time is up, and the place. The last
@@ -11,8 +11,9 @@ number comes first, so that a viewer draws what is near on top. If weights are l
     --any             begins at a place, too, that is not joined to the largest part of the map
     --picture FILE    draws these streets on those around them, as FILE.png, FILE.svg or FILE.pdf. Needs matplotlib
 
-Needs the Python package hollowbowl (docs/PYTHON.md), the program, and the scripts beside it. Between two nodes time goes
-by as the way does. Of a street that is reached from both ends, each piece counts from the end that is reached earlier.
+Needs the Python package hollowbowl (docs/PYTHON.md), the program, and the scripts beside it. Between two nodes time
+goes by as the way does. Of a street that is reached from both ends, each piece counts from the end that is reached
+earlier.
 
 A file that is not understood is refused, with its line, and so are files of another map. Then the status is 2, and
 nothing is written.

@@ -132,9 +132,9 @@ def arcs(graph, ways, count):
     lines = text_lines(ways)
     found = 0
     for (tail, head, weight), (line, text) in zip(graph_arcs(graph), lines):
-        number, name = matched(WAY, text, f"{ways}:{line}", "WAY, a tab and NAME, as osm_to_gr.py --ways writes").groups()
+        words = matched(WAY, text, f"{ways}:{line}", "WAY, a tab and NAME, as osm_to_gr.py --ways writes")
         found = line
-        yield Arc(tail, head, weight, int(number), name)
+        yield Arc(tail, head, weight, int(words[1]), words[2])
     if found != count or next(lines, None):
         raise Refused(f"{ways}: not the ways of {graph}, which has {count} arcs")
 

@@ -1,5 +1,5 @@
 #!/usr/bin/env python3
-"""Finds the fastest route between two places of a map: route.py MAP.gr LATITUDE LONGITUDE LATITUDE LONGITUDE >route.geojson
+"""Finds the cheapest route between two places: route.py MAP.gr LATITUDE LONGITUDE LATITUDE LONGITUDE >route.geojson
 
 MAP.gr and the files beside it are what osm_to_gr.py writes with --places places.txt --ways ways.txt. What comes is
 GeoJSON: a line for each street of the route with its name, the numbers of its ways and how long it is, and the two

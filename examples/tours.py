@@ -1,15 +1,15 @@
 #!/usr/bin/env python3
 """Plans tours of lorries from a depot by the nearest neighbour: tours.py MAP.gr DEPOT CAPACITY <CUSTOMERS
 
-A line of CUSTOMERS is VERTEX DEMAND, and each has to be visited once. A lorry goes from customer to the nearest one that
-is left and whose demand it can still carry, and then back to the depot. What comes is a line for each tour: its cost,
-what it carries, and its customers in order. Vertices count from 1, as in the file.
+A line of CUSTOMERS is VERTEX DEMAND, and each has to be visited once. A lorry goes from customer to customer, each time
+to the nearest one that is left and whose demand it can still carry, and then back to the depot. What comes is a line
+for each tour: its cost, what it carries, and its customers in order. Vertices count from 1, as in the file.
 
 This is the simplest heuristic, to show where its costs come from: all pairs of the depot and the customers are one
 question. A solver takes the same matrix. Needs the Python package hollowbowl (docs/PYTHON.md), the program, and the
 scripts beside it.
 
-A line that is not understood is refused with its number, and so are a demand that is more than a lorry carries and a
+A line that is not understood is refused with its number. So are a demand that is more than a lorry carries, and a
 customer to whom no way leads, or from whom none leads back. Then the status is 2, and nothing is written.
 """
 

@@ -90,7 +90,8 @@ def check(server, port):
     expect(f"after the end of programs: {answers}", answers == [(200, {"distance": 15})] * 20)
 
     os.kill(processes[0], signal.SIGKILL)
-    expect("no other process begins", within_seconds(lambda: len(children(server.pid)) == 2 and processes[0] not in children(server.pid)))
+    others = lambda: len(set(children(server.pid)) - {processes[0]})
+    expect("no other process begins", within_seconds(lambda: others() == 2))
     expect("the other process does not answer", within_seconds(lambda: answering(port) == set(children(server.pid))))
 
 

@@ -1,4 +1,7 @@
-"""Runs the program: python3 -m hollowbowl [OPTION..] <job. With --version alone it says which program and package it is."""
+"""Runs the program: python3 -m hollowbowl [OPTION..] <job
+
+With --version alone it says which package and program there are, and from which commit the package was made.
+"""
 
 import os
 import subprocess

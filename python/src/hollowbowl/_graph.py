@@ -76,7 +76,7 @@ class Graph:
 
     @classmethod
     def from_pandas(cls, frame, source="source", target="target", weight="weight", *, nodes=(), workers=None):
-        """The graph of a DataFrame's rows, as `networkx.from_pandas_edgelist` takes it; `nodes` as of `from_edges`."""
+        """The graph of a DataFrame's rows, as `networkx.from_pandas_edgelist` takes it; for `nodes` see `from_edges`."""
         return cls.from_edges(zip(frame[source], frame[target], frame[weight]), nodes=nodes, workers=workers)
 
     @classmethod

@@ -30,7 +30,7 @@ _OWN = os.path.join(os.path.dirname(os.path.abspath(__file__)), "_program", "bin
 
 
 def program():
-    """The command that is run: that of the variable HOLLOWBOWL, else that of the package, or `obim_query` on the path."""
+    """The command that is run: that of the variable HOLLOWBOWL, that of the package, or `obim_query` on the path."""
     named = os.environ.get("HOLLOWBOWL")
     if named:
         return os.path.abspath(named) if os.sep in named else named
