@@ -16,7 +16,8 @@ MARGIN = 0.08  # of the width and the height, around what is drawn
 def begin(streets, places):
     """The axes of a picture that shows some places and the streets around them, in grey."""
     figure, axes = pyplot.subplots(figsize=(7, 5))
-    lines(axes, streets, "0.8", 0.8)
+    # Many streets are thin, so that they don't grow into one another.
+    lines(axes, streets, "0.8", max(0.1, min(0.8, 30 / math.sqrt(len(streets) + 1))))
     (south, north), (west, east) = ((min(each), max(each)) for each in zip(*places))
     middle = math.cos(math.radians((south + north) / 2))
     size = max(north - south, (east - west) * middle, 1e-4) * MARGIN
