@@ -1,5 +1,6 @@
 """What osm_to_gr.py writes of a map, read beside its graph, and GeoJSON: what route.py and isochrone.py share."""
 
+import argparse
 import contextlib
 import importlib.util
 import json
@@ -30,6 +31,17 @@ def arguments(text):
     parser.add_argument("--any", action="store_true")
     parser.add_argument("--picture", type=picture_name)
     return parser
+
+
+def number_from(least, most):
+    """What takes a word of the command line as a whole number within bounds."""
+
+    def number(word):
+        if not (word.isascii() and word.isdigit() and least <= int(word) <= most):
+            raise argparse.ArgumentTypeError(f"{word!r} is no whole number from {least} to {most}")
+        return int(word)
+
+    return number
 
 
 def form_of(name):

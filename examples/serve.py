@@ -188,14 +188,18 @@ def keep(shared, graph_name, count):
 def main():
     parser = Arguments(__doc__)
     parser.add_argument("graph")
-    parser.add_argument("--port", type=int, default=8080)
+    parser.add_argument("--port", type=map_files.number_from(0, 65535), default=8080)
     parser.add_argument("--address", default="127.0.0.1")
-    parser.add_argument("--processes", type=int, choices=range(1, 65), metavar="COUNT", default=2)
+    parser.add_argument("--processes", type=map_files.number_from(1, 64), default=2)
     options = parser.parse_args()
     if not os.access(options.graph, os.R_OK):
         raise Refused(f"{options.graph} can't be read")
     signal.signal(signal.SIGTERM, lambda *_: sys.exit(0))
-    with socket.create_server((options.address, options.port), backlog=128) as shared:
+    try:
+        shared = socket.create_server((options.address, options.port), backlog=128)
+    except OSError as fault:
+        raise Refused(f"{options.address}:{options.port}: {fault.strerror or fault}") from None
+    with shared:
         shared.setblocking(False)
         address, port = shared.getsockname()
         print(f"serve.py: http://{address}:{port}, {options.processes} processes", file=sys.stderr, flush=True)

@@ -69,13 +69,14 @@ def rows(lines):
         raise Refused("standard input: no answer")
 
 
-def named(columns, names, found):
-    """Rows with names in place of vertices."""
+def named(columns, file, found):
+    """Rows with names in place of vertices, by the lines of a file."""
+    names = read_names(file)
     places = [place for place, column in enumerate(columns) if column in VERTICES]
     for row in found:
         for place in places:
             if not 1 <= row[place] <= len(names):
-                raise Refused(f"there is no name for vertex {row[place]}")
+                raise Refused(f"{file}: there is no line {row[place]}, which would name that vertex")
             row[place] = names[row[place] - 1]
         yield row
 
@@ -120,7 +121,7 @@ def write_arrow(out, columns, found, form, has_names):
         for batch in batches(found):
             try:
                 arrays = [pyarrow.array(values, of) for values, of in zip(zip(*batch), types.values())]
-            except OverflowError:
+            except (OverflowError, pyarrow.ArrowInvalid):
                 raise Refused("a number is more than 2^64 - 1, which such a table does not hold: take .csv") from None
             writer.write_table(pyarrow.Table.from_arrays(arrays, schema=schema))
 
@@ -154,7 +155,10 @@ def form_of(name):
 
 def read_names(name):
     with open(name, encoding="utf-8", newline="\n") as lines:
-        return [text.rstrip("\n") for text in lines]
+        try:
+            return [text.rstrip("\n") for text in lines]
+        except UnicodeDecodeError:
+            raise Refused(f"{name}: not UTF-8 text") from None
 
 
 def main():
@@ -164,15 +168,14 @@ def main():
     parser.add_argument("--closeness", action="store_true")
     options = parser.parse_args()
     form = form_of(options.table)
-    names = read_names(options.names) if options.names else None
     if sys.stdout is None and not options.table:
         raise Refused("standard output is closed")
     with open(0, encoding="ascii", errors="surrogateescape", closefd=False) as lines:
         found = rows(lines)
         kind = next(found)
         columns = list(COLUMNS[kind])
-        if names is not None:
-            found = named(columns, names, found)
+        if options.names:
+            found = named(columns, options.names, found)
         if options.closeness:
             if kind != "t":
                 raise Refused("--closeness goes with an answer of --totals alone")
@@ -182,7 +185,7 @@ def main():
             if form == "csv":
                 write_csv(out, columns, found)
             else:
-                write_arrow(out, columns, found, form, names is not None)
+                write_arrow(out, columns, found, form, bool(options.names))
 
 
 if __name__ == "__main__":

@@ -68,13 +68,14 @@ def tours(costs, demands, most):
 def main():
     parser = Arguments(__doc__)
     parser.add_argument("graph")
-    parser.add_argument("depot", type=whole)
-    parser.add_argument("capacity", type=whole)
+    parser.add_argument("depot", type=map_files.number_from(1, 1 << 28))
+    parser.add_argument("capacity", type=map_files.number_from(1, 1 << 62))
     options = parser.parse_args()
     with map_files.kept(options.graph) as graph:
         if options.depot > graph.n:
             raise Refused(f"there is no vertex {options.depot}")
-        demands = read_customers(sys.stdin, options.capacity, graph.n)
+        with open(0, encoding="ascii", errors="surrogateescape", closefd=False) as lines:
+            demands = read_customers(lines, options.capacity, graph.n)
         stops = [options.depot, *demands]
         places = [vertex - 1 for vertex in stops]
         costs = [[int(cost) for cost in row] for row in graph.matrix(places, places)]

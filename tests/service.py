@@ -27,6 +27,14 @@ PAGES = [
     ("/other", 404, {"error": "no page /other: there are /distance, /path, /within, /health"}),
 ]
 
+REFUSED = [
+    (["examples/roads.csv"], "examples/roads.csv: line 1: "),
+    (["examples/none.gr"], "examples/none.gr can't be read"),
+    (["examples/six.gr", "--processes", "0"], "argument --processes: '0' is no whole number from 1 to 64"),
+    (["examples/six.gr", "--port", "65536"], "argument --port: '65536' is no whole number from 0 to 65535"),
+    (["examples/six.gr", "--address", "256.0.0.1"], "256.0.0.1:0: "),
+]
+
 
 def begin(graph, *words):
     command = [sys.executable, "-B", "examples/serve.py", "--port", "0", *words, graph]
@@ -110,10 +118,11 @@ def main():
     expect(f"said {said!r}", re.fullmatch(r"serve.py: process \d+ has ended; another begins\n", said))
     expect("left behind", within_seconds(lambda: not any(os.path.exists(f"/proc/{number}") for number in left)))
 
-    server = begin("examples/roads.csv")
-    _, said = server.communicate(timeout=30)
-    expect(f"status {server.returncode} for no graph", server.returncode == 2)
-    expect(f"said {said!r} for no graph", "examples/roads.csv: line 1: " in said)
+    for words, wanted in REFUSED:
+        server = begin(*words)
+        _, said = server.communicate(timeout=30)
+        expect(f"{words}: status {server.returncode}", server.returncode == 2)
+        expect(f"{words}: said {said!r}", wanted in said)
 
 
 main()
