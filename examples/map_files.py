@@ -63,15 +63,19 @@ def picture_name(name):
 def package():
     """The package hollowbowl: the one that is installed, else that of the clone in which this file stands.
 
-    Where no program is on the path, that of the working folder is taken.
+    If Python finds neither, the one that ./install put beside the program on the path is taken. If no program is on
+    the path, that of the working folder is taken.
     """
+    program = shutil.which("obim_query")
     if importlib.util.find_spec("hollowbowl") is None:
         sys.path.append(os.path.join(os.path.dirname(os.path.realpath(__file__)), "../python/src"))
+        if program:
+            sys.path.append(os.path.join(os.path.dirname(os.path.realpath(program)), "../share/hollowbowl/python"))
     try:
         import hollowbowl
     except ImportError:
         raise Refused("Python finds no package hollowbowl (docs/PYTHON.md says how to install it)") from None
-    if not os.environ.get("HOLLOWBOWL") and not shutil.which("obim_query") and os.access("obim_query", os.X_OK):
+    if not os.environ.get("HOLLOWBOWL") and not program and os.access("obim_query", os.X_OK):
         os.environ["HOLLOWBOWL"] = os.path.abspath("obim_query")
     return hollowbowl
 
