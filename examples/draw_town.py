@@ -1,5 +1,5 @@
 #!/usr/bin/env python3
-"""Draws a town as a map of OpenStreetMap, to try what reads maps where no extract is at hand: draw_town.py >drawn.osm
+"""Draws a town as a map of OpenStreetMap, to try what reads maps if no extract is at hand: draw_town.py >drawn.osm
 
 It has 24 by 18 crossings some 120 m apart, and a river with two bridges. An avenue on either bank and one across each
 bridge are faster than the streets, of which some are one way. Every run writes the same bytes.

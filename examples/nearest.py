@@ -8,7 +8,7 @@ standard input has both in each line, and each line has its answer. Needs to_gr.
     --any   takes a node that is not joined to the largest part of the map, too
 
 From such a node most others cannot be reached, or it cannot be reached from them, as in a car park that the map joins
-to nothing. It is left out, and standard error says so where it is the nearest one. The nearest node is not the nearest
+to nothing. It is left out, and standard error says so if it is the nearest one. The nearest node is not the nearest
 point on a road.
 
 A line that is not understood is refused, with its number, and so is a map of which no node is joined. Then the status

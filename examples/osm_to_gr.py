@@ -9,14 +9,14 @@ is, and its latitude and longitude. Needs to_gr.py, osm_turns.py and osm_parts.p
     --weight UNIT        lengths in metres or decimetres, times in seconds or deciseconds (decimetres)
     --nodes FILE         in place of nodes.txt
     --ways FILE          a line for each arc, in the order of the graph: the number of its way, a tab, and the name of
-                         the way, or its ref where it has no name
+                         the way, or its ref if it has no name
     --places FILE        a line for each node that arcs join: NODE LATITUDE LONGITUDE START END JOINED. Routes from the
-                         node begin at vertex START, and routes to it end at END; JOINED is yes where one can come from
+                         node begin at vertex START, and routes to it end at END; JOINED is yes if one can come from
                          the largest part of the map and go there, and else no. nearest.py reads it
     --turns              keeps turn restrictions with a node as via, and writes places.txt if no --places names another
                          file. A node then can have several vertices, and START and END differ
 
-Weights are rounded to the nearest whole number, and to 1 where that would be 0 between two places. The tables below say
+Weights are rounded to the nearest whole number, and to 1 if that would be 0 between two places. The tables below say
 which roads a profile takes and how fast it is; docs/MAPS.md has them in words. What was left out and why is counted on
 standard error. Nodes and ways may stand in any order: nodes wait in a temporary file, 24 bytes each, and memory grows
 with the nodes of roads alone, and with --places with the arcs too.
@@ -24,7 +24,7 @@ with the nodes of roads alone, and with --places with the arcs too.
 A tab or a line break in a name is written as a blank, and such names are counted. With --turns the arcs of no cost
 that end at END have way 0 and no name.
 
-A map that is no such XML, was cut off, or has no road is refused, with its line where it has one. Then the status is 1,
+A map that is no such XML, was cut off, or has no road is refused, with its line if it has one. Then the status is 1,
 and no file is written.
 """
 

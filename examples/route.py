@@ -3,7 +3,7 @@
 
 MAP.gr and the files beside it are what osm_to_gr.py writes with --places places.txt --ways ways.txt. What comes is
 GeoJSON: a line for each street of the route with its name, the numbers of its ways and how long it is, and the two
-places. Where weights are times a street has seconds, and `after` says how many seconds come before it; where they are
+places. If weights are times a street has seconds, and `after` says how many seconds come before it; if they are
 lengths it says how many metres do. Standard error has the sum.
 
     --weight UNIT     what weights are, as osm_to_gr.py was called with (decimetres)

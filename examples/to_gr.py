@@ -15,7 +15,7 @@ packed by gzip or bzip2, which is seen from its first bytes.
     --weight 1           rows have no weight: each road has this one
     --snap               short for --delimiter blanks --weight 1, as the edge lists of SNAP are
     --both-ways          each road there and back
-    --encoding cp1252    the encoding of the table, by any of Python's names, as utf-16; it is UTF-8 where none is given
+    --encoding cp1252    the encoding of the table, by any of Python's names, as utf-16; it is UTF-8 if none is given
     --skip-bad FILE      puts rows that are not understood into FILE, as they stand, and makes the graph of the others
     --names FILE         in place of names.txt, which is UTF-8 whatever the table is
 
@@ -27,7 +27,7 @@ needed, as another delimiter. Then the status is 1, and no file is written.
 
 Names that differ only in Unicode's normal form are one name, which names.txt has in form NFC; standard error says so.
 
-Where Python has numpy, fast_tables.py beside this script reads most rows by it. The graph and all that is said are the
+If Python has numpy, fast_tables.py beside this script reads most rows by it. The graph and all that is said are the
 same without.
 """
 

@@ -13,7 +13,7 @@ A cost of a vertex that no walk reaches is empty, or null. Columns are whole num
 
     --names FILE   names in place of the numbers of vertices: of vertex 3 in line 3, as to_gr.py writes them
     --closeness    with --totals one more column, (reached - 1) / sum: the closeness among the vertices that are
-                   reached. It is empty where the sum is 0
+                   reached. It is empty if the sum is 0
 
 Needs to_gr.py beside it. A line that is not understood is refused with its number, as one of a walk or of an answer
 with added arcs. Then the status is 2, and no file is written. So it is if the answer is empty.

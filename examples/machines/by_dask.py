@@ -5,7 +5,7 @@ SCHEDULER is the address of one that runs, as tcp://host:8786; without it worker
 machines have FOLDER, the graph, the program and this folder under the same paths. Called again it makes only what is
 missing. A part whose options or text the program refuses is tried once.
 
-AT_ONCE: how many parts this machine makes at the same time where workers are started on it, 1 where it isn't given.
+AT_ONCE: how many parts this machine makes at the same time if workers are started on it, 1 if it isn't given.
 """
 import os
 import subprocess
