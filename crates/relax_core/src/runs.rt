@@ -1,4 +1,4 @@
-//! A list of events from the opening on: a run, or the first event that is not enabled.
+//! A list of events from the opening on.
 
 ghost use Rattle.std.specs.Prelude.{◌≡◌, ℕ, Err, IfOk};
 ghost use Rattle.route_walks.specs.Walk.{AreSeeds};
@@ -14,12 +14,12 @@ use std::alloc::Global;
 use std::error::Error;
 use std::fmt;
 
-/// The reason for which a list of events gives no core.
+/// The reason why a list of events gives no core.
 #[derive(Clone, Copy, Debug, PartialEq, Eq)]
 pub enum ReplayFault {
     /// There was no memory for the core, or for the new seat of a `Split`.
     Memory,
-    /// The place, from 0, of the first event that isn't enabled after those before it.
+    /// The place, from 0, of the first event that isn't enabled.
     At(usize),
 }
 
@@ -34,8 +34,7 @@ impl fmt::Display for ReplayFault {
 
 impl Error for ReplayFault {}
 
-/// The core after a list of events, from the opening on, if they are a run: each enabled after those
-/// before it. So a schedule from anywhere is checked, not trusted.
+/// Returns the core after a list of events from the opening on, or the first event that isn't enabled.
 pub fn replay(
     alloc: Global,
     csr: &Csr,

@@ -1,4 +1,4 @@
-//! The whole state of a run, and how it opens.
+//! The state of a run, and how it opens.
 
 ghost use Rattle.std.specs.Prelude.{◌≡◌, ◌<◌, ◌≤◌, ℕ, false, length, count_by};
 ghost use Rattle.std.specs.Prelude.{slice_index, slice_set, min, IfOk, All};
@@ -12,8 +12,7 @@ use route_walks::{INF, Memory, Seed};
 use std::alloc::Global;
 use std::marker::Model;
 
-/// The whole state of a run: a label and a mark for each vertex, the pending total, and a view for
-/// each seat.
+/// The state of a run.
 #[derive(Debug, Drop)]
 pub struct Core {
     pub(crate) labels: Vec<u64>,
@@ -36,7 +35,7 @@ impl Model for Core {
 }
 
 impl Core {
-    /// The label of a vertex: a cost, or `INF` if no walk was found yet.
+    /// The label of a vertex, or `INF` if no walk was found yet.
     pub fn label(&self, v: u32) -> u64
         requires { v < length self.now.labels }
         ensures { result ≡ slice_index self.now.labels v }
@@ -44,7 +43,7 @@ impl Core {
         self.labels[v as usize]
     }
 
-    /// Tells if a vertex is marked: its arcs are to be relaxed again.
+    /// Tells if the arcs of a vertex are to be relaxed again.
     pub fn mark(&self, v: u32) -> bool
         requires { v < length self.now.marks }
         ensures { result ≡ mark_of self.now.marks v }
@@ -52,7 +51,7 @@ impl Core {
         self.marks[v as usize]
     }
 
-    /// The pending total: the number of marks and all credits in hands.
+    /// The number of marks and all credits in hands.
     pub fn pending(&self) -> u64
         ensures { result ≡ self.now.total }
     {
@@ -67,8 +66,8 @@ impl Core {
     }
 }
 
-/// The core that a run of this graph and these seeds begins with: seeded vertices have their least
-/// start and are marked, and one idle seat has all shares. A start may be any number.
+/// Returns the core that a run begins with: seeded vertices have their least start and a mark, and one idle seat has
+/// all shares. A start may be any number.
 pub fn open_core(alloc: Global, csr: &Csr, seeds: &[Seed]) -> Result<Core, Memory>
     requires { AreSeeds csr.now.n seeds.now }
     ensures opening { IfOk result (λ core. IsOpening csr.now seeds.now core) }
@@ -104,7 +103,6 @@ fn start(labels: &mut [u64], marks: &mut [bool], seeds: &[Seed])
     }
 }
 
-/// The number of marked vertices.
 fn count_marks(marks: &[bool]) -> u64
     requires { length marks.now ≤ MAX_VERTICES }
     ensures { result ≡ count_by (λ mark. mark) marks.now }

@@ -15,10 +15,10 @@ use std::alloc::Global;
 use std::error::Error;
 use std::fmt;
 
-/// The reason for which an event wasn't done. The core is unchanged.
+/// The reason why an event wasn't done. The core is unchanged.
 #[derive(Clone, Copy, Debug, PartialEq, Eq)]
 pub enum CoreFault {
-    /// The event can't happen in this core.
+    /// The event isn't enabled.
     NotEnabled,
     /// There was no memory for the new seat of a `Split`.
     Memory,
@@ -301,8 +301,7 @@ impl Core {
     }
 }
 
-/// Does an event exactly if it is enabled. Otherwise, and if a `Split` finds no memory, the core stays as it was. The
-/// core is one of this graph.
+/// Does an event if it is enabled. On an error the core stays as it was.
 pub fn apply(_alloc: Global, core: &mut Core, csr: &Csr, event: Event) -> Result<(), CoreFault>
     requires { IsOf csr.now core.old }
     ensures done { OnOk result (after csr.now core.old event ≡ Some core.new) }

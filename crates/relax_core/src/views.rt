@@ -9,35 +9,35 @@ ghost use Rattle.relax_core.specs.Views.{kept_half, new_half, joined};
 /// The shares of all seats together.
 pub const SHARES: u32 = 65536;
 
-/// The vertex, the label and the mark that a worker holds.
+/// The vertex, label and mark that a worker holds.
 #[derive(Clone, Copy, Debug, PartialEq, Eq)]
 pub enum Hand {
     /// Nothing.
     Idle,
-    /// No vertex, but credits that the seat kept for marks to come.
+    /// Credits for marks to come.
     Kept,
-    /// Vertex `u`, whose mark it took and whose label it hasn't read.
+    /// A vertex whose mark was taken and whose label isn't read yet.
     Fresh { u: u32 },
-    /// The row of `u` from place `k` on, relaxed with `d`, the label that it read.
+    /// The row of `u` from place `k` on, relaxed with the label `d`.
     Open { u: u32, d: u64, k: usize },
-    /// The row of `u` as in `Row`, and a mark for `head`, whose label it lowered.
+    /// An open row, and a mark for `head`, whose label fell.
     Owe { u: u32, d: u64, k: usize, head: u32 },
 }
 
-/// All that is known of one seat.
+/// A seat's view.
 #[derive(Clone, Copy, Debug, PartialEq, Eq)]
 pub struct View {
     pub hand: Hand,
-    /// The part of the pending total that stands for what the hand holds and for marks to come: 0 to 255.
+    /// Its part of the pending total, 0 to 255: for what the hand holds and for marks to come.
     pub credits: u8,
     /// True if the seat saw the pending total at 0.
     pub saw: bool,
-    /// Of the `SHARES` that all seats have together. A view of share 0 is spent: its seat is gone.
+    /// Its part of the `SHARES`. A view of share 0 is spent: its seat is gone.
     pub share: u32,
 }
 
 impl View {
-    /// An idle view with this share. One without a share is spent.
+    /// The idle view of this share.
     pub const fn idle(share: u32) -> View
         ensures { result ≡ idle_view share }
     {
@@ -49,8 +49,8 @@ impl View {
         }
     }
 
-    /// Holds no vertex, as before. What an earlier hand left behind is written over, so that a loop over `Take`
-    /// and `Finish` or `Keep` need not carry it along.
+    /// For the proof: the hand still holds no vertex, and what an earlier hand left behind is forgotten. Changes
+    /// nothing.
     pub fn rest(&mut self)
         requires { has_no_vertex self.old.hand ≡ true }
         ensures { self.new ≡ self.old }
@@ -62,7 +62,7 @@ impl View {
         };
     }
 
-    /// `Take`: if the mark of `u` was set, the seat holds `u`, and the mark's credit in addition to its own.
+    /// `Take`: if the mark of `u` was set, the seat holds `u` and the mark's credit.
     pub fn take(&mut self, was_marked: bool, u: u32)
         requires { self.old.credits < 255 }
         ensures { self.new ≡ taken was_marked u self.old }
@@ -73,7 +73,7 @@ impl View {
         }
     }
 
-    /// `Read`: the row of the vertex that is held is open from place `k` on, with the label `d`.
+    /// `Read`: the row of the vertex is open from place `k` on, with the label `d`.
     pub fn read(&mut self, d: u64, k: usize)
         requires { IsFresh self.old.hand }
         ensures { self.new ≡ opened d k self.old }
@@ -84,8 +84,8 @@ impl View {
         self.hand = Hand::Open { u, d, k };
     }
 
-    /// `Relax`: the arc at place `k` is done, and its `head` is owed a mark if its label fell. The
-    /// caller hands in the parts of the open hand, which it has at hand.
+    /// `Relax`: the arc at place `k` is done, and its head is owed a mark if its label fell. The other parameters are
+    /// those of the open hand.
     pub fn relax(&mut self, fell: bool, u: u32, d: u64, k: usize, head: u32)
         requires hand { self.old.hand ≡ Open u d k }
         requires place { k < 2 ^ 64 - 1 }
@@ -99,14 +99,14 @@ impl View {
         };
     }
 
-    /// `Raise`: a second credit, for the mark that is owed.
+    /// `Raise`: a second credit, for the owed mark.
     pub fn raise(&mut self)
         ensures { self.new ≡ raised self.old }
     {
         self.credits = 2;
     }
 
-    /// `RaiseBy`: this many credits more, for the mark that is owed and others to come.
+    /// `RaiseBy`: `count` credits more.
     pub fn raise_by(&mut self, count: u8)
         requires { self.old.credits + count ≤ 255 }
         ensures { self.new ≡ raised_by count self.old }
@@ -114,8 +114,8 @@ impl View {
         self.credits += count;
     }
 
-    /// `SetMark`: nothing is owed any more. One credit went to the mark, unless it was set before. The
-    /// caller hands in the parts of the hand that it still holds.
+    /// `SetMark`: nothing is owed any more, and one credit went to the mark unless it was set before. The parameters
+    /// are those of the hand.
     pub fn set_mark(&mut self, was_marked: bool, u: u32, d: u64, k: usize)
         requires hand { self.old.hand ≡ Owe u d k (owed_of self.old.hand) }
         requires credits { 1 ≤ self.old.credits }
@@ -135,14 +135,14 @@ impl View {
         self.credits = 0;
     }
 
-    /// `Keep`: no vertex is held, and the credits stay as they are.
+    /// `Keep`: no vertex is held, and credits stay.
     pub fn keep(&mut self)
         ensures { self.new ≡ kept self.old }
     {
         self.hand = Hand::Kept;
     }
 
-    /// `Return`: this many credits less. If none is left, nothing is held.
+    /// `Return`: `count` credits less. If none is left, the hand is idle.
     pub fn give_back(&mut self, count: u8)
         requires { count ≤ self.old.credits }
         ensures { self.new ≡ gave_back count self.old }
