@@ -1,4 +1,4 @@
-//! Checks of the arcs and the seeds of a graph of `n` vertices, for callers that have them from outside.
+//! Checks of arcs and seeds that come from outside.
 
 ghost use Rattle.std.specs.Prelude.{◌↔◌, IsTrue};
 ghost use Rattle.route_walks.specs.Walk.{AreSeeds, IsGraph};

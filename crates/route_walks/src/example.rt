@@ -1,8 +1,8 @@
-//! Lists of arcs for tests and examples, and the graph and the seed that they share.
+//! A macro for lists of arcs, and an example graph.
 
 use crate::graph::{ArcRec, Seed};
 
-/// A list of arcs, each as its tail, its head and its weight: `arcs![(0, 1, 17), (1, 0, 3)]`.
+/// A list of arcs (tail, head, weight): `arcs![(0, 1, 17), (1, 0, 3)]`.
 #[macro_export]
 macro_rules! arcs {
     ($(($tail:expr, $head:expr, $weight:expr)),* $(,)?) => {
@@ -10,8 +10,7 @@ macro_rules! arcs {
     };
 }
 
-/// The arcs of an example of six vertices, with free arcs and a circle of them. The distances from vertex 0
-/// are 0, 10, 10, 12, 10 and 15.
+/// Arcs of six vertices, with free arcs and a circle of them. The distances from vertex 0 are 0, 10, 10, 12, 10 and 15.
 pub const EXAMPLE_ARCS: [ArcRec; 8] = arcs![
     (0, 1, 17),
     (0, 2, 10),

@@ -3,7 +3,7 @@
 ghost use Rattle.std.specs.Prelude.{◌≡◌};
 ghost use Rattle.route_walks.specs.Label.{offer};
 
-/// The label of a vertex that no walk has reached yet. Sums of a label and a weight stop here.
+/// The label of a vertex that no walk has reached, where sums stop.
 pub const INF: u64 = u64::MAX;
 
 /// A graph has at most this many vertices.
@@ -29,8 +29,8 @@ impl ArcRec {
     }
 }
 
-/// A vertex, counted from 0, where walks may begin, and the number that a walk from there starts
-/// with: a cost of at most 2^60, if a caller makes it.
+/// A vertex, counted from 0, where walks may begin, and the number that they start with. A caller's start is at most
+/// 2^60.
 #[derive(Clone, Copy, Debug, PartialEq, Eq)]
 pub struct Seed {
     pub vertex: u32,
@@ -38,7 +38,7 @@ pub struct Seed {
 }
 
 impl Seed {
-    /// The seed at `vertex` whose walks start with `start`.
+    /// The seed of walks from `vertex` that start with `start`.
     pub const fn new(vertex: u32, start: u64) -> Seed
         ensures { result ≡ record { vertex = vertex; start = start } }
     {
@@ -46,8 +46,7 @@ impl Seed {
     }
 }
 
-/// The label that an arc of this weight offers its head, from a tail of this label: their sum, or
-/// `INF` if the sum is above it.
+/// The label that an arc offers its head: the sum of its tail's label and its weight, at most `INF`.
 pub fn offer(label: u64, weight: u32) -> u64
     ensures { result ≡ offer label weight }
 {

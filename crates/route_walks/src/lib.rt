@@ -1,13 +1,9 @@
 //! Walks, sums and least labels.
 //!
-//! A directed graph has `n` vertices, counted from 0, and a list of arcs with whole-number weights. Seeds are vertices
-//! with a number to start from. A number is attained at a vertex if it is the start of a seed plus the weights of some
-//! walk from there. The least label of a vertex is the smallest such number, or `INF` if there is no walk.
+//! Seeds are vertices with a number to start from. A number is attained at a vertex if it is the start of a seed plus
+//! the weights of a walk from there. The least label is the smallest such number, or `INF` if there is no walk.
 //!
-//! The laws say why labels that no arc can lower, and that are each attained, are least, and that `INF` means that no
-//! walk exists. `plain_labels` computes them slowly, with no worklist and no thread.
-//!
-//! The lowest crate: it stands on the standard library alone.
+//! The laws say why settled and attained labels are least; `plain_labels` computes them slowly.
 #![tactic(auto)]
 
 mod checks;

@@ -8,14 +8,14 @@ use crate::graph::{ArcRec, Seed};
 use crate::refusal::Memory;
 use std::alloc::Global;
 
-/// The seeds for distances and hop levels from `s`: the one seed that starts there at 0.
+/// The seed for distances and hop levels: `s` at 0.
 pub fn seeds_from(alloc: Global, s: u32) -> Result<Vec<Seed>, Memory>
     ensures { IfOk result (λ seeds. seeds.items ≡ seeds_from s) }
 {
     Ok(vec![in alloc; Seed::new(s, 0)]?)
 }
 
-/// The seeds for components of `n` vertices: each vertex starts at its own number, in rising order.
+/// The seeds for components: each vertex starts at its own number.
 pub fn seeds_all(alloc: Global, n: u32) -> Result<Vec<Seed>, Memory>
     ensures exact { IfOk result (λ seeds. seeds.items ≡ seeds_all n) }
     ensures within { IfOk result (λ seeds. AreSeeds n seeds.items) }
@@ -24,7 +24,7 @@ pub fn seeds_all(alloc: Global, n: u32) -> Result<Vec<Seed>, Memory>
     Ok(seeds.collect(alloc)?)
 }
 
-/// The arcs for hop levels: the same ones, in order, each of weight 1.
+/// Returns the arcs with weight 1 each.
 pub fn unit_weights(alloc: Global, arcs: &[ArcRec]) -> Result<Vec<ArcRec>, Memory>
     ensures exact { IfOk result (λ units. units.items ≡ unit_weights arcs.now) }
     ensures count { IfOk result (λ units. length units.items ≡ length arcs.now) }
@@ -34,7 +34,7 @@ pub fn unit_weights(alloc: Global, arcs: &[ArcRec]) -> Result<Vec<ArcRec>, Memor
     Ok(units.collect(alloc)?)
 }
 
-/// The arcs for components: each one, in order, and then its reverse, both of weight 0.
+/// Each arc and then its reverse, both of weight 0.
 pub fn both_ways(alloc: Global, arcs: &[ArcRec]) -> Result<Vec<ArcRec>, Memory>
     requires { length arcs.now < 2 ^ 63 }
     ensures exact { IfOk result (λ both. both.items ≡ both_ways arcs.now) }

@@ -1,4 +1,4 @@
-//! Least labels, worked out the plain way: by rounds over all arcs until no label falls, as Bellman and Ford have them.
+//! Least labels by rounds over all arcs, as Bellman and Ford have them.
 
 ghost use Rattle.std.specs.Prelude.{◌≡◌, ◌↔◌, length, vec_len, slice_index, All, IsTrue, IfOk};
 ghost use Rattle.route_walks.specs.Walk.{IsGraph, AreSeeds};
@@ -8,8 +8,7 @@ use crate::graph::{ArcRec, INF, Seed, offer};
 use crate::refusal::Memory;
 use std::alloc::Global;
 
-/// The least label of each of `n` vertices, which are `INF` if no walk from a seed ends. Each round
-/// goes over all arcs, and there are at most `n` rounds: for small graphs, and to compare with.
+/// The least label of each of `n` vertices, by at most `n` rounds over all arcs: for small graphs, and to compare with.
 pub fn plain_labels(
     alloc: Global,
     n: u32,
@@ -26,7 +25,7 @@ pub fn plain_labels(
     Ok(labels)
 }
 
-/// Tells if no seed and no arc could lower a label. There is a label for each vertex, `INF` among them.
+/// Tells if no seed and no arc could lower a label.
 pub fn is_settled(labels: &[u64], arcs: &[ArcRec], seeds: &[Seed]) -> bool
     requires graph { IsGraph (length labels.now) arcs.now }
     requires seeds { AreSeeds (length labels.now) seeds.now }
@@ -51,7 +50,6 @@ fn are_relaxed(labels: &[u64], arcs: &[ArcRec]) -> bool
     arcs.iter().all(|arc| labels[arc.head as usize] <= offer(labels[arc.tail as usize], arc.weight))
 }
 
-/// Turns labels that are all `INF` into least ones.
 fn make_least(labels: &mut [u64], arcs: &[ArcRec], seeds: &[Seed])
     requires graph { IsGraph (length labels.old) arcs.now }
     requires seeds { AreSeeds (length labels.old) seeds.now }

@@ -4,7 +4,7 @@ use std::alloc::{AllocError, AllocFailed};
 use std::error::Error;
 use std::fmt;
 
-/// The system refused memory that a call needed. The call's contract says what it leaves.
+/// The system refused memory. The call's contract says what it leaves.
 #[derive(Clone, Copy, Debug, PartialEq, Eq)]
 pub struct Memory;
 
@@ -28,8 +28,8 @@ impl<T: Drop> From<AllocFailed<T>> for Memory {
     }
 }
 
-/// For tests: what a call gives to which `tests/refuse.c` may refuse memory. An allocation of 1,000,003
-/// bytes before the call and one after it are signals: it counts those between, and refuses one of them.
+/// For tests: counts the allocations of a call and has one refused by `tests/refuse.c`, between signals: allocations of
+/// 1,000,003 bytes.
 #[macro_export]
 macro_rules! refusable {
     ($alloc:expr, $call:expr) => {{
@@ -40,8 +40,8 @@ macro_rules! refusable {
     }};
 }
 
-/// For tests: does as `refusable!`, and if the call answered this fault, gives what a second call gives: the same one,
-/// unless another is named.
+/// For tests: as `refusable!`, and after this fault gives what a second call gives: the same one, unless another is
+/// named.
 #[macro_export]
 macro_rules! tried_again {
     ($rt:expr, $alloc:expr, $fault:expr, $call:expr) => {
