@@ -14,14 +14,14 @@ use std::alloc::Global;
 /// The rest that the words leave.
 #[derive(Debug, Drop)]
 pub enum Closed {
-    /// The seat saw the total at 0: the least label of each vertex.
+    /// The total was seen at 0: these labels are least.
     Settled(Vec<u64>),
-    /// The seat didn't see the total at 0: labels, and the vertices whose arcs are to be relaxed again.
+    /// It wasn't: labels, and the vertices whose arcs are to be relaxed again.
     Paused(Paused),
 }
 
 impl Closed {
-    /// The label of each vertex: a cost, or `INF` if no walk was found.
+    /// The label of each vertex, `INF` if no walk was found.
     pub fn labels(&self) -> &[u64]
         ensures { result.now ≡ closed_labels self.now }
     {
@@ -42,7 +42,7 @@ impl Closed {
     }
 }
 
-/// Reads the labels of the first `n` vertices into a list that has room for them.
+/// Reads the labels of the first `n` vertices.
 pub(crate) fn read_labels(last: &LastWords<(), Global>, n: usize, labels: &mut Vec<u64>)
     requires full { IsFull last.now.words }
     requires vertices { n ≤ MAX_VERTICES }
@@ -57,7 +57,7 @@ pub(crate) fn read_labels(last: &LastWords<(), Global>, n: usize, labels: &mut V
     }
 }
 
-/// Reads the labels of the vertices into a list that has room for them, and their marks, in one pass.
+/// Reads labels and marks in one pass.
 pub(crate) fn read_words(last: &LastWords<(), Global>, labels: &mut Vec<u64>, marks: &mut [bool])
     requires full { IsFull last.now.words }
     requires vertices { length marks.old ≤ MAX_VERTICES }

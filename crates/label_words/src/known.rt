@@ -8,8 +8,8 @@ use std::alloc::Global;
 use std::collections::LinkedList;
 use std::snapshot::Snapshot;
 
-/// The knowledge of a seat. It is its view in the core, the labels that it read or lowered, each with its vertex, and
-/// the graph and the seeds that the words were opened over. No value of it is made.
+/// The knowledge of a seat: its view, the labels that it read or lowered, and the graph and seeds of its words. No
+/// value of it is made.
 pub struct Known {
     pub view: View,
     pub labels: LinkedList<(u32, u64)>,
@@ -17,8 +17,8 @@ pub struct Known {
     pub seeds: LinkedList<Seed>,
 }
 
-/// The graph, the seeds that a run begins with, and the labels that it goes on from, which are seeds too. The words
-/// learn them once. One of the two lists is empty. For the contracts alone: it takes no room.
+/// The graph, the seeds that a run begins with, and the labels that it goes on from; one of the two lists is empty. For
+/// the contracts alone: it takes no room.
 pub(crate) type Key = (Snapshot<Csr>, Snapshot<Vec<Seed>>, Snapshot<Vec<u64>>);
 
 pub(crate) struct WordsRule;

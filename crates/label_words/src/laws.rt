@@ -1,5 +1,4 @@
-//! The words are a lawful core, and each call on them is the event of its name. These functions do
-//! nothing: each contract is a law over words that hold a state of the core, and over what seats know.
+//! The laws of the words: they are a lawful core, and each call is the event of its name.
 
 ghost use Rattle.label_words.specs.Laws.{TakeIsItsEvent, ReadIsItsEvent, RelaxIsItsEvent};
 ghost use Rattle.label_words.specs.Laws.{RaiseIsItsEvent, RaiseByIsItsEvent, SetMarkIsItsEvent};
@@ -8,12 +7,12 @@ ghost use Rattle.label_words.specs.Laws.{SeeIsItsEvent, SplitIsItsEvent, JoinIsI
 ghost use Rattle.label_words.specs.Laws.{LawfulWordsHoldACore, UnmarkedPauseIsLeast};
 ghost use Rattle.label_words.specs.Laws.{ResumedRunsEndAlike, PausesAreLeastUpTo};
 
-/// States that the rule of the words keeps a lawful core between any two steps.
+/// States that words hold a lawful core between any two steps.
 pub fn lawful_words_hold_a_core()
     ensures { LawfulWordsHoldACore }
 {}
 
-/// Each call of one seat does to its word and to its seat what its event does to the core.
+/// Each call does to its word and its seat what its event does to the core.
 pub fn calls_are_events()
     ensures take { TakeIsItsEvent }
     ensures read { ReadIsItsEvent }
@@ -27,8 +26,7 @@ pub fn calls_are_events()
     ensures see { SeeIsItsEvent }
 {}
 
-/// A split and a join do to the seats what their events do to the views of the core, and to no word
-/// anything.
+/// A split and a join do to seats what their events do to views, and change no word.
 pub fn splits_and_joins_are_events()
     ensures split { SplitIsItsEvent }
     ensures join { JoinIsItsEvent }
@@ -39,14 +37,13 @@ pub fn unmarked_pauses_are_least()
     ensures { UnmarkedPauseIsLeast }
 {}
 
-/// A run that goes on from the labels of a pause ends with the least labels of the pause's own seeds, or with a pause
-/// of them. No label rises.
+/// A run that goes on from a pause ends with the least labels of the pause's seeds, or with a pause of them. No label
+/// rises.
 pub fn resumed_runs_end_alike()
     ensures { ResumedRunsEndAlike }
 {}
 
-/// A pause in which each marked vertex has a label of at least a limit has labels that are least up to the
-/// limit. So a run may stop before it is done if labels above a limit aren't wanted.
+/// A pause whose marked vertices have labels of at least a limit has least labels up to it. So a run may stop early.
 pub fn pauses_are_least_up_to()
     ensures { PausesAreLeastUpTo }
 {}

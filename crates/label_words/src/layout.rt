@@ -1,8 +1,7 @@
 //! The places of the words of a run.
 //!
-//! Word 0 is the pending total, which every worker steps on; its line of the cache has no other word in
-//! use. From word 8 on, 64 bytes later, each vertex has two words: its label and then its mark. They begin at a
-//! multiple of 16 bytes from there and so lie in one line. Nothing outside this file reckons with that.
+//! Word 0 is the pending total, alone in its line of the cache. From word 8 on each vertex has two words in one line,
+//! its label and its mark. Nothing outside this file relies on that.
 
 ghost use Rattle.std.specs.Prelude.{◌≡◌, ◌≤◌, [], replicate, IfOk};
 ghost use Rattle.route_walks.specs.declared.graph.TheConstants.{MAX_VERTICES};
@@ -13,34 +12,29 @@ ghost use Rattle.label_words.specs.Sown.{IsSown};
 use route_walks::{INF, Memory};
 use std::alloc::Global;
 
-/// The word of the pending total.
 pub(crate) const TOTAL: usize = 0;
 
-/// The number of words before those of the first vertex.
+/// The words before the first vertex.
 const FIRST: usize = 8;
 
-/// The word of the label of `v`.
 pub(crate) const fn label_word(v: u32) -> usize
     ensures { result ≡ label_at v }
 {
     2 * v as usize + FIRST
 }
 
-/// The word of the mark of `v`.
 pub(crate) const fn mark_word(v: u32) -> usize
     ensures { result ≡ mark_at v }
 {
     2 * v as usize + FIRST + 1
 }
 
-/// The number of words for `n` vertices.
 pub(crate) const fn word_count(n: u32) -> usize
     ensures { result ≡ count n }
 {
     2 * n as usize + FIRST
 }
 
-/// The number of vertices of so many words.
 pub(crate) const fn vertex_count(words: usize) -> usize
     requires { 8 ≤ words }
     ensures { result ≡ vertices_of words }
@@ -48,7 +42,7 @@ pub(crate) const fn vertex_count(words: usize) -> usize
     (words - FIRST) / 2
 }
 
-/// The words of `n` vertices without a seed: the label `INF` and no mark, and a total of 0.
+/// The words of `n` vertices without a seed: labels `INF`, no mark, total 0.
 pub(crate) fn cleared(alloc: Global, n: u32) -> Result<Vec<u64>, Memory>
     requires { n ≤ MAX_VERTICES }
     ensures { IfOk result (λ words. IsSown n [] words.items) }
@@ -59,7 +53,6 @@ pub(crate) fn cleared(alloc: Global, n: u32) -> Result<Vec<u64>, Memory>
     Ok(words)
 }
 
-/// Puts after the first words those of `n` vertices without a seed.
 fn put_cleared(words: &mut Vec<u64>, n: u32)
     requires vertices { n ≤ MAX_VERTICES }
     requires first { words.old.items ≡ replicate 8 0 }

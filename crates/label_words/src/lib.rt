@@ -1,16 +1,12 @@
 //! The words of a run, which many seats share, one atomic step at a time.
 //!
-//! The words of a run are the pending total, a label and a mark for each vertex. They lie in one table
-//! of `atomic_table`. A worker steps with its `WorkSeat`, and seats are split and joined. Each of these calls
-//! is one atomic step on one word, but for `relax` at a row's end, which takes none. The hints (`marked_label`,
-//! `label_hint`, `prefetch_label`, `prefetch_labels`) are plain loads and no steps. None of them takes a lock or
-//! memory, and none waits.
+//! The words are the pending total, and a label and a mark for each vertex. A call of a `WorkSeat` is one atomic step
+//! on one word, takes no lock and no memory, and never waits. Hints are plain loads.
 //!
-//! Between any two steps the words and what all seats hold are a lawful core. Labels are sound, every arc is relaxed
-//! or its tail marked or some seat holds it, and the total is the account of marks and credits. So a seat that saw the
-//! total at 0 closes the words to least labels.
+//! Between any two steps the words and the seats are a lawful core of `relax_core`. So a seat that saw the total at 0
+//! closes the words to least labels.
 //!
-//! A worker's turn at vertex `u`, with a seat of its own:
+//! A worker's turn at vertex `u`:
 //!
 //! ```text
 //! if words.take(&mut seat, u) {
@@ -31,13 +27,9 @@
 //! }
 //! ```
 //!
-//! A worker that finds nothing to take calls `see`, and is done if it returns true.
-//!
-//! The total is the one word that all workers would step on at each mark. A worker that keeps its credits
-//! hardly steps on it. It raises many at once by `raise_by`, ends its row by `keep`, and has the next marks paid by
-//! what it kept. No seat sees 0 as long as one keeps credits, so a worker calls `give_back` before it calls `see`.
-//!
-//! Stands on `relax_core` for the law of each event, on `csr_graph` for the rows and on `atomic_table`.
+//! A worker without a vertex calls `see`, and is done if it returns true. Credits that a worker keeps (`raise_by`,
+//! `keep`) pay for later marks without a step on the total. No seat sees 0 while one keeps credits, so it calls
+//! `give_back` before `see`.
 #![tactic(auto)]
 
 mod closed;

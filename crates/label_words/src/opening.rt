@@ -1,5 +1,4 @@
-//! The words that a run begins with, laid straight from the seeds, and those that a paused run goes on
-//! with.
+//! The words that a run begins with, from seeds or from a pause.
 
 ghost use Rattle.std.specs.Prelude.{◌≡◌, ℕ, ◌<◌, ◌≤◌, ◌++◌, ◌∷◌, [], List, length, IfOk};
 ghost use Rattle.route_walks.specs.declared.graph.TheConstants.{MAX_VERTICES};
@@ -13,8 +12,7 @@ use crate::layout::{TOTAL, cleared, label_word, mark_word, word_count};
 use route_walks::{Memory, Seed};
 use std::alloc::Global;
 
-/// The words of `n` vertices. Seeded ones have their least start as label and are marked. The others have `INF` and no
-/// mark, and the total is the number of marks.
+/// The words of `n` vertices with these seeds.
 pub(crate) fn lay(alloc: Global, n: u32, seeds: &[Seed]) -> Result<Vec<u64>, Memory>
     requires vertices { n ≤ MAX_VERTICES }
     requires seeds { AreSeeds n seeds.now }
@@ -25,7 +23,6 @@ pub(crate) fn lay(alloc: Global, n: u32, seeds: &[Seed]) -> Result<Vec<u64>, Mem
     Ok(words)
 }
 
-/// Sows the seeds into words without any.
 fn sow_all(words: &mut [u64], n: u32, seeds: &[Seed])
     requires seeds { AreSeeds n seeds.now }
     requires none { IsSown n [] words.old }
@@ -36,7 +33,7 @@ fn sow_all(words: &mut [u64], n: u32, seeds: &[Seed])
     }
 }
 
-/// Gives the seed's vertex the lesser of its label and the seed's start, and a mark.
+/// Gives the seed's vertex a mark, and its start if that is less than its label.
 fn sow(words: &mut [u64], seed: &Seed)
     requires { (n : ℕ) × (seeds : List Seed) × (seed.now.vertex < n) × IsSown n seeds words.old }
     ensures { (n : ℕ) (seeds : List Seed)
@@ -51,7 +48,7 @@ fn sow(words: &mut [u64], seed: &Seed)
     words[mark] = 1;
 }
 
-/// The words of `n` vertices with these labels and marks; the total is the number of marks.
+/// The words of `n` vertices with these labels and marks.
 pub(crate) fn lay_rest(
     alloc: Global,
     n: u32,
@@ -69,7 +66,6 @@ pub(crate) fn lay_rest(
     Ok(words)
 }
 
-/// Gives each of `n` vertices its label and its mark, and counts the marks.
 fn put_rest(words: &mut [u64], n: u32, labels: &[u64], marks: &[bool])
     requires vertices { n ≤ MAX_VERTICES }
     requires count { length words.old ≡ count n }

@@ -12,8 +12,7 @@ use route_walks::Memory;
 use std::alloc::Global;
 use std::marker::Model;
 
-/// Labels and marks as a run left them, before it was done. They may also be settled labels, if a graph is to get more
-/// arcs and the run is to go on.
+/// Labels and marks as a run left them before it was done, or settled labels of a graph that is to get more arcs.
 #[derive(Debug, Drop)]
 pub struct Paused {
     pub(crate) labels: Vec<u64>,
@@ -29,9 +28,8 @@ impl Model for Paused {
 }
 
 impl Paused {
-    /// Makes a pause of these labels and no mark. If they are the least labels of a graph and seeds, that is a pause
-    /// of them in which nothing is left to do. A run that goes on from it visits no vertex, but for those that are
-    /// marked since. Takes a byte a vertex; at `Memory` the labels are gone.
+    /// Returns a pause of these labels and no mark, from which a run visits only vertices that are marked since. Takes
+    /// a byte a vertex; at `Memory` the labels are gone.
     pub fn settled(alloc: Global, labels: Vec<u64>) -> Result<Paused, Memory>
         ensures labels { IfOk result (λ rest. rest.labels ≡ labels.items) }
         ensures marks { IfOk result (λ rest. length rest.marks ≡ length labels.items) }
@@ -46,7 +44,7 @@ impl Paused {
         Ok(Paused { labels, marks })
     }
 
-    /// The label of each vertex: a cost, or `INF` if no walk was found yet.
+    /// The label of each vertex, `INF` if no walk was found yet.
     pub fn labels(&self) -> &[u64]
         ensures { result.now ≡ self.now.labels }
     {
@@ -60,8 +58,8 @@ impl Paused {
         self.labels
     }
 
-    /// Tells if no vertex with a label below the limit is marked. Labels are least up to the limit then, if this is a
-    /// pause. Looks at every mark.
+    /// Tells if no vertex with a label below the limit is marked. Labels of a pause are then least up to the limit.
+    /// Looks at every mark.
     pub fn is_unmarked_below(&self, limit: u64) -> bool
         requires { length self.now.labels ≡ length self.now.marks }
         ensures unmarked { result ≡ true → AreUnmarkedBelow limit self.now }
@@ -75,7 +73,7 @@ impl Paused {
         true
     }
 
-    /// Tells if a vertex is marked: its arcs are to be relaxed again.
+    /// Tells if the arcs of a vertex are to be relaxed again.
     pub fn marked(&self, v: u32) -> bool
         requires { v < length self.now.marks }
         ensures { result ≡ mark_of self.now.marks v }
@@ -83,8 +81,7 @@ impl Paused {
         self.marks[v as usize]
     }
 
-    /// Marks a vertex: its arcs are to be relaxed again. One that is marked stays so. A pause stays one,
-    /// since a mark too many costs a visit and nothing else.
+    /// Marks a vertex. A pause stays one: a mark too many costs a visit.
     pub fn mark(&mut self, v: u32)
         requires { v < length self.old.marks }
         ensures { self.new ≡ record self.old { marks = slice_set self.old.marks v true } }

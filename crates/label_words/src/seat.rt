@@ -9,10 +9,8 @@ use relax_core::{Hand, View};
 use std::fmt;
 use std::marker::Model;
 
-/// A worker's place at the words: what it holds, its credits, whether it saw the total at 0, and its
-/// share. Contracts also see the least label that it knows of each vertex that it read or lowered, and
-/// the graph and the seeds of its words; these take no room. A seat that is dropped while it holds
-/// something, or credits alone, takes its credits along, so no seat sees 0 from then on.
+/// A worker's place at the words. A seat that is dropped while it holds something takes its credits along, so no seat
+/// sees 0 from then on.
 #[derive(Drop)]
 pub struct WorkSeat {
     pub(crate) table_seat: TableSeat,
@@ -38,14 +36,14 @@ impl fmt::Debug for WorkSeat {
 }
 
 impl WorkSeat {
-    /// The hand of the seat: what it holds.
+    /// The vertex, label and mark that it holds.
     pub fn hand(&self) -> Hand
         ensures { result ≡ hand_of self.now }
     {
         self.view.hand
     }
 
-    /// The part of the pending total that stands for what the seat holds and for marks to come: 0 to 255.
+    /// Its part of the pending total, 0 to 255.
     pub fn credits(&self) -> u8
         ensures { result ≡ self.now.known.view.credits }
     {
@@ -59,7 +57,7 @@ impl WorkSeat {
         self.view.saw
     }
 
-    /// The part of the 65536 shares that all seats have together.
+    /// Its part of the shares of all seats.
     pub fn share(&self) -> u32
         ensures share { result ≡ self.now.known.view.share }
         ensures most { result ≤ SHARES }

@@ -33,7 +33,7 @@ use std::fmt;
 use std::marker::Model;
 use std::snapshot::Snapshot;
 
-/// The most heads of a row whose labels `prefetch_labels` asks for.
+/// The most labels of a row that `prefetch_labels` loads.
 const PREFETCHED_HEADS: usize = 16;
 
 /// The outcome of `relax`.
@@ -47,8 +47,7 @@ pub enum Step {
     RowEnd,
 }
 
-/// The words of a run: the pending total, and a label and a mark for each vertex. Any number of threads
-/// step on them through a `&`, each with its own seat.
+/// The words of a run. Threads step on them through a `&`, each with its own seat.
 #[derive(Drop)]
 pub struct Words {
     pub(crate) table: WordTable,
@@ -69,9 +68,8 @@ impl fmt::Debug for Words {
 }
 
 impl Words {
-    /// The words that a run over this graph begins with. Each seeded vertex has its least start as label and is
-    /// marked, the others have `INF` and no mark, and the total is the number of marks. The one seat is idle, has all
-    /// shares, and knows no label. Takes 32 bytes a vertex while it works, and leaves 16.
+    /// Opens the words of a run from seeds, and their one seat, which is idle and has all shares. Takes 32 bytes a
+    /// vertex while it works, and leaves 16.
     pub fn open(alloc: Global, csr: &Csr, seeds: &[Seed]) -> Result<(Words, WorkSeat), Memory>
         requires { AreSeeds csr.now.n seeds.now }
         ensures seat { IfOk result
@@ -87,10 +85,8 @@ impl Words {
         Words::begin(alloc, words, key)
     }
 
-    /// The words that a run goes on with from where it was paused: the labels and marks of the pause, and
-    /// as total the number of marks. The one seat is idle, has all shares, and knows no label; its seeds
-    /// are the vertices with labels below `INF`, each starting at its label. Takes 32 bytes a vertex
-    /// while it works, and leaves 16.
+    /// Opens the words of a paused run, and their one seat, which is idle and has all shares. Its seeds are the
+    /// vertices with labels below `INF`. Takes memory as `open`.
     pub fn reopen(alloc: Global, csr: &Csr, rest: &Paused) -> Result<(Words, WorkSeat), Memory>
         requires { CanGoOn csr.now rest.now }
         ensures seat { IfOk result (λ opened. opened.1
@@ -106,7 +102,6 @@ impl Words {
         Words::begin(alloc, words, key)
     }
 
-    /// The words that were laid, and their first seat.
     fn begin(alloc: Global, words: Vec<u64>, key: Key) -> Result<(Words, WorkSeat), Memory>
         requires { AreLawful key.0.value (seeds_told key.1.value.items key.2.value.items) words.items
             (first_known key.0.value (seeds_told key.1.value.items key.2.value.items) ∷ []) }
@@ -121,9 +116,7 @@ impl Words {
         Ok((Words { table }, WorkSeat { table_seat, view }))
     }
 
-    /// The label at which `v` is marked, or `None` if it isn't marked. It is a look that takes no step
-    /// and promises nothing, by a load of each word, between which others may step. It is a hint, for the first
-    /// vertices that are handed to a worklist.
+    /// The label at which `v` is marked, or `None`. A hint, by a load of each word: others may step between them.
     pub fn marked_label(&self, seat: &WorkSeat, v: u32) -> Option<u64>
         requires words { seat.now.words ≡ self.now }
         requires vertex { v < seat.now.known.graph.n }
@@ -136,8 +129,7 @@ impl Words {
         Some(self.table.shared.peek(label_word(v)))
     }
 
-    /// The label of `v`, by a load. It is a look that takes no step and promises nothing, as `marked_label`: a
-    /// hint, for when a worker may leave.
+    /// The label of `v`, by a load: a hint.
     #[inline(always)]
     pub fn label_hint(&self, seat: &WorkSeat, v: u32) -> u64
         requires words { seat.now.words ≡ self.now }
@@ -148,8 +140,7 @@ impl Words {
         self.table.shared.peek(label_word(v))
     }
 
-    /// Takes the mark of `u` away by one swap. If it was set, the seat holds `u`, has the mark's credit
-    /// in addition to those that it kept, and this returns true.
+    /// Takes the mark of `u` by one swap. If it was set, the seat holds `u` and its credit, and this returns true.
     pub fn take(&self, seat: &mut WorkSeat, u: u32) -> bool
         requires words { seat.old.words ≡ self.now }
         requires no_vertex { HasNoVertex seat.old }
@@ -164,7 +155,7 @@ impl Words {
         was_marked
     }
 
-    /// Reads the label of the vertex that the seat holds, by one load, and opens its row.
+    /// Reads the label of the held vertex by one load, and opens its row.
     pub fn read(&self, seat: &mut WorkSeat, csr: &Csr) -> u64
         requires words { seat.old.words ≡ self.now }
         requires graph { csr.now ≡ seat.old.known.graph }
@@ -181,9 +172,7 @@ impl Words {
         d
     }
 
-    /// Prefetches the labels of the first heads of a row, up to 16. It takes no step and promises nothing. They come
-    /// from memory side by side here, and one after the other if each is first asked for as its arc is relaxed. Plain
-    /// loads do this, since the language has no other.
+    /// Loads the labels of the first heads of a row, up to 16, so that they come from memory side by side. A hint.
     #[inline(always)]
     pub fn prefetch_labels(&self, seat: &WorkSeat, csr: &Csr, u: u32)
         requires words { seat.now.words ≡ self.now }
@@ -196,8 +185,7 @@ impl Words {
         }
     }
 
-    /// Prefetches the label of a vertex, and its mark, which stands beside it. It takes no step and promises
-    /// nothing.
+    /// Loads the label of a vertex, in whose line its mark is. A hint.
     #[inline(always)]
     pub fn prefetch_label(&self, seat: &WorkSeat, v: u32)
         requires words { seat.now.words ≡ self.now }
@@ -208,8 +196,7 @@ impl Words {
         let _label = self.table.shared.peek(label_word(v));
     }
 
-    /// Relaxes the next arc of the seat's row by one `fetch_min` of its head's label; at the row's end
-    /// there is no step. What the arc offers is the sum of label and weight, at most `INF`.
+    /// Relaxes the next arc of the row by one `fetch_min` of its head's label. At the row's end there is no step.
     pub fn relax(&self, seat: &mut WorkSeat, csr: &Csr) -> Step
         requires words { seat.old.words ≡ self.now }
         requires graph { csr.now ≡ seat.old.known.graph }
@@ -224,7 +211,7 @@ impl Words {
         self.relax_before(seat, csr, csr.end(u))
     }
 
-    /// Does as `relax` with the row's end known, which spares a look at it for each arc.
+    /// Does as `relax` with the row's end known, which saves a look for each arc.
     #[inline(always)]
     pub fn relax_before(&self, seat: &mut WorkSeat, csr: &Csr, end: usize) -> Step
         requires words { seat.old.words ≡ self.now }
@@ -253,7 +240,7 @@ impl Words {
         }
     }
 
-    /// Adds one to the total, for the mark that the seat owes.
+    /// Adds one to the total for the mark that the seat owes.
     pub fn raise(&self, seat: &mut WorkSeat)
         requires words { seat.old.words ≡ self.now }
         requires owes { Owes (hand_of seat.old) }
@@ -265,8 +252,8 @@ impl Words {
         seat.view.raise();
     }
 
-    /// Adds this many to the total, by one `fetch_add`, for the mark that the seat owes and for marks to come.
-    /// A seat has 255 credits at most.
+    /// Adds this many to the total by one `fetch_add`, for the owed mark and others to come. A seat has at most 255
+    /// credits.
     pub fn raise_by(&self, seat: &mut WorkSeat, count: u8)
         requires words { seat.old.words ≡ self.now }
         requires owes { Owes (hand_of seat.old) }
@@ -279,8 +266,8 @@ impl Words {
         seat.view.raise_by(count);
     }
 
-    /// Sets the mark that the seat owes, by one swap. If it was not set before, one credit goes to it
-    /// and this returns true; otherwise the seat keeps all.
+    /// Sets the mark that the seat owes by one swap. Returns true if it wasn't set before; otherwise the seat keeps the
+    /// credit.
     pub fn set_mark(&self, seat: &mut WorkSeat) -> bool
         requires words { seat.old.words ≡ self.now }
         requires owes { Owes (hand_of seat.old) }
@@ -296,8 +283,7 @@ impl Words {
         !was_marked
     }
 
-    /// Takes the seat's credits from the total, by one `fetch_sub`, at the end of its row. The seat is
-    /// idle then. The graph says where the row ends.
+    /// Takes the seat's credits from the total by one `fetch_sub`, at the end of its row. The seat is then idle.
     pub fn finish(&self, seat: &mut WorkSeat, csr: &Csr)
         requires words { seat.old.words ≡ self.now }
         requires graph { csr.now ≡ seat.old.known.graph }
@@ -313,9 +299,7 @@ impl Words {
         seat.view.finish();
     }
 
-    /// Lets go of the row at its end and keeps the seat's credits, by one load of the total, which
-    /// stays as it is. The seat has room for one more then, that of the next vertex that it takes. The graph says
-    /// where the row ends.
+    /// Leaves the row at its end and keeps the credits, by one load of the total. The seat then has room for one more.
     pub fn keep(&self, seat: &mut WorkSeat, csr: &Csr)
         requires words { seat.old.words ≡ self.now }
         requires graph { csr.now ≡ seat.old.known.graph }
@@ -331,8 +315,7 @@ impl Words {
         seat.view.keep();
     }
 
-    /// Takes this many of the credits that the seat kept from the total, by one `fetch_sub`. If none is left
-    /// the seat is idle. No seat sees the total at 0 while one keeps credits.
+    /// Takes this many kept credits from the total by one `fetch_sub`. If none is left, the seat is idle.
     pub fn give_back(&self, seat: &mut WorkSeat, count: u8)
         requires words { seat.old.words ≡ self.now }
         requires kept { IsKept seat.old }
@@ -345,7 +328,7 @@ impl Words {
         seat.view.give_back(count);
     }
 
-    /// Looks at the total, by one load. True, and the seat saw, if it was 0.
+    /// Looks at the total by one load. Returns true if it was 0, and then the seat saw.
     pub fn see(&self, seat: &mut WorkSeat) -> bool
         requires words { seat.old.words ≡ self.now }
         requires idle { IsIdle seat.old }
@@ -358,7 +341,7 @@ impl Words {
         zero
     }
 
-    /// A new idle seat with half the share, rounded down, which knows what this one knows.
+    /// Returns an idle seat with half the share, rounded down, that knows what this one knows.
     pub fn split(&self, seat: &mut WorkSeat) -> WorkSeat
         requires words { seat.old.words ≡ self.now }
         requires idle { IsIdle seat.old }
@@ -374,7 +357,7 @@ impl Words {
         WorkSeat { table_seat, view }
     }
 
-    /// Takes in another seat of these words: its share, what it knows, and that it saw.
+    /// Takes in another seat's share, knowledge and whether it saw.
     pub fn join(&self, seat: &mut WorkSeat, other: WorkSeat)
         requires words { (seat.old.words ≡ self.now) × (other.words ≡ self.now) }
         requires idle { IsIdle seat.old }
@@ -388,8 +371,8 @@ impl Words {
         seat.view.join(view);
     }
 
-    /// Ends the run. The seat saw the total at 0, or it has all shares. After `Memory` the run is lost.
-    /// Labels take eight bytes a vertex; if the seat didn't see 0, the marks take one more.
+    /// Ends the run. The seat saw the total at 0, or has all shares. Takes eight bytes a vertex, and nine if the seat
+    /// didn't see 0. After `Memory` the run is lost.
     pub fn close(self, alloc: Global, seat: WorkSeat) -> Result<Closed, Memory>
         requires words { seat.words ≡ self }
         requires idle { IsIdle seat }
