@@ -1,21 +1,19 @@
-//! The labels that a search is asked for, and the limit up to which labels must be least to have them.
+//! The labels that a search is asked for.
 
 ghost use Rattle.std.specs.Prelude.{◌≡◌, ◌<◌, ◌≤◌, All, length, slice_index};
 ghost use Rattle.near_labels.specs.Aim.{IsServedBy, targets_of};
 
-/// The labels that a search is asked for.
 #[derive(Clone, Copy, Debug)]
 pub(crate) enum Aim<'a> {
     /// Those of these vertices.
     Costs(&'a [u32]),
-    /// Those of these vertices, and of each vertex on a walk of least cost to one of them.
+    /// Those of these vertices and of all on a least walk to one of them.
     Walks(&'a [u32]),
     /// All that are at most this bound.
     Within(u64),
 }
 
 impl<'a> Aim<'a> {
-    /// The vertices that are named.
     pub(crate) fn targets(&self) -> &'a [u32]
         ensures { result.now ≡ targets_of self.now }
     {
@@ -26,7 +24,7 @@ impl<'a> Aim<'a> {
         }
     }
 
-    /// The least limit that serves these labels.
+    /// The least limit up to which labels must be least to serve.
     pub(crate) fn limit_of(&self, labels: &[u64]) -> u64
         requires { All (λ t. t < length labels.now) (targets_of self.now) }
         ensures { IsServedBy self.now labels.now result }
@@ -38,8 +36,8 @@ impl<'a> Aim<'a> {
         }
     }
 
-    /// Tells if what is asked for is known, given that no label below `next` waits. The targets before the place
-    /// `seen` are known already. A hint.
+    /// Tells if what is asked for is known, if no label below `next` waits. The targets before the place `seen` are
+    /// known. A hint.
     pub(crate) fn is_reached(&self, labels: &[u64], seen: &mut usize, next: u64) -> bool
         requires { All (λ t. t < length labels.now) (targets_of self.now) }
     {
@@ -55,7 +53,7 @@ impl<'a> Aim<'a> {
     }
 }
 
-/// The first place from `from` on of a target whose label is above this one.
+/// The first target from place `from` on whose label is above this one.
 fn first_above(labels: &[u64], targets: &[u32], from: usize, label: u64) -> usize
     requires { All (λ t. t < length labels.now) targets.now }
 {
@@ -69,7 +67,6 @@ fn first_above(labels: &[u64], targets: &[u32], from: usize, label: u64) -> usiz
     place
 }
 
-/// The greatest label of the targets; 0 if there are none.
 fn farthest(labels: &[u64], targets: &[u32]) -> u64
     requires { All (λ t. t < length labels.now) targets.now }
     ensures { All (λ t. slice_index labels.now t ≤ result) targets.now }

@@ -1,5 +1,4 @@
-//! A search from both ends. It goes by turns, the lowest label first, until what waits on both sides has no lower sum
-//! than the labels of a vertex where the two have met.
+//! A search from both ends, until what waits on both sides has no lower sum than the labels of a vertex where they met.
 
 ghost use Rattle.std.specs.Prelude.{◌≡◌, ◌<◌, true, [], length, IfSome, slice_index};
 ghost use Rattle.route_walks.specs.Label.{IsLeast};
@@ -13,8 +12,8 @@ use crate::search::begin;
 use crate::state::State;
 use csr_graph::Csr;
 
-/// Returns the least cost from the source to the target, by two blank states: one over the graph, one over the reversed
-/// graph. `None` if the visits that are allowed don't do, or memory is refused.
+/// Returns the least cost from the source to the target, by blank states over the graph and over the reversed graph.
+/// `None` if the allowed visits don't do, or memory is refused.
 pub(crate) fn cost_from_both(
     forward: &mut State,
     backward: &mut State,
@@ -50,8 +49,7 @@ pub(crate) fn cost_from_both(
     cost_seen(forward, backward, csr, reversed, source, target)
 }
 
-/// Visits vertices on both sides, each time on the side where fewer wait, until what waits has no lower sum than the
-/// labels where the two have met. Returns false if memory is refused.
+/// Visits vertices on the side where fewer wait, until the search is over. Returns false if memory is refused.
 fn come_near(
     forward: &mut State,
     backward: &mut State,
@@ -89,15 +87,14 @@ fn come_near(
     true
 }
 
-/// Tells if what waits has no lower sum than the labels where the two sides have met, or too many arcs were relaxed. A
-/// hint.
+/// Tells if no lower sum waits, or too many arcs were relaxed. A hint.
 fn is_over(forward: &State, backward: &State) -> bool {
     let waits = forward.next_label().saturating_add(backward.next_label());
     let relaxed = forward.relaxed.saturating_add(backward.relaxed);
     waits >= forward.met.min(backward.met) || relaxed > forward.arcs
 }
 
-/// The least sum where the two sides meet, if it is the least cost: what is marked has no lower sum.
+/// The least sum where the sides meet, if what is marked has no lower one.
 fn cost_seen(
     forward: &State,
     backward: &State,

@@ -1,12 +1,11 @@
-//! The law of a search from the source and one towards the target that meet. It is the contract of a function that does
-//! nothing.
+//! The law of two searches that meet.
 
 ghost use Rattle.near_labels.specs.Meeting.{MeetingIsLeast};
 
 use label_words::laws::pauses_are_least_up_to;
 
-/// States that the least sum of the two labels of a vertex is the least cost from the source to the target. That is so
-/// if the lowest marked label on one side and the lowest on the other have no lower sum.
+/// States that the least sum of a vertex's two labels is the least cost from the source to the target. The lowest
+/// marked labels of the two sides must have no lower sum.
 pub fn meeting_is_least()
     ensures { MeetingIsLeast }
 {

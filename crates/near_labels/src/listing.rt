@@ -6,7 +6,7 @@ ghost use Rattle.near_labels.specs.Noted.{AreListed};
 
 use std::alloc::Global;
 
-/// The vertices that are noted whose labels are at most the bound, each once, with its label.
+/// The noted vertices whose labels are at most the bound, each with its label.
 pub(crate) fn listed(
     alloc: Global,
     labels: &[u64],
@@ -32,7 +32,6 @@ pub(crate) fn listed(
     Some(found)
 }
 
-/// The labels of these vertices.
 pub(crate) fn labels_of(alloc: Global, labels: &[u64], vertices: &[u32]) -> Option<Vec<u64>>
     requires { All (λ v. v < length labels.now) vertices.now }
     ensures { IfSome result (λ found. found.items ≡ map (slice_index labels.now) vertices.now) }

@@ -1,4 +1,4 @@
-//! A search from one end: the lowest label first, as far as the aim.
+//! A search from one end, the lowest label first.
 
 ghost use Rattle.std.specs.Prelude.{◌≡◌, ◌<◌, true, [], All, IfSome, length};
 ghost use Rattle.route_walks.specs.Limit.{AreLeastLabelsUpTo};
@@ -14,7 +14,7 @@ use label_words::laws::pauses_are_least_up_to;
 use std::cmp::Reverse;
 
 /// Searches from the source of a blank state until labels serve the aim. Returns the limit up to which they are least;
-/// `None` if the visits that are allowed don't do, or memory is refused.
+/// `None` if the allowed visits don't do, or memory is refused.
 pub(crate) fn search(state: &mut State, csr: &Csr, source: u32, aim: Aim<'_>) -> Option<u64>
     requires count { length state.old.labels.items ≡ csr.now.n }
     requires blank { IsBlank state.old.labels.items state.old.marks.items }
@@ -33,8 +33,7 @@ pub(crate) fn search(state: &mut State, csr: &Csr, source: u32, aim: Aim<'_>) ->
     limit_reached(state, csr, source, &aim)
 }
 
-/// Gives the source the label 0, and lets it wait. `other` are the labels of a search from the other end, if there is
-/// one.
+/// Lets the source wait at label 0. `other`: the labels of a search from the other end, if there is one.
 pub(crate) fn begin(state: &mut State, csr: &Csr, source: u32, other: &[u64]) -> bool
     requires count { length state.old.labels.items ≡ csr.now.n }
     requires blank { IsBlank state.old.labels.items state.old.marks.items }
@@ -50,7 +49,7 @@ pub(crate) fn begin(state: &mut State, csr: &Csr, source: u32, other: &[u64]) ->
     state.lower(source, 0, other)
 }
 
-/// Visits the vertices that wait, the lowest label first, until no lower label than the next one is asked for.
+/// Visits vertices until no lower label than the next one is asked for.
 fn go_on(state: &mut State, csr: &Csr, source: u32, aim: &Aim<'_>) -> bool
     requires noted { AreNoted state.old.labels.items state.old.marks.items state.old.noted.items }
     requires pause { IsPause csr.now (seeds_from source) (rest_of state.old.labels.items state.old.marks.items) }
@@ -79,7 +78,7 @@ fn go_on(state: &mut State, csr: &Csr, source: u32, aim: &Aim<'_>) -> bool
     true
 }
 
-/// The limit up to which labels are least, if it serves the aim: no vertex waits whose label is below it.
+/// The limit up to which labels are least, if it serves the aim.
 fn limit_reached(state: &State, csr: &Csr, source: u32, aim: &Aim<'_>) -> Option<u64>
     requires noted { AreNoted state.now.labels.items state.now.marks.items state.now.noted.items }
     requires pause { IsPause csr.now (seeds_from source) (rest_of state.now.labels.items state.now.marks.items) }

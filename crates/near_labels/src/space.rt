@@ -22,8 +22,8 @@ use std::alloc::Global;
 use std::marker::Model;
 use walk_report::WalkSpace;
 
-/// Room for searches in graphs of so many vertices, one after another. It takes 9 bytes a vertex, and about 30 for each
-/// vertex that a search reaches. Contracts see the number of vertices.
+/// Room for searches in graphs of this many vertices, one after another. Takes 9 bytes a vertex, and about 30 for each
+/// vertex that a search reaches.
 #[derive(Drop)]
 pub struct SearchSpace {
     state: State,
@@ -41,7 +41,7 @@ impl Model for SearchSpace {
 }
 
 impl SearchSpace {
-    /// Makes room for searches in graphs of `n` vertices. Takes time in proportion to them.
+    /// Makes room for searches in graphs of `n` vertices, in time proportional to `n`.
     pub fn new(alloc: Global, n: u32) -> Result<SearchSpace, Memory>
         ensures { IfOk result (λ space. space ≡ n) }
     {
@@ -49,15 +49,15 @@ impl SearchSpace {
         Ok(SearchSpace { state })
     }
 
-    /// The number of vertices.
+    /// The number of vertices of its graphs.
     pub fn vertices(&self) -> usize
         ensures { result ≡ self.now }
     {
         self.state.labels.len()
     }
 
-    /// Sets how many vertices the next search visits, and how many arcs it relaxes, before it gives up; none at first.
-    /// Which searches give up is in no contract.
+    /// Sets how many vertices the next search visits, and how many arcs it relaxes, before it gives up; 0 at first. No
+    /// contract says which searches give up.
     pub fn allow(&mut self, visits: u32, arcs: usize)
         ensures { self.new ≡ self.old }
     {
@@ -71,13 +71,13 @@ impl SearchSpace {
         self.state.made
     }
 
-    /// The number of vertices that the last search from its source reached, visited or not.
+    /// The number of vertices that the last search from its source reached.
     pub fn reached(&self) -> usize {
         self.state.reached
     }
 
-    /// Returns the least labels of these targets from the source, in their order; `None` if the visits that are
-    /// allowed don't do, or memory is refused. Takes the time of the vertices that are nearer than the farthest target.
+    /// Returns the least labels of these targets, in their order; `None` if the allowed visits don't do, or memory is
+    /// refused. Takes the time of the vertices that are nearer than the farthest target.
     pub fn labels_to(
         &mut self,
         alloc: Global,
@@ -101,8 +101,8 @@ impl SearchSpace {
         labels
     }
 
-    /// Returns the least labels of these targets and the walks to them, those that `walk_report` prints; `None` if the
-    /// visits that are allowed don't do, or memory is refused. Takes some three times as long as `labels_to`.
+    /// Returns the least labels of these targets and the walks that `walk_report` prints; `None` as for `labels_to`.
+    /// Takes some three times as long.
     pub fn walks_to(
         &mut self,
         walks: &mut WalkSpace,
@@ -131,9 +131,8 @@ impl SearchSpace {
         found
     }
 
-    /// Returns the vertices whose least label from the source is at most the bound, in rising order, each with its
-    /// label. Returns `None` if the visits that are allowed don't do, or memory is refused. Takes the time of the
-    /// vertices within the bound.
+    /// Returns the vertices within the bound, in rising order, each with its label; `None` as for `labels_to`. Takes
+    /// the time of these vertices.
     pub fn within(
         &mut self,
         alloc: Global,
@@ -157,9 +156,8 @@ impl SearchSpace {
         list
     }
 
-    /// Returns the least cost from the source to the target, `INF` if there is no walk; `None` if the visits that are
-    /// allowed don't do, or memory is refused. Searches from the source here, and from the target in the other space,
-    /// over the reversed graph.
+    /// Returns the least cost from the source to the target, `INF` if there is no walk; `None` as for `labels_to`. The
+    /// other space searches from the target, over the reversed graph.
     pub fn cost_between(
         &mut self,
         backward: &mut SearchSpace,
@@ -191,7 +189,7 @@ impl SearchSpace {
     }
 }
 
-/// The labels of these vertices, which are least: none is above the limit up to which all labels are.
+/// The labels of these vertices, which are below the limit up to which all are least.
 fn least_of(
     alloc: Global,
     csr: &Csr,
@@ -211,7 +209,7 @@ fn least_of(
     labels_of(alloc, labels, vertices)
 }
 
-/// The vertices within the bound, of those that a search has noted. Labels are least up to a limit past the bound.
+/// The noted vertices within the bound.
 fn list_within(
     state: &mut State,
     alloc: Global,

@@ -1,4 +1,4 @@
-//! Labels and marks of all vertices, and which of them a search has come to.
+//! Labels and marks, and the vertices that a search has reached.
 
 ghost use Rattle.std.specs.Prelude.{◌≡◌, ◌<◌, ◌≤◌, true, false, [], ◌∷◌, All, Contains, length, slice_index, slice_set, IfOk};
 ghost use Rattle.route_walks.specs.declared.graph.TheConstants.{INF};
@@ -14,28 +14,25 @@ use std::alloc::Global;
 use std::cmp::Reverse;
 use std::collections::BinaryHeap;
 
-/// Labels and marks, the vertices that aren't blank, and those that wait, the lowest label first. In what order they
-/// come is a hint.
+/// Labels and marks, the vertices that aren't blank, and those that wait. The order in which they come is a hint.
 #[derive(Drop)]
 pub(crate) struct State {
     pub labels: Vec<u64>,
     pub marks: Vec<bool>,
     pub noted: Vec<u32>,
     pub queue: BinaryHeap<Reverse<(u64, u32)>>,
-    /// The number of visits that a search makes before it gives up, and of arcs that it relaxes.
+    /// The visits, and arcs relaxed, before a search gives up.
     pub visits: u32,
     pub arcs: usize,
-    /// The number of visits that the last search made, and of arcs that it relaxed.
+    /// The visits, and arcs relaxed, of the last search.
     pub made: u32,
     pub relaxed: usize,
-    /// The number of vertices that the last search reached.
     pub reached: usize,
-    /// The least sum of a label that fell and of the other side's label of that vertex. A hint.
+    /// The least sum of a fallen label and the other side's label. A hint.
     pub met: u64,
 }
 
 impl State {
-    /// Makes a state in which no vertex of `n` has come up.
     pub(crate) fn new(alloc: Global, n: u32) -> Result<State, Memory>
         ensures count { IfOk result (λ state. length state.labels.items ≡ n) }
         ensures blank { IfOk result (λ state. IsBlank state.labels.items state.marks.items) }
@@ -77,7 +74,7 @@ impl State {
         }
     }
 
-    /// Sees what a label of `v` makes with the other side's label, if there is another side.
+    /// Notes the sum of a label of `v` and the other side's, if there is another side.
     #[inline(always)]
     fn meet(&mut self, v: u32, label: u64, other: &[u64])
         ensures labels { self.new.labels ≡ self.old.labels }
@@ -89,8 +86,7 @@ impl State {
         }
     }
 
-    /// Lowers the label of `v`, marks it, and lets it wait. False, and no label and no mark changes, if memory is
-    /// refused. Looks at the other side's labels, if there are any.
+    /// Lowers the label of `v`, marks it, and lets it wait. Returns false if memory is refused.
     #[inline(always)]
     pub(crate) fn lower(&mut self, v: u32, label: u64, other: &[u64]) -> bool
         requires noted { AreNoted self.old.labels.items self.old.marks.items self.old.noted.items }
@@ -115,8 +111,7 @@ impl State {
         true
     }
 
-    /// Relaxes the arcs that leave `u`, which isn't marked then. Returns false if memory is refused. Looks at the
-    /// other side's labels, if there are any.
+    /// Relaxes the arcs that leave `u`. Returns false if memory is refused.
     pub(crate) fn visit(&mut self, csr: &Csr, source: u32, u: u32, other: &[u64]) -> bool
         requires noted { AreNoted self.old.labels.items self.old.marks.items self.old.noted.items }
         requires pause { IsPause csr.now (seeds_from source) (rest_of self.old.labels.items self.old.marks.items) }
@@ -143,7 +138,7 @@ impl State {
         true
     }
 
-    /// Tells if no vertex with a label below the limit is marked. Looks at the noted vertices alone.
+    /// Tells if no vertex with a label below the limit is marked, by the noted vertices.
     pub(crate) fn is_unmarked_below(&self, limit: u64) -> bool
         requires { AreNoted self.now.labels.items self.now.marks.items self.now.noted.items }
         ensures { result ≡ true → AreUnmarkedBelow limit (rest_of self.now.labels.items self.now.marks.items) }
@@ -176,7 +171,7 @@ impl State {
         }
     }
 
-    /// The lowest label that waits, or one below it; `INF` if none does. A hint.
+    /// The lowest label that waits, or a lower one; `INF` if none does. A hint.
     pub(crate) fn next_label(&self) -> u64 {
         match self.queue.peek() {
             Some(Reverse((label, _))) => *label,
@@ -184,7 +179,7 @@ impl State {
         }
     }
 
-    /// The lowest label of a marked vertex, or `INF` if no vertex is marked. Looks at the noted vertices alone.
+    /// The lowest label of a marked vertex, or `INF`, by the noted vertices.
     pub(crate) fn lowest_marked(&self) -> u64
         requires { AreNoted self.now.labels.items self.now.marks.items self.now.noted.items }
         ensures { AreUnmarkedBelow result (rest_of self.now.labels.items self.now.marks.items) }
@@ -199,8 +194,7 @@ impl State {
         lowest
     }
 
-    /// The least that the label of a vertex and the other side's label make; `INF` if none makes less. Looks at the
-    /// noted vertices alone.
+    /// The least sum of a vertex's two labels, or `INF`, by the noted vertices.
     pub(crate) fn least_meeting(&self, other: &[u64]) -> u64
         requires noted { AreNoted self.now.labels.items self.now.marks.items self.now.noted.items }
         requires count { length other.now ≡ length self.now.labels.items }
@@ -214,7 +208,7 @@ impl State {
         least
     }
 
-    /// Puts the vertices that are noted into rising order. Returns false if memory is refused.
+    /// Sorts the noted vertices. Returns false if memory is refused.
     pub(crate) fn sort_noted(&mut self) -> bool
         requires { AreNoted self.old.labels.items self.old.marks.items self.old.noted.items }
         ensures labels { self.new.labels ≡ self.old.labels }
@@ -228,7 +222,7 @@ impl State {
         }
     }
 
-    /// Wipes the vertices that were noted: all are blank then.
+    /// Makes the noted vertices blank.
     pub(crate) fn wipe(&mut self)
         requires { AreNoted self.old.labels.items self.old.marks.items self.old.noted.items }
         ensures count { length self.new.labels.items ≡ length self.old.labels.items }

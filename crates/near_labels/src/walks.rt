@@ -11,7 +11,7 @@ use csr_graph::Csr;
 use std::alloc::Global;
 use walk_report::WalkSpace;
 
-/// The least labels of some vertices, and the walks to them, in their order.
+/// The least labels of some targets, and the walks to them, in their order.
 #[derive(Debug, Drop)]
 pub struct WalksFound {
     /// `INF` if there is no walk.
@@ -20,8 +20,7 @@ pub struct WalksFound {
     pub walks: Vec<Vec<u32>>,
 }
 
-/// The walks to these targets, by labels that are least up to a limit. That is above the label of each target that is
-/// reached.
+/// The walks to these targets, by labels that are least up to a limit above the label of each target that is reached.
 pub(crate) fn walks_below(
     space: &mut WalkSpace,
     alloc: Global,
