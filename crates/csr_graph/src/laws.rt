@@ -1,4 +1,4 @@
-//! Laws of every graph in rows. Each is the contract of a function that does nothing.
+//! Laws of every graph in rows.
 
 ghost use Rattle.csr_graph.specs.Graph.{RowsAreRuns, RowsDetermine, RunsAreRows};
 
@@ -7,12 +7,12 @@ pub fn rows_are_runs()
     ensures { RowsAreRuns }
 {}
 
-/// No other arc stands there.
+/// No other arc stands from its first place to its end.
 pub fn runs_are_rows()
     ensures { RunsAreRows }
 {}
 
-/// No other list by rising tail has the same rows: so the rows say all of a `Csr`.
+/// Rows determine the list of arcs.
 pub fn rows_determine()
     ensures { RowsDetermine }
 {}

@@ -1,6 +1,6 @@
 //! The target of an arc.
 
-/// The target of an arc: the vertex at its head, counted from 0, and its weight.
+/// The vertex at an arc's head, and the arc's weight.
 #[derive(Clone, Copy, Debug, PartialEq, Eq)]
 pub struct Target {
     pub head: u32,
