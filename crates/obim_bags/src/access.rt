@@ -1,4 +1,4 @@
-//! A bag of the log together with one worker's pass of it.
+//! A bag of the log and one worker's pass of it.
 
 ghost use Rattle.std.specs.Prelude.{◌≡◌, ◌≢◌, []};
 ghost use Rattle.std.specs.Prelude.{IfErr, IfNone, IfSome, OnErr, OnOk};
@@ -13,7 +13,6 @@ use crate::passes::BagPass;
 use std::marker::Model;
 use std::sync::{Arc, Wait};
 
-/// A bag of the log and a worker's pass of it.
 #[derive(Drop)]
 pub(crate) struct Access {
     bag: Arc<Bag>,

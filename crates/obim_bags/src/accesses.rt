@@ -1,4 +1,4 @@
-//! The accesses of a mirror to the bags of the log, and an index of their metrics.
+//! A mirror's accesses to bags, and an index of their metrics.
 
 ghost use Rattle.std.specs.Prelude.{◌≡◌, ◌≢◌, ◌≤◌, ◌<◌, [], Some, length, slice_get};
 ghost use Rattle.std.specs.Prelude.{IfErr, IfNone, IfOk, IfSome, OnErr, OnOk};
@@ -20,7 +20,7 @@ use std::alloc::Global;
 use std::marker::Model;
 use std::sync::Wait;
 
-/// A worker's accesses, and the index, which may be ahead of them: so a refused growth needs no way back.
+/// A worker's accesses, and an index that may be ahead of them: a refused growth needs no way back.
 #[derive(Drop)]
 pub(crate) struct Accesses {
     worker: u32,
@@ -82,7 +82,7 @@ impl Accesses {
         self.list[place].empty_finds()
     }
 
-    /// The place of the metric's bag, which is appended if no entry has it.
+    /// The place of the metric's bag, which is appended if it is missing.
     pub(crate) fn find_or_append<R: Wait>(
         &mut self,
         rt: &R,
@@ -124,7 +124,6 @@ impl Accesses {
         Ok(self.list.len())
     }
 
-    /// Does as `Access::put_boxed`, at a place.
     #[inline(always)]
     pub(crate) fn put_boxed<R: Wait>(
         &mut self,
@@ -143,7 +142,6 @@ impl Accesses {
         self.list[place].put_boxed(rt, chunk)
     }
 
-    /// Does as `Access::get_boxed`, at a place.
     #[inline(always)]
     pub(crate) fn get_boxed<R: Wait>(&mut self, rt: &R, place: usize) -> Option<Box<Chunk>>
         requires { place < length self.old.list }
@@ -158,7 +156,6 @@ impl Accesses {
         self.list[place].get_boxed(rt)
     }
 
-    /// Does as `Access::finds_empty`, at a place.
     #[inline(always)]
     pub(crate) fn finds_empty(&mut self, place: usize) -> bool
         requires { place < length self.old.list }
@@ -172,7 +169,7 @@ impl Accesses {
     }
 }
 
-// The place of the metric's entry, which is appended if there is none. The index learns all metrics.
+// The place of the metric's entry, which is appended if it is missing. The index learns all metrics.
 fn locate<R: Wait>(
     rt: &R,
     alloc: Global,

@@ -18,7 +18,7 @@ use std::fmt;
 use std::marker::Model;
 use std::sync::Wait;
 
-/// A bag of chunks of one metric, which any number of threads share through a `&`. Each worker has a pass.
+/// A bag of chunks of one metric, which threads share through a `&`. Each worker has a pass.
 pub struct Bag {
     metric: u64,
     workers: u32,
@@ -47,7 +47,7 @@ impl fmt::Debug for Bag {
 }
 
 impl Bag {
-    /// An empty bag, and a pass of share 1 for each of the workers.
+    /// An empty bag, and a pass of share 1 for each worker.
     pub fn open<R: Wait>(
         _rt: &R,
         alloc: Global,
@@ -72,7 +72,7 @@ impl Bag {
         Ok((bag, passes))
     }
 
-    /// The metric that it was opened with.
+    /// The metric of its chunks.
     pub fn metric(&self) -> u64
         ensures { result ≡ self.now.metric }
     {
@@ -96,7 +96,7 @@ impl Bag {
         }
     }
 
-    /// Does as `put`, of a chunk in its box, which takes no memory for the chunk.
+    /// Does as `put`, of a chunk in its box, which takes no memory for it.
     pub fn put_boxed<R: Wait>(
         &self,
         rt: &R,
@@ -112,8 +112,7 @@ impl Bag {
         self.queue.push_as::<Puts, R>(rt, &mut pass.pass, chunk)
     }
 
-    /// Takes the chunk at the front, which is never empty. `None` only if the bag was empty at a moment
-    /// of the call.
+    /// Takes the chunk at the front, which is never empty. `None` only if the bag was empty at some moment of the call.
     pub fn get<R: Wait>(&self, rt: &R, pass: &mut BagPass) -> Option<Chunk>
         requires { IsPassOf self.now pass.old }
         ensures got { IfSome result (λ chunk. pass.new ≡ after_get chunk pass.old) }
@@ -139,8 +138,7 @@ impl Bag {
         self.take_front(rt, pass)
     }
 
-    /// A look by two loads, which doesn't wait. Returns true only if the bag was empty at a moment of the call, and
-    /// then the pass has one empty find more.
+    /// Returns true only if the bag was empty at some moment of the call, by two loads without a wait.
     #[inline(always)]
     pub fn finds_empty(&self, pass: &mut BagPass) -> bool
         requires { IsPassOf self.now pass.old }
@@ -171,8 +169,8 @@ impl Bag {
         got
     }
 
-    /// Joins these passes and gives what is left in the bag, in order. After a fault the passes are gone,
-    /// and so are the chunks that were taken out by then.
+    /// Joins these passes and returns what is left in the bag, in order. After a fault the passes are gone, and with
+    /// them chunks that were taken out.
     pub fn drain<R: Wait>(
         &self,
         rt: &R,

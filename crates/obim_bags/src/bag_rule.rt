@@ -6,8 +6,7 @@ use crossbeam_queue::{RuledSegQueue, SegPass};
 use std::alloc::Global;
 use std::collections::LinkedList;
 
-/// The knowledge of a pass of a bag: the chunks that it put, those that it got, its share of the workers, and their
-/// number. No value of it is made.
+/// The chunks that a pass put and got, its share of the workers, and their number. No value of it is made.
 pub struct Tally {
     pub share: u32,
     pub workers: u32,

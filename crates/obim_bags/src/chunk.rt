@@ -10,18 +10,17 @@ use std::error::Error;
 use std::fmt;
 use std::marker::Model;
 
-/// The most vertices that a chunk takes.
+/// The most vertices of a chunk.
 pub const MAX_SIZE: usize = 256;
 
-/// The worker that opened a chunk, and the number of the chunk among its own, counted from 0.
+/// The worker that opened a chunk, and its number among that worker's, from 0.
 #[derive(Clone, Copy, Debug, PartialEq, Eq)]
 pub struct ChunkId {
     pub worker: u32,
     pub serial: u64,
 }
 
-/// A chunk of vertices, counted from 0: a stack of at most `size`, with its name. It lies in one piece
-/// of some 1,050 bytes and never takes memory.
+/// A named stack of at most `size` vertices. It lies in one piece of some 1,050 bytes and never takes memory.
 #[derive(Debug, Drop)]
 pub struct Chunk {
     id: ChunkId,
@@ -66,7 +65,7 @@ impl Chunk {
         }
     }
 
-    /// Takes all its vertices out and gives it another name and size, 1 to 256: a new chunk in the same room.
+    /// Makes it a new chunk in the same room, empty, with this name and a size of 1 to 256.
     pub fn renew(&mut self, id: ChunkId, size: usize)
         requires { (1 ≤ size) × (size ≤ MAX_SIZE) }
         ensures { self.new ≡ record { id = id; size = size; vertices = [] } }
@@ -90,7 +89,7 @@ impl Chunk {
         self.vertices.len()
     }
 
-    /// Puts `v` last. `Full` only at the chunk's size.
+    /// Puts `v` last.
     pub fn push(&mut self, v: u32) -> Result<(), Full>
         ensures last { OnOk result (self.new ≡ with_vertices (self.old.vertices ++ v ∷ []) self.old) }
         ensures full { OnErr result (length self.old.vertices ≡ self.old.size) }
@@ -103,7 +102,7 @@ impl Chunk {
         Ok(())
     }
 
-    /// Puts `v` last, unless the chunk would have as many vertices as its size then. Whether it did.
+    /// Puts `v` last, unless the chunk would then be full. Returns true if it did.
     #[inline(always)]
     pub fn push_unless_last(&mut self, v: u32) -> bool
         ensures pushed { OnTrue result (self.new ≡ with_vertices (self.old.vertices ++ v ∷ []) self.old) }
@@ -116,7 +115,7 @@ impl Chunk {
         !is_last
     }
 
-    /// Takes the last vertex, or returns `None` if the chunk is empty.
+    /// Takes the last vertex; `None` if the chunk is empty.
     pub fn pop(&mut self) -> Option<u32>
         ensures last { IfSome result (λ v. self.old ≡ with_vertices (self.new.vertices ++ v ∷ []) self.new) }
         ensures empty { IfNone result (self.old.vertices ≡ []) }
@@ -125,8 +124,7 @@ impl Chunk {
         self.vertices.pop()
     }
 
-    /// The vertex that the `by`th pop from now on takes, if nothing is put before: a hint, for what to ask
-    /// of memory ahead of time.
+    /// The vertex that the `by`th pop from now on takes, if none is pushed before: a hint for prefetching.
     #[inline(always)]
     pub fn ahead(&self, by: usize) -> Option<u32> {
         let place = self.len().checked_sub(by)?;

@@ -1,4 +1,4 @@
-//! The list of entries in the slot of a log.
+//! The entries of a log.
 
 ghost use Rattle.std.specs.Prelude.{◌≡◌, ◌≢◌, ◌≤◌, ◌<◌, ◌++◌, ◌∷◌, ℕ, [], Some, length, map, slice_get};
 ghost use Rattle.std.specs.Prelude.{All, IsTrue, IfNone, IfOk, IfSome, OnErr, OnOk};
@@ -18,7 +18,7 @@ use std::alloc::Global;
 use std::marker::Model;
 use std::sync::{Arc, Wait};
 
-/// A bag of the log, and by worker its place for a mirror that hasn't claimed it yet.
+/// A bag of the log, and by worker the place that its mirror hasn't claimed yet.
 #[derive(Drop)]
 pub(crate) struct Entry {
     bag: Arc<Bag>,
@@ -37,7 +37,7 @@ impl Model for Entry {
 }
 
 impl Entry {
-    /// A new bag with a place for each worker. All room is made before the bag is opened or shared.
+    /// A new bag with a place for each worker. All room is made before the bag is shared.
     pub(crate) fn open<R: Wait>(
         rt: &R,
         alloc: Global,
@@ -69,7 +69,6 @@ impl Entry {
         self.bag.metric()
     }
 
-    /// Tells if the worker's place is still here.
     pub(crate) fn has(&self, worker: u32) -> bool
         ensures { IsTrue result → HasAccessOf worker self.now }
     {
@@ -79,7 +78,6 @@ impl Entry {
         }
     }
 
-    /// The worker's place, if it is still here.
     pub(crate) fn claim(&mut self, worker: u32) -> Option<Access>
         ensures bag { self.new.bag ≡ self.old.bag }
         ensures place { IfSome result (λ place. (place.bag ≡ self.old.bag) × IsNew place) }
@@ -130,7 +128,7 @@ fn keep(place: Option<Access>, passes: &mut Vec<BagPass>) -> Result<(), Memory>
     Ok(())
 }
 
-/// The entries of a log, by place. Each metric has at most one.
+/// The entries of a log, at most one for each metric.
 #[derive(Drop)]
 pub(crate) struct Entries {
     pub(crate) list: Vec<Entry>,
@@ -147,7 +145,7 @@ impl Model for Entries {
 }
 
 impl Entries {
-    /// Returns a list without entries. Takes no memory.
+    /// Returns an empty list. Takes no memory.
     pub(crate) fn none(alloc: Global) -> Entries
         ensures { result ≡ record { list = [] } }
     {
@@ -171,7 +169,7 @@ impl Entries {
         self.list[place].metric()
     }
 
-    /// Opens a bag of a metric that no entry has, and puts its entry last.
+    /// Opens a bag of a new metric and puts its entry last.
     pub(crate) fn append<R: Wait>(
         &mut self,
         rt: &R,
@@ -192,7 +190,7 @@ impl Entries {
         Ok(())
     }
 
-    /// Tells if the worker's place is still here in each entry from this one on.
+    /// Tells if the worker's place is still here in each entry from `first` on.
     pub(crate) fn has_from(&self, worker: u32, first: usize) -> bool
         ensures { IsTrue result → HasAccessesFrom worker first self.now }
     {
@@ -206,7 +204,6 @@ impl Entries {
         true
     }
 
-    /// The worker's place of one entry, if it is still there.
     pub(crate) fn claim_at(&mut self, worker: u32, place: usize) -> Option<Access>
         requires { place < length self.old.list }
         ensures bags { bags_of self.new ≡ bags_of self.old }

@@ -8,7 +8,7 @@ use std::alloc::{AllocError, AllocFailed};
 use std::error::Error;
 use std::fmt;
 
-/// The reason for which a bag or a log wasn't settled.
+/// The reason why a bag or a log wasn't settled.
 #[derive(Clone, Copy, Debug, PartialEq, Eq)]
 pub enum SettleFault {
     /// The passes handed in aren't all.
@@ -44,12 +44,12 @@ impl<T: Drop> From<AllocFailed<T>> for SettleFault {
     }
 }
 
-/// The reason for which a mirror didn't learn of a bag. The mirror is unchanged.
+/// The reason why a mirror didn't learn of a bag. The mirror is unchanged.
 #[derive(Clone, Copy, Debug, PartialEq, Eq)]
 pub enum LogFault {
     /// The system refused memory. The log may have the new bag.
     Memory,
-    /// The log has no pass of a new bag for this worker: a `drain` joined it in.
+    /// The log has no pass of the bag for this worker: `drain` took it.
     Taken,
 }
 

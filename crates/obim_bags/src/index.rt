@@ -1,4 +1,4 @@
-//! The place of the bag of a metric: a list of metrics, looked up by a map.
+//! The places of metrics, found by a map.
 
 ghost use Rattle.std.specs.Prelude.{◌≡◌, ◌<◌, ◌++◌, ◌∷◌, ℕ, [], Some, length, slice_get};
 ghost use Rattle.std.specs.Prelude.{IfNone, IfSome, OnErr, OnOk};
@@ -9,7 +9,7 @@ use std::alloc::Global;
 use std::collections::HashMap;
 use std::marker::Model;
 
-/// The metrics of the bags of a log, by place, with a map from each metric to its place.
+/// The metrics of bags, by place, and a map from metric to place.
 #[derive(Drop)]
 pub(crate) struct Index {
     metrics: Vec<u64>,
@@ -50,7 +50,6 @@ impl Index {
         self.metrics[place]
     }
 
-    /// The one place of a metric.
     #[inline(always)]
     pub(crate) fn place_of(&self, metric: u64) -> Option<usize>
         ensures at { IfSome result (λ place. IsAlone metric place self.now) }

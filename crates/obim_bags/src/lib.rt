@@ -1,13 +1,11 @@
 //! Chunks in bags: nothing lost, nothing twice, one bag a metric.
 //!
-//! Vertices that wait for workers lie in chunks, the chunks in bags, and there is one bag for each metric. A `Bag` is a
-//! queue without a lock, of which each worker has a `BagPass`. A `BagLog` is the list of all bags, which only grows.
-//! Each worker has a `Mirror` of it with a pass of each bag. So it takes the log's slot only if it asks for a metric
-//! that its mirror doesn't have, or catches up.
+//! A `Bag` is a queue of chunks without a lock, of which each worker has a `BagPass`. A `BagLog` is the list of all
+//! bags, which only grows. Each worker has a `Mirror` of it, and takes the log's slot only for a metric that the mirror
+//! lacks, or to catch up.
 //!
-//! Between any two steps of any threads the chunks that all passes of a bag put are those that they got and
-//! those in the bag, each as often. So `drain`, which takes all passes, gives what is left and nothing else.
-//! A metric has one bag, at one place for good. Whether a put succeeds and which chunk a get finds is not said.
+//! The chunks that all passes of a bag put are those that they got and those in the bag. So `drain` returns what is
+//! left and nothing else. No clause says that a put succeeds, or which chunk a get finds.
 //!
 //! ```text
 //! let (log, mut mirrors) = BagLog::open(alloc, 2)?;
@@ -19,8 +17,7 @@
 //! log.get_at(&rt, &mut mirrors[1], place) // the chunk, unless another worker got it
 //! ```
 //!
-//! Stands on `crossbeam_queue` for the queue, on `atomic_table` for the log's word and slot, and on `arrayvec` for the
-//! chunks. `crossbeam_utils` has the pause between two tries, and `route_walks` has `Memory`.
+//! Stands on `crossbeam_queue` for the queue, and on `atomic_table` for the log's word and slot.
 #![tactic(auto)]
 
 mod access;

@@ -1,4 +1,4 @@
-//! The log of bags: one list, which only grows, and a mirror of it for each worker.
+//! The log of bags.
 
 ghost use Rattle.std.specs.Prelude.{◌≡◌, ◌≢◌, ◌≤◌, ◌<◌, [], ◌∷◌, Some, length, replicate, slice_get};
 ghost use Rattle.std.specs.Prelude.{IfErr, IfNone, IfOk, IfSome, OnErr, OnOk};
@@ -29,8 +29,7 @@ const WORD: usize = 0;
 
 const SLOT: usize = 0;
 
-/// A log of bags, one for each metric that was asked for. Any number of threads share it through a `&`,
-/// each with its mirror.
+/// A log of bags, one for each metric that was asked for. Threads share it through a `&`, each with its mirror.
 #[derive(Drop)]
 pub struct BagLog {
     pub(crate) workers: u32,
@@ -59,7 +58,7 @@ impl fmt::Debug for BagLog {
 }
 
 impl BagLog {
-    /// A log without bags, and an empty mirror for each of the workers.
+    /// A log without bags, and an empty mirror for each worker.
     pub fn open(alloc: Global, workers: u32) -> Result<(BagLog, Vec<Mirror>), Memory>
         requires { 1 ≤ workers }
         ensures { IfOk result (λ opened. opened.1.items ≡ replicate workers (new_mirror opened.0)) }
@@ -88,8 +87,8 @@ impl BagLog {
         Ok((log, mirrors))
     }
 
-    /// The place of the metric's bag. A metric that the mirror has is answered without a wait. Otherwise the mirror
-    /// catches up with the log and, if no bag has the metric, a new one is appended.
+    /// The place of the metric's bag. If the mirror has it, there is no wait. Otherwise the mirror catches up, and a
+    /// missing bag is appended.
     pub fn find_or_append<R: Wait>(
         &self,
         rt: &R,
@@ -113,7 +112,7 @@ impl BagLog {
         found
     }
 
-    /// Gains what others appended, and gives the number of bags that the mirror then has.
+    /// Gains what others appended, and returns the number of bags of the mirror.
     pub fn catch_up<R: Wait>(
         &self,
         rt: &R,
@@ -131,7 +130,7 @@ impl BagLog {
         caught
     }
 
-    /// Does as `Bag::put` on the bag at a place, through the mirror's pass.
+    /// Does as `Bag::put` on the bag at a place.
     pub fn put_at<R: Wait>(
         &self,
         rt: &R,
@@ -155,7 +154,7 @@ impl BagLog {
         }
     }
 
-    /// Does as `Bag::put_boxed` on the bag at a place, through the mirror's pass.
+    /// Does as `Bag::put_boxed` on the bag at a place.
     #[inline(always)]
     pub fn put_boxed_at<R: Wait>(
         &self,
@@ -174,7 +173,7 @@ impl BagLog {
         mirror.accesses.put_boxed(rt, place, chunk)
     }
 
-    /// Does as `Bag::get` on the bag at a place, through the mirror's pass.
+    /// Does as `Bag::get` on the bag at a place.
     pub fn get_at<R: Wait>(&self, rt: &R, mirror: &mut Mirror, place: usize) -> Option<Chunk>
         requires log { mirror.old.log ≡ self.now }
         requires place { place < length mirror.old.accesses }
@@ -186,7 +185,7 @@ impl BagLog {
         Some(Box::into_inner(self.get_boxed_at(rt, mirror, place)?))
     }
 
-    /// Does as `Bag::get_boxed` on the bag at a place, through the mirror's pass.
+    /// Does as `Bag::get_boxed` on the bag at a place.
     #[inline(always)]
     pub fn get_boxed_at<R: Wait>(
         &self,
@@ -204,7 +203,7 @@ impl BagLog {
         mirror.accesses.get_boxed(rt, place)
     }
 
-    /// Does as `Bag::finds_empty` on the bag at a place, through the mirror's pass: the cheapest look.
+    /// Does as `Bag::finds_empty` on the bag at a place.
     #[inline(always)]
     pub fn finds_empty_at(&self, mirror: &mut Mirror, place: usize) -> bool
         requires log { mirror.old.log ≡ self.now }

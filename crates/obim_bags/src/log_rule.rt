@@ -1,4 +1,4 @@
-//! The knowledge of the seats of a log, the rule of its table, and its four kinds of step.
+//! The knowledge of a log's seats, the rule of its table, and its four kinds of step.
 
 use crate::bag::Bag;
 use crate::entries::Entries;
@@ -6,8 +6,7 @@ use atomic_table::{Join, Play, Seat, Table, TableRule};
 use std::alloc::Global;
 use std::collections::LinkedList;
 
-/// The knowledge of a seat of a log: the list of bags that it saw, the lists that seats joined into it saw, and if it
-/// holds the slot. No value of it is made.
+/// The bags that a seat saw, those that seats joined into it saw, and if it holds the slot. No value of it is made.
 pub struct LogKnown {
     pub list: LinkedList<Bag>,
     pub others: LinkedList<LinkedList<Bag>>,

@@ -11,8 +11,7 @@ use crate::log_rule::LogSeat;
 use std::fmt;
 use std::marker::Model;
 
-/// A worker's copy of the log, as far as it has caught up: of each bag in it, by place, its metric and
-/// this worker's pass. A place is one bag for good.
+/// A worker's copy of the log: of each bag, by place, its metric and this worker's pass. A place is one bag for good.
 #[derive(Drop)]
 pub struct Mirror {
     pub(crate) seat: LogSeat,
@@ -37,7 +36,7 @@ impl fmt::Debug for Mirror {
 }
 
 impl Mirror {
-    /// The number of bags that it has.
+    /// The number of its bags.
     #[inline(always)]
     pub fn len(&self) -> usize
         ensures { result ≡ length self.now.accesses }
@@ -45,7 +44,7 @@ impl Mirror {
         self.accesses.len()
     }
 
-    /// The place of a metric's bag, or `None` if the mirror doesn't have it.
+    /// The place of a metric's bag, or `None` if the mirror lacks it.
     #[inline(always)]
     pub fn place_of(&self, metric: u64) -> Option<usize>
         ensures at { IfSome result (λ place. IsAlone metric place (metrics_in self.now.accesses)) }

@@ -1,4 +1,4 @@
-//! The passes of a bag: cut into shares as it is opened, joined again as it is drained.
+//! The passes of a bag.
 
 ghost use Rattle.std.specs.Prelude.{◌≡◌, ◌≤◌, ℕ, ◌+◌, [], replicate, All, vec_capacity, IfNone, IfOk, IfSome};
 ghost use Rattle.crossbeam_queue.specs.SegTies.{IsSegPassOf};
@@ -13,8 +13,7 @@ use std::fmt;
 use std::marker::Model;
 use std::sync::Wait;
 
-/// A worker's way into a bag. Contracts see what was put and got through it, and how often it found the
-/// bag empty. A pass that is dropped keeps its share, so its bag is never drained.
+/// A worker's way into a bag. If a pass is dropped, its bag is never drained.
 #[derive(Drop)]
 pub struct BagPass {
     pub(crate) pass: QueuePass,
@@ -55,7 +54,7 @@ impl BagPass {
     }
 }
 
-/// Gives the first pass of a new queue a share for each worker.
+/// Gives the first pass a share for each worker.
 pub(crate) fn add_workers(queue: &ChunkQueue, first: &mut QueuePass, workers: u32)
     requires pass { IsSegPassOf queue.now first.old }
     requires new { first.old.me.view.client ≡ first_tally }
@@ -68,7 +67,7 @@ pub(crate) fn add_workers(queue: &ChunkQueue, first: &mut QueuePass, workers: u3
     }
 }
 
-/// Deals the first pass's shares out, one to each pass, into a vector with room for them.
+/// Deals the first pass's shares out, one to each pass, into a vector with room.
 pub(crate) fn cut_shares(
     queue: &ChunkQueue,
     mut first: QueuePass,
@@ -93,7 +92,7 @@ pub(crate) fn cut_shares(
     passes
 }
 
-/// The passes as one, or `None` if they don't have all shares.
+/// The passes as one, or `None` if some are missing.
 pub(crate) fn join_all(
     queue: &ChunkQueue,
     workers: u32,
@@ -119,7 +118,7 @@ pub(crate) fn join_all(
     }
 }
 
-/// Takes what is left, in order, by the pass that has all shares.
+/// Takes what is left, by the pass that has all shares.
 pub(crate) fn take_all<R: Wait>(
     rt: &R,
     alloc: Global,

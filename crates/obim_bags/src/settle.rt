@@ -1,4 +1,4 @@
-//! The end of a log: what is left in its bags.
+//! The end of a log.
 
 ghost use Rattle.std.specs.Prelude.{◌≡◌, ◌≢◌, ◌+◌, ◌++◌, ◌<◌, ◌≤◌, ℕ, List, [], Some, length, map, reverse, slice_get};
 ghost use Rattle.std.specs.Prelude.{take};
@@ -25,9 +25,8 @@ use std::alloc::Global;
 use std::sync::Wait;
 
 impl BagLog {
-    /// Drains the log: all that is left in each bag, by place and then in the order of its queue. Passes that no mirror
-    /// has claimed are joined in. `Missing` if no mirror is handed in or the passes of some bag aren't all: tests show
-    /// that, and no clause says it. The mirrors are gone after a fault.
+    /// Returns what is left in each bag, by place and then in order. `Missing` if no mirror is handed in or some pass
+    /// is missing, as tests show. The mirrors are gone after a fault.
     pub fn drain<R: Wait>(
         &self,
         rt: &R,
