@@ -4,18 +4,16 @@ ghost use Rattle.std.specs.Prelude.{◌≡◌, ◌<◌};
 ghost use Rattle.obim_pool.specs.Scales.{widening_bucket};
 ghost use Rattle.obim_pool.specs.declared.bucket.TheConstants.{BUCKETS};
 
-/// Labels below this have a bucket each; of a larger one the bucket keeps as many leading bits as this has.
+/// Labels below this have a bucket each; larger ones keep as many leading bits as this has.
 const NARROW: u64 = 1 << 8;
 
-/// There are this many buckets for all labels of 64 bits.
+/// The number of buckets for all labels of 64 bits.
 pub const BUCKETS: u64 = 7424;
 
-/// The bucket of a label. It is the label itself below 256, and a larger label rounded down to its leading eight bits.
-/// So it is wider than no 128th of its labels. Buckets rise with labels and leave no number out. There are 128 of them
-/// for each doubling of the label, so a thousand or two for most graphs.
+/// The bucket of a label: below 256 the label itself, and above it rounded down to its leading eight bits. So no bucket
+/// is wider than a 128th of its labels, and there are 128 for each doubling: a thousand or two for most graphs.
 ///
-/// It is the rounding of a floating-point number with seven bits of fraction, and of the buckets of
-/// [HdrHistogram](http://hdrhistogram.org).
+/// [HdrHistogram](http://hdrhistogram.org) has such buckets too.
 pub fn bucket_of(label: u64) -> u64
     ensures exact { result ≡ widening_bucket label }
     ensures narrow { label < 256 → result ≡ label }

@@ -1,4 +1,4 @@
-//! Opens chunks by name, in boxes that were used before if there are some.
+//! Opens chunks by name, in used boxes if there are some.
 
 ghost use Rattle.std.specs.Prelude.{◌≡◌, ◌≤◌, [], IfSome};
 ghost use Rattle.obim_bags.specs.declared.chunk.TheConstants.{MAX_SIZE};
@@ -7,11 +7,10 @@ ghost use Rattle.obim_pool.specs.declared.chunk_maker.TheConstants.{MAX_SERIAL};
 use obim_bags::{Chunk, ChunkId, MAX_SIZE};
 use std::alloc::Global;
 
-/// A side opens at most this many chunks.
+/// The most chunks of a side.
 const MAX_SERIAL: u64 = 1 << 62;
 
-/// Opens the chunks of one worker. It keeps one box whose chunk ran empty for the next one, since most
-/// chunks are opened soon after another was used up.
+/// Opens the chunks of one worker, and keeps the box of one chunk that ran empty for the next.
 #[derive(Drop)]
 pub(crate) struct ChunkMaker {
     alloc: Global,
@@ -23,7 +22,6 @@ pub(crate) struct ChunkMaker {
 }
 
 impl ChunkMaker {
-    /// Opens chunks of this size for a worker, with serials from 0.
     pub(crate) fn new(alloc: Global, worker: u32, size: usize) -> ChunkMaker
         requires { (1 ≤ size) × (size ≤ MAX_SIZE) }
     {
@@ -35,18 +33,16 @@ impl ChunkMaker {
         }
     }
 
-    /// The most vertices that its chunks take.
     #[inline(always)]
     pub(crate) fn size(&self) -> usize {
         self.size
     }
 
-    /// The number of chunks that it opened.
     pub(crate) fn opened(&self) -> u64 {
         self.next.serial
     }
 
-    /// An empty chunk with the next serial. `None` if memory is refused or the serials ran out.
+    /// An empty chunk with the next serial. `None` if memory is refused or serials ran out.
     pub(crate) fn open(&mut self) -> Option<Box<Chunk>>
         ensures { IfSome result (λ chunk. chunk.value.vertices ≡ []) }
     {
@@ -64,7 +60,7 @@ impl ChunkMaker {
         Some(chunk)
     }
 
-    /// Keeps the box of a chunk for the next one, unless there is one already.
+    /// Keeps the box of a chunk for the next, unless there is one already.
     pub(crate) fn take_back(&mut self, chunk: Box<Chunk>) {
         if self.spare.is_none() {
             self.spare = Some(chunk);

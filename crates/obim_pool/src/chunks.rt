@@ -8,13 +8,12 @@ ghost use Rattle.obim_pool.specs.Held.{held_of, vertices_in};
 use crate::chunk_maker::ChunkMaker;
 use obim_bags::Chunk;
 
-/// The chunks of one bag: the one that pushes fill and the one that pops drain, each perhaps absent.
+/// The chunk that pushes fill and the one that pops drain, each perhaps absent.
 #[derive(Drop)]
 pub(crate) struct BagChunks {
     pub filling: Option<Box<Chunk>>,
     pub draining: Option<Box<Chunk>>,
-    /// The number of chunks that were put into the bag since it was found empty, less those that were got from it. A
-    /// hint, since other sides put and get too.
+    /// The chunks put into the bag since it was found empty, less those got. A hint, since other sides put and get too.
     pub waiting: u32,
 }
 
@@ -29,7 +28,6 @@ impl BagChunks {
         }
     }
 
-    /// Tells if both chunks are absent.
     #[inline(always)]
     pub(crate) fn are_absent(&self) -> bool
         ensures { OnTrue result (held_of self.now ≡ []) }
@@ -49,7 +47,7 @@ impl BagChunks {
         }
     }
 
-    /// Puts `v` into the filling chunk, unless that is absent, or would be full then.
+    /// Puts `v` into the filling chunk, unless that is absent or would then be full.
     #[inline(always)]
     pub(crate) fn add_unless_last(&mut self, v: u32) -> bool
         ensures added { OnTrue result (AreSame (held_of self.new) (v ∷ held_of self.old)) }
@@ -61,7 +59,6 @@ impl BagChunks {
         }
     }
 
-    /// Tells if the filling chunk is there and has fewer vertices than these.
     pub(crate) fn has_room(&self, size: usize) -> bool {
         match &self.filling {
             Some(chunk) => chunk.len() < size,
@@ -69,7 +66,6 @@ impl BagChunks {
         }
     }
 
-    /// The number of vertices in the filling chunk.
     #[inline(always)]
     pub(crate) fn filled(&self) -> usize {
         match &self.filling {
@@ -78,7 +74,7 @@ impl BagChunks {
         }
     }
 
-    /// Takes the last vertex of the draining chunk. A chunk whose last vertex is taken leaves its box to the maker.
+    /// Takes the last vertex of the draining chunk. An emptied chunk's box goes to the maker.
     #[inline(always)]
     pub(crate) fn take_last(&mut self, maker: &mut ChunkMaker) -> Option<u32>
         ensures taken { IfSome result (λ v. AreSame (v ∷ held_of self.new) (held_of self.old)) }
@@ -96,8 +92,8 @@ impl BagChunks {
         last
     }
 
-    /// Does as `take_last`, or else takes the vertex of the filling chunk, if it has only one and no chunk waits.
-    /// This is so if vertices are visited one after another: no chunk has to be handed over for it.
+    /// Does as `take_last`, or takes the only vertex of the filling chunk if no chunk waits. So if vertices are visited
+    /// one after another, no chunk is handed over.
     #[inline(always)]
     pub(crate) fn take_near(&mut self, maker: &mut ChunkMaker) -> Option<u32>
         ensures taken { IfSome result (λ v. AreSame (v ∷ held_of self.new) (held_of self.old)) }
@@ -109,7 +105,7 @@ impl BagChunks {
         }
     }
 
-    /// Takes the vertex of the filling chunk, if it has only one and no chunk waits in the bag.
+    /// Takes the only vertex of the filling chunk, if no chunk waits in the bag.
     #[inline(always)]
     fn take_only(&mut self) -> Option<u32>
         requires { vertices_in self.old.draining ≡ [] }
@@ -125,7 +121,7 @@ impl BagChunks {
         }
     }
 
-    /// The vertex that the `by`th `take_last` from now on takes, if the draining chunk has one there: a hint.
+    /// The vertex that the `by`th `take_last` from now on takes: a hint.
     #[inline(always)]
     pub(crate) fn ahead(&self, by: usize) -> Option<u32> {
         match &self.draining {
@@ -134,7 +130,7 @@ impl BagChunks {
         }
     }
 
-    /// Hands the box of the draining chunk, which is empty, to the maker.
+    /// Gives the box of the empty draining chunk to the maker.
     #[inline(never)]
     fn recycle(&mut self, maker: &mut ChunkMaker)
         requires { vertices_in self.old.draining ≡ [] }
@@ -146,7 +142,7 @@ impl BagChunks {
         }
     }
 
-    /// Makes this chunk, which was got from the bag, the draining one, which was empty or absent.
+    /// Drains this chunk, which was got from the bag.
     pub(crate) fn drain(&mut self, maker: &mut ChunkMaker, chunk: Box<Chunk>)
         requires { vertices_in self.old.draining ≡ [] }
         ensures filling { self.new.filling ≡ self.old.filling }
@@ -157,8 +153,7 @@ impl BagChunks {
         self.waiting = self.waiting.saturating_sub(1);
     }
 
-    /// Makes the filling chunk, if there is one, the draining one, which was empty or absent. The bag was found empty
-    /// before.
+    /// Drains the filling chunk, if there is one. The bag was found empty before.
     pub(crate) fn drain_filling(&mut self, maker: &mut ChunkMaker)
         requires { vertices_in self.old.draining ≡ [] }
         ensures same { AreSame (held_of self.new) (held_of self.old) }

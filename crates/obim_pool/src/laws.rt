@@ -1,4 +1,4 @@
-//! Buckets rise with labels. These functions do nothing: each contract is a law over numbers.
+//! The law of buckets.
 
 ghost use Rattle.obim_pool.specs.Scales.{BucketsRise, Widths, scale_bucket, widening_bucket};
 

@@ -12,8 +12,6 @@ use std::fmt;
 use std::sync::{Mutex, Wait};
 
 /// One pool for all workers, under one lock: it gives the last vertex of the lowest metric.
-///
-/// Whenever its lock is free, no bag is empty and the total is the sum of the bags' lengths.
 #[derive(Drop)]
 pub struct LockedPool {
     bags: Mutex<Bags>,
@@ -25,7 +23,7 @@ impl fmt::Debug for LockedPool {
     }
 }
 
-/// A worker's side of a `LockedPool`, which keeps nothing there.
+/// A worker's side of a `LockedPool`.
 #[derive(Debug, Drop)]
 pub struct LockedSide(());
 
@@ -40,7 +38,7 @@ struct Bags {
 }
 
 impl LockedPool {
-    /// An empty pool and a side of it for each worker.
+    /// An empty pool and a side for each worker.
     pub fn open(alloc: Global, workers: u32) -> Result<(LockedPool, Vec<LockedSide>), Memory>
         ensures sides { IfOk result (λ opened. vec_len opened.1 ≡ workers) }
         ensures of_pool { IfOk result (λ opened.
@@ -56,8 +54,8 @@ impl LockedPool {
         Ok((pool, sides))
     }
 
-    /// Puts `v` last into the bag of its metric. False, and nothing is kept, if memory is refused
-    /// or the pool has `u64::MAX` vertices.
+    /// Puts `v` last into the bag of its metric. Returns false if memory is refused or the pool has `u64::MAX`
+    /// vertices.
     pub fn push<H: Wait>(&self, rt: &H, _side: &mut LockedSide, v: u32, metric: u64) -> bool {
         self.bags.lock(rt).push(metric, v).is_ok()
     }

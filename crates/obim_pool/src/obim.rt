@@ -1,4 +1,4 @@
-//! A pool of bags, which are drawn from by rising metric.
+//! A pool of bags, drawn from by rising metric.
 
 ghost use Rattle.std.specs.Prelude.{◌≡◌, ◌≢◌, ◌≤◌, [], replicate, All};
 ghost use Rattle.std.specs.Prelude.{IfNone, IfOk, IfSome, OnOk};
@@ -19,10 +19,8 @@ use std::fmt;
 use std::marker::Model;
 use std::sync::Wait;
 
-/// A pool in the manner of OBIM, the worklist of the Galois system ordered by integer metric. Vertices of one metric
-/// share a bag, which is a queue of chunks, and each worker draws from the lowest bag that it knows, softly.
-///
-/// A side belongs to the pool that opened it, and to no other.
+/// A pool in the manner of OBIM, the worklist of Galois ordered by integer metric: each worker draws from the lowest
+/// bag that it knows, softly. A side belongs to the pool that opened it.
 #[derive(Drop)]
 pub struct ObimPool {
     log: BagLog,
@@ -44,8 +42,8 @@ impl fmt::Debug for ObimPool {
 }
 
 impl ObimPool {
-    /// A pool without bags, and a side of it for each worker. A chunk takes `chunk` vertices, 1 to 256. It is
-    /// shared when it is full: smaller ones are shared sooner, larger ones cost less a vertex.
+    /// A pool without bags, and a side for each worker. A chunk takes `chunk` vertices, 1 to 256, and is shared when it
+    /// is full: smaller ones are shared sooner, larger ones cost less a vertex.
     pub fn open(
         alloc: Global,
         workers: u32,
@@ -65,8 +63,8 @@ impl ObimPool {
         Ok((ObimPool { log, alloc }, sides))
     }
 
-    /// Puts `v` into the bag of its metric, which is current then if it is lower than the current one. False,
-    /// and `v` is not kept, if memory is refused or this side opened 2^62 chunks.
+    /// Puts `v` into the bag of its metric, which becomes current if it is lower. Returns false, and keeps nothing, if
+    /// memory is refused or this side opened 2^62 chunks.
     #[inline(always)]
     pub fn push<R: Wait>(&self, rt: &R, side: &mut ObimSide, v: u32, metric: u64) -> bool
         requires { IsSideOf self.now side.old }
@@ -79,10 +77,9 @@ impl ObimPool {
         side.push_near(v, metric) || side.push_far(rt, &self.log, self.alloc, v, metric)
     }
 
-    /// Takes a vertex out of the current bag, and if that gives none, out of the lowest bag of this
-    /// side that gives one, which is current then. `None` if no bag does; another side may still hold
-    /// vertices. Takes the same time whatever the pool holds while the current bag gives one, and else a look
-    /// at each bag of this side up to the one that does.
+    /// Takes a vertex out of the current bag, or else out of the lowest bag of this side that gives one, which becomes
+    /// current. `None` if no bag does; another side may still hold vertices. Takes constant time while the current bag
+    /// gives one, and else a look at each bag up to the one that does.
     #[inline(always)]
     pub fn pop<R: Wait>(&self, rt: &R, side: &mut ObimSide) -> Option<u32>
         requires { IsSideOf self.now side.old }
@@ -94,16 +91,15 @@ impl ObimPool {
         side.pop(rt, &self.log, self.alloc)
     }
 
-    /// The vertex that the `by`th pop of this side from now on takes, if none is pushed to another bag or got from one
-    /// before. It is a hint, which ends with the chunk that the side drains.
+    /// The vertex that the `by`th pop of this side from now on takes, if nothing comes between. A hint, up to the end
+    /// of the draining chunk.
     #[inline(always)]
     pub fn ahead(&self, side: &ObimSide, by: usize) -> Option<u32> {
         side.ahead(by)
     }
 
-    /// Ends the pool: the chunks left in its bags, by their place in the log and then in the order of the
-    /// bag. `Missing` if sides that know a bag are withheld: tests show that, and no clause says it. What
-    /// sides still held in chunks of their own is dropped.
+    /// Ends the pool: the chunks left in its bags, by their place in the log and then in order. `Missing` if sides that
+    /// know a bag are withheld, as tests show. Chunks that sides hold are dropped.
     pub fn settle<R: Wait>(
         self,
         rt: &R,

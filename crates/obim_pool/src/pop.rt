@@ -1,4 +1,4 @@
-//! The way of a vertex out of a bag: one bag of a side, its two chunks and its place in the mirror.
+//! The way of a vertex out of a bag.
 
 ghost use Rattle.std.specs.Prelude.{◌≡◌, ◌≤◌, ◌<◌, [], length, IfNone, IfSome};
 ghost use Rattle.std.specs.Bool.{OnFalse, OnTrue};
@@ -14,8 +14,7 @@ use crate::order::OwnBag;
 use obim_bags::{BagLog, Mirror};
 use std::sync::Wait;
 
-/// Tells if a bag has nothing for the side, which is so of most that it looks into: two chunks that are absent, and two
-/// loads. It doesn't wait.
+/// Tells, without a wait, if a bag has nothing for the side, as most have: no chunks, and two loads.
 #[inline(always)]
 fn is_bare(log: &BagLog, mirror: &mut Mirror, place: usize, chunks: &BagChunks) -> bool
     requires log { IsMirrorOf log.now mirror.old }
@@ -29,7 +28,7 @@ fn is_bare(log: &BagLog, mirror: &mut Mirror, place: usize, chunks: &BagChunks) 
     log.finds_empty_at(mirror, place)
 }
 
-/// Takes a vertex out of the draining chunk; else gets a chunk from the bag; else drains the filling one.
+/// Takes a vertex out of the draining chunk, a chunk of the bag, or the filling one.
 #[inline(always)]
 pub(crate) fn pop_at<R: Wait>(
     rt: &R,
@@ -50,7 +49,7 @@ pub(crate) fn pop_at<R: Wait>(
     }
 }
 
-/// Takes a vertex as `pop` does, if no vertex is in the draining chunk.
+/// Does as `pop_at` if the draining chunk has no vertex.
 #[inline(never)]
 fn refill<R: Wait>(
     rt: &R,
@@ -73,7 +72,7 @@ fn refill<R: Wait>(
     chunks.take_last(maker)
 }
 
-/// Tries the bags of the order in turn: the first that gives a vertex, and the vertex.
+/// Returns the first bag of the order that gives a vertex, and the vertex.
 pub(crate) fn scan<R: Wait>(
     rt: &R,
     log: &BagLog,

@@ -1,4 +1,4 @@
-//! The way of a vertex into a bag: one bag of a side, its two chunks and its place in the mirror.
+//! The way of a vertex into a bag.
 
 ghost use Rattle.std.specs.Prelude.{◌≡◌, ◌<◌, [], ◌∷◌, length};
 ghost use Rattle.std.specs.Bool.{OnFalse, OnTrue};
@@ -37,8 +37,7 @@ pub(crate) fn push_at<R: Wait>(
     true
 }
 
-/// Opens a filling chunk if it is absent. If it is full, since its put was refused, it is put first.
-/// What is refused stays as it is.
+/// Opens a filling chunk if it is absent, or puts it first if it is full. What is refused stays.
 fn start_chunk<R: Wait>(
     rt: &R,
     log: &BagLog,
@@ -58,7 +57,6 @@ fn start_chunk<R: Wait>(
     open(maker, chunks);
 }
 
-/// Opens a filling chunk if it is absent.
 fn open(maker: &mut ChunkMaker, chunks: &mut BagChunks)
     ensures { held_of chunks.new ≡ held_of chunks.old }
 {
@@ -67,7 +65,7 @@ fn open(maker: &mut ChunkMaker, chunks: &mut BagChunks)
     }
 }
 
-/// Puts the filling chunk into the bag, if it has a vertex. If the put is refused, it stays.
+/// Puts the filling chunk into the bag, if it has a vertex. If that is refused, it stays.
 #[inline(never)]
 fn put_filling<R: Wait>(
     rt: &R,

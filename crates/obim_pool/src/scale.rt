@@ -1,4 +1,4 @@
-//! The width of buckets for labels of a graph of this size.
+//! The widths of buckets that fit a graph.
 
 ghost use Rattle.std.specs.Prelude.{◌≡◌, ◌<◌, min};
 ghost use Rattle.obim_pool.specs.Scales.{scale_bucket};
@@ -7,23 +7,22 @@ ghost use Rattle.obim_pool.specs.declared.scale.TheConstants.{MOST_BUCKETS};
 use crate::bucket::bucket_of;
 use std::marker::Model;
 
-/// A bound on the buckets that a scale makes of labels of 64 bits.
+/// The most buckets of a scale.
 pub const MOST_BUCKETS: u64 = 15_616;
 
-/// Below this number of widths of a scale no bucket of `bucket_of` is wider than one width.
+/// Below this many widths no bucket of `bucket_of` is wider than one.
 const NARROW: u64 = 256;
 
-/// The most even buckets: the looks into lower ones that these cost take less than a second.
+/// The most even buckets: the looks into lower ones then take less than a second.
 const MOST_EVEN: u64 = 8192;
 
-/// The greatest shift: what it leaves of a label of 64 bits is below `MOST_EVEN`.
+/// The greatest shift: it leaves less than `MOST_EVEN` of a label of 64 bits.
 const WIDEST: u32 = 51;
 
-/// A bucket is as wide as `bucket_of` makes it, but no wider than 2^`shift` while the label is below
-/// `even` times that.
+/// Buckets as wide as those of `bucket_of`, but no wider than 2^`shift` while the label is below `even` times that.
 ///
-/// So buckets widen with the label up to a width that fits the weights of a graph. Then they are even, and they widen
-/// again if there would be too many of them. Each lies in one bucket of `bucket_of`.
+/// So buckets widen up to a width that fits a graph's weights, are then even, and widen again if there would be too
+/// many.
 #[derive(Clone, Copy, Debug, PartialEq, Eq)]
 pub struct Scale {
     shift: u32,
@@ -43,8 +42,8 @@ impl Model for Scale {
 }
 
 impl Scale {
-    /// Buckets of at most 2^`shift` labels below `even` times that. A larger shift than 51 counts as 51,
-    /// and a larger number than 8192 as 8192.
+    /// Buckets of at most 2^`shift` labels below `even` times that. `shift` is at most 51 and `even` at most 8192:
+    /// larger ones count as these.
     pub fn new(shift: u32, even: u64) -> Scale
         ensures { result ≡ record { shift = min shift 51; even = min even 8192 } }
     {
@@ -54,14 +53,14 @@ impl Scale {
         }
     }
 
-    /// The buckets of `bucket_of`, all of them.
+    /// The buckets of `bucket_of`.
     pub fn widening() -> Scale
         ensures { result ≡ record { shift = 51; even = 0 } }
     {
         Scale::new(WIDEST, 0)
     }
 
-    /// The bucket of a label: of a larger label the same or a larger one.
+    /// The bucket of a label, which never falls as labels rise.
     #[inline(always)]
     pub fn bucket_of(self, label: u64) -> u64
         ensures exact { result ≡ scale_bucket self label }

@@ -23,8 +23,7 @@ use std::fmt;
 use std::marker::Model;
 use std::sync::Wait;
 
-/// A worker's side of an `ObimPool`. It has a mirror of the log of bags, of each bag the chunk that it fills and the
-/// chunk that it drains, and the metric that it draws from.
+/// A worker's side of an `ObimPool`: a mirror of the log, two chunks of each bag, and the current metric.
 #[derive(Drop)]
 pub struct ObimSide {
     mirror: Mirror,
@@ -53,7 +52,6 @@ impl fmt::Debug for ObimSide {
 }
 
 impl ObimSide {
-    /// A side that knows no bag, over a mirror of none.
     pub(crate) fn new(alloc: Global, mirror: Mirror, maker: ChunkMaker) -> ObimSide
         requires { mirror.accesses ≡ [] }
         ensures { result ≡ new_side mirror.log }
@@ -74,7 +72,6 @@ impl ObimSide {
         self.mirror
     }
 
-    /// The figures of this side alone.
     pub(crate) fn worklist(&self) -> Worklist {
         let mut looks = 0_u64;
         for place in 0..self.mirror.len() {
@@ -87,8 +84,8 @@ impl ObimSide {
         }
     }
 
-    /// Does as `ObimPool::push` if the bag is at the place that is remembered and no chunk of it has to be opened or
-    /// put. It doesn't wait, and most pushes need no more.
+    /// Does as `ObimPool::push` without a wait, if the bag is at the remembered place and its chunk has room, as most
+    /// pushes find.
     #[inline(always)]
     pub(crate) fn push_near(&mut self, v: u32, metric: u64) -> bool
         ensures keeps { Keeps self.old self.new }
@@ -107,7 +104,7 @@ impl ObimSide {
         true
     }
 
-    /// Does as `ObimPool::push`, whatever it takes.
+    /// Does as `ObimPool::push`.
     #[inline(never)]
     pub(crate) fn push_far<R: Wait>(
         &mut self,
@@ -152,7 +149,7 @@ impl ObimSide {
         true
     }
 
-    /// Makes this bag the current one if none is, or if the current one has a larger metric.
+    /// Makes this bag current if none is, or one of a larger metric.
     #[inline(always)]
     fn lower(&mut self, at: OwnBag)
         requires { IsAt (metrics_in self.old.mirror.accesses) (length self.old.held) at }
@@ -181,8 +178,8 @@ impl ObimSide {
         self.pop_far(rt, log, alloc)
     }
 
-    /// Does as `pop` if the current bag's draining chunk has a vertex, or the filling one has a single vertex. It
-    /// doesn't wait, and most pops need no more.
+    /// Does as `pop` without a wait, if the draining chunk has a vertex or the filling one a single vertex, as most
+    /// pops find.
     #[inline(always)]
     pub(crate) fn pop_near(&mut self) -> Option<u32>
         ensures keeps { Keeps self.old self.new }
@@ -195,7 +192,7 @@ impl ObimSide {
         Some(v)
     }
 
-    /// Does as `pop`, whatever it takes.
+    /// Does as `pop`.
     #[inline(never)]
     fn pop_far<R: Wait>(&mut self, rt: &R, log: &BagLog, alloc: Global) -> Option<u32>
         requires { IsSideOf log.now self.old }
@@ -217,7 +214,6 @@ impl ObimSide {
         self.chunks[at.place].ahead(by)
     }
 
-    /// Takes a vertex out of the current bag.
     #[inline(always)]
     fn pop_current<R: Wait>(&mut self, rt: &R, log: &BagLog) -> Option<u32>
         requires { IsSideOf log.now self.old }
@@ -239,7 +235,7 @@ impl ObimSide {
         }
     }
 
-    /// Takes a vertex out of the lowest bag that gives one, which is current from then on.
+    /// Takes a vertex out of the lowest bag that gives one, which becomes current.
     #[inline(never)]
     fn pop_lowest<R: Wait>(&mut self, rt: &R, log: &BagLog, alloc: Global) -> Option<u32>
         requires { IsSideOf log.now self.old }
@@ -277,7 +273,7 @@ impl ObimSide {
 }
 
 impl Worklist {
-    /// The figures of these sides together.
+    /// The sum of these sides' figures.
     pub fn of(sides: &[ObimSide]) -> Worklist {
         let mut all = Worklist {
             buckets: 0,

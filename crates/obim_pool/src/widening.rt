@@ -1,4 +1,4 @@
-//! A pool whose buckets widen with the label, by a scale.
+//! A pool whose buckets widen with the label.
 
 ghost use Rattle.std.specs.Prelude.{◌≡◌, ◌≤◌, ◌<◌, replicate, IfNone, IfOk, IfSome};
 ghost use Rattle.std.specs.Bool.{OnFalse, OnTrue};
@@ -17,8 +17,7 @@ use std::fmt;
 use std::marker::Model;
 use std::sync::Wait;
 
-/// An `ObimPool` with a bag for each bucket of metrics by a scale: it needs no shift to be chosen,
-/// whatever the labels are. Handed metrics that are labels, it has at most `MOST_BUCKETS` bags.
+/// An `ObimPool` with a bag for each bucket of a scale, at most `MOST_BUCKETS` of them.
 #[derive(Drop)]
 pub struct WideningPool {
     pool: ObimPool,
@@ -40,8 +39,7 @@ impl fmt::Debug for WideningPool {
 }
 
 impl WideningPool {
-    /// A pool without bags and of this scale, and a side of it for each worker. A chunk takes `chunk`
-    /// vertices, 1 to 256.
+    /// A pool of this scale without bags, and a side for each worker. A chunk takes `chunk` vertices, 1 to 256.
     pub fn open(
         alloc: Global,
         workers: u32,
