@@ -2,7 +2,6 @@
 
 ghost use Rattle.std.specs.Prelude.{◌≡◌, ◌<◌, ◌+◌, None, IfSome, true, false};
 
-/// The visits that a worker has left, if there is a limit.
 #[derive(Clone, Copy, Debug, PartialEq, Eq)]
 pub(crate) struct Budget {
     left: u64,
@@ -10,7 +9,7 @@ pub(crate) struct Budget {
 }
 
 impl Budget {
-    /// A budget of this number of visits; without a number there is no limit.
+    /// A budget of this number of visits, or without a limit.
     pub(crate) fn new(visits: Option<u64>) -> Budget
         ensures limit { visits ≡ None → result.has_limit ≡ false }
         ensures left { IfSome visits (λ count. result.left ≡ count) }
@@ -21,17 +20,15 @@ impl Budget {
         }
     }
 
-    /// The visits that are left.
     pub(crate) fn left(&self) -> u64 {
         self.left
     }
 
-    /// The visits that were made, if there is no limit.
+    /// The visits made, if there is no limit.
     pub(crate) fn made(&self) -> u64 {
         u64::MAX - self.left
     }
 
-    /// Tells if no visit is left.
     #[inline(always)]
     pub(crate) fn is_spent(&mut self) -> bool
         ensures limit { self.new.has_limit ≡ self.old.has_limit }
@@ -46,7 +43,7 @@ impl Budget {
         self.ends()
     }
 
-    /// Tells if there is a limit; otherwise there are as many visits again.
+    /// Tells if there is a limit; otherwise renews the visits.
     #[inline(never)]
     fn ends(&mut self) -> bool
         ensures limit { self.new.has_limit ≡ self.old.has_limit }
@@ -60,7 +57,7 @@ impl Budget {
         self.has_limit
     }
 
-    /// A visit is made, of those that are left.
+    /// Counts a visit.
     #[inline(always)]
     pub(crate) fn spend(&mut self)
         requires { 0 < self.old.left }

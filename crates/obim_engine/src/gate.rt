@@ -3,17 +3,17 @@
 use obim_pool::Worklist;
 use std::sync::Wait;
 
-/// A gate that a worker calls each time that it has taken a vertex, before it reads the vertex's label. It is a place
-/// to watch workers, or to hold one back. No label depends on it.
+/// A gate that a worker calls when it has taken a vertex, before it reads its label: to watch workers or hold one back.
+/// No label depends on it.
 pub trait Gate {
-    /// Passes a visit. `worker` counts from 0, and so does `vertex`.
+    /// Passes a visit of `vertex` by `worker`, both counted from 0.
     fn pass<H: Wait>(&self, rt: &H, worker: u32, vertex: u32);
 
-    /// Sees what the worklist of a run's workers held. An operator calls it when they are done.
+    /// Sees what the worklist of a run held. An operator calls it at the end.
     fn end<H: Wait>(&self, _rt: &H, _worklist: Worklist) {}
 }
 
-/// A gate that is borrowed serves as the one that it is borrowed from.
+/// A borrowed gate serves too.
 impl<G: Gate> Gate for &G {
     fn pass<H: Wait>(&self, rt: &H, worker: u32, vertex: u32) {
         (**self).pass(rt, worker, vertex);
@@ -24,7 +24,7 @@ impl<G: Gate> Gate for &G {
     }
 }
 
-/// The gate that lets every worker through at once.
+/// The gate that lets every worker through.
 #[derive(Clone, Copy, Debug, PartialEq, Eq)]
 pub struct OpenGate;
 

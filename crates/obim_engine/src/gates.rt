@@ -1,4 +1,4 @@
-//! Gates for tests: one records the visits, one lets workers meet in other orders.
+//! Gates for tests.
 
 use crate::gate::Gate;
 use std::alloc::Global;
@@ -7,7 +7,7 @@ use std::sync::atomic::{AtomicU64, Ordering};
 use std::sync::{Mutex, Wait};
 use std::thread::yield_now;
 
-/// Keeps the vertices that passed, in their order, under a lock: for the tests of callers.
+/// Keeps the vertices that passed, in order, under a lock: for tests.
 #[derive(Drop)]
 pub struct Recorder {
     passed: Mutex<Vec<u32>>,
@@ -20,14 +20,14 @@ impl fmt::Debug for Recorder {
 }
 
 impl Recorder {
-    /// Makes a recorder that no vertex has passed.
+    /// A recorder that no vertex has passed.
     pub fn new(alloc: Global) -> Recorder {
         Recorder {
             passed: Mutex::new(Vec::new(alloc)),
         }
     }
 
-    /// The vertices that passed, the first one first.
+    /// The vertices that passed.
     pub fn into_passed(self) -> Vec<u32> {
         self.passed.into_inner()
     }
@@ -40,7 +40,7 @@ impl Gate for Recorder {
     }
 }
 
-/// Hands the processor on before one visit in eight, drawn at random: for the tests of callers.
+/// Yields the processor before one visit in eight, at random: for tests.
 #[derive(Debug, Drop)]
 pub struct Yielding {
     state: AtomicU64,

@@ -1,4 +1,4 @@
-//! The labels that are wanted of a run, and the point at which it has them.
+//! The labels that are wanted of a run.
 
 ghost use Rattle.std.specs.Prelude.{◌≡◌, ◌↔◌, ◌<◌, ◌≤◌, IsTrue, length, slice_index, All};
 ghost use Rattle.obim_engine.specs.Goal.{IsGoalWithin, IsServedBy, limit_past, targets_of};
@@ -6,30 +6,28 @@ ghost use Rattle.obim_engine.specs.Goal.{IsGoalWithin, IsServedBy, limit_past, t
 use label_words::Closed;
 use route_walks::INF;
 
-/// The labels that are wanted of a run. It goes on until it has these, and may stop then.
+/// The labels that are wanted. The run may stop when it has them.
 #[derive(Clone, Copy, Debug)]
 pub enum Goal<'a> {
-    /// Those of all vertices: the run goes to its end.
+    /// Those of all vertices.
     EachVertex,
-    /// Those of these vertices. The run goes as far as the greatest of them, and to its end if one of them
-    /// can't be reached.
+    /// Those of these vertices. The run goes as far as the greatest, and to its end if one can't be reached.
     Targets(&'a [u32]),
-    /// Those of these vertices, and of each vertex on a walk of least cost to one of them, so that walks to them
-    /// can be found from the labels. The run goes a little further than for the vertices alone.
+    /// Those of these vertices and of each vertex on a least walk to one of them, for `walk_report`. The run goes a
+    /// little further than for `Targets`.
     WalksTo(&'a [u32]),
     /// All that are at most this bound.
     Within(u64),
 }
 
 impl<'a> Goal<'a> {
-    /// Tells if the vertices that are named are below `n`: for callers that have them from outside.
+    /// Tells if the vertices named are below `n`: for goals from outside.
     pub fn is_within(&self, n: u32) -> bool
         ensures { IsTrue result ↔ IsGoalWithin n self.now }
     {
         self.targets().iter().all(|target| *target < n)
     }
 
-    /// The vertices that are named.
     pub(crate) fn targets(&self) -> &'a [u32]
         ensures { result.now ≡ targets_of self.now }
     {
@@ -40,7 +38,7 @@ impl<'a> Goal<'a> {
         }
     }
 
-    /// The least limit that serves, if this is the greatest label of the vertices that are named.
+    /// The least limit that serves, by the greatest label of the targets.
     pub(crate) fn limit_past(&self, farthest: u64) -> u64
         ensures { result ≡ limit_past self.now farthest }
     {
@@ -52,7 +50,7 @@ impl<'a> Goal<'a> {
         }
     }
 
-    /// The least limit that serves these labels: those that are least up to it are all that is wanted.
+    /// The least limit up to which labels must be least to serve.
     pub(crate) fn limit_of(&self, labels: &[u64]) -> u64
         requires { IsGoalWithin (length labels.now) self.now }
         ensures { IsServedBy self.now labels.now result }
@@ -64,13 +62,12 @@ impl<'a> Goal<'a> {
 /// The result of a run that may stop once its goal is reached.
 #[derive(Debug, Drop)]
 pub struct Reached {
-    /// Least labels if the run came to its end, or else a pause, from which it can go on.
+    /// Least labels if the run came to its end, or else a pause.
     pub closed: Closed,
-    /// Labels are least up to this limit: `INF` if all are.
+    /// The limit up to which labels are least: `INF` if all are.
     pub limit: u64,
 }
 
-/// The greatest label of the targets; 0 if there are none.
 fn farthest(labels: &[u64], targets: &[u32]) -> u64
     requires { All (λ t. t < length labels.now) targets.now }
     ensures { All (λ t. slice_index labels.now t ≤ result) targets.now }

@@ -1,4 +1,4 @@
-//! Any number of workers: one is a worker, more are two groups side by side.
+//! Any number of workers: one, or two groups side by side.
 
 ghost use Rattle.std.specs.Prelude.{◌≡◌, ◌+◌, ◌≤◌, None, length, All, IfNone, IfSome};
 ghost use Rattle.std.specs.Thread.{IsSync};
@@ -14,10 +14,8 @@ use std::sync::Wait;
 use std::thread::{Threads, join_mut};
 use std::time::Clock;
 
-/// One worker for each side, numbered from `first`, until each of them saw the pending total at 0, spent its
-/// budget or has nothing left to do that is wanted. The seat comes and goes by value, so that a worker's lies in
-/// registers. If no thread can be started, the workers that should have had one run after the others, on
-/// this thread.
+/// Runs a worker for each side, numbered from `first`, until each is done. The seat goes by value, so that it lies in
+/// registers. If no thread can be started, workers run one after another on this thread.
 #[cycle(group)]
 pub(crate) fn run_group<H, S, P, G>(
     rt: &H,

@@ -9,12 +9,10 @@ ghost use Rattle.obim_engine.specs.Grown.{IsGrown, TailsAreMarked};
 use label_words::Paused;
 use route_walks::ArcRec;
 
-/// Turns a pause of a graph into one of the graph with these arcs added, which `with_arcs` of `Csr` gives. The tail of
-/// each added arc is marked, so that a run which goes on from it relaxes the added arcs, and the labels stay. `resume`
-/// over the grown graph then ends with the labels that a run from the seeds would give there. Only what the added arcs
-/// change is visited, and each marked vertex once.
+/// Turns a pause of a graph into one of the graph with these arcs added, which `Csr::with_arcs` gives. It marks the
+/// tails of the added arcs, so `resume` over the grown graph visits only what they change. Takes no memory.
 ///
-/// Labels that a run gave are a pause by `Paused::settled`. Takes no memory.
+/// Labels that a run gave are a pause by `Paused::settled`.
 pub fn grow(mut rest: Paused, added: &[ArcRec]) -> Paused
     requires { All (λ arc. arc.tail < length rest.marks) added.now }
     ensures labels { result.labels ≡ rest.labels }

@@ -1,7 +1,4 @@
-//! Hints: how wide buckets are, what is asked of memory ahead of a visit, and when a worker waits, naps, sweeps or
-//! leaves.
-//!
-//! No label depends on what these say, so they promise nothing of labels.
+//! Hints: widths of buckets, prefetching, waits, sweeps and early ends. They promise nothing of labels.
 
 pub(crate) mod aim;
 pub(crate) mod pace;

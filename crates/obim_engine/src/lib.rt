@@ -1,23 +1,14 @@
 //! Workers, the end of a run, and its labels.
 //!
-//! `run` gives the least labels of a graph and seeds by any number of workers. Each worker draws a
-//! vertex from a pool, takes its mark, relaxes the arcs that leave it, and hands the vertices whose
-//! labels fell to the pool again. It leaves when it sees the pending total at 0: then no vertex is
-//! marked and no worker holds one.
+//! `run` gives least labels by any number of workers. Each draws a vertex, takes its mark, relaxes its arcs, and pushes
+//! the heads whose labels fell. It leaves when the pending total is 0.
 //!
-//! A pool, a gate and the settings are hints. `run` ensures that the labels are least whatever the
-//! pool drops, repeats or invents, whatever the gate does, and in whichever order threads step.
+//! Pool, gate and settings are hints: the labels are least whatever they do, in whichever order threads step.
 //!
-//! `run_for` and `resume` do the same in pieces, with a pause between two of them; there the graph may get
-//! more arcs, by `grow`.
+//! `run_for` and `resume` work in pieces, and `grow` adds arcs between two. `run_until` and `resume_until` may stop
+//! once the wanted labels are least.
 //!
-//! `run_until` and `resume_until` may stop before, once the labels that are wanted are least: those of some targets, or
-//! those within a bound. When they stop is a hint, and what they promise isn't.
-//!
-//! `distances`, `levels` and `components` choose seeds and arcs, and bring a pool of their own.
-//!
-//! Stands on `label_words` for the steps of a worker and on `obim_pool` for the pool. It starts
-//! threads and waits: a call returns only if its workers do, which no contract promises.
+//! No contract promises that workers return.
 #![tactic(auto)]
 
 mod budget;

@@ -17,9 +17,9 @@ use std::alloc::Global;
 #[derive(Drop)]
 pub(crate) struct Opened {
     pub words: Words,
-    /// The seat that they were opened with, which has all shares.
+    /// The seat with all shares.
     pub seat: WorkSeat,
-    /// The one vertex that is seeded, if there are no others: then only it is marked.
+    /// The one seeded vertex, if there are no others.
     pub only: Option<u32>,
     ghost words_are: { seat.words ≡ words },
     ghost shares: { seat.known.view.share ≡ SHARES },
@@ -28,7 +28,7 @@ pub(crate) struct Opened {
 }
 
 impl Opened {
-    /// Words whose labels are those of the seeds.
+    /// Words with the labels of the seeds.
     pub(crate) fn from_seeds(alloc: Global, csr: &Csr, seeds: &[Seed]) -> Result<Opened, Memory>
         requires { AreSeeds csr.now.n seeds.now }
         ensures { IfOk result (λ opened. opened.seat.known ≡ first_known csr.now seeds.now) }
@@ -38,7 +38,7 @@ impl Opened {
         Ok(Opened { words, seat, only })
     }
 
-    /// Makes words with the labels and marks of a pause, and drops it.
+    /// Words with the labels and marks of a pause, which is dropped.
     pub(crate) fn from_pause(alloc: Global, csr: &Csr, rest: Paused) -> Result<Opened, Memory>
         requires { CanGoOn csr.now rest }
         ensures { IfOk result (λ opened. opened.seat.known ≡ first_known csr.now (seeds_of rest.labels)) }
@@ -53,7 +53,6 @@ impl Opened {
     }
 }
 
-/// The one vertex that is seeded, if there are no others.
 fn only_seeded(seeds: &[Seed]) -> Option<u32>
     ensures { IfSome result (λ v. All (λ seed. seed.vertex ≡ v) seeds.now) }
 {

@@ -1,4 +1,4 @@
-//! The operators: which arcs and which seeds give distances, hop levels and components.
+//! The operators: distances, hop levels and components.
 
 ghost use Rattle.std.specs.Prelude.{◌≡◌, ◌<◌, ◌≤◌, ◌^◌, List, length, IfOk};
 ghost use Rattle.route_walks.specs.Label.{AreLeastLabels};
@@ -28,8 +28,8 @@ use std::sync::Wait;
 use std::thread::Threads;
 use std::time::Clock;
 
-/// The least label of each vertex from any seeds, by workers over a pool of their own: an `ObimPool`, or
-/// a `WideningPool` if the settings say so. The seeds are given back before the workers start.
+/// The least label of each vertex from any seeds, over a pool that the settings choose. The seeds are freed before
+/// workers start.
 pub fn least_labels<H: Threads + Wait + Clock + Sync, G: Gate + Sync>(
     rt: &H,
     alloc: Global,
@@ -46,7 +46,7 @@ pub fn least_labels<H: Threads + Wait + Clock + Sync, G: Gate + Sync>(
     Ok(reached.closed.into_labels())
 }
 
-/// Does as `least_labels`, but may stop as soon as those that are wanted are least.
+/// Does as `least_labels`, but may stop once the wanted labels are least.
 pub fn least_labels_until<H: Threads + Wait + Clock + Sync, G: Gate + Sync>(
     rt: &H,
     alloc: Global,
@@ -65,9 +65,8 @@ pub fn least_labels_until<H: Threads + Wait + Clock + Sync, G: Gate + Sync>(
     reach_alone(rt, alloc, csr, opened, goal, settings, gate)
 }
 
-/// The least label of each vertex of a graph from the seeds of a pause. Workers go on from the pause, which is of this
-/// graph, to the end, over a pool of their own as for `least_labels`. Only what the marked vertices change is visited.
-/// After a fault the pause is gone.
+/// The least labels of the graph and seeds of a pause, of which a run goes on: it visits only what marked vertices
+/// change. After a fault the pause is gone.
 pub fn least_labels_resumed<H: Threads + Wait + Clock + Sync, G: Gate + Sync>(
     rt: &H,
     alloc: Global,
@@ -94,7 +93,7 @@ pub fn least_labels_resumed<H: Threads + Wait + Clock + Sync, G: Gate + Sync>(
     Ok(reached.closed.into_labels())
 }
 
-/// Does as `least_labels_resumed`, but may stop as soon as those that are wanted are least.
+/// Does as `least_labels_resumed`, but may stop once the wanted labels are least.
 pub fn least_labels_resumed_until<H: Threads + Wait + Clock + Sync, G: Gate + Sync>(
     rt: &H,
     alloc: Global,
@@ -117,7 +116,7 @@ pub fn least_labels_resumed_until<H: Threads + Wait + Clock + Sync, G: Gate + Sy
     reach_alone(rt, alloc, csr, opened, goal, settings, gate)
 }
 
-/// Goes on from open words until the goal is reached, over a pool of its own.
+/// Goes on from open words until the goal is reached.
 fn reach_alone<H: Threads + Wait + Clock + Sync, G: Gate + Sync>(
     rt: &H,
     alloc: Global,
@@ -165,7 +164,7 @@ fn reach_alone<H: Threads + Wait + Clock + Sync, G: Gate + Sync>(
     }
 }
 
-/// The least cost of a walk from the source to each vertex, or `INF` if no walk leads there. Takes as long as a `run`.
+/// The least cost of a walk from the source to each vertex; `INF` if no walk leads there.
 pub fn distances<H: Threads + Wait + Clock + Sync, G: Gate + Sync>(
     rt: &H,
     alloc: Global,
@@ -182,7 +181,7 @@ pub fn distances<H: Threads + Wait + Clock + Sync, G: Gate + Sync>(
     Ok(reached.closed.into_labels())
 }
 
-/// Does as `distances`, but may stop as soon as those that are wanted are least.
+/// Does as `distances`, but may stop once the wanted labels are least.
 pub fn distances_until<H: Threads + Wait + Clock + Sync, G: Gate + Sync>(
     rt: &H,
     alloc: Global,
@@ -200,8 +199,8 @@ pub fn distances_until<H: Threads + Wait + Clock + Sync, G: Gate + Sync>(
     least_labels_until(rt, alloc, csr, seeds, goal, settings, gate)
 }
 
-/// The fewest arcs of a walk from the source to each vertex, or `INF` if no walk leads there. Each call makes
-/// the graph with weights of 1 anew: for many sources make it once, and ask for `distances` in it.
+/// The fewest arcs of a walk from the source to each vertex; `INF` if no walk leads there. Each call makes a graph with
+/// weights of 1: for many sources make it once, and ask for `distances`.
 pub fn levels<H: Threads + Wait + Clock + Sync, G: Gate + Sync>(
     rt: &H,
     alloc: Global,
@@ -220,8 +219,8 @@ pub fn levels<H: Threads + Wait + Clock + Sync, G: Gate + Sync>(
     distances(rt, alloc, &units, source, settings, gate)
 }
 
-/// The least number, from 0, of a vertex that arcs join to each vertex, whichever way they point. The
-/// graph has at most 2^31 arcs, since each is taken both ways.
+/// The least number, from 0, of a vertex connected with each vertex, whichever way arcs point. The graph has at most
+/// 2^31 arcs.
 pub fn components<H: Threads + Wait + Clock + Sync, G: Gate + Sync>(
     rt: &H,
     alloc: Global,
@@ -240,7 +239,6 @@ pub fn components<H: Threads + Wait + Clock + Sync, G: Gate + Sync>(
     least_labels(rt, alloc, &both, seeds, settings, gate)
 }
 
-/// The rows of the same arcs with weight 1.
 fn unit_rows(alloc: Global, csr: &Csr) -> Result<Csr, Memory>
     ensures vertices { IfOk result (λ units. units.n ≡ csr.now.n) }
     ensures arcs { IfOk result (λ units. HaveSameArcs units.arcs (unit_weights csr.now.arcs)) }
@@ -251,7 +249,7 @@ fn unit_rows(alloc: Global, csr: &Csr) -> Result<Csr, Memory>
     Csr::build(alloc, csr.n(), &units)
 }
 
-/// The rows of the arcs both ways, free, made by `threads` threads.
+/// The rows of the arcs both ways, free.
 fn both_rows<H: Threads + Sync>(
     rt: &H,
     alloc: Global,

@@ -1,4 +1,4 @@
-//! A run: open the words, hand the marked vertices to the pool, let the workers go, close.
+//! A run, from open words to labels.
 
 ghost use Rattle.std.specs.Prelude.{◌≡◌, ◌≤◌, length, None, All, IfOk, IfSome};
 ghost use Rattle.route_walks.specs.Label.{AreLeastLabels};
@@ -27,13 +27,12 @@ use std::sync::Wait;
 use std::thread::Threads;
 use std::time::Clock;
 
-/// The reason for which a run gives no labels. The sides are still sides of the pool.
+/// The reason why a run gives no labels. Sides stay sides of the pool.
 #[derive(Clone, Copy, Debug, PartialEq, Eq)]
 pub enum RunFault {
-    /// The system refused memory, before the workers started or while the words were closed.
+    /// The system refused memory.
     Memory,
-    /// The system refused a thread. No run returns it: if a thread can't be started, its workers run
-    /// on the thread that wanted it.
+    /// The system refused a thread. No run returns it: workers without a thread run on the one that wanted it.
     Spawn,
 }
 
@@ -56,15 +55,13 @@ impl From<route_walks::Memory> for RunFault {
     }
 }
 
-/// The least label of each vertex, by one worker for each side of the pool. The labels don't depend on
-/// the pool, the gate, the settings or the order in which workers step. The pool is handed each marked
-/// vertex in rising order before the workers start, at its label shifted right.
+/// The least label of each vertex, by a worker for each side of the pool. Marked vertices are pushed first, in rising
+/// order, at their labels shifted right.
 ///
-/// The call returns when its workers do. A worker that draws nothing for long looks at every vertex
-/// itself, so that a pool which loses vertices does not keep a run from its end.
+/// A worker that draws nothing for long looks at every vertex itself, so a pool that loses vertices does not keep a run
+/// from its end.
 ///
-/// A visit takes time in proportion to the arcs that leave the vertex. How often a vertex is visited depends on
-/// the pool and on the order in which workers step: about once if the pool gives low labels first.
+/// A visit takes the time of the vertex's arcs. If the pool gives low labels first, each vertex is visited about once.
 pub fn run<H: Threads + Wait + Clock + Sync, P: WorkPool + Sync, G: Gate + Sync>(
     rt: &H,
     alloc: Global,
@@ -89,9 +86,8 @@ where
     solve(rt, alloc, opened, &run, sides)
 }
 
-/// A `run` until each worker has visited `budget` vertices or all is settled: then labels are
-/// least, or what is left is a pause, from which `resume` goes on. Which vertices are visited depends on
-/// the pool and on the order in which workers step. Visits of a sweep count.
+/// Runs until each worker has visited `budget` vertices or all is settled. Returns least labels or a pause, from which
+/// `resume` goes on. Visits of a sweep count.
 pub fn run_for<H: Threads + Wait + Clock + Sync, P: WorkPool + Sync, G: Gate + Sync>(
     rt: &H,
     alloc: Global,
@@ -116,8 +112,8 @@ where
     run_workers(rt, alloc, opened, &run, sides)
 }
 
-/// Goes on from a pause of this graph and these seeds, with a budget as `run_for` has it. No label rises.
-/// The pool, the sides and the settings may be others than before. After a fault the pause is gone.
+/// Goes on from a pause of this graph and these seeds, as `run_for`. Pool, sides and settings may be others than
+/// before. After a fault the pause is gone.
 pub fn resume<H: Threads + Wait + Clock + Sync, P: WorkPool + Sync, G: Gate + Sync>(
     rt: &H,
     alloc: Global,
@@ -148,7 +144,6 @@ where
     run_workers(rt, alloc, opened, &run, sides)
 }
 
-/// A `run` on open words, to the end.
 pub(crate) fn solve<H: Threads + Wait + Clock + Sync, P: WorkPool + Sync, G: Gate + Sync>(
     rt: &H,
     alloc: Global,
@@ -175,7 +170,7 @@ where
     }
 }
 
-/// Lets a worker go for each side, and closes the words.
+/// Runs a worker for each side, and closes the words.
 pub(crate) fn run_workers<H: Threads + Wait + Clock + Sync, P: WorkPool + Sync, G: Gate + Sync>(
     rt: &H,
     alloc: Global,
@@ -205,7 +200,7 @@ where
     Ok(words.close(alloc, seat)?)
 }
 
-/// Hands each marked vertex to the pool, in rising order, or `only` one if the others aren't marked.
+/// Pushes each marked vertex, in rising order, or the `only` one.
 fn push_marked<H: Wait, P: WorkPool, G>(
     rt: &H,
     shared: &Shared<'_, P, G>,

@@ -4,38 +4,36 @@ ghost use Rattle.std.specs.Prelude.{◌≡◌, ◌↔◌, ◌≤◌, IsSome, IfS
 ghost use Rattle.obim_engine.specs.Settings.{AreSettings, shift_of};
 ghost use Rattle.obim_engine.specs.declared.settings.Buckets.TheVariants as buckets;
 
-/// A run has at most this many workers.
+/// The most workers of a run.
 pub const MAX_WORKERS: u32 = 64;
 
-/// A label is shifted right by at most this many bits.
+/// The most bits by which a label is shifted right.
 pub const MAX_SHIFT: u32 = 63;
 
-/// A chunk has at most this many vertices.
+/// The most vertices of a chunk.
 pub const MAX_CHUNK: usize = 256;
 
 /// The buckets that labels share.
 #[derive(Clone, Copy, Debug, PartialEq, Eq)]
 pub enum Buckets {
-    /// Each bucket spans 2^bits labels: a label is shifted right by so many bits, from 0 to `MAX_SHIFT`, to give its
-    /// metric.
+    /// Each bucket spans 2^bits labels, 0 to `MAX_SHIFT`: a label shifted right gives its metric.
     Even(u32),
-    /// The operators fit buckets to the graph, and they widen as labels rise (`widths_of`). To a run over another
-    /// pool each label is its own metric.
+    /// The operators fit buckets to the graph by `widths_of`. To a run over another pool each label is its own metric.
     Widening,
 }
 
-/// The settings by which labels are worked out. None of them changes a label.
+/// The settings of a run. None of them changes a label.
 #[derive(Clone, Copy, Debug, PartialEq, Eq)]
 pub struct Settings {
-    /// The number of workers, from 1 to `MAX_WORKERS`.
+    /// The number of workers, 1 to `MAX_WORKERS`.
     pub workers: u32,
     pub buckets: Buckets,
-    /// The number of vertices that are shared at a time, from 1 to `MAX_CHUNK`.
+    /// The number of vertices shared at a time, 1 to `MAX_CHUNK`.
     pub chunk: usize,
     ghost within: { AreSettings workers (shift_of buckets) chunk },
 }
 
-/// The setup of a run: its settings, its pool, and the gate that watches it.
+/// The settings, pool and gate of a run.
 #[derive(Drop)]
 pub struct Setup<'a, P, G> {
     pub settings: &'a Settings,
@@ -44,7 +42,7 @@ pub struct Setup<'a, P, G> {
 }
 
 impl Settings {
-    /// The settings with even buckets, or `None` if one is outside its limits.
+    /// The settings with even buckets; `None` if one is outside its limits.
     pub fn new(workers: u32, shift: u32, chunk: usize) -> Option<Settings>
         ensures within { IsSome result ↔ AreSettings workers shift chunk }
         ensures workers { IfSome result (λ settings. settings.workers ≡ workers) }
@@ -64,7 +62,7 @@ impl Settings {
         })
     }
 
-    /// Returns these settings with buckets that widen: they fit every graph that was tried.
+    /// Returns these settings with widening buckets, which fit every graph that was tried.
     pub fn with_widening_buckets(self) -> Settings
         ensures workers { result.workers ≡ self.workers }
         ensures buckets { result.buckets ≡ buckets.Widening }
@@ -77,7 +75,7 @@ impl Settings {
         }
     }
 
-    /// Returns these settings with so many workers.
+    /// Returns these settings with this many workers.
     pub fn with_workers(self, workers: u32) -> Settings
         requires { (1 ≤ workers) × (workers ≤ MAX_WORKERS) }
         ensures workers { result.workers ≡ workers }
@@ -91,7 +89,7 @@ impl Settings {
         }
     }
 
-    /// The number of bits by which labels are shifted right, if the graph isn't asked.
+    /// The shift, if the graph isn't asked.
     pub(crate) fn shift(&self) -> u32
         ensures { result ≤ MAX_SHIFT }
     {

@@ -9,23 +9,20 @@ use crate::settings::{Settings, Setup};
 use csr_graph::Csr;
 use label_words::Words;
 
-/// A run: in which graph, over which pool, past which gate, and how far. Without a budget it goes on until it has
-/// the labels that are wanted.
+/// A run. Without a budget it goes on until it has the wanted labels.
 #[derive(Drop)]
 pub(crate) struct Run<'a, P, G> {
     pub csr: &'a Csr,
     pub pool: &'a P,
     pub gate: &'a G,
-    /// The number of bits by which a label is shifted right to give its metric.
     pub shift: u32,
-    /// The number of vertices that each worker may visit, if there is a limit.
+    /// The visits of each worker, if there is a limit.
     pub budget: Option<u64>,
     pub goal: Goal<'a>,
     ghost within: { shift ≤ MAX_SHIFT },
 }
 
 impl<'a, P, G> Run<'a, P, G> {
-    /// A run that is set up so, for this goal.
     pub(crate) fn of(csr: &'a Csr, goal: Goal<'a>, setup: &Setup<'a, P, G>) -> Run<'a, P, G>
         ensures csr { result.csr.now ≡ csr.now }
         ensures pool { result.pool.now ≡ setup.now.pool.now }
@@ -83,7 +80,7 @@ impl<'a, P, G> Run<'a, P, G> {
         }
     }
 
-    /// This run without a goal, to its end.
+    /// This run, to its end.
     pub(crate) fn to_end(&self) -> Run<'a, P, G>
         ensures csr { result.csr.now ≡ self.now.csr.now }
         ensures pool { result.pool.now ≡ self.now.pool.now }
@@ -100,7 +97,6 @@ impl<'a, P, G> Run<'a, P, G> {
         }
     }
 
-    /// The metric of a label.
     #[inline(always)]
     pub(crate) fn metric_of(&self, label: u64) -> u64 {
         label >> self.shift

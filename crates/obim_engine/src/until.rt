@@ -1,8 +1,7 @@
-//! Runs that may stop early, once the labels that are wanted are least.
+//! Runs that may stop early.
 //!
-//! When workers leave is a hint. That the labels are least is seen from the pause that they leave: no vertex is marked
-//! whose label is below the limit that serves the goal. If one is, for example since the pool has lost it, the run
-//! goes on to its end.
+//! When workers leave is a hint. Their pause shows if the wanted labels are least: no vertex below the limit is marked.
+//! If one is, since the pool lost it, the run goes on to its end.
 
 ghost use Rattle.std.specs.Prelude.{◌≡◌, ◌≤◌, length, None, All, IfOk};
 ghost use Rattle.route_walks.specs.Walk.{AreSeeds};
@@ -26,11 +25,10 @@ use std::sync::Wait;
 use std::thread::Threads;
 use std::time::Clock;
 
-/// A `run` that may stop as soon as the labels that are wanted are least. The limit up to which labels are least is the
-/// least one that serves the goal if it stopped early, and `INF` if it came to its end.
+/// Runs, and may stop once the wanted labels are least. They are then least up to the least limit that serves the goal,
+/// or `INF` if the run came to its end.
 ///
-/// It visits about the vertices whose labels are below the limit, once each if the pool gives low labels first. It also
-/// takes some passes over all vertices.
+/// It visits about the vertices below the limit, and takes some passes over all vertices.
 pub fn run_until<H: Threads + Wait + Clock + Sync, P: WorkPool + Sync, G: Gate + Sync>(
     rt: &H,
     alloc: Global,
@@ -81,8 +79,7 @@ where
     reach(rt, alloc, opened, &Run::of(csr, goal, setup), sides)
 }
 
-/// A run on open words until its goal is reached. If the labels that are wanted are seen to be least, what the
-/// workers left is returned as it is. Otherwise the run goes on to the end.
+/// Runs on open words until the goal is reached. If the pause doesn't show that, the run goes on to its end.
 pub(crate) fn reach<H: Threads + Wait + Clock + Sync, P: WorkPool + Sync, G: Gate + Sync>(
     rt: &H,
     alloc: Global,
@@ -117,7 +114,6 @@ where
     Ok(settled(labels))
 }
 
-/// The result of a run that came to its end.
 fn settled(labels: Vec<u64>) -> Reached
     ensures { result ≡ record { closed = Closed.Settled labels; limit = INF } }
 {

@@ -1,10 +1,8 @@
-//! One worker: it draws a vertex, takes it, relaxes its arcs, and begins again. It ends if the pending total is 0,
-//! its budget is spent, or nothing is left below the limit of what is wanted.
+//! One worker: it draws a vertex, takes it, relaxes its arcs, and begins again.
 //!
-//! The pending total is the one word on which every worker would step at each mark and after each visit. So a worker
-//! keeps its credits from visit to visit. The credit of a vertex that it took pays for the mark of a head, and if it
-//! has none for a mark it raises many at once. As long as it keeps some the total isn't 0, so it gives all back
-//! before it looks at the total, naps, sweeps or leaves.
+//! Every worker would step on the pending total at each mark. So a worker keeps its credits from visit to visit: that
+//! of a vertex pays for a head's mark, and otherwise it raises many at once. It gives all back before it looks at the
+//! total, naps, sweeps or leaves.
 
 ghost use Rattle.std.specs.Prelude.{◌≡◌, ◌≢◌, ◌≤◌, ◌<◌, true, false, IfNone, IfSome};
 ghost use Rattle.relax_core.specs.declared.views.Hand.TheVariants.{Idle, Fresh};
@@ -32,14 +30,13 @@ use route_walks::INF;
 use std::sync::Wait;
 use std::time::Clock;
 
-/// The number of credits that a worker raises at once, if it has none for a mark.
+/// The credits that a worker raises at once, if it has none for a mark.
 const RAISED: u8 = 64;
 
-/// The most credits that a worker keeps after a visit. If it has more it gives all back.
+/// The most credits that a worker keeps after a visit; with more it gives all back.
 const MOST_KEPT: u8 = 128;
 
-/// Works until the seat sees the pending total at 0, the worker has visited as many vertices as its budget
-/// lets it, or nothing wanted is left to do. If all is wanted, no label is compared with a limit.
+/// Works until the seat sees the total at 0, the budget is spent, or nothing wanted is left to do.
 pub(crate) fn work<H: Wait + Clock, P: WorkPool, G: Gate>(
     rt: &H,
     shared: &Shared<'_, P, G>,
@@ -59,8 +56,8 @@ pub(crate) fn work<H: Wait + Clock, P: WorkPool, G: Gate>(
     }
 }
 
-/// Works until nothing is left to do that is wanted, if that is not all: without a limit until each target has a
-/// label, and from then on with one. If it finds them late, it goes on to the end.
+/// Works without a limit until each target has a label, and then with one. If it finds them late, it goes on to the
+/// end.
 fn work_until<H: Wait + Clock, P: WorkPool, G: Gate>(
     rt: &H,
     shared: &Shared<'_, P, G>,
@@ -90,9 +87,7 @@ fn work_until<H: Wait + Clock, P: WorkPool, G: Gate>(
     work_with(rt, shared, worker, seat, side, &mut wanted)
 }
 
-/// Works until the seat sees the pending total at 0, the worker has visited as many vertices as its budget
-/// lets it, or nothing wanted is left to do. It also ends if another aim is due. The seat comes and goes by value, so
-/// that it lies in registers meanwhile.
+/// Works as `work` for one aim, or until another is due. The seat goes by value, so that it lies in registers.
 fn work_with<H: Wait + Clock, P: WorkPool, G: Gate, A: Aim>(
     rt: &H,
     shared: &Shared<'_, P, G>,
@@ -169,7 +164,7 @@ fn work_with<H: Wait + Clock, P: WorkPool, G: Gate, A: Aim>(
     unreachable!()
 }
 
-/// Takes the mark of `u` away, as `take`, unless its label is past what is wanted: then the mark stays.
+/// Takes the mark of `u`, unless its label is past what is wanted.
 #[inline(always)]
 fn take_below<P, G, A: Aim>(shared: &Shared<'_, P, G>, seat: &mut WorkSeat, aim: &A, u: u32) -> bool
     requires words { seat.old.words ≡ shared.now.words.now }
@@ -184,7 +179,6 @@ fn take_below<P, G, A: Aim>(shared: &Shared<'_, P, G>, seat: &mut WorkSeat, aim:
     !aim.leaves(shared, seat, u) && shared.words.take(seat, u)
 }
 
-/// Gives back all credits that the seat kept. Until then no seat sees the total at 0.
 #[inline(always)]
 fn give_all_back(words: &Words, seat: &mut WorkSeat)
     requires words { seat.old.words ≡ words.now }
@@ -202,7 +196,7 @@ fn give_all_back(words: &Words, seat: &mut WorkSeat)
     }
 }
 
-/// Tells if the pending total is 0. A worker that looked with credits of its own would never see that.
+/// Tells if the pending total is 0, after all credits were given back.
 #[inline(always)]
 fn is_over(words: &Words, seat: &mut WorkSeat) -> bool
     requires words { seat.old.words ≡ words.now }
@@ -215,8 +209,7 @@ fn is_over(words: &Words, seat: &mut WorkSeat) -> bool
     words.see(seat)
 }
 
-/// Looks at what is wanted, after so many visits, and at the other workers, and naps if it is far ahead of one:
-/// without credits then.
+/// Looks at the targets and the other workers, and naps, without credits, if it is far ahead.
 #[inline(never)]
 fn look<C: Clock, P, G, A: Aim>(
     clock: &C,
@@ -243,8 +236,7 @@ fn look<C: Clock, P, G, A: Aim>(
     seat
 }
 
-/// Shows other workers the metric of the vertex that the worker is about to take, if it is marked, and `INF`
-/// if there is no vertex.
+/// Shows others the metric of the vertex that it is about to take, or `INF`.
 fn show<P, G>(shared: &Shared<'_, P, G>, worker: u32, seat: &WorkSeat, vertex: Option<u32>)
     requires words { seat.now.words ≡ shared.now.words.now }
     requires graph { shared.now.run.csr.now ≡ seat.now.known.graph }
@@ -260,8 +252,8 @@ fn show<P, G>(shared: &Shared<'_, P, G>, worker: u32, seat: &WorkSeat, vertex: O
     }
 }
 
-/// Visits each vertex that is marked below the limit, in rising order, until the budget is spent: those too that
-/// the pool has lost. Returns the seat, which kept no credit, and what is left of the budget.
+/// Visits each marked vertex below the limit, in rising order, until the budget is spent, also those that the pool
+/// lost. Returns the seat and the rest of the budget.
 #[inline(never)]
 fn sweep<H: Wait, P: WorkPool, G: Gate, A: Aim>(
     rt: &H,
@@ -300,8 +292,8 @@ fn sweep<H: Wait, P: WorkPool, G: Gate, A: Aim>(
     (seat, budget)
 }
 
-/// Relaxes the row of the vertex that the seat took, and keeps the credits that are left, for marks to come. A head
-/// whose label fell is marked, and handed to the pool if the label is below the limit.
+/// Relaxes the row of the taken vertex, and keeps the credits. A head whose label fell is marked, and pushed if it is
+/// below the limit.
 #[inline(always)]
 fn visit<H: Wait, P: WorkPool, G: Gate, A: Aim>(
     rt: &H,
@@ -347,8 +339,8 @@ fn visit<H: Wait, P: WorkPool, G: Gate, A: Aim>(
     }
 }
 
-/// Relaxes the arcs of the row of `u` that come next, until the label of a head falls: the head, which is
-/// owed a mark then, and its label. `None` at the row's end. It doesn't wait: a call that may costs more.
+/// Relaxes arcs of `u` until the label of a head falls: the head, which is owed a mark, and its label. `None` at the
+/// row's end. It doesn't wait: a call that may costs more.
 #[inline(always)]
 fn next_lowered(
     words: &Words,
@@ -377,7 +369,7 @@ fn next_lowered(
     }
 }
 
-/// Sets the mark that is owed, with a credit other than the one of the worker's vertex.
+/// Sets the owed mark, with a credit other than that of the worker's vertex.
 #[inline(always)]
 fn mark(words: &Words, seat: &mut WorkSeat, u: u32)
     requires words { seat.old.words ≡ words.now }

@@ -1,11 +1,10 @@
-//! The aim of a worker: the label from which on nothing is left to do that is wanted.
+//! The aim of a worker: the label past which nothing is wanted.
 //!
-//! If targets are wanted, a worker looks at their labels now and then. Until each has one, no label is past what is
-//! wanted, and none is compared with a limit. From then on vertices with labels past the greatest are left alone:
-//! they stay marked, and a run may go on from there.
+//! A worker looks at the labels of targets now and then. Until each has one, no label is compared with a limit. From
+//! then on vertices past the greatest are left alone and stay marked.
 //!
-//! A worker that draws nothing leaves if no other one is at work below that. No label depends on it: the marks that
-//! are left show if those that are wanted are least.
+//! A worker without a vertex leaves if no other is at work below the limit. Marks that are left show if the wanted
+//! labels are least.
 
 ghost use Rattle.std.specs.Prelude.{◌≡◌, ◌≢◌, ◌<◌, true};
 ghost use Rattle.obim_engine.specs.declared.goal.Goal.TheVariants as goal;
@@ -15,29 +14,28 @@ use crate::shared::Shared;
 use label_words::WorkSeat;
 use route_walks::INF;
 
-/// Visits between two looks at the labels of the targets: as many as there are targets, and at least so many.
+/// The least number of visits between two looks at targets; more targets have as many visits.
 const VISITS: u32 = 64;
 
-/// The number of fruitless pops in a row before a worker leaves, if there are other workers.
+/// Fruitless pops in a row before a worker leaves, if there are others.
 const POPS: u32 = 16;
 
-/// The number of fruitless pops in a row after which it leaves, whatever other workers do.
+/// Fruitless pops in a row after which it leaves in any case.
 const MOST_POPS: u32 = 2048;
 
-/// A worker alone that has visited all vertices but one in so many before each target has a label goes on to the end.
-/// To stop would save less than it takes to look through what is left.
+/// A worker alone with one in so many vertices left before each target has a label goes on to the end: to look for
+/// marks would take longer.
 const LAST: u32 = 32;
 
-/// An aim says which vertices a worker leaves alone, and when it leaves. One that says nothing else leaves no vertex
-/// alone.
+/// An aim says which vertices a worker leaves alone, and when it leaves. By default it leaves no vertex alone.
 pub(crate) trait Aim {
-    /// Tells if a head whose label fell to this is left alone: it is marked, and not handed to the pool.
+    /// Tells if a head of this label is left alone: marked, but not pushed.
     #[inline(always)]
     fn is_past(&self, _label: u64) -> bool {
         false
     }
 
-    /// Tells if a vertex is left alone: it isn't taken.
+    /// Tells if a vertex is left alone: not taken.
     #[inline(always)]
     fn leaves<P, G>(&self, shared: &Shared<'_, P, G>, seat: &WorkSeat, v: u32) -> bool
         requires words { seat.now.words ≡ shared.now.words.now }
@@ -47,25 +45,25 @@ pub(crate) trait Aim {
         false
     }
 
-    /// Takes note that the worker has visited a vertex since its last fruitless pop.
+    /// Notes a visit since the last fruitless pop.
     #[inline(always)]
     fn renew(&mut self) {}
 
-    /// Takes note that the worker has swept, and whether the sweep visited a vertex.
+    /// Notes a sweep, and if it visited a vertex.
     #[inline(always)]
     fn swept(&mut self, _has_visited: bool) {}
 
-    /// Looks at the labels of the targets, after so many visits.
+    /// Looks at the labels of the targets, after this many visits.
     fn look<P, G>(&mut self, shared: &Shared<'_, P, G>, seat: &WorkSeat, visits: u64)
         requires words { seat.now.words ≡ shared.now.words.now }
         requires graph { shared.now.run.csr.now ≡ seat.now.known.graph };
 
-    /// Tells if a worker is to take another aim, as seen at the last look.
+    /// Tells if the last look asks for another aim.
     fn is_over<P, G>(&self, shared: &Shared<'_, P, G>) -> bool
         ensures { result ≡ true → shared.now.run.goal ≢ goal.EachVertex };
 
-    /// Tells if a worker is to leave that drew nothing, or this vertex from a pool in which a sweep found nothing. What
-    /// is wanted is done then, no other worker is at a label below the limit, and no sweep is due.
+    /// Tells if a worker that drew nothing, or this vertex after a fruitless sweep, is to leave: what is wanted is
+    /// done, and no sweep is due.
     fn is_reached<P, G>(
         &mut self,
         shared: &Shared<'_, P, G>,
@@ -78,7 +76,7 @@ pub(crate) trait Aim {
         ensures { result ≡ true → shared.now.run.goal ≢ goal.EachVertex };
 }
 
-/// All is wanted: no vertex is left alone, and no worker leaves before the end.
+/// All is wanted.
 #[derive(Drop)]
 pub(crate) struct Whole;
 
@@ -103,12 +101,11 @@ impl Aim for Whole {
     }
 }
 
-/// Some target has no label yet: no vertex is left alone.
+/// Some target has no label yet.
 #[derive(Drop)]
 pub(crate) struct Seeker {
-    /// Each target before this place had a label at the last look.
+    /// Targets before this place had a label at the last look.
     reached: usize,
-    /// Visits up to the last look.
     visits: u64,
 }
 
@@ -138,7 +135,6 @@ impl Aim for Seeker {
 }
 
 impl Seeker {
-    /// Makes a seeker before its first visit.
     pub(crate) fn new() -> Seeker {
         Seeker {
             reached: 0,
@@ -151,21 +147,21 @@ impl Seeker {
         self.reached >= goal.targets().len()
     }
 
-    /// Tells if so little is left to do that the run may as well go on to its end.
+    /// Tells if so little is left that the run may as well go to its end.
     pub(crate) fn is_late<P, G>(&self, shared: &Shared<'_, P, G>) -> bool {
         let n = shared.run.csr.n();
         shared.pace.is_alone() && self.visits > u64::from(n - n / LAST)
     }
 }
 
-/// Each target has a label: what a worker knows of them.
+/// Each target has a label.
 #[derive(Drop)]
 pub(crate) struct Wanted {
-    /// Vertices with this label or a larger one are left alone. It never rises.
+    /// Vertices with at least this label are left alone. It never rises.
     limit: u64,
-    /// Pops in a row that gave nothing.
+    /// Fruitless pops in a row.
     idle: u32,
-    /// True if there was a sweep since the last visit that found no marked vertex below the limit.
+    /// True if a sweep since the last visit found no marked vertex below the limit.
     has_swept: bool,
 }
 
@@ -219,7 +215,6 @@ impl Aim for Wanted {
 }
 
 impl Wanted {
-    /// Once each target has a label.
     pub(crate) fn new<P, G>(shared: &Shared<'_, P, G>, seat: &WorkSeat) -> Wanted
         requires words { seat.now.words ≡ shared.now.words.now }
         requires graph { shared.now.run.csr.now ≡ seat.now.known.graph }
@@ -233,7 +228,7 @@ impl Wanted {
         aim
     }
 
-    /// The limit is the least one that serves the labels of now.
+    /// Sets the least limit that serves the labels of now.
     fn take_aim<P, G>(&mut self, shared: &Shared<'_, P, G>, seat: &WorkSeat)
         requires words { seat.now.words ≡ shared.now.words.now }
         requires graph { shared.now.run.csr.now ≡ seat.now.known.graph }
@@ -266,7 +261,7 @@ impl Wanted {
     }
 }
 
-/// Visits up to the first look at what is wanted.
+/// The visits before the first look at targets.
 pub(crate) fn first_look(goal: &Goal<'_>) -> u32 {
     match goal {
         Goal::EachVertex => u32::MAX,
@@ -274,7 +269,7 @@ pub(crate) fn first_look(goal: &Goal<'_>) -> u32 {
     }
 }
 
-/// Visits from one look at what is wanted to the next.
+/// The visits between two looks at targets.
 pub(crate) fn next_look(goal: &Goal<'_>) -> u32 {
     match goal {
         Goal::EachVertex => u32::MAX,
@@ -282,7 +277,7 @@ pub(crate) fn next_look(goal: &Goal<'_>) -> u32 {
     }
 }
 
-/// The place of the first target, from a place on, that has no label now; the number of targets if each has one.
+/// The first target from a place on that has no label now, or the number of targets.
 fn first_unreached<P, G>(
     shared: &Shared<'_, P, G>,
     seat: &WorkSeat,
@@ -300,7 +295,6 @@ fn first_unreached<P, G>(
     targets.len()
 }
 
-/// The greatest label that a target has now.
 fn farthest_now<P, G>(shared: &Shared<'_, P, G>, seat: &WorkSeat, targets: &[u32]) -> u64
     requires words { seat.now.words ≡ shared.now.words.now }
     requires graph { shared.now.run.csr.now ≡ seat.now.known.graph }

@@ -1,9 +1,7 @@
-//! The pace of workers: which is far ahead of another, which is at work at low labels, and if a sweep is due.
+//! The pace of workers.
 //!
-//! Each worker has vertices in chunks of its own. If the system takes the processor of one that has the lowest
-//! labels, the others go on with what is left. All that they do falls again once the low labels come. So each worker
-//! shows the bucket of the metric that it visits, and one that is far ahead of another sleeps a little now and then.
-//! No label depends on it.
+//! If the system takes the processor of a worker that holds the lowest labels, all that others do falls again later. So
+//! each worker shows the bucket that it visits, and one that is far ahead naps now and then.
 
 ghost use Rattle.std.specs.Prelude.{◌≡◌, ◌<◌, false};
 
@@ -15,31 +13,26 @@ use std::sync::atomic::{AtomicBool, AtomicU64, Ordering};
 use std::thread::sleep;
 use std::time::{Clock, Duration};
 
-/// Visits between two looks at the others, for each worker of the run; if the worker was far ahead at
-/// the last look, for all together.
+/// Visits between two looks at the others, by each worker; by all together if it was far ahead.
 const VISITS: u32 = 64;
 
-/// A worker is far ahead of another if its metric is more than this many buckets of `bucket_of` above the
-/// other's.
+/// A worker is far ahead if its metric is more than this many buckets above another's.
 const AHEAD: u64 = 8;
 
-/// A nap of a worker that is far ahead, in microseconds.
+/// A nap, in microseconds.
 const NAP: u64 = 100;
 
-/// The most naps between two visits. There is one at first, and twice as many each time that they don't
-/// help.
+/// The most naps between two visits: first one, then twice as many each time that they don't help.
 const NAPS: u32 = 128;
 
-/// The figures that all workers of a run show.
+/// The figures that workers show one another.
 #[derive(Drop)]
 pub(crate) struct Pace {
     workers: u32,
-    /// The bucket of the metric of the vertex that a worker visits, by worker; that of `INF` while it has nothing to
-    /// do.
+    /// By worker, the bucket that it visits, or that of `INF` while it has nothing to do.
     buckets: Vec<CachePadded<AtomicU64>>,
     /// True if since the last sweep the pool refused a vertex, or a worker left that had spent its budget.
     lost: AtomicBool,
-    /// True if the first vertices have been drawn.
     begun: AtomicBool,
 }
 
@@ -57,13 +50,13 @@ impl Pace {
         })
     }
 
-    /// Tells if the run has one worker, which need not show anything.
+    /// Tells if the run has one worker.
     pub(crate) fn is_alone(&self) -> bool {
         self.workers == 1
     }
 
-    /// The worker visits a vertex with this metric, or rests if it is `INF`. Most visits have the bucket
-    /// of the visit before, and a store is a locked step.
+    /// Shows that the worker visits a vertex with this metric, or rests if it is `INF`. It stores only changes, since a
+    /// store is a locked step.
     pub(crate) fn show(&self, worker: u32, metric: u64) {
         let bucket = bucket_of(metric);
         if let Some(shown) = self.buckets.get(worker as usize) {
@@ -73,40 +66,38 @@ impl Pace {
         }
     }
 
-    /// The pool refused a vertex: a sweep has to find it.
+    /// Notes that the pool refused a vertex: a sweep has to find it.
     pub(crate) fn lose(&self) {
         self.lost.store(true, Ordering::Relaxed);
     }
 
-    /// A worker leaves that has spent its budget: a sweep has to find what its side keeps.
+    /// Notes that a worker leaves with its budget spent: a sweep has to find what its side keeps.
     pub(crate) fn leave(&self, worker: u32) {
         self.show(worker, INF);
         self.lose();
     }
 
-    /// A sweep begins.
     pub(crate) fn seek(&self) {
         self.lost.store(false, Ordering::Relaxed);
     }
 
-    /// Tells if there is something that only a sweep finds, lost since the last one began.
+    /// Tells if something was lost since the last sweep began.
     pub(crate) fn has_lost(&self) -> bool {
         self.lost.load(Ordering::Relaxed)
     }
 
-    /// A worker has drawn the first vertices.
     pub(crate) fn begin(&self) {
         if !self.has_begun() {
             self.begun.store(true, Ordering::Relaxed);
         }
     }
 
-    /// Tells if a worker has drawn the first vertices. Until then one that draws nothing may be early.
+    /// Tells if the first vertices have been drawn. Until then one that draws nothing may be early.
     pub(crate) fn has_begun(&self) -> bool {
         self.begun.load(Ordering::Relaxed)
     }
 
-    /// Tells if no other worker shows a bucket below that of this metric.
+    /// Tells if no other worker shows a lower bucket.
     pub(crate) fn is_lowest(&self, worker: u32, metric: u64) -> bool {
         let bucket = bucket_of(metric);
         for (other, shown) in self.buckets.iter().enumerate() {
@@ -117,7 +108,7 @@ impl Pace {
         true
     }
 
-    /// Tells if the metric that the worker shows is far above one that another shows.
+    /// Tells if another worker shows a far lower bucket.
     fn is_far_ahead(&self, worker: u32) -> bool {
         let mut least = u64::MAX;
         for bucket in self.buckets.iter() {
@@ -134,14 +125,13 @@ impl Pace {
 #[derive(Drop)]
 pub(crate) struct Watch {
     worker: u32,
-    /// Visits up to the next look.
+    /// Visits before the next look.
     left: u32,
-    /// The number of naps to take if it is far ahead then.
+    /// Naps to take if it is far ahead then.
     naps: u32,
 }
 
 impl Watch {
-    /// A watch with a first look after this many visits at most.
     pub(crate) fn new(worker: u32, first: u32) -> Watch
         ensures { 0 < result.left }
     {
@@ -159,7 +149,7 @@ impl Watch {
         self.left = self.left.min(visits).max(1);
     }
 
-    /// Tells, after a visit, if a look at the others is due, as it is every so often.
+    /// Tells, after a visit, if a look is due.
     #[inline(always)]
     pub(crate) fn visited(&mut self) -> bool
         requires { 0 < self.old.left }
@@ -169,12 +159,11 @@ impl Watch {
         self.left == 0
     }
 
-    /// Tells if the worker is far ahead of another one.
     pub(crate) fn is_far_ahead(&self, pace: &Pace) -> bool {
         pace.is_far_ahead(self.worker)
     }
 
-    /// Naps, after a look at the others, while the worker is far ahead, if it was.
+    /// Naps while the worker is far ahead, if it was.
     pub(crate) fn look<C: Clock>(&mut self, clock: &C, pace: &Pace, is_far: bool)
         ensures { 0 < self.new.left }
     {
@@ -187,7 +176,7 @@ impl Watch {
         }
     }
 
-    /// Takes its naps, until the worker isn't far ahead any more. Whether it still is.
+    /// Naps until the worker isn't far ahead. Returns true if it still is.
     fn nap<C: Clock>(&self, clock: &C, pace: &Pace) -> bool {
         for _ in 0..self.naps {
             sleep(clock, Duration::from_micros(NAP));

@@ -4,23 +4,21 @@ use crossbeam_utils::Backoff;
 use std::thread::sleep;
 use std::time::{Clock, Duration};
 
-/// The first sleep, in microseconds; by how much each next one is longer; and the longest. So a worker
-/// that draws nothing 1,024 times in a row has slept for some 0.3 seconds. A worker that the system holds back with
-/// all the work comes back before others look for vertices at random. And a worker wakes soon after there is work: it
-/// sleeps for no more than a small part of the time that it had none.
+/// The first sleep, in microseconds, the growth of each next one, and the longest. So 1,024 fruitless pops in a row
+/// sleep for some 0.3 seconds: a worker that the system held back with all the work comes back before. And a worker
+/// sleeps no more than a small part of the time that it had no work.
 const FIRST: u64 = 50;
 
 const LONGER: u64 = 1;
 
 const LONGEST: u64 = 400;
 
-/// The pauses after fruitless pops in a row: a few turns of a loop, then giving the processor to
-/// others, then sleeps that grow.
+/// The pauses after fruitless pops in a row: turns of a loop, then yields, then growing sleeps.
 #[derive(Drop)]
 pub(crate) struct Pauses {
     backoff: Backoff,
     micros: u64,
-    /// True if there was a pause since there was work: mostly there was none.
+    /// True if there was a pause since there was work.
     has_waited: bool,
 }
 
@@ -33,7 +31,7 @@ impl Pauses {
         }
     }
 
-    /// The pool gave a vertex: the next pause is short again.
+    /// Makes the next pause short again.
     #[inline(always)]
     pub(crate) fn reset(&mut self) {
         if self.has_waited {
@@ -41,8 +39,7 @@ impl Pauses {
         }
     }
 
-    /// Waits after a pop that gave nothing. If a sweep is due, the sooner it comes the better: so the processor is
-    /// kept. The clock only sleeps.
+    /// Waits after a fruitless pop, and keeps the processor if a sweep is due. The clock only sleeps.
     pub(crate) fn wait<C: Clock>(&mut self, clock: &C, due: bool) {
         if due {
             self.reset();

@@ -1,4 +1,4 @@
-//! The memory that the next visits ask for.
+//! Prefetching for the next visits.
 
 ghost use Rattle.std.specs.Prelude.{◌≡◌};
 
@@ -6,9 +6,8 @@ use crate::shared::Shared;
 use label_words::WorkSeat;
 use obim_pool::WorkPool;
 
-/// Asks for what the two vertices need that the pool is about to give. That is of the next one the first arc, of the
-/// one after it the words and the place of its row. They come from memory side by side, together with what this visit
-/// looks at. Plain loads do this, since the language has no other; no label depends on what they find.
+/// Loads what the next two vertices of the pool need: of the first its first arc, of the second its words and the place
+/// of its row. So they come from memory together.
 #[inline(always)]
 pub(crate) fn prefetch<P: WorkPool, G>(
     shared: &Shared<'_, P, G>,
@@ -30,7 +29,6 @@ pub(crate) fn prefetch<P: WorkPool, G>(
     }
 }
 
-/// Asks for the words of a vertex, and for the place of its row.
 #[inline(always)]
 fn prefetch_words<P, G>(shared: &Shared<'_, P, G>, n: u32, seat: &WorkSeat, v: u32)
     requires vertices { n ≡ shared.now.run.csr.now.n }
@@ -44,7 +42,6 @@ fn prefetch_words<P, G>(shared: &Shared<'_, P, G>, n: u32, seat: &WorkSeat, v: u
     }
 }
 
-/// Asks for the first arc of a vertex.
 #[inline(always)]
 fn prefetch_row<P, G>(shared: &Shared<'_, P, G>, n: u32, seat: &WorkSeat, v: u32)
     requires vertices { n ≡ shared.now.run.csr.now.n }

@@ -1,21 +1,21 @@
-//! The width of the buckets of a graph, if no shift is given.
+//! The widths of buckets, if no shift is given.
 
 use csr_graph::Csr;
 use obim_pool::Scale;
 
-/// At most this many arcs are sampled, evenly spread.
+/// The most arcs that are sampled.
 const SAMPLES: usize = 1024;
 
 /// One arc in this many counts as light.
 const LIGHT: u64 = 8;
 
-/// A bucket is at least this power of two of light weights wide, divided by the arcs of a vertex.
+/// The least width of a bucket is this power of two of light weights, divided by the arcs of a vertex.
 const LIGHT_WEIGHTS: u32 = 3;
 
-/// A chain has some power of two of buckets, this one, if it is long.
+/// A long chain has this power of two of buckets.
 const CHAIN_BUCKETS: u32 = 9;
 
-/// The widths of buckets. A hint: no label depends on it.
+/// The widths of buckets: a hint.
 #[derive(Clone, Copy, Debug, PartialEq, Eq)]
 pub struct Widths {
     /// At least 2^`shift` labels.
@@ -24,16 +24,14 @@ pub struct Widths {
     pub scale: Scale,
 }
 
-/// The widths of the buckets that the operators take if no shift is given, by a sample of the weights.
+/// The widths that operators take if no shift is given, by a sample of the weights.
 ///
-/// If no vertex has a light arc to another one of its bucket, no label falls again. So buckets are as
-/// wide as the light weights of a graph let them be, and narrower if vertices have more arcs.
+/// If no vertex has a light arc to another of its bucket, no label falls twice. So buckets are as wide as light weights
+/// let them be, and narrower if vertices have more arcs.
 ///
-/// Larger labels have wider buckets, up to two to four times the weight of a usual arc: inside one, few
-/// labels fall again. There are about as many of these as the root of the number of vertices, so that the
-/// looks into empty ones are no more than twice the vertices. In a graph whose arcs are free labels are near
-/// their seeds: there buckets only widen. In a chain, where one vertex follows another, no label falls twice however
-/// wide buckets are, so there are few.
+/// Larger labels have wider buckets, up to two to four times a usual weight. There are about as many of these as the
+/// root of the number of vertices, so that looks into empty ones are at most twice the vertices. Buckets of a graph
+/// with free arcs only widen, and a chain, where no label falls twice, has few.
 pub fn widths_of(csr: &Csr) -> Widths {
     let sample = Sample::of(csr);
     let mean = sample.sum.checked_div(sample.count).unwrap_or(0);
@@ -64,17 +62,16 @@ pub fn widths_of(csr: &Csr) -> Widths {
     }
 }
 
-/// The number of bits with which a number is written; 0 has none.
+/// The number of binary digits; 0 has none.
 fn bit_length(number: u64) -> u32 {
     64_u32.saturating_sub(number.leading_zeros())
 }
 
-/// The step from one sampled arc to the next. An odd one meets each arc of rows that are all as long.
+/// The step from one sampled arc to the next, odd so that it meets each arc of equal rows.
 fn step_of(csr: &Csr) -> usize {
     csr.arc_count() / SAMPLES | 1
 }
 
-/// Tells if each head of a sampled arc is a link of a chain.
 fn is_chain(csr: &Csr) -> bool {
     let step = step_of(csr);
     let mut place = 0_usize;
@@ -90,8 +87,7 @@ fn is_chain(csr: &Csr) -> bool {
     true
 }
 
-/// Tells if a walk that comes to a vertex can go on in one way at most. That is so if the vertex has one arc, or two
-/// to vertices that lead back and so are its neighbours on both sides.
+/// Tells if a walk to this vertex goes on in one way at most: it has one arc, or two to neighbours that lead back.
 fn is_link(csr: &Csr, v: u32) -> bool {
     if v >= csr.n() {
         return false;
@@ -105,7 +101,7 @@ fn is_link(csr: &Csr, v: u32) -> bool {
     }
 }
 
-/// Tells if a vertex has at most two arcs, of which one leads to another vertex.
+/// Tells if a vertex has at most two arcs, one of them to another.
 fn leads_to(csr: &Csr, from: u32, to: u32) -> bool {
     if from >= csr.n() {
         return false;
@@ -114,12 +110,12 @@ fn leads_to(csr: &Csr, from: u32, to: u32) -> bool {
     row.len() <= 2 && row.iter().any(|target| target.head == to)
 }
 
-/// The weights of some of the arcs.
+/// The weights of sampled arcs.
 #[derive(Clone, Copy)]
 struct Sample {
     count: u64,
     sum: u64,
-    /// The number of them that have 0, 1, 2 and so on bits.
+    /// The number of them by their binary digits.
     lengths: [u64; 33],
 }
 
@@ -150,7 +146,7 @@ impl Sample {
         }
     }
 
-    /// The number of bits of the heaviest of the light weights.
+    /// The binary digits of the heaviest light weight.
     fn light_bits(&self) -> u32 {
         let mut bits = 0_u32;
         let mut seen = 0_u64;
