@@ -1,4 +1,4 @@
-//! Hops, by breadth-first search along tight arcs: those that give their head its least label.
+//! Hops, by breadth-first search along tight arcs: those that give a head its least label.
 
 ghost use Rattle.std.specs.Prelude.{◌≡◌, ◌+◌, ◌<◌, ◌↔◌, [], length, replicate, slice_index, All, IsTrue, IfOk, OnOk};
 ghost use Rattle.route_walks.specs.Label.{AreLeastLabels};
@@ -11,11 +11,11 @@ use csr_graph::{Csr, Target};
 use route_walks::{ArcRec, INF, Memory};
 use std::alloc::Global;
 
-/// Stands for the hop of a vertex that no walk reaches, and for the parent of a vertex that has none.
+/// The hop of a vertex that no walk reaches, and the parent of a vertex that has no parent.
 pub const NONE: u32 = u32::MAX;
 
-/// The hop of each vertex from `s`: the fewest arcs of a walk that costs the vertex's least label.
-/// Takes time in proportion to vertices and arcs, and four bytes a vertex in addition to the answer.
+/// The hop of each vertex from `s`: the fewest arcs of a walk of least cost. Takes time in proportion to vertices and
+/// arcs, and four bytes a vertex in addition to the answer.
 pub fn hops(alloc: Global, csr: &Csr, labels: &[u64], s: u32) -> Result<Vec<u32>, Memory>
     requires source { s < csr.now.n }
     requires least { AreLeastLabels csr.now.n csr.now.arcs (seeds_from s) labels.now }
@@ -27,11 +27,10 @@ pub fn hops(alloc: Global, csr: &Csr, labels: &[u64], s: u32) -> Result<Vec<u32>
     hops_below(alloc, csr, labels, s, INF)
 }
 
-/// The hop of each vertex from `s` whose label is below a limit, if labels are least up to that limit. `NONE` for
-/// the others, though a walk may reach them. A vertex whose label is just the limit is one of them: if arcs cost
-/// nothing, a shorter walk to it may go through one whose label isn't least.
+/// The hop of each vertex whose label is below a limit up to which labels are least, and `NONE` for the others. If arcs
+/// are free, a shorter walk to one of just the limit may go through a label that isn't least.
 ///
-/// Takes time in proportion to the vertices below the limit and their arcs, and to all vertices for the answer.
+/// Takes the time of the vertices below the limit and their arcs, and of all vertices for the answer.
 pub fn hops_below(
     alloc: Global,
     csr: &Csr,
@@ -53,8 +52,8 @@ pub fn hops_below(
     Ok(hops)
 }
 
-/// Gives each vertex whose label is below the limit its hop, if no vertex has one yet, and puts it into the queue.
-/// If memory is refused, each vertex that has a hop is in the queue.
+/// Gives each vertex below the limit its hop, and puts it into the queue. If memory is refused, each vertex that has a
+/// hop is in the queue.
 pub(crate) fn search(
     csr: &Csr,
     labels: &[u64],
@@ -87,8 +86,7 @@ pub(crate) fn search(
     Ok(())
 }
 
-/// Queues each vertex without a hop that a tight arc below the limit joins to the vertex at the place `next` of the
-/// queue, and gives it a hop.
+/// Gives a hop to each vertex without one to which a tight arc leads from the vertex at place `next`, and queues it.
 fn visit(
     csr: &Csr,
     labels: &[u64],
@@ -126,7 +124,6 @@ fn visit(
     Ok(())
 }
 
-/// Tells if going along the arc gives its head's label, which is below the limit.
 fn is_tight(labels: &[u64], limit: u64, arc: &ArcRec) -> bool
     requires tail { arc.now.tail < length labels.now }
     requires head { arc.now.head < length labels.now }

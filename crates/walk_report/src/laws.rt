@@ -1,4 +1,4 @@
-//! Laws of printed walks, and of what hops and parents depend on. Each is the contract of a function that does nothing.
+//! Laws of printed walks, hops and parents.
 
 ghost use Rattle.walk_report.specs.Parent.{HopsAndParentsFollowTheArcs, HopsAndParentsAreUnique};
 ghost use Rattle.walk_report.specs.Printed.{PrintedWalksAreWalks, PrintedWalksBelowAreWalks, WalksBelowAgree};
@@ -6,37 +6,33 @@ ghost use Rattle.walk_report.specs.Existence.{HopsAndParentsExist};
 
 use route_walks::laws::least_labels_exist;
 
-/// The vertices of a printed walk are those of a walk from the source, whose cost is the least label
-/// and whose number of arcs is the hop.
+/// A printed walk is a walk from the source, of least cost and with as many arcs as the hop.
 pub fn printed_walks_are_walks()
     ensures { PrintedWalksAreWalks }
 {}
 
-/// States that printed walks are walks for each vertex whose label is below a limit, by the hops below the limit.
+/// States this for vertices below a limit, by the hops below it.
 pub fn printed_walks_below_are_walks()
     ensures { PrintedWalksBelowAreWalks }
 {}
 
-/// States that walks below a limit agree if labels are least up to it. The label, the hop and the printed walk of a
-/// vertex whose label is below it are those that the least labels give. So a run may stop before all labels are least,
-/// and print the same walks.
+/// States that walks below a limit agree if labels are least up to it: labels, hops and printed walks are those of
+/// least labels. So a run may stop early.
 pub fn walks_below_agree()
     ensures { WalksBelowAgree }
 {}
 
-/// Neither the order of the arcs nor how often one stands in the list counts for hops and parents.
+/// Neither the order nor the number of equal arcs changes hops and parents.
 pub fn hops_and_parents_follow_the_arcs()
     ensures { HopsAndParentsFollowTheArcs }
 {}
 
-/// Arcs, source and least labels decide each hop and each parent, so two programs that print walks by
-/// them print the same ones.
+/// Arcs, source and least labels decide each hop and each parent.
 pub fn hops_and_parents_are_unique()
     ensures { HopsAndParentsAreUnique }
 {}
 
-/// With the least labels from a source there are hops and parents, so what is said of them is never said of
-/// nothing.
+/// With the least labels from a source there are hops and parents.
 pub fn hops_and_parents_exist()
     ensures { HopsAndParentsExist }
 {

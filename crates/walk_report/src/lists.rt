@@ -13,7 +13,7 @@ use csr_graph::Csr;
 use route_walks::Memory;
 use std::alloc::Global;
 
-/// Hops and parents of all vertices, and the queue of a search. Vertices that aren't in the queue have neither.
+/// Hops, parents, and the queue of a search. Vertices outside the queue have neither.
 #[derive(Drop)]
 pub(crate) struct Lists {
     pub hops: Vec<u32>,
@@ -22,7 +22,6 @@ pub(crate) struct Lists {
 }
 
 impl Lists {
-    /// The lists of `n` vertices, none of which has a hop or a parent.
     pub(crate) fn new(alloc: Global, n: u32) -> Result<Lists, Memory>
         ensures { IfOk result (AreBlank n) }
     {
@@ -36,7 +35,7 @@ impl Lists {
         })
     }
 
-    /// The walks from a source to these targets, in lists that are blank before.
+    /// The walks from a source to these targets.
     pub(crate) fn walks_to(
         &mut self,
         alloc: Global,
@@ -61,7 +60,7 @@ impl Lists {
         walks_by(alloc, &self.hops, &self.parents, targets)
     }
 
-    /// Takes hop and parent from each vertex in the queue, and empties the queue.
+    /// Makes the lists blank.
     pub(crate) fn wipe(&mut self)
         requires { AreKept (length self.old.hops.items) self.old }
         ensures { AreBlank (length self.old.hops.items) self.new }

@@ -1,4 +1,4 @@
-//! Parents, by passes over the arcs of each vertex that has a hop: the least tail that leads to a vertex is its parent.
+//! Parents, by passes over the arcs of each vertex that has a hop.
 
 ghost use Rattle.std.specs.Prelude.{◌≡◌, ◌<◌, ◌↔◌, length, replicate, slice_index, All, IsTrue, IfOk};
 ghost use Rattle.walk_report.specs.Hop.{AreFromOneSource};
@@ -10,10 +10,8 @@ use csr_graph::{Csr, Target};
 use route_walks::{ArcRec, Memory};
 use std::alloc::Global;
 
-/// The parent of each vertex: the least vertex from which an arc leads to it along least labels and
-/// from one hop nearer. A least label alone would not do: arcs that cost nothing can form a circle.
-/// `NONE` if there is no hop, so of hops below a limit these are the parents below it. Takes time in
-/// proportion to all vertices, and to the arcs of those that have a hop.
+/// The parent of each vertex: the least from which an arc leads to it along least labels and from one hop nearer;
+/// `NONE` if it has no hop. Takes time in proportion to all vertices and the arcs of those that have a hop.
 pub fn parents(alloc: Global, csr: &Csr, labels: &[u64], hops: &[u32]) -> Result<Vec<u32>, Memory>
     requires { AreFromOneSource csr.now.n csr.now.arcs labels.now hops.now }
     ensures exact { IfOk result
@@ -28,8 +26,7 @@ pub fn parents(alloc: Global, csr: &Csr, labels: &[u64], hops: &[u32]) -> Result
     Ok(parents)
 }
 
-/// Gives each vertex that has a hop its parent, if no vertex has one yet. Reads the rows of the given vertices
-/// alone: those that have a hop, in any order.
+/// Gives each vertex that has a hop its parent. Reads the rows of the given vertices: those that have a hop.
 pub(crate) fn parents_among(
     csr: &Csr,
     labels: &[u64],
@@ -51,7 +48,7 @@ pub(crate) fn parents_among(
     }
 }
 
-/// Makes `tail` the parent of each vertex to which it leads and that has none yet, or a higher one.
+/// Makes `tail` the parent of each vertex to which it leads and that has no lower one.
 fn lead_from(csr: &Csr, labels: &[u64], hops: &[u32], tail: u32, parents: &mut [u32])
     requires vertex { tail < csr.now.n }
     requires labels { length labels.now ≡ csr.now.n }
@@ -72,7 +69,6 @@ fn lead_from(csr: &Csr, labels: &[u64], hops: &[u32], tail: u32, parents: &mut [
     }
 }
 
-/// Tells if the arc joins the labels of its ends, and its tail is one hop nearer than its head.
 fn is_leading(labels: &[u64], hops: &[u32], arc: &ArcRec) -> bool
     requires tail { (arc.now.tail < length labels.now) × (arc.now.tail < length hops.now) }
     requires head { (arc.now.head < length labels.now) × (arc.now.head < length hops.now) }

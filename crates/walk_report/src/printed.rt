@@ -1,4 +1,4 @@
-//! The walk to a vertex, from its end to its beginning by parents.
+//! The walk to a vertex, by parents.
 
 ghost use Rattle.std.specs.Prelude.{◌≡◌, ◌<◌, ◌↔◌, length, map, slice_index, IsNone, IfOk, IfSome, All};
 ghost use Rattle.walk_report.specs.Parent.{LeadBack};
@@ -9,8 +9,8 @@ use crate::hop::NONE;
 use route_walks::Memory;
 use std::alloc::Global;
 
-/// The vertices of the printed walk to `v`, the source first; `None` if no walk reaches `v`.
-/// Takes time in proportion to the walk, and one allocation of its size.
+/// The vertices of the printed walk to `v`, the source first; `None` if no walk reaches `v`. Takes the time of the
+/// walk, and one allocation.
 pub fn walk_to(
     alloc: Global,
     hops: &[u32],
@@ -39,7 +39,7 @@ pub fn walk_to(
     Ok(Some(walk))
 }
 
-/// The walks to these vertices, in their order; no vertices if none leads.
+/// The walks to these vertices; no vertices if none leads.
 pub(crate) fn walks_by(
     alloc: Global,
     hops: &[u32],
@@ -59,7 +59,6 @@ pub(crate) fn walks_by(
     Ok(walks)
 }
 
-/// The walk to `v`; no vertices if none leads.
 fn walk_or_none(alloc: Global, hops: &[u32], parents: &[u32], v: u32) -> Result<Vec<u32>, Memory>
     requires vertex { v < length hops.now }
     requires back { LeadBack hops.now parents.now }

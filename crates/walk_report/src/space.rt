@@ -11,8 +11,8 @@ use route_walks::Memory;
 use std::alloc::Global;
 use std::marker::Model;
 
-/// A space for the walks of one question after another in graphs of so many vertices (a workspace, as the `DfsSpace`
-/// of petgraph is). It takes 8 bytes a vertex, and 4 to 8 for each vertex that a question comes to.
+/// Room for walks in graphs of this many vertices, one question after another, as `DfsSpace` of petgraph. Takes 8 bytes
+/// a vertex, and 4 to 8 for each vertex that a question reaches.
 #[derive(Drop)]
 pub struct WalkSpace {
     lists: Lists,
@@ -45,9 +45,8 @@ impl WalkSpace {
         self.lists.hops.len()
     }
 
-    /// The vertices of the printed walk to each of some targets, in their order, by labels that are least up to a
-    /// limit. No vertices if no walk leads to the target, or if its label is not below the limit. Takes time in
-    /// proportion to the vertices whose label is below the limit and their arcs, and to the walks.
+    /// The vertices of the printed walk to each target, by labels that are least up to a limit; no vertices if its
+    /// label is not below it. Takes the time of the vertices below the limit, their arcs, and the walks.
     pub fn walks_to(
         &mut self,
         alloc: Global,
