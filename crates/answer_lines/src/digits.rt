@@ -1,4 +1,4 @@
-//! The parts of a line, which is made from its end to its front in an array.
+//! The parts of a line, which is made from its end.
 
 ghost use Rattle.std.specs.Prelude.{◌≡◌, ◌+◌, ◌<◌, ◌≤◌, ◌++◌, ◌∷◌, length, drop, decimal, codes};
 ghost use Rattle.answer_lines.specs.Lines.{cost_text};
@@ -6,10 +6,10 @@ ghost use Rattle.answer_lines.specs.Lines.{cost_text};
 use itoa::write_digits;
 use route_walks::INF;
 
-/// The most bytes of a line: a letter, three numbers of at most 20 digits, three spaces and a line feed.
+/// The most bytes of a line: a letter, three numbers of 20 digits, three spaces and a line feed.
 pub(crate) const ROOM: usize = 65;
 
-/// Puts a byte in front of what stands at the end of a line.
+/// Puts a byte in front of a line's end.
 pub(crate) fn put_byte(line: &mut [u8], end: usize, byte: u8) -> usize
     requires { (0 < end) × (end ≤ length line.old) }
     ensures place { result + 1 ≡ end }
@@ -19,7 +19,7 @@ pub(crate) fn put_byte(line: &mut [u8], end: usize, byte: u8) -> usize
     end - 1
 }
 
-/// Puts a number in front of what stands at the end of a line.
+/// Puts a number in front of a line's end.
 pub(crate) fn put_number(line: &mut [u8], end: usize, number: u64) -> usize
     requires { (20 ≤ end) × (end ≤ length line.old) }
     ensures place { (end ≤ result + 20) × (result ≤ end) }
@@ -28,7 +28,7 @@ pub(crate) fn put_number(line: &mut [u8], end: usize, number: u64) -> usize
     write_digits(number, line, end)
 }
 
-/// Puts the letter of a line, a space and a number in front of what stands at the end of the line.
+/// Puts a letter, a space and a number in front of a line's end.
 pub(crate) fn put_start(line: &mut [u8], end: usize, letter: u8, number: u64) -> usize
     requires { (22 ≤ end) × (end ≤ length line.old) }
     ensures place { (end ≤ result + 22) × (result ≤ end) }
@@ -39,7 +39,7 @@ pub(crate) fn put_start(line: &mut [u8], end: usize, letter: u8, number: u64) ->
     put_byte(line, end, letter)
 }
 
-/// Puts a cost in front of what stands at the end of a line.
+/// Puts a cost in front of a line's end.
 pub(crate) fn put_cost(line: &mut [u8], end: usize, label: u64) -> usize
     requires { (20 ≤ end) × (end ≤ length line.old) }
     ensures place { (end ≤ result + 20) × (result ≤ end) }

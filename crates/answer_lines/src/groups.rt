@@ -1,7 +1,7 @@
 //! The lines of many vertices.
 //!
-//! A group of them is made at once in an array, its last line first, and goes out at once. A group is the lines of
-//! neighbouring vertices whose numbers differ in their last two digits alone.
+//! Neighbouring vertices whose numbers differ in their last two digits are a group. Its lines are made in an array, the
+//! last one first, and go out at once.
 
 ghost use Rattle.std.specs.Prelude.{◌≡◌, ℕ, ◌+◌, ◌*◌, ◌/◌, ◌%◌, ◌<◌, ◌≤◌, ◌++◌, ◌∷◌, [], length, take};
 ghost use Rattle.std.specs.Prelude.{drop, codes, All, OnOk, OnErr, slice_index};
@@ -14,33 +14,31 @@ use itoa::write_digits;
 use route_walks::{INF, MAX_VERTICES, Memory};
 use std::simd::Simd;
 
-/// Lines of a group, which begins where the number of a vertex is a multiple of this.
+/// The most lines of a group, which begins at multiples of this.
 const GROUP: usize = 50;
 
-/// A bound on the bytes of a line of a group: the room of a head, two digits, a space, 20 digits and a line feed.
+/// A bound on the bytes of a line.
 const LINE: usize = 40;
 
-/// The lines of a group have no more bytes.
 const GROUP_ROOM: usize = GROUP * LINE;
 
-/// The room of a head: a letter, a space and the digits of a vertex, of which it has at most 7.
+/// The room of a head: a letter, a space and at most 7 digits of a vertex.
 const HEAD: usize = 16;
 
 /// The two digits of each number below 100.
 static PAIRS: [u8; 200] =
     *b"00010203040506070809101112131415161718192021222324252627282930313233343536373839404142434445464748495051525354555657585960616263646566676869707172737475767778798081828384858687888990919293949596979899";
 
-/// The beginning of the lines of a group, at the end of an array: their letter, a space and the digits of the vertex
-/// without the last two.
+/// The beginning of a group's lines, at the end of an array: letter, space, and the vertex without its last two digits.
 #[derive(Drop)]
 struct Head {
     bytes: [u8; HEAD],
     start: usize,
-    /// The least number with these digits: the last two are what is more.
+    /// The least number with these digits.
     base: u32,
 }
 
-/// Puts the digits of a vertex without the last two at the end of a head.
+/// Puts the digits of a vertex without the last two into a head.
 fn put_front(head: &mut [u8], hundreds: u64) -> usize
     requires room { length head.old ≡ HEAD }
     requires short { hundreds < 10000000 }
@@ -54,7 +52,7 @@ fn put_front(head: &mut [u8], hundreds: u64) -> usize
     }
 }
 
-/// The head of the lines that begin with a letter and a number, for all numbers of the same hundreds.
+/// The head of the lines of a letter and of all numbers with these hundreds.
 fn head_of(letter: u8, number: u32) -> Head
     requires short { number < 1000000000 }
     ensures place { result.start ≤ HEAD }
@@ -73,7 +71,7 @@ fn head_of(letter: u8, number: u32) -> Head
     }
 }
 
-/// Puts a head in front of what stands at the end of some lines: all of its array is copied at once.
+/// Puts a head in front of some lines, by a copy of its whole array.
 fn put_head(lines: &mut [u8], end: usize, head: &Head) -> usize
     requires room { (HEAD ≤ end) × (end ≤ length lines.old) }
     requires head { head.now.start ≤ HEAD }
@@ -84,7 +82,7 @@ fn put_head(lines: &mut [u8], end: usize, head: &Head) -> usize
     end - HEAD + head.start
 }
 
-/// Puts the two digits of a number below 100 in front of what stands at the end of some lines.
+/// Puts the two digits of a number below 100 in front of some lines.
 fn put_two(lines: &mut [u8], end: usize, pair: u32) -> usize
     requires room { (2 ≤ end) × (end ≤ length lines.old) }
     requires pair { pair < 100 }
@@ -96,8 +94,7 @@ fn put_two(lines: &mut [u8], end: usize, pair: u32) -> usize
     put_byte(lines, end, PAIRS[from])
 }
 
-/// Puts the last two digits of a number in front of what stands at the end of some lines, or its only one.
-/// The two are given as a number too.
+/// Puts the last two digits of a number, or its only one, in front of some lines. `pair` is the number of the two.
 fn put_last(lines: &mut [u8], end: usize, number: u32, pair: u32) -> usize
     requires room { (2 ≤ end) × (end ≤ length lines.old) }
     requires pair { pair ≡ number % 100 }
@@ -111,8 +108,7 @@ fn put_last(lines: &mut [u8], end: usize, number: u32, pair: u32) -> usize
     }
 }
 
-/// Puts the line `d V COST` of a vertex in front of what stands at the end of some lines, where a head has
-/// what it begins with.
+/// Puts the line `d V COST` in front of some lines.
 fn put_label_line(lines: &mut [u8], end: usize, head: &Head, v: u32, label: u64) -> usize
     requires room { (LINE ≤ end) × (end ≤ length lines.old) }
     requires vertex { v < MAX_VERTICES }
@@ -129,8 +125,7 @@ fn put_label_line(lines: &mut [u8], end: usize, head: &Head, v: u32, label: u64)
     put_head(lines, end, head)
 }
 
-/// Puts the line `k V LABEL` of a vertex in front of what stands at the end of some lines, where a head has
-/// what it begins with.
+/// Puts the line `k V LABEL` in front of some lines.
 fn put_component_line(lines: &mut [u8], end: usize, head: &Head, v: u32, label: u64) -> usize
     requires room { (LINE ≤ end) × (end ≤ length lines.old) }
     requires vertex { v < MAX_VERTICES }
@@ -148,7 +143,7 @@ fn put_component_line(lines: &mut [u8], end: usize, head: &Head, v: u32, label: 
     put_head(lines, end, head)
 }
 
-/// The number of these vertices, which are counted from `first` on, that belong to its group.
+/// The number of these vertices that belong to the group of `first`.
 fn group_len(first: u32, count: usize) -> usize
     requires { first < MAX_VERTICES }
     ensures some { 0 < count → 0 < result }
@@ -158,8 +153,7 @@ fn group_len(first: u32, count: usize) -> usize
     count.min(GROUP - (first as usize + 1) % GROUP)
 }
 
-/// Appends the lines `d V COST` of vertices of one group: those from `first` on, in rising order. The lines
-/// are made in an array of which nothing else is known.
+/// Appends the lines `d V COST` of a group's vertices from `first` on.
 fn put_label_group(
     out: &mut Vec<u8>,
     lines: &mut [u8],
@@ -182,8 +176,7 @@ fn put_label_group(
     Ok(())
 }
 
-/// Appends the lines `k V LABEL` of vertices of one group: those from `first` on, in rising order. The lines
-/// are made in an array of which nothing else is known.
+/// Appends the lines `k V LABEL` of a group's vertices from `first` on.
 fn put_component_group(
     out: &mut Vec<u8>,
     lines: &mut [u8],
@@ -207,7 +200,7 @@ fn put_component_group(
     Ok(())
 }
 
-/// Appends the lines `d V COST` of the vertices from `first` on, in rising order, with `inf` for the cost of `INF`.
+/// Appends the lines `d V COST` of the vertices from `first` on, in rising order; the cost of `INF` is `inf`.
 pub fn put_labels(out: &mut Vec<u8>, first: u32, labels: &[u64]) -> Result<(), Memory>
     requires vertices { first + length labels.now ≤ MAX_VERTICES }
     ensures ok { OnOk result (out.new.items ≡ out.old.items ++ label_lines first labels.now) }
@@ -229,8 +222,8 @@ pub fn put_labels(out: &mut Vec<u8>, first: u32, labels: &[u64]) -> Result<(), M
     Ok(())
 }
 
-/// Appends the lines `k V LABEL` of the vertices from `first` on, in rising order. Each label is the number of a
-/// vertex too: both are counted from 0, and from 1 in the line.
+/// Appends the lines `k V LABEL` of the vertices from `first` on. A label is a vertex too: counted from 0, and from 1
+/// in the line.
 pub fn put_components(out: &mut Vec<u8>, first: u32, labels: &[u64]) -> Result<(), Memory>
     requires vertices { first + length labels.now ≤ MAX_VERTICES }
     requires finite { All (λ label. label < INF) labels.now }
@@ -253,7 +246,7 @@ pub fn put_components(out: &mut Vec<u8>, first: u32, labels: &[u64]) -> Result<(
     Ok(())
 }
 
-/// Appends the line of a source, and then the line of each vertex in rising order.
+/// Appends the line of a source, and the line of each vertex.
 pub fn put_distances(out: &mut Vec<u8>, s: u32, labels: &[u64]) -> Result<(), Memory>
     requires source { s < MAX_VERTICES }
     requires vertices { length labels.now ≤ MAX_VERTICES }

@@ -1,8 +1,8 @@
 //! The bytes of each line of an answer.
 //!
-//! Each `put_` call appends exactly the bytes of its lines to a vector, or leaves the vector as it was and returns
-//! `Memory`. Vertices are counted from 0 in the calls, and from 1 in the lines. For example, by
-//! `put_distances(&mut out, 0, &[0, 7, INF])` a vector gets
+//! Each `put_` call appends exactly its lines to a vector, or leaves the vector as it was and returns `Memory`.
+//! Vertices are counted from 0 in calls, and from 1 in lines. By `put_distances(&mut out, 0, &[0, 7, INF])` a vector
+//! gets
 //!
 //! ```text
 //! s 1
@@ -10,8 +10,6 @@
 //! d 2 7
 //! d 3 inf
 //! ```
-//!
-//! It stands on `route_walks`, whose `INF` and `Memory` it knows, and on `itoa` for digits.
 #![tactic(auto)]
 
 mod digits;

@@ -1,6 +1,4 @@
-//! One line at a time.
-//!
-//! A line goes out at once, when it is made: so a refusal of memory leaves the vector as it was.
+//! One line at a time, made before it is appended.
 
 ghost use Rattle.std.specs.Prelude.{◌≡◌, ◌<◌, ◌++◌, codes, decimal, OnOk, OnErr};
 ghost use Rattle.answer_lines.specs.Lines.{grown_text, label_text, pair_text, ready_text, refusal_text, source_text};
@@ -8,7 +6,7 @@ ghost use Rattle.answer_lines.specs.Lines.{grown_text, label_text, pair_text, re
 use crate::digits::{ROOM, put_byte, put_cost, put_number, put_start};
 use route_walks::{MAX_VERTICES, Memory};
 
-/// Appends the line `s V` of a source, with vertices counted from 1.
+/// Appends the line `s V` of a source.
 pub fn put_source(out: &mut Vec<u8>, s: u32) -> Result<(), Memory>
     requires { s < MAX_VERTICES }
     ensures ok { OnOk result (out.new.items ≡ out.old.items ++ source_text s) }
@@ -21,7 +19,7 @@ pub fn put_source(out: &mut Vec<u8>, s: u32) -> Result<(), Memory>
     Ok(())
 }
 
-/// Appends the line `d V COST` of a vertex, with `inf` for the cost of `INF`.
+/// Appends the line `d V COST` of a vertex; the cost of `INF` is `inf`.
 pub fn put_label(out: &mut Vec<u8>, v: u32, label: u64) -> Result<(), Memory>
     requires { v < MAX_VERTICES }
     ensures ok { OnOk result (out.new.items ≡ out.old.items ++ label_text v label) }
@@ -36,8 +34,7 @@ pub fn put_label(out: &mut Vec<u8>, v: u32, label: u64) -> Result<(), Memory>
     Ok(())
 }
 
-/// Appends the line `q S T COST` of a pair, for the label of its target `t` from its source `s`, with `inf` for the
-/// cost of `INF`.
+/// Appends the line `q S T COST` of a pair; the cost of `INF` is `inf`.
 pub fn put_pair(out: &mut Vec<u8>, s: u32, t: u32, label: u64) -> Result<(), Memory>
     requires source { s < MAX_VERTICES }
     requires target { t < MAX_VERTICES }
@@ -55,7 +52,7 @@ pub fn put_pair(out: &mut Vec<u8>, s: u32, t: u32, label: u64) -> Result<(), Mem
     Ok(())
 }
 
-/// Appends the line `g K` for the number of arcs that were added, which is that number itself.
+/// Appends the line `g K` for `k` added arcs.
 pub fn put_grown(out: &mut Vec<u8>, k: u32) -> Result<(), Memory>
     ensures ok { OnOk result (out.new.items ≡ out.old.items ++ grown_text k) }
     ensures err { OnErr result (out.new.items ≡ out.old.items) }
@@ -67,7 +64,7 @@ pub fn put_grown(out: &mut Vec<u8>, k: u32) -> Result<(), Memory>
     Ok(())
 }
 
-/// Appends the line `r N M` of a graph: how many vertices and arcs it has.
+/// Appends the line `r N M` of a graph's vertices and arcs.
 pub fn put_ready(out: &mut Vec<u8>, n: u32, arcs: u64) -> Result<(), Memory>
     ensures ok { OnOk result (out.new.items ≡ out.old.items ++ ready_text n arcs) }
     ensures err { OnErr result (out.new.items ≡ out.old.items) }
@@ -81,7 +78,7 @@ pub fn put_ready(out: &mut Vec<u8>, n: u32, arcs: u64) -> Result<(), Memory>
     Ok(())
 }
 
-/// Appends the line `e LINE WORDS` of a line that is wrong: its number, and what is wrong with it.
+/// Appends the line `e LINE WORDS` of a wrong line: its number, and what is wrong.
 pub fn put_refusal(out: &mut Vec<u8>, line: u64, words: &str) -> Result<(), Memory>
     ensures ok { OnOk result (out.new.items ≡ out.old.items ++ refusal_text line words.now) }
     ensures err { OnErr result (out.new.items ≡ out.old.items) }
@@ -95,7 +92,6 @@ pub fn put_refusal(out: &mut Vec<u8>, line: u64, words: &str) -> Result<(), Memo
     Ok(())
 }
 
-/// Appends the start `e LINE ` of a refusal.
 fn put_wrong(out: &mut Vec<u8>, number: u64) -> Result<(), Memory>
     ensures ok { OnOk result (out.new.items ≡ out.old.items ++ codes "e " ++ decimal number ++ codes " ") }
     ensures err { OnErr result (out.new.items ≡ out.old.items) }
@@ -107,7 +103,6 @@ fn put_wrong(out: &mut Vec<u8>, number: u64) -> Result<(), Memory>
     Ok(())
 }
 
-/// Appends words, and ends the line.
 fn put_words(out: &mut Vec<u8>, words: &str) -> Result<(), Memory>
     ensures ok { OnOk result (out.new.items ≡ out.old.items ++ words.now ++ codes "\n") }
     ensures err { OnErr result (out.new.items ≡ out.old.items) }

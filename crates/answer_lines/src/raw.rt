@@ -1,22 +1,16 @@
-//! Labels as bytes.
-//!
-//! A group of them is made at once in an array, and goes out at once.
+//! Labels as bytes, a group at once.
 
 ghost use Rattle.std.specs.Prelude.{◌≡◌, ◌≤◌, ◌++◌, length, OnOk, OnErr};
 ghost use Rattle.answer_lines.specs.Raw.{raw_labels};
 
 use route_walks::Memory;
 
-/// Labels of a group.
 const GROUP: usize = 64;
 
-/// Bytes of a label.
 const WORD: usize = 8;
 
-/// The labels of a group have no more bytes.
 const GROUP_ROOM: usize = GROUP * WORD;
 
-/// Appends labels of at most one group. Their bytes are made in an array of which nothing else is known.
 fn put_raw_group(out: &mut Vec<u8>, bytes: &mut [u8], labels: &[u64]) -> Result<(), Memory>
     requires room { length bytes.old ≡ GROUP_ROOM }
     requires group { length labels.now ≤ GROUP }
@@ -33,7 +27,7 @@ fn put_raw_group(out: &mut Vec<u8>, bytes: &mut [u8], labels: &[u64]) -> Result<
     Ok(())
 }
 
-/// Appends each label as 8 bytes, its little end first.
+/// Appends each label as 8 bytes, little-endian.
 pub fn put_raw(out: &mut Vec<u8>, labels: &[u64]) -> Result<(), Memory>
     ensures ok { OnOk result (out.new.items ≡ out.old.items ++ raw_labels labels.now) }
     ensures err { OnErr result (out.new.items ≡ out.old.items) }

@@ -8,20 +8,19 @@ use crate::digits::{put_byte, put_number, put_start};
 use itoa::write_digits;
 use route_walks::{INF, MAX_VERTICES, Memory};
 
-/// The most bytes of a line of totals: a letter, four numbers of at most 20 digits, one of at most 39, five spaces and
-/// a line feed.
+/// The most bytes of a line: a letter, four numbers of 20 digits, one of 39, five spaces and a line feed.
 const ROOM: usize = 126;
 
-/// The totals of the labels from a source. Vertices are counted from 0.
+/// The totals of the labels from a source.
 #[derive(Clone, Copy, Debug, PartialEq, Eq)]
 pub struct Totals {
-    /// The number of vertices that a walk reaches: their labels are not `INF`.
+    /// The number of vertices with a label other than `INF`.
     pub reached: u32,
     /// The sum of their labels.
     pub sum: u128,
-    /// The greatest of their labels, or 0 if no vertex is reached.
+    /// The greatest of their labels, or 0.
     pub greatest: u64,
-    /// The first vertex that has it, or the number of labels if none is a cost.
+    /// The first vertex with that label, from 0; the number of labels if no vertex is reached.
     pub farthest: u32,
 }
 
@@ -46,7 +45,7 @@ impl Totals {
         totals
     }
 
-    /// Adds the label of a vertex that comes before those that were added.
+    /// Adds the label of the vertex before those that were added.
     fn with_label(self, v: u32, label: u64) -> Totals
         requires reached { self.reached < MAX_VERTICES }
         requires sum { self.sum < 2 ^ 127 }
@@ -78,7 +77,7 @@ impl Totals {
     }
 }
 
-/// Appends the line `t S REACHED SUM GREATEST FARTHEST` of a source and of what the labels from it come to.
+/// Appends the line `t S REACHED SUM GREATEST FARTHEST` of a source.
 pub fn put_totals(out: &mut Vec<u8>, s: u32, totals: &Totals) -> Result<(), Memory>
     ensures ok { OnOk result (out.new.items ≡ out.old.items ++ totals_line s totals.now.reached totals.now.sum
         totals.now.greatest totals.now.farthest) }
@@ -95,7 +94,7 @@ pub fn put_totals(out: &mut Vec<u8>, s: u32, totals: &Totals) -> Result<(), Memo
     Ok(())
 }
 
-/// Puts a space and a number in front of what stands at the end of a line.
+/// Puts a space and a number in front of a line's end.
 fn put_field(line: &mut [u8], end: usize, number: u64) -> usize
     requires { (21 ≤ end) × (end ≤ length line.old) }
     ensures place { (end ≤ result + 21) × (result ≤ end) }
@@ -105,7 +104,7 @@ fn put_field(line: &mut [u8], end: usize, number: u64) -> usize
     put_byte(line, end, b' ')
 }
 
-/// Puts a space and a number that may have more than 64 bits in front of what stands at the end of a line.
+/// Puts a space and a number of up to 128 bits in front of a line's end.
 fn put_sum(line: &mut [u8], end: usize, number: u128) -> usize
     requires { (40 ≤ end) × (end ≤ length line.old) }
     ensures place { (end ≤ result + 40) × (result ≤ end) }

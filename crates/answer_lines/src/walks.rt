@@ -6,8 +6,7 @@ ghost use Rattle.answer_lines.specs.Lines.{vertices_text, walk_text};
 use crate::digits::{ROOM, put_byte, put_number, put_start};
 use route_walks::{MAX_VERTICES, Memory};
 
-/// Appends the line `w V COST V .. V` of a walk: its last vertex, its cost, and all its vertices in
-/// order. They are counted from 0, and from 1 in the line.
+/// Appends the line `w V COST V .. V` of a walk: its last vertex, its cost, and its vertices in order.
 pub fn put_walk(out: &mut Vec<u8>, cost: u64, walk: &[u32]) -> Result<(), Memory>
     requires some { 0 < length walk.now }
     requires vertices { All (λ v. v < MAX_VERTICES) walk.now }
@@ -23,7 +22,6 @@ pub fn put_walk(out: &mut Vec<u8>, cost: u64, walk: &[u32]) -> Result<(), Memory
     Ok(())
 }
 
-/// Appends the start `w V COST` of a walk's line.
 fn put_target(out: &mut Vec<u8>, v: u32, cost: u64) -> Result<(), Memory>
     requires { v < MAX_VERTICES }
     ensures ok { OnOk result (out.new.items
@@ -38,7 +36,6 @@ fn put_target(out: &mut Vec<u8>, v: u32, cost: u64) -> Result<(), Memory>
     Ok(())
 }
 
-/// Appends a space and each vertex of a walk, and ends the line.
 fn put_vertices(out: &mut Vec<u8>, walk: &[u32]) -> Result<(), Memory>
     requires { All (λ v. v < MAX_VERTICES) walk.now }
     ensures ok { OnOk result (out.new.items ≡ out.old.items ++ vertices_text walk.now) }
@@ -58,7 +55,6 @@ fn put_vertices(out: &mut Vec<u8>, walk: &[u32]) -> Result<(), Memory>
     Ok(())
 }
 
-/// Appends a space and a vertex.
 fn put_vertex(out: &mut Vec<u8>, v: u32) -> Result<(), Memory>
     requires { v < MAX_VERTICES }
     ensures ok { OnOk result (out.new.items ≡ out.old.items ++ codes " " ++ decimal (v + 1)) }
