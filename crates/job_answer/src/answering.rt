@@ -1,4 +1,4 @@
-//! The way from the bytes of a job text to the bytes of its answer.
+//! The way from a job text to its answer.
 
 ghost use Rattle.std.specs.Prelude.{◌≡◌, ◌↔◌, false, IfOk, IfErr, IsTrue, OnErr, OnOk};
 ghost use Rattle.dimacs_text.specs.Jobs.{Content, content_of, question_of, IsWithinLimits};
@@ -38,18 +38,15 @@ use std::thread::Threads;
 use std::time::Clock;
 use walk_report::laws::hops_and_parents_follow_the_arcs;
 
-/// The least number of sources at which pairs of a job are searched by the thread that asks. Its searches take room,
-/// and reversing the rows takes time.
+/// With at least this many sources, pairs are searched by the thread that asks: its searches take room, and reversing
+/// the rows takes time.
 const MANY_SOURCES: usize = 32;
 
-/// Reads a job text to its end and writes its answer: exactly the bytes that the least labels of the
-/// job make, whatever the settings and the gate are. A fault of the text is found before anything is
-/// written.
+/// Reads a job text to its end and writes its answer: exactly the bytes that the least labels of the job make, whatever
+/// the settings and the gate are. A fault of the text is found before anything is written.
 ///
-/// Within a bound the block of a source has the lines of those vertices alone that cost at most the bound. They stand
-/// in rising order, and the source is solved no further. A job with pairs has no answer then. In short the labels from
-/// a source are written as bytes, or as one line of totals; a pair has its line. The answer of components, which have
-/// no costs, is the same by all lines.
+/// Within a bound, the block of a source has the lines of vertices that cost at most the bound, in rising order, and a
+/// job with pairs has no answer. Components have the same answer by all lines.
 pub fn answer<H: Threads + Wait + Clock + Sync, R: Read, W: Write, G: Gate + Sync>(
     rt: &H,
     alloc: Global,
@@ -65,7 +62,7 @@ pub fn answer<H: Threads + Wait + Clock + Sync, R: Read, W: Write, G: Gate + Syn
     answer_watched(rt, alloc, reader, writer, asked, gate, &mut NoWatch)
 }
 
-/// Does what `answer` does, and shows a watch how far it is.
+/// Does as `answer`, and shows a watch how far it is.
 pub fn answer_watched<H: Threads + Wait + Clock + Sync, R: Read, W: Write, G: Gate + Sync>(
     rt: &H,
     alloc: Global,
@@ -91,7 +88,7 @@ pub fn answer_watched<H: Threads + Wait + Clock + Sync, R: Read, W: Write, G: Ga
     answer_job(&context, writer, job, watch)
 }
 
-/// Gives the bytes of the answer to a text in memory. No fault is `Write`.
+/// Returns the answer to a text in memory. No fault is `Write`.
 pub fn answer_bytes<H: Threads + Wait + Clock + Sync, G: Gate + Sync>(
     rt: &H,
     alloc: Global,
@@ -113,7 +110,6 @@ pub fn answer_bytes<H: Threads + Wait + Clock + Sync, G: Gate + Sync>(
     }
 }
 
-/// Writes the answer of the job.
 fn answer_job<H: Threads + Wait + Clock + Sync, W: Write, G: Gate + Sync>(
     context: &Context<'_, H, G>,
     writer: &mut W,
@@ -158,7 +154,7 @@ fn answer_job<H: Threads + Wait + Clock + Sync, W: Write, G: Gate + Sync>(
     answer_question(context, writer, &question, &mut kept, watch)
 }
 
-/// Reverses the rows of the network, if it is so. No graph changes.
+/// Reverses the rows of the network, if `turns`.
 fn reverse_if(turns: bool, alloc: Global, graphs: &mut Graphs)
     ensures { graphs.new ≡ graphs.old }
 {
@@ -167,7 +163,7 @@ fn reverse_if(turns: bool, alloc: Global, graphs: &mut Graphs)
     }
 }
 
-/// Tells if the pairs of a job have so many sources that searches by the thread that asks are worth their room.
+/// Tells if the pairs have so many sources that searches by the thread that asks are worth their room.
 fn has_many_sources(ask: &Ask) -> bool {
     match ask {
         Ask::Pairs(pairs) => count_sources(pairs) >= MANY_SOURCES,
@@ -175,7 +171,6 @@ fn has_many_sources(ask: &Ask) -> bool {
     }
 }
 
-/// Counts the pairs that have another source than the one before.
 fn count_sources(pairs: &[(u32, u32)]) -> usize {
     let mut count: usize = 0;
     let mut last = u32::MAX;
@@ -188,10 +183,10 @@ fn count_sources(pairs: &[(u32, u32)]) -> usize {
     count
 }
 
-/// Writes the answer to a question: exactly the bytes that answer a job of the same graph which asks the same. Nothing
-/// is written after the answer, and the writer is flushed once, at its end.
+/// Writes the answer to a question: exactly the bytes that answer a job of the same graph which asks the same. The
+/// writer is flushed once, at the end.
 ///
-/// What is kept from one question to the next is taken, and given back with the answer.
+/// What is kept from one question to the next is taken, and returned with the answer.
 pub fn answer_question<H: Threads + Wait + Clock + Sync, W: Write, G: Gate + Sync>(
     context: &Context<'_, H, G>,
     writer: &mut W,
@@ -221,7 +216,7 @@ pub fn answer_question<H: Threads + Wait + Clock + Sync, W: Write, G: Gate + Syn
     write_text(&context, writer, question, kept, watch)
 }
 
-/// Tells if a job asks for nothing: it has no section of queries, and the answer needs one.
+/// Tells if a job asks for nothing: the answer needs a section of queries, and there is no such section.
 pub fn is_unasked(answer: Answer, ask: &Ask) -> bool
     ensures { result ≡ is_unasked answer (question_of ask.now) }
 {
@@ -234,7 +229,6 @@ pub fn is_unasked(answer: Answer, ask: &Ask) -> bool
     }
 }
 
-/// Tells if the job has pairs, though a bound asks for sources.
 fn has_no_sources(answer: Answer, lines: Lines, ask: &Ask) -> bool
     ensures { IsTrue result ↔ HasNoSources answer lines (question_of ask.now) }
 {
@@ -244,7 +238,6 @@ fn has_no_sources(answer: Answer, lines: Lines, ask: &Ask) -> bool
     }
 }
 
-/// Writes the text of what is asked.
 fn write_text<H: Threads + Wait + Clock + Sync, W: Write, G: Gate + Sync>(
     context: &Context<'_, H, G>,
     writer: &mut W,
@@ -272,7 +265,6 @@ fn write_text<H: Threads + Wait + Clock + Sync, W: Write, G: Gate + Sync>(
     sink.finish()
 }
 
-/// Puts the text of what is asked.
 fn put_text<H: Threads + Wait + Clock + Sync, W: Write, G: Gate + Sync>(
     context: &Context<'_, H, G>,
     sink: &mut Sink<'_, W>,
@@ -303,7 +295,6 @@ fn put_text<H: Threads + Wait + Clock + Sync, W: Write, G: Gate + Sync>(
     }
 }
 
-/// Puts the components of all vertices.
 fn put_all<H: Threads + Wait + Clock + Sync, W: Write, G: Gate + Sync>(
     context: &Context<'_, H, G>,
     sink: &mut Sink<'_, W>,

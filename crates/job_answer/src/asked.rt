@@ -1,4 +1,4 @@
-//! The questions that may be asked of a job text.
+//! The questions to a job text.
 
 ghost use Rattle.std.specs.Prelude.{◌≡◌, ◌↔◌, false, IsSome, IsTrue, IfSome};
 ghost use Rattle.job_answer.specs.Choices.{IsAsked, IsLinesAsked};
@@ -17,26 +17,26 @@ pub enum Answer {
     Distances,
     /// The fewest arcs of a walk from each source.
     Levels,
-    /// The least number of a vertex that arcs join to each vertex, whichever way they point.
+    /// The least number of a vertex that each vertex is connected with, whichever way arcs point.
     Components,
 }
 
-/// The lines that the block of a source has.
+/// The lines of the block of a source.
 #[derive(Clone, Copy, Debug, PartialEq, Eq)]
 pub enum Lines {
-    /// One of each vertex, and its walk after it if walks are asked for.
+    /// One of each vertex, and its walk if asked for.
     Each { walks: bool },
-    /// Those of the vertices that cost at most the bound, which is less than `INF`.
+    /// Those of vertices that cost at most the bound, which is less than `INF`.
     Within { walks: bool, bound: u64 },
-    /// The least label of each vertex as 8 bytes, its little end first, after the line of the source.
+    /// The label of each vertex as 8 bytes, little-endian, after the line of the source.
     Raw,
-    /// One line in place of a block: the number of vertices that a walk reaches, the sum of their costs, the
-    /// greatest, and the least vertex that has it.
+    /// One line instead of a block: the number of vertices reached, the sum of their costs, the greatest, and the least
+    /// vertex with it.
     Totals,
 }
 
 impl Lines {
-    /// The lines of each vertex, or of those within a bound if there is one.
+    /// The lines of each vertex, or of those within a bound.
     pub fn of(walks: bool, within: Option<u64>) -> Lines
         ensures walks { has_walks result ≡ walks }
         ensures within { bound_in result ≡ within }
@@ -76,7 +76,7 @@ impl Lines {
         }
     }
 
-    /// Tells if the bound, if there is one, is a cost: less than `INF`.
+    /// Tells if the bound, if there is one, is less than `INF`.
     fn has_cost(self) -> bool
         ensures { IsTrue result ↔ IsLinesAsked self }
     {
@@ -86,7 +86,6 @@ impl Lines {
         }
     }
 
-    /// The labels that the lines need.
     pub(crate) fn goal(self) -> Goal<'static>
         ensures { result ≡ goal_of self }
     {
@@ -100,7 +99,7 @@ impl Lines {
 /// The most sources that are solved at the same time.
 pub const MAX_AT_ONCE: u32 = 64;
 
-/// The most bytes of a job text that are ever read: 2^36.
+/// The most bytes of a job text, 2^36.
 pub const MAX_BYTES: u64 = 68719476736;
 
 /// A question to a job text, or to all requests of a session.
@@ -108,24 +107,22 @@ pub const MAX_BYTES: u64 = 68719476736;
 pub struct Asked {
     /// The kind of labels.
     pub answer: Answer,
-    /// The lines that the block of a source has. A pair has its line, with its walk if these lines have walks.
-    /// Components have the lines of all vertices, and no walks.
+    /// The lines of a source's block. A pair has its line, with its walk if these lines have walks. Components have the
+    /// lines of all vertices, and no walks.
     pub lines: Lines,
-    /// The settings by which labels are worked out.
+    /// The settings of workers.
     pub settings: Settings,
-    /// The most bytes of text that are read. A longer text is refused.
+    /// The most bytes of text; a longer one is refused.
     pub limit: u64,
-    /// The number of sources that are solved at the same time.
+    /// The number of sources solved at the same time.
     pub at_once: AtOnce,
-    /// One worker works alone if the graph is so small that more of them gain less than they take. No answer depends
-    /// on it.
+    /// True if one worker works alone in a small graph.
     pub saves: bool,
     ghost within: { IsAsked answer lines limit },
 }
 
 impl Asked {
-    /// The lines of all vertices, with walks or without. `None` if walks are asked for with components, or if the limit
-    /// is above 2^36 bytes.
+    /// The lines of all vertices. `None` if walks are asked for with components, or the limit is above 2^36 bytes.
     pub fn new(answer: Answer, settings: Settings, walks: bool, limit: u64) -> Option<Asked>
         ensures within { IsSome result ↔ IsAsked answer (lines.Each walks) limit }
         ensures answer { IfSome result (λ asked. asked.answer ≡ answer) }
@@ -137,8 +134,7 @@ impl Asked {
         Asked::by_lines(answer, settings, Lines::Each { walks }, limit)
     }
 
-    /// Any lines. `None` if they have walks, which components have not, if a bound is no cost (`INF` or more), or if
-    /// the limit is above 2^36 bytes.
+    /// Any lines. `None` if components are asked for walks, a bound is `INF`, or the limit is above 2^36 bytes.
     pub fn by_lines(answer: Answer, settings: Settings, lines: Lines, limit: u64) -> Option<Asked>
         ensures within { IsSome result ↔ IsAsked answer lines limit }
         ensures answer { IfSome result (λ asked. asked.answer ≡ answer) }
@@ -163,7 +159,7 @@ impl Asked {
         })
     }
 
-    /// This number of sources at the same time.
+    /// Returns this with another number of sources at once.
     pub fn with_at_once(self, at_once: AtOnce) -> Asked
         ensures answer { result.answer ≡ self.answer }
         ensures lines { result.lines ≡ self.lines }
@@ -176,7 +172,7 @@ impl Asked {
         asked
     }
 
-    /// Other settings.
+    /// Returns this with other settings.
     pub fn with_settings(self, settings: Settings) -> Asked
         ensures answer { result.answer ≡ self.answer }
         ensures lines { result.lines ≡ self.lines }
@@ -189,7 +185,7 @@ impl Asked {
         asked
     }
 
-    /// One worker works alone in a small graph, or all of them in every graph.
+    /// Returns this with one worker alone in a small graph, or all in every graph.
     pub fn with_saving(self, saves: bool) -> Asked
         ensures answer { result.answer ≡ self.answer }
         ensures lines { result.lines ≡ self.lines }

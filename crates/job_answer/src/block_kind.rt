@@ -5,7 +5,7 @@ ghost use Rattle.job_answer.specs.Choices.{IsLinesAsked};
 use crate::asked::Lines;
 use crate::graphs::Graphs;
 
-/// The networks in which the costs of a block are least, and the lines that the block of a source has.
+/// The networks of a block, and the lines of a source.
 #[derive(Drop)]
 pub struct BlockKind<'a> {
     pub graphs: &'a Graphs,

@@ -43,7 +43,6 @@ use std::thread::Threads;
 use std::time::Clock;
 use walk_report::laws::{hops_and_parents_exist, walks_below_agree};
 
-/// The block of a source, in memory.
 #[derive(Drop)]
 pub struct BlockText {
     pub bytes: Vec<u8>,
@@ -53,8 +52,7 @@ impl<'a> Tasks<BlockText> for SourceTasks<'a> {
     ghost is_part = { IsBlockText };
 }
 
-/// Puts the block of each source in turn: the least costs from it, with their walks if they are asked
-/// for. If the network grows, the same in the grown one comes after each block.
+/// Puts the block of each source in turn. If the network grows, that in the grown one comes after each.
 pub fn put_sources<H: Threads + Wait + Clock + Sync, W: Write, G: Gate + Sync>(
     context: &Context<'_, H, G>,
     sink: &mut Sink<'_, W>,
@@ -86,7 +84,6 @@ pub fn put_sources<H: Threads + Wait + Clock + Sync, W: Write, G: Gate + Sync>(
     Ok(())
 }
 
-/// Puts the block of each source in turn.
 fn put_blocks<H: Threads + Wait + Clock + Sync, W: Write, G: Gate + Sync>(
     env: &Env<'_, H>,
     sink: &mut Sink<'_, W>,
@@ -112,7 +109,7 @@ fn put_blocks<H: Threads + Wait + Clock + Sync, W: Write, G: Gate + Sync>(
     Ok(())
 }
 
-/// Puts the block of the source at a place: as it was made before its turn, or else solved now.
+/// Puts the block of the source at a place: made before its turn, or solved now.
 fn put_block_at<H: Threads + Wait + Clock + Sync, W: Write, G: Gate + Sync>(
     env: &Env<'_, H>,
     sink: &mut Sink<'_, W>,
@@ -144,7 +141,7 @@ fn put_block_at<H: Threads + Wait + Clock + Sync, W: Write, G: Gate + Sync>(
     put_solved(env, sink, &tasks.kind, start, &mut rounds.workers, watch)
 }
 
-/// The block of the source at a place, if it was made before its turn.
+/// The block of the source at a place, if it was made before.
 fn take_block<H: Threads + Wait + Clock + Sync, G: Gate + Sync>(
     env: &Env<'_, H>,
     rounds: &mut Rounds<'_, BlockText, G>,
@@ -169,7 +166,7 @@ fn take_block<H: Threads + Wait + Clock + Sync, G: Gate + Sync>(
     )
 }
 
-/// The block of the source at a place. `None` if memory is refused, or if walks make it long.
+/// The block of the source at a place. `None` if memory is refused, or walks make it long.
 fn make_block<H: Threads + Wait + Clock + Sync, G: Gate + Sync>(
     env: &Env<'_, H>,
     tasks: &SourceTasks<'_>,
@@ -212,8 +209,7 @@ fn held_block<H: Threads + Wait + Clock + Sync, G: Gate + Sync>(
     Ok(BlockText { bytes })
 }
 
-/// Solves from a start, and puts the block of the costs, or that of a list of near vertices. If the network grows,
-/// what comes after it is put too.
+/// Solves from a start, and puts its block or that of near vertices, and what comes after it if the network grows.
 pub fn put_solved<H: Threads + Wait + Clock + Sync, W: Write, G: Gate + Sync>(
     env: &Env<'_, H>,
     sink: &mut Sink<'_, W>,
@@ -253,7 +249,7 @@ pub fn put_solved<H: Threads + Wait + Clock + Sync, W: Write, G: Gate + Sync>(
     Ok(())
 }
 
-/// Puts the line of how many arcs are added, and the block of the grown network.
+/// Puts the number of added arcs, and the block of the grown network.
 fn put_grown_block<W: Write>(
     alloc: Global,
     sink: &mut Sink<'_, W>,
@@ -279,7 +275,6 @@ fn put_grown_block<W: Write>(
     Ok(())
 }
 
-/// Puts the block of a start.
 fn put_block<W: Write>(
     alloc: Global,
     sink: &mut Sink<'_, W>,
@@ -306,7 +301,6 @@ fn put_block<W: Write>(
     }
 }
 
-/// Puts the block of a source.
 fn put_source_block<W: Write>(
     alloc: Global,
     sink: &mut Sink<'_, W>,
@@ -337,7 +331,6 @@ fn put_source_block<W: Write>(
     }
 }
 
-/// Puts the block of a source by lines of its vertices.
 fn put_vertices<W: Write>(
     alloc: Global,
     sink: &mut Sink<'_, W>,
@@ -372,7 +365,7 @@ fn put_vertices<W: Write>(
     put_within(alloc, sink, source, bound, labels, &walks)
 }
 
-/// The walks of the lines that have them.
+/// The walks, if the lines have them.
 fn walks_for(
     alloc: Global,
     network: &Network,

@@ -1,17 +1,16 @@
-//! The runtime and the allocator, and what else the calls of an answer have in common.
+//! The surroundings of an answer.
 
 use crate::asked::Asked;
 use std::alloc::Global;
 
-/// The runtime that an answer is worked out on, and the allocator of all that it takes.
+/// The runtime and the allocator of an answer.
 #[derive(Drop)]
 pub struct Env<'a, H> {
     pub rt: &'a H,
     pub alloc: Global,
 }
 
-/// All that the answers to one caller have in common: the runtime, the allocator, the choices, and the gate that
-/// watches workers.
+/// The runtime, the allocator, the choices, and the gate of the answers to one caller.
 #[derive(Drop)]
 pub struct Context<'a, H, G> {
     pub rt: &'a H,
@@ -21,7 +20,6 @@ pub struct Context<'a, H, G> {
 }
 
 impl<'a, H, G> Context<'a, H, G> {
-    /// The runtime and the allocator.
     pub(crate) fn env(&self) -> Env<'a, H> {
         Env {
             rt: self.rt,

@@ -1,4 +1,4 @@
-//! Faults, and the status with which the program ends after each.
+//! Faults, and the status after each.
 
 ghost use Rattle.std.specs.Prelude.{◌≡◌};
 ghost use Rattle.job_answer.specs.declared.fault.Fault.TheVariants as fault;
@@ -9,31 +9,31 @@ use job_reader::ReadFault;
 use std::alloc::AllocError;
 use thiserror::Error;
 
-/// The reason why there is no answer, or only a prefix of one.
+/// The reason why there is no answer, or only a prefix.
 #[derive(Clone, Copy, Debug, PartialEq, Eq, Error)]
 pub enum Fault {
     /// The reader failed. Nothing was written.
     #[error("read failed")]
     Read,
-    /// A byte came after as many as may be read. Nothing was written.
+    /// The text has more bytes than may be read. Nothing was written.
     #[error("input too long")]
     TooLong,
-    /// The text is no job's: its first fault, with its line, counted from 1. Nothing was written.
+    /// The first fault of the text, in this line, counted from 1. Nothing was written.
     #[error("line {line}: {kind}")]
     Text { line: u64, kind: LineKind },
-    /// Distances or levels were asked for, and the text has no section of queries. Nothing was written.
+    /// Distances or levels were asked for, of a text without a section of queries. Nothing was written.
     #[error("no sources or pairs")]
     NoAsk,
-    /// The vertices within a bound were asked for, and the text has pairs in place of sources. Nothing was written.
+    /// Vertices within a bound were asked for, of a text with pairs. Nothing was written.
     #[error("no sources, which a bound needs")]
     NoSources,
-    /// The system refused memory. A prefix of the answer may have been written.
+    /// The system refused memory. A prefix may have been written.
     #[error("out of memory")]
     Memory,
-    /// The system refused a thread. A prefix of the answer may have been written.
+    /// The system refused a thread. A prefix may have been written.
     #[error("cannot start a thread")]
     Spawn,
-    /// The writer failed. A prefix of the answer may have been written.
+    /// The writer failed. A prefix may have been written.
     #[error("write failed")]
     Write,
 }
@@ -67,8 +67,8 @@ impl From<AllocError> for Fault {
     }
 }
 
-/// The status with which the program ends after a fault: 2 for a text that can't be answered, 3 for
-/// memory, 4 for reading and writing, 5 for a thread.
+/// The program's status after a fault: 2 for a text that can't be answered, 3 for memory, 4 for reading and writing, 5
+/// for a thread.
 pub fn status(fault: &Fault) -> u8
     ensures { result ≡ status_of fault.now }
 {

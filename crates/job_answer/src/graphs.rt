@@ -1,4 +1,4 @@
-//! The networks of an answer kind: of a job's arcs, and of these and the added ones.
+//! The networks of an answer: of a job's arcs, and with the added ones.
 
 ghost use Rattle.std.specs.Prelude.{◌≡◌, ◌≤◌, ◌^◌, None, length, IfOk, IfSome};
 ghost use Rattle.least_costs.specs.Network.{IsNetworkOf};
@@ -15,8 +15,7 @@ use route_walks::{ArcRec, Memory};
 use std::alloc::Global;
 use std::thread::Threads;
 
-/// The network in which the costs of an answer are least, for all of its sources, and if the job adds arcs
-/// the one with them.
+/// The network of all sources, and the one with added arcs.
 #[derive(Drop)]
 pub struct Graphs {
     pub network: Network,
@@ -26,14 +25,13 @@ pub struct Graphs {
 /// A network after its added arcs.
 #[derive(Drop)]
 pub struct Grown {
-    /// The number of arcs that the job adds.
+    /// The number of added arcs.
     pub count: u32,
     pub network: Network,
 }
 
-/// The networks of an answer kind, whose rows are made by up to `threads` threads. The lists of arcs are given
-/// back. The ends of all arcs are vertices, and there are no more than a network takes, so that only memory is
-/// refused.
+/// Makes the networks of an answer, with rows by up to `threads` threads. Frees the lists of arcs. The ends of all arcs
+/// must be vertices.
 pub fn graphs_for<H: Threads + Sync>(
     rt: &H,
     alloc: Global,
@@ -79,7 +77,7 @@ pub fn graphs_for<H: Threads + Sync>(
     Ok(Graphs { network, grown })
 }
 
-/// The plan by which costs are worked out.
+/// The plan by which costs are solved.
 pub fn plan_of(asked: &Asked) -> Plan
     ensures settings { result.settings ≡ asked.now.settings }
     ensures at_once { result.at_once ≡ asked.now.at_once }
@@ -90,14 +88,13 @@ pub fn plan_of(asked: &Asked) -> Plan
     }
 }
 
-/// Gives the number of tasks that are done at the same time in these networks.
+/// The number of tasks that are done at the same time.
 pub fn teams_for(graphs: &Graphs, asked: &Asked) -> usize
     ensures { result ≤ asked.now.settings.workers }
 {
     plan_of(asked).teams(&graphs.network)
 }
 
-/// Gives the cost of an arc in the network of an answer kind.
 fn cost_for(answer: Answer) -> Cost
     ensures { result ≡ cost_for answer }
 {

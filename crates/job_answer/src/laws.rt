@@ -1,4 +1,4 @@
-//! Laws of answers. Each is the contract of a function that does nothing.
+//! Laws of answers.
 
 ghost use Rattle.job_answer.specs.AnswerText.{AnswerTextsAreUnique, BlocksAreUnique};
 ghost use Rattle.job_answer.specs.Costs.{AnswersSayCosts, AnswersSayPairCosts, AnswersSayComponents};
@@ -14,7 +14,7 @@ use walk_report::laws::{
     hops_and_parents_are_unique, hops_and_parents_exist, printed_walks_are_walks,
 };
 
-/// A source has only one block of a kind, and so have a pair and the components.
+/// A source has only one block of a kind, and so have a pair and components.
 pub fn blocks_are_unique()
     ensures { BlocksAreUnique }
 {
@@ -22,7 +22,7 @@ pub fn blocks_are_unique()
     hops_and_parents_are_unique();
 }
 
-/// A source has only one block, of each vertex, within a bound or in short.
+/// A source has only one block by lines within a bound or in short.
 pub fn lines_are_unique()
     ensures { LinesAreUnique }
 {
@@ -31,15 +31,14 @@ pub fn lines_are_unique()
     blocks_are_unique();
 }
 
-/// A job has only one answer text of a kind. So what `answer` writes does not depend on how the labels
-/// were worked out.
+/// A job has only one answer text of a kind, however the labels were worked out.
 pub fn answer_texts_are_unique()
     ensures { AnswerTextsAreUnique }
 {
     blocks_are_unique();
 }
 
-/// A job has only one answer text of a kind, by whichever lines blocks of sources have.
+/// A job has only one answer text by any lines.
 pub fn answer_texts_by_lines_are_unique()
     ensures { AnswerTextsByLinesAreUnique }
 {
@@ -47,8 +46,7 @@ pub fn answer_texts_by_lines_are_unique()
     lines_are_unique();
 }
 
-/// A job within the limits has an answer text of each kind, unless it asks for nothing. So what is said of
-/// every text that answers a job is never said of none.
+/// A job within the limits has an answer text of each kind, unless it asks for nothing.
 pub fn asked_jobs_have_answers()
     ensures { AskedJobsHaveAnswers }
 {
@@ -56,8 +54,7 @@ pub fn asked_jobs_have_answers()
     hops_and_parents_exist();
 }
 
-/// A job within the limits has an answer text by any lines, unless they are within a bound, which asks for sources, and
-/// it has pairs.
+/// A job within the limits has an answer text by any lines, unless they are within a bound and it has pairs.
 pub fn asked_jobs_have_answers_by_lines()
     ensures { AskedJobsHaveAnswersByLines }
 {
@@ -66,9 +63,9 @@ pub fn asked_jobs_have_answers_by_lines()
     hops_and_parents_exist();
 }
 
-/// In an answer of distances or levels the line of a vertex says `inf` if no walk at all leads there from the source.
-/// Else it says what the cheapest walk costs. If walks are asked for, the line after it has the vertices of such a
-/// walk, with no more arcs than another of that cost.
+/// In an answer of distances or levels, a vertex's line says `inf` if no walk leads there from the source, and else
+/// what the cheapest costs. The line after it has the vertices of such a walk, with the fewest arcs, if walks are asked
+/// for.
 pub fn answers_say_costs()
     ensures { AnswersSayCosts }
 {
@@ -76,8 +73,8 @@ pub fn answers_say_costs()
     printed_walks_are_walks();
 }
 
-/// Within a bound exactly those vertices have a line to which a walk leads that costs no more than the bound. It says
-/// what the cheapest one costs, and which one that is if walks are asked for.
+/// Within a bound exactly the vertices have a line to which a walk leads that costs no more. It says what the cheapest
+/// costs, and which walk that is if walks are asked for.
 pub fn answers_say_costs_within()
     ensures { AnswersSayCostsWithin }
 {
@@ -85,8 +82,7 @@ pub fn answers_say_costs_within()
     printed_walks_are_walks();
 }
 
-/// In an answer of pairs the line of a pair says `inf` or the cost from its source to its target, with its walk if
-/// walks are asked for.
+/// In an answer of pairs, a line says `inf` or the cost from source to target, with its walk if walks are asked for.
 pub fn answers_say_pair_costs()
     ensures { AnswersSayPairCosts }
 {
@@ -94,31 +90,29 @@ pub fn answers_say_pair_costs()
     printed_walks_are_walks();
 }
 
-/// In an answer of components the line of a vertex says the least vertex that the job's arcs connect with
-/// it, whichever way each arc points.
+/// In an answer of components, a line says the least vertex that arcs connect with it, whichever way they point.
 pub fn answers_say_components()
     ensures { AnswersSayComponents }
 {
     least_labels_are_components();
 }
 
-/// As bytes the labels from a source are those of its lines.
+/// Raw labels are those of the lines.
 pub fn raw_labels_say_the_same()
     ensures { RawLabelsSayTheSame }
 {
     least_labels_are_unique();
 }
 
-/// Its line of totals says what the labels of its lines come to.
+/// A line of totals says what the labels of the lines add up to.
 pub fn totals_add_up()
     ensures { TotalsAddUp }
 {
     least_labels_are_unique();
 }
 
-/// The answer of a job is that of its parts. If its sources or its pairs are cut in two, the answers of the two
-/// parts, one after the other, are the job's answer by these lines. So a job can be cut anywhere, and into any number
-/// of parts. Each part has the graph and the added arcs.
+/// If the sources or pairs of a job are cut in two, the answers of the parts, one after the other, are the job's. Each
+/// part has the graph and the added arcs.
 pub fn answers_of_parts_join()
     ensures { AnswersOfPartsJoin }
 {}

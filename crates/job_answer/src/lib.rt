@@ -1,13 +1,10 @@
 //! Bytes in, bytes out: the answer of a job.
 //!
-//! `answer` reads a job text from any reader and writes its answer to any writer. By its contract the bytes written are
-//! exactly those that the least labels of the job make, for all settings and however the workers' steps interleave. It
-//! says too what was read and written at each fault. `answer_bytes` answers a text in memory, and `answer_watched`
-//! shows how far it is. `Asked` says which labels and which lines: of all vertices, of those within a bound, or in
-//! short.
+//! `answer` reads a job text and writes exactly the bytes that the least labels of the job make, for all settings and
+//! however workers' steps interleave. Its contract also says what was read and written at each fault. `answer_watched`
+//! shows how far it is. `Asked` says which labels and which lines.
 //!
-//! `answer_question` answers one question by networks that a caller keeps (`graphs_for`), so that many questions can be
-//! asked of one graph.
+//! `answer_question` answers by networks that a caller keeps (`graphs_for`).
 //!
 //! The answer to a text in memory, by two workers:
 //!
@@ -18,13 +15,6 @@
 //! let text = b"p sp 2 1\na 1 2 7\np aux sp ss 1\ns 1\n";
 //! let bytes = answer_bytes(rt, rt.alloc(), text, &asked, &OpenGate)?; // s 1, d 1 0 and d 2 7
 //! ```
-//!
-//! It stands on `job_reader`, which reads a job by several threads, on `dimacs_text` for what a job is, and on
-//! `answer_lines`, which writes lines. The labels come from the workers of `obim_engine`, over the rows of `csr_graph`,
-//! and from the teams of `least_costs`, which solve several sources at the same time.
-//!
-//! Walks come from `walk_report`, and near ones from `near_labels`. `route_walks` says what least labels are, and
-//! `thiserror` makes the texts of faults.
 #![tactic(auto)]
 
 mod answering;

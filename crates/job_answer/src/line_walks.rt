@@ -1,4 +1,4 @@
-//! The walks of labels, and the line of each one.
+//! The walks of labels, and their lines.
 
 ghost use Rattle.std.specs.Prelude.{◌≡◌, ◌<◌, ◌++◌, IfOk, OnOk, slice_index};
 ghost use Rattle.route_walks.specs.Limit.{AreLeastLabelsUpTo};
@@ -12,14 +12,14 @@ use route_walks::Memory;
 use std::alloc::Global;
 use walk_report::{hops_below, parents, walk_to};
 
-/// The walks of labels: hops and parents, as `walk_report` gives them.
+/// Hops and parents, as `walk_report` gives them.
 #[derive(Drop)]
 pub struct LineWalks {
     pub hops: Vec<u32>,
     pub parents: Vec<u32>,
 }
 
-/// The walks from a source by labels that are least up to a limit, to each vertex below it.
+/// The walks from a source to each vertex below the limit up to which labels are least.
 pub fn walks_below(
     alloc: Global,
     network: &Network,

@@ -18,10 +18,9 @@ use route_walks::{INF, MAX_VERTICES, Memory};
 use std::alloc::Global;
 use std::io::Write;
 
-/// Lines put between two checks of the buffer's size.
+/// Lines put between two looks at the buffer's size.
 const LINES: usize = 512;
 
-/// Puts the lines of the components.
 pub fn put_components<W: Write>(sink: &mut Sink<'_, W>, labels: &[u64]) -> Result<(), Fault>
     requires vertices { length labels.now ≤ MAX_VERTICES }
     requires finite { All (λ label. label < INF) labels.now }
@@ -40,7 +39,6 @@ pub fn put_components<W: Write>(sink: &mut Sink<'_, W>, labels: &[u64]) -> Resul
     Ok(())
 }
 
-/// Puts the line of a source and those of the labels from it.
 pub fn put_labels<W: Write>(
     sink: &mut Sink<'_, W>,
     source: u32,
@@ -64,7 +62,7 @@ pub fn put_labels<W: Write>(
     Ok(())
 }
 
-/// Puts the line of a source and the labels from it as bytes.
+/// Puts the line of a source and its labels as bytes.
 pub fn put_raw<W: Write>(sink: &mut Sink<'_, W>, source: u32, labels: &[u64]) -> Result<(), Fault>
     requires source { source < MAX_VERTICES }
     ensures same { IsSame sink.old sink.new }
@@ -81,7 +79,7 @@ pub fn put_raw<W: Write>(sink: &mut Sink<'_, W>, source: u32, labels: &[u64]) ->
     Ok(())
 }
 
-/// Puts the line of what the labels from a source come to.
+/// Puts the line of a source's totals.
 pub fn put_totals<W: Write>(
     sink: &mut Sink<'_, W>,
     source: u32,
@@ -99,8 +97,7 @@ pub fn put_totals<W: Write>(
     sink.send_if_full()
 }
 
-/// Puts the line of a source and those of the labels from it that are at most the bound, each with its walk if
-/// there are walks. All labels are at most `INF`.
+/// Puts the line of a source and those of labels at most the bound, each with its walk if there are walks.
 pub fn put_within<W: Write>(
     alloc: Global,
     sink: &mut Sink<'_, W>,
@@ -128,7 +125,7 @@ pub fn put_within<W: Write>(
     Ok(())
 }
 
-/// Puts the line of a source and those of these vertices, each with its label.
+/// Puts the line of a source and those of these vertices.
 pub fn put_listed<W: Write>(
     sink: &mut Sink<'_, W>,
     source: u32,
@@ -150,8 +147,7 @@ pub fn put_listed<W: Write>(
     Ok(())
 }
 
-/// Puts the line of a vertex whose label is at most the bound, and that of its walk if there are walks and one leads
-/// to it.
+/// Puts the line of a vertex whose label is at most the bound, and that of its walk if there is one.
 fn put_vertex(
     alloc: Global,
     out: &mut Vec<u8>,

@@ -1,4 +1,4 @@
-//! The block of a source whose vertices within the bound are near, without workers.
+//! The block of a source whose vertices within the bound are near.
 
 ghost use Rattle.std.specs.Prelude.{◌≡◌, None, IfErr, IfSome, OnErr, OnOk};
 ghost use Rattle.least_costs.specs.Network.{IsStartWithin};
@@ -21,16 +21,15 @@ use std::alloc::Global;
 use std::io::Write;
 use std::time::Clock;
 
-/// The vertices that cost at most a bound from a source, in rising order, each with its label. The block of the source
-/// has their lines and no others.
+/// The vertices that cost at most a bound from a source, in rising order, each with its label.
 #[derive(Drop)]
 pub(crate) struct NearBlock {
     pub source: u32,
     pub found: Vec<(u32, u64)>,
 }
 
-/// The vertices of the block of a start, if the thread that asks finds them by itself. `None` if the block has other
-/// lines than those within a bound without walks, or arcs are added.
+/// The vertices of a start's block, if the thread that asks finds them. `None` if the block has other lines than those
+/// within a bound without walks, or arcs are added.
 pub(crate) fn near_block<G: Gate + Sync>(
     alloc: Global,
     graphs: &Graphs,
@@ -60,7 +59,6 @@ pub(crate) fn near_block<G: Gate + Sync>(
     Some(NearBlock { source, found })
 }
 
-/// Puts the block of a start by a list of its vertices.
 pub(crate) fn put_near<C: Clock, W: Write>(
     clock: &C,
     sink: &mut Sink<'_, W>,

@@ -1,4 +1,4 @@
-//! The lines of pairs with walks whose targets are near, without workers.
+//! The lines of pairs with walks whose targets are near.
 
 ghost use Rattle.std.specs.Prelude.{◌≡◌, ◌<◌, ◌++◌, None, All, IfErr, IfSome, OnErr, OnOk, drop, length, slice_range};
 ghost use Rattle.near_labels.specs.Found.{AreWalksFound};
@@ -47,7 +47,7 @@ pub(crate) fn near_walks<G: Gate + Sync>(
     }
 }
 
-/// Puts the lines of the pairs that a solve is for, each with its walk.
+/// Puts the lines of a solve's pairs, each with its walk.
 pub(crate) fn put_found<W: Write>(
     sink: &mut Sink<'_, W>,
     queries: &PairQueries<'_>,
@@ -83,7 +83,7 @@ pub(crate) fn put_found<W: Write>(
     Ok(())
 }
 
-/// Puts the line of a pair and, if a walk leads to its target, the line of the walk.
+/// Puts the line of a pair, and of its walk if one leads to the target.
 fn put_found_pair(
     out: &mut Vec<u8>,
     source: u32,

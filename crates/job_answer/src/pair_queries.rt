@@ -5,7 +5,6 @@ ghost use Rattle.dimacs_text.specs.Jobs.{IsPairWithin};
 
 use crate::graphs::Graphs;
 
-/// Pairs of vertices, and the networks in which their costs are least.
 #[derive(Drop)]
 pub struct PairQueries<'a> {
     pub graphs: &'a Graphs,

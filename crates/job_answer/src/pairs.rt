@@ -30,7 +30,7 @@ use std::sync::Wait;
 use std::thread::Threads;
 use std::time::Clock;
 
-/// Tells the watch of a job how far its pairs are.
+/// Shows a job's watch how far its pairs are.
 #[derive(Drop)]
 struct PairWatch<'a, W> {
     watch: &'a mut W,
@@ -45,14 +45,13 @@ impl<W: Watch> Progress for PairWatch<'_, W> {
     }
 }
 
-/// Puts the lines of each pair in turn: the least cost from its source to its target, with its walk if
-/// walks are asked for. If the network grows, the same in the grown one comes after each pair's lines.
+/// Puts the lines of each pair in turn, with its walk if asked for. If the network grows, those in the grown one come
+/// after each.
 ///
-/// Targets near their source are found without workers, if what is kept has room for that.
+/// Targets near their source are found without workers, if there is room.
 ///
-/// Without walks each source is solved once, however the pairs stand, and their costs are kept until all
-/// are known. With walks only pairs that stand side by side share the solve of their source, and no cost
-/// is kept from one source to the next.
+/// Without walks each source is solved once, and costs are kept until all are known. With walks only neighbouring pairs
+/// share the solve of their source.
 pub fn put_pairs<H: Threads + Wait + Clock + Sync, W: Write, G: Gate + Sync>(
     context: &Context<'_, H, G>,
     sink: &mut Sink<'_, W>,
@@ -77,7 +76,7 @@ pub fn put_pairs<H: Threads + Wait + Clock + Sync, W: Write, G: Gate + Sync>(
     put_lines(sink, &queries, &costs)
 }
 
-/// The costs of the pairs, and if the network grows those in the grown one.
+/// The costs of the pairs, and those in the grown network.
 fn costs_between<H: Threads + Wait + Clock + Sync, G: Gate + Sync>(
     context: &Context<'_, H, G>,
     queries: &PairQueries<'_>,
@@ -111,7 +110,6 @@ fn costs_between<H: Threads + Wait + Clock + Sync, G: Gate + Sync>(
     Ok(costs)
 }
 
-/// Puts the lines of pairs that have these costs.
 fn put_lines<W: Write>(
     sink: &mut Sink<'_, W>,
     queries: &PairQueries<'_>,
@@ -137,7 +135,7 @@ fn put_lines<W: Write>(
     Ok(())
 }
 
-/// Puts the line of a pair, which is at this place, and if the network grows that in the grown one.
+/// Puts the line of the pair at this place, and that in the grown network.
 fn put_pair_lines(
     out: &mut Vec<u8>,
     graphs: &Graphs,
@@ -162,7 +160,6 @@ fn put_pair_lines(
     }
 }
 
-/// A cost as a label: `INF` if there is no walk.
 fn label_of(cost: Option<u64>) -> u64
     ensures { result ≡ label_of cost }
 {

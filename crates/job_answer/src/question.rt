@@ -6,8 +6,7 @@ use crate::asked::Lines;
 use crate::graphs::Graphs;
 use dimacs_text::Ask;
 
-/// A question to networks that are kept, and the lines that the blocks of its sources have. Pairs have their walks if
-/// these lines have walks.
+/// A question to kept networks, and the lines of its sources. Pairs have their walks if these lines have walks.
 #[derive(Drop)]
 pub struct Question<'a> {
     pub graphs: &'a Graphs,

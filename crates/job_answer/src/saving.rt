@@ -1,6 +1,6 @@
-//! The number of workers that answer a question: those are saved that gain less than they take.
+//! The number of workers that answer a question.
 //!
-//! No answer depends on what is said here.
+//! No answer depends on it.
 
 ghost use Rattle.std.specs.Prelude.{◌≡◌};
 
@@ -9,19 +9,17 @@ use crate::graphs::Graphs;
 use dimacs_text::Ask;
 use obim_engine::{MAX_CHUNK, Settings};
 
-/// The number of vertices and arcs at which a second worker gains what its start costs, some 100 microseconds a
-/// question. Those of each of several sources or pairs count.
+/// The vertices and arcs at which a second worker gains what its start costs, some 100 microseconds. Those of each of
+/// several sources or pairs count.
 const FEW: usize = 1 << 14;
 
-/// The number of vertices and arcs at which a second worker gains that for a single source or pair, which workers
-/// share. Each step takes longer there, so they gain later.
+/// That number for a single source or pair, which workers share: each step takes longer there.
 const FEW_SHARED: usize = 1 << 17;
 
-/// The number in place of `FEW_SHARED` for two workers, which gain the least.
+/// That number for a single one and two workers, which gain the least.
 const FEW_SHARED_BY_TWO: usize = 3 << 18;
 
-/// Gives the question with the settings by which it is answered. It is answered by one worker if workers are saved and
-/// there is so little to do that no other gains what it takes.
+/// Returns the question with one worker, if workers are saved and there is too little to do for another.
 pub(crate) fn asked_for(asked: &Asked, graphs: &Graphs, ask: &Ask) -> Asked
     ensures answer { result.answer ≡ asked.now.answer }
 {
@@ -31,7 +29,7 @@ pub(crate) fn asked_for(asked: &Asked, graphs: &Graphs, ask: &Ask) -> Asked
     *asked
 }
 
-/// Tells if one worker goes over so few vertices and arcs that no other gains what it takes.
+/// Tells if there is too little to do for a second worker.
 fn is_little(asked: &Asked, graphs: &Graphs, ask: &Ask) -> bool {
     let rows = graphs.network.rows();
     let size = rows.arc_count().saturating_add(rows.n() as usize);
@@ -39,7 +37,7 @@ fn is_little(asked: &Asked, graphs: &Graphs, ask: &Ask) -> bool {
     size.saturating_mul(count) <= few_for(count, asked.settings.workers)
 }
 
-/// The number of sources for which a graph is solved at most.
+/// The most sources for which a graph is solved.
 fn count_of(answer: Answer, ask: &Ask) -> usize {
     match (answer, ask) {
         (Answer::Components, _) | (_, Ask::Absent) => 1,
@@ -48,7 +46,7 @@ fn count_of(answer: Answer, ask: &Ask) -> usize {
     }
 }
 
-/// The number of vertices and arcs up to which one worker answers alone, for this many sources or pairs.
+/// The vertices and arcs up to which one worker answers alone.
 fn few_for(count: usize, workers: u32) -> usize {
     if count > 1 {
         FEW
@@ -59,7 +57,7 @@ fn few_for(count: usize, workers: u32) -> usize {
     }
 }
 
-/// The settings with one worker. It shares nothing, and its chunks take the same room whatever their size is.
+/// The settings with one worker, and chunks as large as they can be: it shares nothing.
 fn alone(settings: Settings) -> Settings {
     Settings {
         workers: 1,

@@ -1,4 +1,4 @@
-//! A sink, in which the bytes of an answer wait until they are written.
+//! The bytes of an answer until they are written.
 
 ghost use Rattle.std.specs.Prelude.{◌≡◌, ◌<◌, ◌≤◌, [], Some, length, max, IfOk, IfErr, OnOk, OnErr};
 ghost use Rattle.std.specs.Io.KnownBytes.{Appends, Keeps, WriteAppends};
@@ -12,16 +12,16 @@ use std::io::{self, ErrorKind, Write};
 /// The most bytes a vertex of a text that is made before its turn. A block without walks has fewer.
 const MOST_A_VERTEX: usize = 64;
 
-/// Bytes of a piece, which are written at once.
+/// The bytes that are written at once.
 pub const PIECE: usize = 1 << 16;
 
-/// Takes the bytes of an answer in order. They wait until they make a piece, and then they are written.
+/// Takes the bytes of an answer in order, and writes them in pieces.
 #[derive(Drop)]
 pub struct Sink<'a, W> {
     pub writer: &'a mut W,
-    /// The bytes that wait. More are put at the end.
+    /// The bytes that wait.
     pub waiting: &'a mut Vec<u8>,
-    /// The number of bytes that make a piece.
+    /// The bytes of a piece.
     pub piece: usize,
 }
 
@@ -64,7 +64,7 @@ impl<'a, W: Write> Sink<'a, W> {
         write_bytes(self.writer, bytes)
     }
 
-    /// Writes what still waits, and flushes the writer once.
+    /// Writes what waits, and flushes the writer once.
     pub fn finish(&mut self) -> Result<(), Fault>
         ensures same { IsSame self.old self.new }
         ensures put { OnOk result (Puts W.contents (Is []) self.old self.new) }
@@ -77,7 +77,7 @@ impl<'a, W: Write> Sink<'a, W> {
     }
 }
 
-/// Gives the most bytes of a text that is made before its turn, so that memory doesn't grow with walks.
+/// The most bytes of a text made before its turn, so that memory doesn't grow with walks.
 pub fn most_bytes(graphs: &Graphs) -> usize {
     let once = (graphs.network.n() as usize).saturating_mul(MOST_A_VERTEX);
     match &graphs.grown {
@@ -86,7 +86,7 @@ pub fn most_bytes(graphs: &Graphs) -> usize {
     }
 }
 
-/// A writer that takes nothing. A sink before it keeps all of its bytes, and fails once they make a piece.
+/// A writer that takes nothing: a sink before it keeps its bytes, and fails once they make a piece.
 #[derive(Drop)]
 pub struct NoWriter;
 
@@ -102,8 +102,8 @@ impl Write for NoWriter {
     }
 }
 
-/// Writes all of the bytes, and flushes the writer once. Each error, and a write of no byte, is `Write`, and then a
-/// prefix of the bytes was written.
+/// Writes all of the bytes, and flushes once. Each error, and a write of no byte, is `Write`; a prefix was then
+/// written.
 pub fn write_whole<W: Write>(writer: &mut W, bytes: &[u8]) -> Result<(), Fault>
     ensures whole { OnOk result (Appends (W.contents writer.old) (W.contents writer.new) bytes.now) }
     ensures prefix { OnErr result (GivesPrefix (W.contents writer.old) (W.contents writer.new) bytes.now) }
@@ -113,7 +113,6 @@ pub fn write_whole<W: Write>(writer: &mut W, bytes: &[u8]) -> Result<(), Fault>
     flush(writer)
 }
 
-/// Flushes the writer. Each error is `Write`.
 fn flush<W: Write>(writer: &mut W) -> Result<(), Fault>
     ensures bytes { Keeps (W.contents writer.old) (W.contents writer.new) }
     ensures only { IfErr result (λ fault. fault ≡ Fault.Write) }
@@ -124,8 +123,7 @@ fn flush<W: Write>(writer: &mut W) -> Result<(), Fault>
     }
 }
 
-/// Writes all of the bytes. Each error, and a write of no byte, is `Write`, and then a prefix of the
-/// bytes was written.
+/// Writes all of the bytes, as `write_whole`.
 fn write_bytes<W: Write>(writer: &mut W, bytes: &[u8]) -> Result<(), Fault>
     ensures whole { OnOk result (Appends (W.contents writer.old) (W.contents writer.new) bytes.now) }
     ensures prefix { OnErr result (GivesPrefix (W.contents writer.old) (W.contents writer.new) bytes.now) }
@@ -139,7 +137,7 @@ fn write_bytes<W: Write>(writer: &mut W, bytes: &[u8]) -> Result<(), Fault>
     Ok(())
 }
 
-/// One write of at least a byte, of which each error is `Write`.
+/// Writes at least a byte.
 fn write_some<W: Write>(writer: &mut W, bytes: &[u8]) -> Result<usize, Fault>
     ensures count { IfOk result (λ count. (0 < count) × (count ≤ length bytes.now)) }
     ensures bytes { WriteAppends (W.contents writer.old) (W.contents writer.new) result bytes.now }

@@ -15,7 +15,7 @@ use std::sync::Wait;
 use std::thread::Threads;
 use std::time::Clock;
 
-/// The costs of a network from a start that serve a goal, by these workers. They go no further.
+/// The costs from a start, as far as the goal.
 pub fn costs_from<H: Threads + Wait + Clock + Sync, G: Gate + Sync>(
     env: &Env<'_, H>,
     network: &Network,
@@ -37,8 +37,8 @@ pub fn costs_from<H: Threads + Wait + Clock + Sync, G: Gate + Sync>(
     Ok(costs)
 }
 
-/// The costs of the grown network from the same start that serve a goal, from what the run before left. Only what the
-/// added arcs change is visited, and what else the goal wants.
+/// The costs of the grown network from the same start, by what the run before left. Only what the added arcs change,
+/// and the goal wants, is visited.
 pub fn costs_after<H: Threads + Wait + Clock + Sync, G: Gate + Sync>(
     env: &Env<'_, H>,
     network: &Network,
@@ -62,7 +62,7 @@ pub fn costs_after<H: Threads + Wait + Clock + Sync, G: Gate + Sync>(
     Ok(costs)
 }
 
-/// One solve: its labels answer the queries from `first` up to `end`.
+/// One solve, for the queries from `first` up to `end`.
 #[derive(Clone, Copy, Debug)]
 pub struct Solve {
     pub start: Start,
@@ -71,8 +71,7 @@ pub struct Solve {
 }
 
 impl Solve {
-    /// For the query at a place and those after it that have the same source. A query begins with its
-    /// source.
+    /// The solve for the query at a place and those after it with the same source.
     pub fn of_queries(queries: &[(u32, u32)], first: usize) -> Solve
         requires { first < length queries.now }
         ensures queries { IsForQueries queries.now result }
@@ -92,7 +91,7 @@ impl Solve {
     }
 }
 
-/// The place of the query after one that has another source than it.
+/// The place of the next query with another source.
 pub fn next_source(queries: &[(u32, u32)], place: usize) -> usize {
     if place >= queries.len() {
         return place.saturating_add(1);

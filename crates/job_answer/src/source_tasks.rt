@@ -5,7 +5,7 @@ ghost use Rattle.std.specs.Prelude.{◌<◌, All};
 use crate::block_kind::BlockKind;
 use crate::team_watch::SolveCount;
 
-/// The sources whose blocks are asked for. A task for each gives its block.
+/// The sources whose blocks are asked for, a task for each.
 #[derive(Drop)]
 pub struct SourceTasks<'a> {
     pub kind: BlockKind<'a>,

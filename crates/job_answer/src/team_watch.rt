@@ -4,7 +4,7 @@ use crate::watch::{Phase, Watch};
 use std::sync::atomic::{AtomicUsize, Ordering};
 use std::time::Clock;
 
-/// A count of the times that teams worked out labels, also for what was not kept.
+/// The number of times that teams worked out labels, also of what was not kept.
 #[derive(Drop)]
 pub struct SolveCount {
     count: AtomicUsize,
@@ -17,13 +17,13 @@ impl SolveCount {
         }
     }
 
-    /// Gives the count since the last call, and begins anew.
+    /// Returns the count and begins anew.
     pub fn take(&self) -> usize {
         self.count.swap(0, Ordering::Relaxed)
     }
 }
 
-/// Watches one team: counts how often it worked out labels.
+/// Counts how often a team worked out labels.
 #[derive(Drop)]
 pub struct TeamWatch<'a> {
     pub solves: &'a SolveCount,
@@ -35,7 +35,7 @@ impl Watch for TeamWatch<'_> {
     }
 }
 
-/// Tells a watch what teams did before the turn of a task, and that the next phase is over.
+/// Shows a watch what teams did before the turn of a task, and that the next phase is over.
 pub fn see_round<C: Clock>(clock: &C, teams: usize, solves: &SolveCount, watch: &mut impl Watch) {
     watch.see_teams(teams);
     watch.see_solves(solves.take());

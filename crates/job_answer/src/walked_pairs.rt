@@ -40,18 +40,17 @@ use std::thread::Threads;
 use std::time::Clock;
 use walk_report::laws::{hops_and_parents_exist, walks_below_agree};
 
-/// The pairs whose lines are asked for with walks. A task for those that stand side by side and have one source, at
-/// the place of the first, gives their lines.
+/// The pairs that are asked for with walks. A task is for neighbouring pairs of one source, at the place of the first.
 #[derive(Drop)]
 pub struct WalkTasks<'a> {
     pub queries: PairQueries<'a>,
     pub solves: SolveCount,
 }
 
-/// The lines of such pairs, in memory.
+/// The lines of such pairs.
 #[derive(Drop)]
 pub struct LinesText {
-    /// The number of pairs that the lines are for.
+    /// The number of these pairs.
     pub count: usize,
     pub bytes: Vec<u8>,
 }
@@ -65,8 +64,7 @@ impl<'a> Tasks<LinesText> for WalkTasks<'a> {
     }
 }
 
-/// Puts the lines of each pair in turn, each with its walk. Only pairs that stand side by side share the
-/// solve of their source.
+/// Puts the lines of each pair, with its walk. Neighbouring pairs of one source share a solve.
 pub fn put_all_walked<H: Threads + Wait + Clock + Sync, W: Write, G: Gate + Sync>(
     context: &Context<'_, H, G>,
     sink: &mut Sink<'_, W>,
@@ -96,7 +94,6 @@ pub fn put_all_walked<H: Threads + Wait + Clock + Sync, W: Write, G: Gate + Sync
     Ok(())
 }
 
-/// Puts the lines of each pair in turn.
 fn put_all_lines<H: Threads + Wait + Clock + Sync, W: Write, G: Gate + Sync>(
     env: &Env<'_, H>,
     sink: &mut Sink<'_, W>,
@@ -123,8 +120,7 @@ fn put_all_lines<H: Threads + Wait + Clock + Sync, W: Write, G: Gate + Sync>(
     Ok(())
 }
 
-/// Puts the lines of the pairs from a place on that have one source: as they were made before their turn, or else
-/// solved now. How many pairs these are.
+/// Puts the lines of a task, made before its turn or solved now. Returns the number of its pairs.
 fn put_lines_at<H: Threads + Wait + Clock + Sync, W: Write, G: Gate + Sync>(
     env: &Env<'_, H>,
     sink: &mut Sink<'_, W>,
@@ -161,7 +157,7 @@ fn put_lines_at<H: Threads + Wait + Clock + Sync, W: Write, G: Gate + Sync>(
     Ok(solve.end - first)
 }
 
-/// The lines of the pairs from a place on, if they were made before their turn.
+/// The lines of a task, if they were made before.
 fn take_lines<H: Threads + Wait + Clock + Sync, G: Gate + Sync>(
     env: &Env<'_, H>,
     rounds: &mut Rounds<'_, LinesText, G>,
@@ -186,8 +182,7 @@ fn take_lines<H: Threads + Wait + Clock + Sync, G: Gate + Sync>(
     )
 }
 
-/// The lines of the pairs from a place on that have one source. `None` if memory is refused, or if walks make them
-/// long.
+/// The lines of a task. `None` if memory is refused, or walks make them long.
 fn make_lines<H: Threads + Wait + Clock + Sync, G: Gate + Sync>(
     env: &Env<'_, H>,
     tasks: &WalkTasks<'_>,
@@ -206,7 +201,7 @@ fn make_lines<H: Threads + Wait + Clock + Sync, G: Gate + Sync>(
     held_lines(env, &tasks.queries, place, workers, &mut watch).ok()
 }
 
-/// The lines of the pairs from a place on that have one source, in memory. Fails if they are long, too.
+/// The lines of a task, in memory. Fails if they are long, too.
 fn held_lines<H: Threads + Wait + Clock + Sync, G: Gate + Sync>(
     env: &Env<'_, H>,
     queries: &PairQueries<'_>,
@@ -235,8 +230,7 @@ fn held_lines<H: Threads + Wait + Clock + Sync, G: Gate + Sync>(
     })
 }
 
-/// Solves for some of the pairs, and puts their lines, each with its walk: by the thread that asks if their targets are
-/// near, and else by workers.
+/// Solves for a task's pairs, and puts their lines: by the thread that asks if targets are near, and else by workers.
 fn put_solved_pairs<H: Threads + Wait + Clock + Sync, W: Write, G: Gate + Sync>(
     env: &Env<'_, H>,
     sink: &mut Sink<'_, W>,
@@ -270,7 +264,7 @@ fn put_solved_pairs<H: Threads + Wait + Clock + Sync, W: Write, G: Gate + Sync>(
     Ok(())
 }
 
-/// Solves for some of the pairs, which have these targets, by workers, and puts their lines, each with its walk.
+/// Solves for a task's pairs by workers, and puts their lines.
 fn put_by_workers<H: Threads + Wait + Clock + Sync, W: Write, G: Gate + Sync>(
     env: &Env<'_, H>,
     sink: &mut Sink<'_, W>,
@@ -298,7 +292,6 @@ fn put_by_workers<H: Threads + Wait + Clock + Sync, W: Write, G: Gate + Sync>(
     put_walked(env.alloc, sink, queries, solve, walked, after)
 }
 
-/// The targets of the pairs that a solve is for, in their order.
 fn targets_of(alloc: Global, pairs: &[(u32, u32)], solve: Solve) -> Result<Vec<u32>, Memory>
     requires { IsForQueries pairs.now solve }
     ensures { IfOk result (λ targets. AreTargetsOf pairs.now solve.first solve.end targets.items) }
@@ -310,21 +303,21 @@ fn targets_of(alloc: Global, pairs: &[(u32, u32)], solve: Solve) -> Result<Vec<u
     Ok(targets)
 }
 
-/// The walks from one source as far as they are wanted: labels, and by which walks they are.
+/// The walks from one source: labels, and hops and parents.
 #[derive(Drop)]
 struct Walked {
     labels: Vec<u64>,
     walks: LineWalks,
 }
 
-/// Such walks in the network, and in the one that it grows to if it does.
+/// Such walks in the network, and in the grown one.
 #[derive(Drop)]
 struct BothWalked {
     before: Walked,
     after: Option<Walked>,
 }
 
-/// The walks from a source to some targets. Workers go no further than these want, in either network.
+/// The walks from a source to some targets, in both networks.
 fn walks_to<H: Threads + Wait + Clock + Sync, G: Gate + Sync>(
     env: &Env<'_, H>,
     graphs: &Graphs,
@@ -387,7 +380,7 @@ fn walked_from(
     Ok(Walked { labels, walks })
 }
 
-/// Puts the lines of the pairs that a solve is for, each with its walk, and those in the grown network.
+/// Puts the lines of a solve's pairs, each with its walk, and those in the grown network.
 fn put_walked<W: Write>(
     alloc: Global,
     sink: &mut Sink<'_, W>,
@@ -419,7 +412,7 @@ fn put_walked<W: Write>(
     Ok(())
 }
 
-/// Puts the lines of a pair, and if the network grows those in the grown one.
+/// Puts the line of a pair, and that in the grown network.
 fn put_walked_lines(
     alloc: Global,
     out: &mut Vec<u8>,
@@ -445,7 +438,7 @@ fn put_walked_lines(
     }
 }
 
-/// Puts the line of a pair and, if a walk leads to its target, the line of the walk.
+/// Puts the line of a pair, and of its walk if one leads to the target.
 fn put_walked_pair(
     alloc: Global,
     out: &mut Vec<u8>,

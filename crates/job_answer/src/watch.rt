@@ -1,9 +1,9 @@
-//! Progress of an answer, for whoever asked for it.
+//! Progress of an answer.
 
 use job_reader::ReadWatch;
 use std::time::Clock;
 
-/// The parts of an answer that time is spent on, in turn.
+/// The parts of an answer, in turn, that time is spent on.
 #[derive(Clone, Copy, Debug, PartialEq, Eq)]
 pub enum Phase {
     Reading,
@@ -13,22 +13,21 @@ pub enum Phase {
     Writing,
 }
 
-/// A watch that `answer_watched` shows how far it is once the job is read, in the caller's own thread. No byte of an
-/// answer depends on it.
+/// A watch that `answer_watched` shows how far it is, in the caller's thread. No byte of an answer depends on it.
 pub trait Watch {
-    /// The rows have this number of vertices and of arcs. For components each arc is there both ways.
+    /// Sees the vertices and arcs of the rows. For components each arc counts both ways.
     fn see_rows(&mut self, _vertices: u32, _arcs: usize) {}
 
-    /// Labels were worked out `count` times more.
+    /// Sees that labels were worked out `count` times more.
     fn see_solves(&mut self, _count: usize) {}
 
-    /// The number of sources that are solved at the same time.
+    /// Sees how many sources are solved at the same time.
     fn see_teams(&mut self, _teams: usize) {}
 
-    /// Of all the sources or pairs, in the order in which they are solved, `done` are answered.
+    /// Sees that `done` of all sources or pairs, in order, are answered.
     fn see_answered(&mut self, _done: usize, _all: usize) {}
 
-    /// The time since the last phase ended was spent on this one.
+    /// Sees that a phase ends, begun when the last one ended.
     fn end<C: Clock>(&mut self, _clock: &C, _phase: Phase) {}
 }
 
