@@ -2,19 +2,17 @@
 
 use std::io::{self, Read};
 
-/// The bytes of the stack between what started the process and what `main` calls.
+/// The bytes of the stack between the process's start and what `main` calls.
 const APART: usize = 1 << 14;
 
 /// A reader that notes why it failed.
 #[derive(Drop)]
 pub(crate) struct Input<R> {
     pub(crate) inner: R,
-    /// The system's error of a read that failed.
     pub(crate) failure: Option<io::Error>,
-    /// Nobody reads this. It keeps what `main` calls away from the part of the stack that starting a process writes
-    /// to. At the first allocation glibc 2.36 reads the system's setting of large pages into memory there that it
-    /// doesn't clear, and on past what it read. It takes the setting for another one, unless nothing was ever written
-    /// there.
+    /// Nobody reads this. It keeps what `main` calls away from the stack of the process's start. There glibc 2.36, at
+    /// the first allocation, reads the setting of large pages into memory that it doesn't clear. It would take other
+    /// bytes for a setting.
     _apart: [u8; APART],
 }
 

@@ -1,12 +1,7 @@
 //! The program `obim_query`.
 //!
-//! It reads a job from standard input and writes its answer to standard output. What it writes, and what a fault
-//! leaves, is the contract of `answer` of `job_answer`, and of a session that of `answer_session`. This crate prints
-//! help and faults, and gives the status.
-//!
-//! It stands on `command_line` for what is asked for, and on `job_answer` and `session_answer` for the answers. For
-//! standard error it stands on `job_messages` and `dimacs_text`, for an open gate on `obim_engine`, and for its help
-//! on `clap`.
+//! It reads a job from standard input and writes its answer to standard output, by the contracts of `answer` and
+//! `answer_session`. This crate prints help and faults, and returns the status.
 #![tactic(auto)]
 
 ghost use Rattle.std.specs.Prelude.{◌≡◌, map};
@@ -34,19 +29,18 @@ use std::thread::Threads;
 use std::time::Clock;
 use std::{env, fmt};
 
-/// The status of a command line that is refused.
+/// The status of a refused command line.
 const USAGE: u8 = 1;
 
-/// The status of a text that is refused.
+/// The status of a refused text.
 const REFUSED: u8 = 2;
 
-/// The refusal to read a job from a terminal, at which nobody types one by chance.
+/// The refusal to read a job from a terminal.
 const NO_JOB: &str = "no job: obim_query [OPTIONS] < JOB, or - to type it (see obim_query --help)";
 
 /// The line after the fault of a text, at a terminal.
 const HINT: &str = "--explain says more";
 
-/// The streams that are a terminal.
 #[derive(Clone, Copy)]
 struct Terminals {
     input: bool,
@@ -71,7 +65,7 @@ fn main(rt: HostRuntime) -> ExitCode {
     ExitCode::from(code)
 }
 
-/// The words of the command line; or the status to end with, after the text that says why is printed.
+/// The words of the command line; or the status, after an error is printed.
 fn arguments<H: AllocGlobal + Env + Eprint>(rt: &H) -> Result<Vec<String>, u8> {
     match env::args(rt) {
         Ok(arguments) => match arguments.collect(rt.alloc()) {
@@ -87,8 +81,7 @@ fn arguments<H: AllocGlobal + Env + Eprint>(rt: &H) -> Result<Vec<String>, u8> {
     }
 }
 
-/// Runs the program on these words: answers the job that the reader gives to the writer, and gives the status to end
-/// with. This is what people run: `main` only hands it the process's own words and streams.
+/// Runs the program on these words, and returns the status. `main` gives it the process's own words and streams.
 fn run<
     H: AllocGlobal + Print + Eprint + Threads + Wait + Clock + Sync,
     S: AsStr,
@@ -106,7 +99,7 @@ fn run<
     }
 }
 
-/// Prints why the command line asks for no answer, and gives the status to end with.
+/// Prints why the command line asks for no answer, and returns the status.
 fn print_refusal<H: Print + Eprint>(rt: &H, refusal: Refusal) -> u8
     ensures { IsStatusOf refusal result }
 {
@@ -117,7 +110,7 @@ fn print_refusal<H: Print + Eprint>(rt: &H, refusal: Refusal) -> u8
     }
 }
 
-/// Prints the text that the command line asks for, and gives the status to end with.
+/// Prints the help or the version, and returns the status.
 fn print_clap<H: Print + Eprint>(rt: &H, text: &clap::Error) -> u8
     ensures { IsTextStatus result }
 {
@@ -127,7 +120,6 @@ fn print_clap<H: Print + Eprint>(rt: &H, text: &clap::Error) -> u8
     }
 }
 
-/// Gives the place where progress is shown.
 fn shown_at(options: &Options, is_terminal: bool) -> Shown {
     if !options.progress {
         Shown::Nowhere
@@ -138,7 +130,7 @@ fn shown_at(options: &Options, is_terminal: bool) -> Shown {
     }
 }
 
-/// Answers, and gives the status to end with. If the reader of the answer closed the pipe, nothing is printed.
+/// Answers a job, and returns the status. If the reader of the answer closed the pipe, nothing is printed.
 fn answer_job<H: AllocGlobal + Eprint + Threads + Wait + Clock + Sync, R: Read, W: Write>(
     rt: &H,
     input: &mut Input<R>,
@@ -162,8 +154,8 @@ fn answer_job<H: AllocGlobal + Eprint + Threads + Wait + Clock + Sync, R: Read, 
     }
 }
 
-/// Replies to a graph and the requests after it, and gives the status to end with. If the reader of the replies closed
-/// the pipe, nothing is printed.
+/// Replies to a graph and its requests, and returns the status. If the reader of the replies closed the pipe, nothing
+/// is printed.
 fn serve<H: AllocGlobal + Eprint + Threads + Wait + Clock + Sync, R: Read, W: Write>(
     rt: &H,
     input: &mut Input<R>,
@@ -184,7 +176,7 @@ fn serve<H: AllocGlobal + Eprint + Threads + Wait + Clock + Sync, R: Read, W: Wr
     }
 }
 
-/// Answers, with what is asked for beside.
+/// Answers, with figures and progress if asked for.
 fn reply<H: AllocGlobal + Eprint + Threads + Wait + Clock + Sync, R: Read, W: Write>(
     rt: &H,
     reader: &mut R,
@@ -203,7 +195,7 @@ fn reply<H: AllocGlobal + Eprint + Threads + Wait + Clock + Sync, R: Read, W: Wr
     answer_watched(rt, rt.alloc(), reader, writer, asked, gate, progress)
 }
 
-/// Answers, and prints how far it is and figures after the answer, as they are asked for.
+/// Answers, and prints progress, and figures after the answer.
 fn answer_with_figures<H: AllocGlobal + Eprint + Threads + Wait + Clock + Sync, R: Read, W: Write>(
     rt: &H,
     reader: &mut R,
@@ -228,8 +220,7 @@ fn answer_with_figures<H: AllocGlobal + Eprint + Threads + Wait + Clock + Sync, 
     Ok(())
 }
 
-/// Prints the fault's text, and what explains it if that is asked for, and gives its status. If a text is refused, a
-/// terminal gets a hint at the option.
+/// Prints a fault and its explanation if asked for, and returns its status. A terminal gets a hint at `--explain`.
 fn print_whole_fault<H: Eprint>(
     rt: &H,
     fault: Fault,
@@ -249,14 +240,13 @@ fn print_whole_fault<H: Eprint>(
     status
 }
 
-/// Prints the fault's text, and gives its status.
 fn print_fault<H: Eprint>(rt: &H, fault: Fault) -> u8
     ensures { result ≡ status_of fault }
 {
     print_error(rt, fault, status(&fault))
 }
 
-/// Prints the text on standard error, after the program's name, and gives the status back.
+/// Prints a text on standard error, after the program's name.
 fn print_error<H: Eprint, T: fmt::Display + Drop>(rt: &H, text: T, status: u8) -> u8
     ensures { result ≡ status }
 {

@@ -1,14 +1,13 @@
-//! Standard output, which notes why a write failed, and that nobody reads it any more.
+//! Standard output, which notes why a write failed.
 
 use std::io::{self, ErrorKind, Write};
 
-/// A writer that notes why it failed, and whether whoever read its bytes has gone.
+/// A writer that notes why it failed.
 #[derive(Drop)]
 pub(crate) struct Output<W> {
     pub(crate) inner: W,
-    /// A write failed since the other end of the pipe is closed, as `head` closes it.
+    /// True if the other end of the pipe is closed, as `head` closes it.
     pub(crate) has_no_reader: bool,
-    /// The system's error of a write that failed.
     pub(crate) failure: Option<io::Error>,
 }
 
