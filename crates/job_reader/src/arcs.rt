@@ -1,8 +1,7 @@
-//! The arcs of a graph that are sure to come, so that several threads may wait for their bytes.
+//! The arcs of a graph that are sure to come.
 //!
-//! A reader that stays open, as one end of a conversation, may give nothing after a graph until it is answered. So no
-//! more bytes may be waited for than the graph has. Each arc that is missing has a line of its own, of which the
-//! length is at least `SHORTEST_ARC`; the first of these lines may have been begun.
+//! A reader that stays open may give nothing after a graph until it is answered. So no more bytes may be waited for
+//! than the graph has: each missing arc has a line of at least `SHORTEST_ARC` bytes, of which the first may have begun.
 
 ghost use Rattle.std.specs.Prelude.{◌≡◌, ◌≤◌, ◌+◌, [], IfOk, IfErr, length};
 ghost use Rattle.job_reader.specs.Pieces.{Feeds};
@@ -19,16 +18,18 @@ use std::io::Read;
 use std::thread::Threads;
 use std::time::Clock;
 
-/// Bytes of the shortest line of an arc, `a 1 1 0` and a line feed.
+/// The bytes of the shortest line of an arc, `a 1 1 0`.
 const SHORTEST_ARC: usize = 8;
 
-/// The fewest bytes sure to come for which threads are worth it.
+/// The fewest sure bytes that are worth threads.
 const LEAST: usize = 1 << 20;
 
-/// Reads on in a graph by several threads, as long as many of its arcs are missing, and no more bytes than surely are
-/// the graph's. Returns how many it read, at most `limit`. It reads none if that isn't worth it, or by one thread. It
-/// stops at the reader's end, and soon after a line that is wrong. At most `threads` threads work at that, and no more
-/// than 16. After an `Err`, which is `Read` or `Memory`, nothing is known of the job.
+/// Reads on in a graph, at most `limit` bytes and none that may come after it. It reads nothing if many threads aren't
+/// worth it, and stops at the reader's end and soon after a wrong line. At most `threads` threads work, and no more
+/// than 16.
+///
+/// # Errors
+/// `Read` or `Memory`. Nothing is then known of the job.
 pub fn read_arcs_from<H: Threads + Clock + Sync, R: Read>(
     rt: &H,
     alloc: Global,
@@ -49,7 +50,6 @@ pub fn read_arcs_from<H: Threads + Clock + Sync, R: Read>(
     read_sure(rt, reader, job, limit, Readers::new(threads), &mut pieces)
 }
 
-/// Reads arcs that are sure to come, through pieces that have no byte yet.
 fn read_sure<H: Threads + Clock + Sync, R: Read>(
     rt: &H,
     reader: &mut R,
@@ -82,7 +82,7 @@ fn read_sure<H: Threads + Clock + Sync, R: Read>(
     Err(ReadFault::Read)
 }
 
-/// The number of bytes of the next piece, of those that are left: none after the reader's end.
+/// The bytes of the next piece: none after the reader's end.
 fn next_piece(
     job: &JobReader,
     readers: &Readers,
@@ -101,7 +101,7 @@ fn next_piece(
     }
 }
 
-/// The number of a graph's bytes that are sure to follow, without those at hand.
+/// The bytes that are sure to follow those at hand.
 fn sure_bytes(job: &JobReader, at_hand: usize) -> usize {
     match job.arcs_so_far() {
         Some((read, all)) if !job.is_refused() => all

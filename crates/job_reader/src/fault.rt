@@ -1,4 +1,4 @@
-//! The reasons for which a reader gives no job.
+//! The reasons why a reader gives no job.
 
 ghost use Rattle.std.specs.Prelude.{◌≡◌};
 ghost use Rattle.job_reader.specs.declared.fault.ReadFault.TheVariants as fault;
@@ -7,16 +7,16 @@ ghost use Rattle.job_reader.specs.Request.{fault_of};
 use dimacs_text::{LineKind, TextFault};
 use thiserror::Error;
 
-/// The reason for which a reader gave no job.
+/// The reason why a reader gave no job.
 #[derive(Clone, Copy, Debug, PartialEq, Eq, Error)]
 pub enum ReadFault {
     /// The reader failed.
     #[error("read failed")]
     Read,
-    /// A byte came after as many as may be read.
+    /// The text has more bytes than may be read.
     #[error("input too long")]
     TooLong,
-    /// The text is no job's: its first fault, with its line, counted from 1.
+    /// The first fault of the text, in this line, counted from 1.
     #[error("line {line}: {kind}")]
     Text { line: u64, kind: LineKind },
     /// The system refused memory.

@@ -1,4 +1,4 @@
-//! A piece of a text in a buffer, and what threads have read ahead in it.
+//! A piece of a text, and what threads have read ahead in it.
 
 ghost use Rattle.std.specs.Prelude.{◌≡◌, ◌<◌, ◌≤◌, ◌-◌, [], List, ℕ, true, false, length, IfOk, IfErr, OnOk, take};
 ghost use Rattle.std.specs.Io.KnownBytes.{Consumes, IsAtEnd, ReadConsumes};
@@ -13,7 +13,6 @@ use std::io::Read;
 use std::marker::Model;
 use std::mem::replace;
 
-/// Bytes that come next in a text.
 #[derive(Drop)]
 pub(crate) struct Piece {
     buffer: Vec<u8>,
@@ -35,7 +34,6 @@ impl Model for Piece {
 }
 
 impl Piece {
-    /// Makes a piece with no bytes yet, and with room for `room`.
     pub(crate) fn new(alloc: Global, room: usize) -> Result<Piece, Memory>
         requires { 0 < room }
         ensures { IfOk result (λ piece. piece ≡ []) }
@@ -48,15 +46,14 @@ impl Piece {
         })
     }
 
-    /// The number of its bytes.
     pub(crate) fn len(&self) -> usize
         ensures { result ≡ length self.now }
     {
         self.count
     }
 
-    /// Takes the next bytes of the reader in place of those that are there. They are as many as the limit or, if
-    /// memory for them is refused, as there is room for. Returns true if the reader has ended. Each error is `Read`.
+    /// Takes the reader's next bytes, as many as the limit or, if memory is refused, as there is room for. Returns true
+    /// if the reader has ended.
     pub(crate) fn fill<R: Read>(&mut self, reader: &mut R, limit: usize) -> Result<bool, ReadFault>
         ensures bytes { OnOk result (Consumes
             (R.remaining reader.old) (R.remaining reader.new) self.new) }
@@ -75,14 +72,12 @@ impl Piece {
         Ok(self.count < room)
     }
 
-    /// The bytes.
     pub(crate) fn bytes(&self) -> &[u8]
         ensures { result.now ≡ self.now }
     {
         &self.buffer[..self.count]
     }
 
-    /// Takes out what is read ahead in it.
     pub(crate) fn take_ahead(&mut self) -> ReadAhead
         ensures ahead { IsReadAhead self.old result }
         ensures same { self.new ≡ self.old }
@@ -90,7 +85,6 @@ impl Piece {
         replace(&mut self.ahead, ReadAhead::new(self.alloc))
     }
 
-    /// Puts in what is read ahead in it.
     pub(crate) fn put_ahead(&mut self, ahead: ReadAhead)
         requires { IsReadAhead self.old ahead }
         ensures { self.new ≡ self.old }
@@ -98,7 +92,6 @@ impl Piece {
         self.ahead = ahead;
     }
 
-    /// Hands it to the reader of a job.
     pub(crate) fn feed_to(&self, job: &mut JobReader) -> Result<(), Memory>
         ensures { OnOk result (Reads job.old job.new self.now) }
     {
@@ -106,7 +99,7 @@ impl Piece {
     }
 }
 
-/// Makes a buffer as long as the limit, if it is shorter. If memory is refused it stays as long as it was.
+/// Makes a buffer as long as the limit. If memory is refused it stays as it was.
 fn make_room(buffer: &mut Vec<u8>, limit: usize)
     ensures { length buffer.old.items ≤ length buffer.new.items }
 {
@@ -115,7 +108,7 @@ fn make_room(buffer: &mut Vec<u8>, limit: usize)
     }
 }
 
-/// Reads `room` bytes into a buffer, or fewer if the reader ends: how many came. Each error is `Read`.
+/// Reads `room` bytes into a buffer, or fewer if the reader ends, and returns their number.
 fn read_block<R: Read>(reader: &mut R, buffer: &mut [u8], room: usize) -> Result<usize, ReadFault>
     requires { room ≤ length buffer.old }
     ensures count { IfOk result (λ count. count ≤ room) }
@@ -137,7 +130,6 @@ fn read_block<R: Read>(reader: &mut R, buffer: &mut [u8], room: usize) -> Result
     Ok(filled)
 }
 
-/// One read, of which each error is `Read`.
 fn read_some<R: Read>(reader: &mut R, buffer: &mut [u8]) -> Result<usize, ReadFault>
     ensures count { IfOk result (λ count. count ≤ length buffer.new) }
     ensures bytes { ReadConsumes

@@ -1,4 +1,4 @@
-//! The pieces of a text that are at work at the same time.
+//! The pieces of a text that are at work.
 
 ghost use Rattle.std.specs.Prelude.{◌≡◌, [], IfOk};
 
@@ -8,19 +8,17 @@ use route_walks::Memory;
 use std::alloc::Global;
 use std::mem::swap;
 
-/// The pieces of a text that are at work at the same time.
 #[derive(Drop)]
 pub(crate) struct Pieces {
-    /// The one that is fed next.
+    /// The piece that is fed next.
     pub front: Piece,
     /// The one after it, in which threads read ahead.
     pub back: Piece,
-    /// The one that the next bytes are read into. What is in it was fed before.
+    /// The one that bytes are read into.
     pub spare: Piece,
 }
 
 impl Pieces {
-    /// Makes pieces that have no bytes yet.
     pub(crate) fn new(alloc: Global) -> Result<Pieces, Memory>
         ensures front { IfOk result (λ pieces. pieces.front ≡ []) }
         ensures back { IfOk result (λ pieces. pieces.back ≡ []) }
@@ -32,7 +30,7 @@ impl Pieces {
         })
     }
 
-    /// The front one was fed, and the spare one comes after the back one.
+    /// Makes the spare piece the last, after the front one was fed.
     pub(crate) fn turn(&mut self)
         ensures front { self.new.front ≡ self.old.back }
         ensures back { self.new.back ≡ self.old.spare }

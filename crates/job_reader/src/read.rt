@@ -1,4 +1,4 @@
-//! The way from a reader to the job in its text, and how far the text is read.
+//! The way from a reader to the job in its text.
 
 ghost use Rattle.std.specs.Prelude.{◌≡◌, ◌^◌, ◌≤◌, [], IfOk, IfErr, List, ℕ};
 ghost use Rattle.dimacs_text.specs.Faults.{IsFaultOf};
@@ -17,8 +17,8 @@ use std::io::{Read, empty};
 use std::thread::Threads;
 use std::time::Clock;
 
-/// Reads the job in all that the reader gives, up to its end, and one byte past the limit at most. After
-/// a fault of the text the rest is read all the same. At most `threads` threads work at that, and no more than 16.
+/// Reads the job in all that the reader gives, and at most one byte past the limit. After a fault of the text the rest
+/// is read all the same. At most `threads` threads work, and no more than 16.
 pub fn read_job_from<H: Threads + Clock + Sync, R: Read>(
     rt: &H,
     alloc: Global,
@@ -39,7 +39,6 @@ pub fn read_job_from<H: Threads + Clock + Sync, R: Read>(
     read_pieces(rt, alloc, reader, limit, readers, &mut pieces, watch)
 }
 
-/// Reads a job through pieces that have no byte yet.
 fn read_pieces<H: Threads + Clock + Sync, R: Read>(
     rt: &H,
     alloc: Global,
@@ -82,7 +81,7 @@ fn read_pieces<H: Threads + Clock + Sync, R: Read>(
     Ok(finish(job, watch)?)
 }
 
-/// The job of the text that a reader has read. If the text is refused, the watch sees why.
+/// The job of the text that was read. If it is refused, the watch sees why.
 fn finish(reader: JobReader, watch: &mut impl ReadWatch) -> Result<Job, TextFault>
     ensures job { (text : List ℕ) → HasRead reader text
         → IfOk result (λ job. IsJobText text (content_of job)) }

@@ -5,45 +5,41 @@ ghost use Rattle.job_reader.specs.declared.readers.TheConstants.{MOST_THREADS};
 
 use std::time::Duration;
 
-/// Bytes of a piece that one thread reads. Three pieces go round, and all three fit into a second-level cache.
+/// The bytes of a piece that one thread reads. Three of these fit into a second-level cache.
 pub(crate) const BLOCK: usize = 1 << 16;
 
-/// Bytes of a piece for each of several threads, so that starting them costs little beside it.
+/// The bytes of a piece for each of several threads, so that their start costs little.
 const PART: usize = 1 << 20;
 
-/// The number of threads above which more read no faster.
+/// More threads read no faster.
 const MOST_THREADS: usize = 16;
 
-/// Bytes that one thread reads at first.
 const FIRST_ALONE: usize = 8 * BLOCK;
 
-/// Bytes that one thread reads after several were slower twice in a row, the first time. Then it is twice as
-/// many each time.
+/// The bytes that one thread reads after several were slower twice in a row; twice as many each further time.
 const NEXT_ALONE: usize = 1 << 24;
 
-/// Several are slower if a piece takes them longer than it took one by more than this part of its time: less is
-/// chance.
+/// Several are slower if a piece takes them longer by more than this part: less is chance.
 const TOLERANCE: u128 = 4;
 
-/// Has pieces read by several threads as long as that is faster than by one. On a busy machine it isn't: a thread
-/// that has lost its processor is waited for at the end of each piece.
+/// Has several threads read as long as that is faster. On a busy machine it isn't: a thread without a processor is
+/// waited for.
 #[derive(Clone, Copy, Debug)]
 pub(crate) struct Readers {
     threads: usize,
-    /// Bytes that one thread reads from now on.
+    /// The bytes that one thread still reads.
     alone: usize,
-    /// The number that will be once several are slower again.
+    /// The bytes for one thread once several are slower again.
     next_alone: usize,
-    /// The bytes that one thread read the last time, and the nanoseconds that it took.
+    /// The bytes that one thread last read, and the nanoseconds.
     read_alone: u128,
     spent_alone: u128,
-    /// True if several were slower at the last piece. One such piece may be chance.
+    /// True if several were slower at the last piece.
     were_slower: bool,
     ghost within: { threads ≤ MOST_THREADS },
 }
 
 impl Readers {
-    /// One thread begins.
     pub(crate) fn new(threads: usize) -> Readers {
         Readers {
             threads: threads.min(MOST_THREADS),
@@ -55,7 +51,6 @@ impl Readers {
         }
     }
 
-    /// The number of threads that read the next piece.
     pub(crate) fn threads(&self) -> usize
         ensures some { 1 ≤ result }
         ensures few { result ≤ MOST_THREADS }
@@ -67,7 +62,6 @@ impl Readers {
         }
     }
 
-    /// The number of bytes that the piece after that should have.
     pub(crate) fn piece(&self) -> usize
         ensures some { 0 < result }
         ensures few { result ≤ 2 ^ 24 }
@@ -78,7 +72,7 @@ impl Readers {
         }
     }
 
-    /// Takes note that `threads` threads took `spent` for a piece of `count` bytes.
+    /// Notes that `threads` threads took `spent` for a piece of `count` bytes.
     pub(crate) fn see(&mut self, threads: usize, count: usize, spent: Duration) {
         // A piece that was taken for another number of threads says nothing.
         if count == 0 || (threads > 1) != (count > BLOCK) {
@@ -99,7 +93,7 @@ impl Readers {
         self.were_slower = slower && !self.were_slower;
     }
 
-    /// One thread reads for a while, and its pace is measured anew.
+    /// Lets one thread read for a while, and measures its pace anew.
     fn begin_alone(&mut self) {
         self.alone = self.next_alone;
         self.next_alone = self.next_alone.saturating_mul(2);

@@ -1,4 +1,4 @@
-//! One step of reading: a piece of a text is fed while the next bytes are taken, by one thread or several.
+//! A step of reading: a piece is fed while the next bytes are taken.
 
 ghost use Rattle.std.specs.Prelude.{◌≡◌, ◌≤◌, ◌+◌, ◌-◌, IfOk, IfErr, OnOk, All};
 ghost use Rattle.std.specs.Thread.{IsSync};
@@ -15,9 +15,8 @@ use std::io::Read;
 use std::thread::{Threads, join_mut};
 use std::time::{Clock, Duration};
 
-/// Feeds the front piece and takes the next bytes of the reader into the spare one, up to the limit. Meanwhile
-/// other threads read ahead in the back one, if arcs come there and that is faster. Returns true if the reader has
-/// ended. If memory is refused or the reader fails, at most `left` bytes were taken.
+/// Feeds the front piece and takes the next bytes, up to the limit, into the spare one. Other threads read ahead in the
+/// back one if that is faster. Returns true if the reader has ended. On an error at most `left` bytes were taken.
 pub(crate) fn step<H: Threads + Clock + Sync, R: Read>(
     rt: &H,
     reader: &mut R,
@@ -51,8 +50,7 @@ pub(crate) fn step<H: Threads + Clock + Sync, R: Read>(
     Ok(ended)
 }
 
-/// Feeds the front piece and takes the next bytes of the reader into the spare one, up to the limit. Returns true if
-/// the reader has ended.
+/// Feeds the front piece and fills the spare one. Returns true if the reader has ended.
 fn feed_and_fill<R: Read>(
     reader: &mut R,
     job: &mut JobReader,
@@ -68,7 +66,7 @@ fn feed_and_fill<R: Read>(
     spare.fill(reader, limit)
 }
 
-/// Does a step by `threads` threads in all, which read ahead in the back piece.
+/// Does a step by `threads` threads in all.
 fn step_beside<H: Threads + Sync, R: Read>(
     rt: &H,
     reader: &mut R,
@@ -91,9 +89,8 @@ fn step_beside<H: Threads + Sync, R: Read>(
     ended
 }
 
-/// Has another thread feed the front piece, and meanwhile takes the next bytes of the reader into the spare one, up to
-/// the limit. Further threads read ahead in the back one, and so does whichever of these two has done its work.
-/// Returns true if the reader has ended.
+/// Has another thread feed the front piece and fills the spare one, while further threads read ahead in the back one,
+/// and then these two. Returns true if the reader has ended.
 fn feed_fill_and_read<H: Threads + Sync, R: Read>(
     rt: &H,
     reader: &mut R,
@@ -143,8 +140,8 @@ fn feed_fill_and_read<H: Threads + Sync, R: Read>(
     Ok(ended)
 }
 
-/// Takes the next bytes of the reader into a piece, up to the limit, while other threads read ahead for lists of their
-/// own, and then reads ahead too. Returns true if the reader has ended.
+/// Fills a piece while other threads read ahead for lists of their own, and then reads ahead too. Returns true if the
+/// reader has ended.
 fn fill_beside<H: Threads + Sync, R: Read>(
     rt: &H,
     reader: &mut R,
@@ -179,8 +176,7 @@ fn fill_beside<H: Threads + Sync, R: Read>(
     filled
 }
 
-/// Takes the next bytes of the reader into a piece, up to the limit, and then reads ahead. Returns true if the reader
-/// has ended.
+/// Fills a piece, and then reads ahead. Returns true if the reader has ended.
 fn fill_then_read<R: Read>(
     reader: &mut R,
     spare: &mut Piece,

@@ -1,13 +1,13 @@
-//! Progress of a job while it is read.
+//! Progress of reading.
 
 use dimacs_text::Explanation;
 
-/// A watch that `read_job_from` shows how far it is, in the caller's own thread. No job and no fault depends on it.
+/// A watch that `read_job_from` shows how far it is, in the caller's thread. No job and no fault depends on it.
 pub trait ReadWatch {
-    /// Sees that `count` bytes more of the text were read. Of the graph's arcs the first number is read now, and the
-    /// second is counted, once the problem line is read.
+    /// Sees that `count` more bytes were read, and how many of the graph's arcs of how many, once the problem line is
+    /// read.
     fn see_text(&mut self, _count: usize, _arcs: Option<(usize, usize)>) {}
 
-    /// The text is refused, and this is what a person needs to mend it. Called once, before the fault is returned.
+    /// Sees the explanation of a fault, once, before it is returned.
     fn see_fault(&mut self, _explanation: &Explanation) {}
 }
