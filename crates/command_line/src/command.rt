@@ -10,7 +10,7 @@ use crate::values::{AT_ONCE, CHUNK, KINDS, LABELS, SHIFT, WORKERS};
 use clap::{Arg, ArgAction, Command};
 use std::alloc::{AllocError, Global};
 
-/// The version that `--version` prints after the program's name.
+/// The version that `--version` prints.
 const VERSION: &str = "0.1.0";
 
 const USAGE: &str = "obim_query [OPTIONS] < JOB";
@@ -98,8 +98,7 @@ impl Limits {
     }
 }
 
-/// The command. None of its settings changes how clap reads the words, so that clap's contract says which words are
-/// whose values.
+/// The command. No setting changes how clap reads words, so its contract says which words are values.
 pub(crate) fn command<'a>(alloc: Global, limits: &'a Limits) -> Result<Command<'a>, AllocError>
     ensures { IfOk result (λ command. app_of command ≡ program) }
 {
@@ -108,7 +107,6 @@ pub(crate) fn command<'a>(alloc: Global, limits: &'a Limits) -> Result<Command<'
     with_flags(alloc, with_session(alloc, command)?)
 }
 
-/// The command with the options of what is answered.
 fn with_answers<'a>(alloc: Global) -> Result<Command<'a>, AllocError>
     ensures { IfOk result (λ with. app_of with ≡ with_rule (with_rule (with_rule bare_program answer_rule)
         walks_rule) within_rule) }
@@ -118,7 +116,6 @@ fn with_answers<'a>(alloc: Global) -> Result<Command<'a>, AllocError>
     Ok(command.arg(within_option(alloc))?)
 }
 
-/// Adds the options of the form in which labels are printed.
 fn with_forms<'a>(alloc: Global, command: Command<'a>) -> Result<Command<'a>, AllocError>
     ensures { IfOk result (λ with. app_of with ≡ with_rule (with_rule (app_of command.entry) labels_rule)
         (flag (codes "totals"))) }
@@ -128,7 +125,6 @@ fn with_forms<'a>(alloc: Global, command: Command<'a>) -> Result<Command<'a>, Al
     with_flag(alloc, command, "totals", help)
 }
 
-/// The flag of a session.
 fn with_session<'a>(alloc: Global, command: Command<'a>) -> Result<Command<'a>, AllocError>
     ensures { IfOk result (λ with. app_of with ≡ with_rule (app_of command.entry) (flag (codes "session"))) }
 {
@@ -136,7 +132,7 @@ fn with_session<'a>(alloc: Global, command: Command<'a>) -> Result<Command<'a>, 
     with_flag(alloc, command, "session", help)
 }
 
-/// The command with its texts, before it has an argument. Of an option the last one counts.
+/// The command with its texts. Of an option the last one counts.
 fn texts<'a>(alloc: Global) -> Command<'a>
     ensures { app_of result ≡ bare_program }
 {
@@ -148,7 +144,6 @@ fn texts<'a>(alloc: Global) -> Command<'a>
         .args_override_self(true)
 }
 
-/// The options of the settings.
 fn with_settings<'a>(
     alloc: Global,
     command: Command<'a>,
@@ -165,7 +160,7 @@ fn with_settings<'a>(
     Ok(command)
 }
 
-/// Adds the flags of what is printed on standard error, and `-`, which the help says in its text.
+/// Adds the flags of standard error, and `-`.
 fn with_flags<'a>(alloc: Global, command: Command<'a>) -> Result<Command<'a>, AllocError>
     ensures { IfOk result (λ with. app_of with ≡ with_rule (with_rule (with_rule (with_rule
         (app_of command.entry) (flag (codes "progress"))) (flag (codes "stats"))) (flag (codes "explain")))
@@ -180,7 +175,6 @@ fn with_flags<'a>(alloc: Global, command: Command<'a>) -> Result<Command<'a>, Al
     Ok(command.arg(operand(alloc))?)
 }
 
-/// The command with one flag more.
 fn with_flag<'a>(
     alloc: Global,
     command: Command<'a>,
@@ -266,7 +260,6 @@ fn operand<'a>(alloc: Global) -> Arg<'a>
         .hide(true)
 }
 
-/// An option with a value.
 fn option<'a>(alloc: Global, name: &'a str, value: &'a str, help: &'a str) -> Arg<'a>
     ensures rule { rule_of result ≡ valued name.entry.now }
     ensures local { result.global ≡ false }
@@ -277,7 +270,6 @@ fn option<'a>(alloc: Global, name: &'a str, value: &'a str, help: &'a str) -> Ar
         .help(help)
 }
 
-/// An option without a value.
 fn flag<'a>(alloc: Global, name: &'a str, help: &'a str) -> Arg<'a>
     ensures rule { rule_of result ≡ flag name.entry.now }
     ensures local { result.global ≡ false }

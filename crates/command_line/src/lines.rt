@@ -10,8 +10,7 @@ use clap::ArgMatches;
 use job_answer::{Answer, Lines};
 use std::alloc::Global;
 
-/// The lines that are asked for, with walks or without. Labels as bytes and totals have neither walks nor a bound, and
-/// components have no costs.
+/// The lines that are asked for. Raw labels and totals have neither walks nor a bound, and components have no costs.
 pub(crate) fn lines_in(
     alloc: Global,
     matches: &ArgMatches,
@@ -29,7 +28,7 @@ pub(crate) fn lines_in(
     lines_of(alloc, walks, within, raw, totals)
 }
 
-/// The lines that have all this, if there are such lines.
+/// The lines that have all this, if there are such.
 fn lines_of(
     alloc: Global,
     walks: bool,

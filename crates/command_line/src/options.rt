@@ -7,14 +7,14 @@ use job_answer::Asked;
 pub struct Options {
     /// The kind of answer, its lines and the settings.
     pub asked: Asked,
-    /// True if requests follow the graph, each of which is answered at once.
+    /// True if requests follow the graph, each answered at once.
     pub session: bool,
-    /// True if figures are printed after the answer.
+    /// True if figures are asked for.
     pub stats: bool,
-    /// True if it is printed how far the answer is.
+    /// True if progress is asked for.
     pub progress: bool,
-    /// True if a fault is explained.
+    /// True if faults are explained.
     pub explain: bool,
-    /// True if the job may come from a terminal, since the argument `-` is there.
+    /// True if the argument `-` lets the job come from a terminal.
     pub typed: bool,
 }

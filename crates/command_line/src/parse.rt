@@ -1,4 +1,4 @@
-//! The options that the words of a command line ask for.
+//! The way from words to options.
 
 ghost use Rattle.std.specs.Prelude.{◌↔◌, map, IfErr, IfOk, IsTrue};
 ghost use Rattle.clap.specs.Words.{found_of, rows_of};
@@ -18,12 +18,11 @@ use job_answer::{Asked, MAX_BYTES};
 use std::alloc::Global;
 use std::convert::AsStr;
 
-/// Finds the options that the arguments of a command line ask for. The first argument is the program's name.
+/// Returns the options that the arguments ask for. The first argument is the program's name.
 ///
 /// # Errors
-///
-/// `Refusal::Text` if they ask for the help or the version. `Refusal::Line` if something is wrong with them: it names
-/// the first fault. `Refusal::Memory` if the system refuses memory.
+/// `Refusal::Text` if they ask for help or the version, `Refusal::Line` with their first fault, `Refusal::Memory` if
+/// memory is refused.
 pub fn parse_options<'a, S: AsStr>(alloc: Global, arguments: &'a [S]) -> Result<Options, Refusal>
     ensures asked { IfOk result (WordsAskFor (map S.text arguments.entry.now)) }
     ensures text { IfErr result (λ refusal. IsText refusal → AskForText (map S.text arguments.entry.now)) }
@@ -36,7 +35,6 @@ pub fn parse_options<'a, S: AsStr>(alloc: Global, arguments: &'a [S]) -> Result<
     }
 }
 
-/// Finds the options that the values of `clap` ask for.
 fn options_in(alloc: Global, matches: &ArgMatches) -> Result<Options, Misuse>
     ensures { Finds (AsksFor (rows_of (found_of matches.now))) result }
 {
@@ -68,7 +66,6 @@ fn options_in(alloc: Global, matches: &ArgMatches) -> Result<Options, Misuse>
     })
 }
 
-/// Tells if there is no session, or nothing beside it.
 fn is_alone(session: bool, stats: bool, progress: bool) -> bool
     ensures { IsTrue result ↔ IsAlone session stats progress }
 {

@@ -16,9 +16,9 @@ use std::convert::AsStr;
 /// The reason why a command line asks for no answer.
 #[derive(Drop)]
 pub enum Refusal {
-    /// The command line asks for a text: the help or the version.
+    /// The text asked for: help or version.
     Text(Error),
-    /// The command line is refused: what is wrong with it, in a sentence.
+    /// The fault, in a sentence.
     Line(String),
     /// The system refused memory.
     Memory,
@@ -43,7 +43,7 @@ impl From<Misuse> for Refusal {
     }
 }
 
-/// Turns an error of `clap` into a refusal: the text that is asked for, or a sentence.
+/// Turns an error of `clap` into a refusal.
 pub(crate) fn refused_by<S: AsStr>(alloc: Global, error: Error, arguments: &[S]) -> Refusal
     ensures text { IsText result → IsTextKind (kind_of error) }
     ensures line { IsLine result → kind_of error ≢ OutOfMemory }
@@ -58,7 +58,6 @@ pub(crate) fn refused_by<S: AsStr>(alloc: Global, error: Error, arguments: &[S])
     }
 }
 
-/// The sentence that says what is wrong.
 fn line_of<S: AsStr>(
     alloc: Global,
     error: &Error,
@@ -71,8 +70,7 @@ fn line_of<S: AsStr>(
     }
 }
 
-/// The first negative number that stands where an option's number should, and the option. clap takes such a
-/// word for an option of its own.
+/// The first negative number that stands for an option's number, and the option. clap takes such a word for an option.
 fn negative_in<S: AsStr>(arguments: &[S]) -> Option<(Numbers, &str)> {
     let mut before: Option<Numbers> = None;
     for argument in arguments {
@@ -85,7 +83,6 @@ fn negative_in<S: AsStr>(arguments: &[S]) -> Option<(Numbers, &str)> {
     None
 }
 
-/// Tells if the text is a minus sign and digits.
 fn is_negative(text: &str) -> bool {
     match text.strip_prefix("-") {
         Some(digits) => !digits.is_empty() && digits.bytes().all(|byte| byte.is_ascii_digit()),
@@ -93,7 +90,6 @@ fn is_negative(text: &str) -> bool {
     }
 }
 
-/// The option of numbers that a word names.
 fn numbers_of(text: &str) -> Option<Numbers> {
     match text {
         "--workers" | "-w" => Some(WORKERS),
@@ -104,7 +100,7 @@ fn numbers_of(text: &str) -> Option<Numbers> {
     }
 }
 
-/// Gives clap's fault, and what to do: clap's tip of a similar argument, or a look at the help.
+/// Gives clap's fault, and its tip of a similar argument or a look at the help.
 fn sentence_of(alloc: Global, error: &Error) -> Result<String, AllocError> {
     let text = format!(in alloc; "{error}")?;
     let wrong = wrong_in(&text);
@@ -128,7 +124,7 @@ fn first_line(text: &str) -> &str {
     }
 }
 
-/// Returns clap's tip which argument may be meant, if it has one.
+/// Gives clap's tip, if it has one.
 fn similar_in(text: &str) -> Option<&str> {
     let (_, tip) = text.split_once("\n  tip: ")?;
     let (tip, _) = tip.split_once('\n')?;

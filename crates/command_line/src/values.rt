@@ -48,19 +48,19 @@ pub(crate) const CHUNK: Numbers = Numbers {
     has_auto: false,
 };
 
-/// The greatest value of `--within`. `INF`, which is one more, is no cost.
+/// The greatest value of `--within`: `INF` is no cost.
 pub(crate) const MAX_COST: u64 = INF - 1;
 
-/// The number of vertices in a chunk of two workers, if none is asked for. They gain more by sharing seldom.
+/// The usual chunk of two workers, which gain more by sharing seldom.
 pub(crate) const CHUNK_OF_TWO: usize = 128;
 
-/// The number of vertices in a chunk of more workers, if none is asked for.
+/// The usual chunk of more workers.
 pub(crate) const SHARED_CHUNK: usize = 64;
 
 /// The reason why values of options ask for no answer.
 #[derive(Drop)]
 pub(crate) enum Misuse {
-    /// Their fault, in a sentence.
+    /// The fault, in a sentence.
     Line(String),
     /// The system refused memory.
     Memory,
@@ -74,14 +74,13 @@ impl From<AllocError> for Misuse {
     }
 }
 
-/// Tells if a flag is there.
 pub(crate) fn has_flag(matches: &ArgMatches, flag: &str) -> bool
     ensures { IsFlag (first_value (found_of matches.now) flag.now) result }
 {
     matches.get_str(flag) == Some("true")
 }
 
-/// Tells if the operand `-`, which is standard input, is there. Refuses each other operand.
+/// Tells if the operand `-`, standard input, is there. Refuses each other operand.
 pub(crate) fn has_hyphen(alloc: Global, matches: &ArgMatches) -> Result<bool, Misuse>
     ensures { Finds (AreHyphens (unwrap_or
         (option_map raw_values (matched_of (found_of matches.now) (codes "operand"))) [])) result }
@@ -92,7 +91,6 @@ pub(crate) fn has_hyphen(alloc: Global, matches: &ArgMatches) -> Result<bool, Mi
     }
 }
 
-/// Tells if there are operands, and refuses each that is no hyphen.
 fn are_hyphens(alloc: Global, operands: &[&str]) -> Result<bool, Misuse>
     ensures { Finds (AreHyphens (map (λ operand. operand.now) operands.now)) result }
 {
@@ -117,7 +115,7 @@ pub(crate) struct Numbers {
 }
 
 impl Numbers {
-    /// The number that the option asks for, and `None` if it is left out or `auto`.
+    /// The number that is asked for; `None` if it is left out or `auto`.
     fn asked_in(self, alloc: Global, matches: &ArgMatches) -> Result<Option<u32>, Misuse>
         ensures { Finds (AsksNumber self.has_auto self.least self.most
             (first_value (found_of matches.now) self.option.now)) result }
@@ -134,7 +132,6 @@ impl Numbers {
         }
     }
 
-    /// Says why the text isn't one of these numbers.
     pub(crate) fn refuse(self, alloc: Global, text: &str) -> Result<String, AllocError> {
         let option = self.option;
         format!(in alloc; "invalid value '{text}' for '--{option}': a number from {self}")
@@ -148,7 +145,7 @@ impl fmt::Display for Numbers {
     }
 }
 
-/// The number that the text writes, if it is one of those from `least` to `most`.
+/// The number that the text writes, if it is from `least` to `most`.
 fn number_in(text: &str, least: u64, most: u64) -> Option<u64>
     ensures { MatchOption result ((number : ℕ) → IsNumberIn least most text.now number → ⊥)
         (IsNumberIn least most text.now) }
@@ -177,7 +174,7 @@ pub(crate) fn settings_in(alloc: Global, matches: &ArgMatches) -> Result<Setting
     }
 }
 
-/// Tells if the number of workers is left to the program, which then has one work alone in a small graph.
+/// Tells if the number of workers is left to the program, which saves workers in a small graph.
 pub(crate) fn saves_workers(matches: &ArgMatches) -> bool
     ensures { IsAuto (first_value (found_of matches.now) (codes "workers")) result }
 {
@@ -196,7 +193,6 @@ pub(crate) fn at_once_in(alloc: Global, matches: &ArgMatches) -> Result<AtOnce, 
     })
 }
 
-/// The chunk size that is asked for, or the usual one.
 fn chunk_of(asked: Option<u32>, workers: u32) -> usize
     ensures { result ≡ unwrap_or asked (usual_chunk workers) }
 {
@@ -206,8 +202,7 @@ fn chunk_of(asked: Option<u32>, workers: u32) -> usize
     }
 }
 
-/// The chunk size if none is given. One worker shares nothing, so its chunks are as large as they can
-/// be: they take the same room whatever their size is.
+/// The usual chunk. One worker shares nothing, so its chunks are as large as they can be.
 fn usual_chunk(workers: u32) -> usize
     ensures { result ≡ usual_chunk workers }
 {
@@ -218,7 +213,6 @@ fn usual_chunk(workers: u32) -> usize
     }
 }
 
-/// The bound that is asked for, if one is.
 pub(crate) fn within_in(alloc: Global, matches: &ArgMatches) -> Result<Option<u64>, Misuse>
     ensures { Finds (AsksCost (first_value (found_of matches.now) (codes "within"))) result }
 {
@@ -246,7 +240,6 @@ pub(crate) fn answer_in(alloc: Global, matches: &ArgMatches) -> Result<Answer, M
     }
 }
 
-/// Tells if labels are written as bytes, and not as text.
 pub(crate) fn has_raw_labels(alloc: Global, matches: &ArgMatches) -> Result<bool, Misuse>
     ensures { Finds (NamesLabels (first_value (found_of matches.now) (codes "labels"))) result }
 {
