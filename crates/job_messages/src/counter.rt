@@ -6,10 +6,10 @@ use std::alloc::Global;
 use std::sync::Wait;
 use std::sync::atomic::{AtomicU64, Ordering};
 
-/// Words between the counts of two workers, so that they share no line of a cache.
+/// Words between two workers' counts, which so share no line of a cache.
 const SPREAD: usize = 16;
 
-/// A gate that counts the visits of each worker, and what the worklist held.
+/// A gate that counts each worker's visits, and what the worklist held.
 #[derive(Debug, Drop)]
 pub struct Counter {
     visits: Vec<AtomicU64>,
@@ -19,7 +19,7 @@ pub struct Counter {
 }
 
 impl Counter {
-    /// A count of 0 for each of the workers.
+    /// A count of 0 for each worker.
     pub fn open(alloc: Global, workers: u32) -> Result<Counter, Memory> {
         let mut visits = Vec::with_capacity(alloc, workers as usize * SPREAD)?;
         for _ in 0..workers as usize * SPREAD {
@@ -33,7 +33,7 @@ impl Counter {
         })
     }
 
-    /// Gives the number of vertices that the worker visited.
+    /// The visits of this worker.
     pub fn visits_of(&self, worker: u32) -> u64 {
         match self.visits.get(worker as usize * SPREAD) {
             Some(count) => count.load(Ordering::Relaxed),
@@ -41,7 +41,7 @@ impl Counter {
         }
     }
 
-    /// Gives the figures of the worklist: the most buckets of a run, and the looks and chunks of all runs.
+    /// The figures of the worklist: the most buckets of a run, and the looks and chunks of all.
     pub fn worklist(&self) -> Worklist {
         Worklist {
             buckets: self.most_buckets.load(Ordering::Relaxed),

@@ -5,8 +5,8 @@ use dimacs_text::{Explanation, LineKind, MAX_KEPT};
 use job_answer::{Fault, MAX_BYTES};
 use std::{fmt, io};
 
-/// Prints the lines that explain a fault, at most four. What is wrong with a text stands in its explanation, and what
-/// the system said of a read or a write that failed is its failure. Without these nothing is printed of such a fault.
+/// Prints at most four lines that explain a fault: by the explanation of a text's fault, or the system's error of a
+/// read or write. Without these nothing is printed.
 pub fn print_explanation<H: Eprint>(
     rt: &H,
     fault: Fault,
@@ -40,7 +40,6 @@ const NO_SOURCES: &str =
 
 const NO_MEMORY: &str = "--at-once 1 takes least: MEMORY in the manual says how much";
 
-/// The lines about a line of a text.
 fn print_line<H: Eprint>(rt: &H, explanation: &Explanation) {
     say(rt, Words::Line(explanation));
     say(rt, Words::Expected(explanation));
@@ -52,17 +51,16 @@ fn print_line<H: Eprint>(rt: &H, explanation: &Explanation) {
     }
 }
 
-/// Prints one of the lines. If standard error is closed, nobody reads it.
+/// Prints a line. A closed standard error doesn't matter.
 fn say<H: Eprint>(rt: &H, words: Words) {
     let _ = eprintln!(rt; "obim_query: why: {words}");
 }
 
-/// One of the lines.
 #[derive(Clone, Copy)]
 enum Words<'a> {
-    /// The line itself, or that there is no line.
+    /// The line, or that there is no line.
     Line(&'a Explanation),
-    /// The text that belongs there, and in place of which field.
+    /// The text that belongs in which field.
     Expected(&'a Explanation),
     /// The line's place in its section.
     Place(&'a Explanation),

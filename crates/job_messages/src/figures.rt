@@ -1,17 +1,17 @@
-//! Figures of a job, and of where the time of its answer went: for `--stats`.
+//! Figures of a job, for `--stats`.
 
 use job_answer::{Phase, ReadWatch, Watch};
 use std::time::{Clock, Duration};
 
-/// Figures of a job and of how it was answered. No byte of the answer depends on them.
+/// Figures of a job and of how it was answered.
 #[derive(Clone, Copy, Debug, PartialEq, Eq)]
 pub struct Figures {
     pub vertices: u32,
-    /// The arcs of the rows: components take each arc both ways.
+    /// The arcs of the rows, for components both ways.
     pub arcs: usize,
-    /// The number of times that labels were worked out: once for each source, and once for components.
+    /// The number of times that labels were worked out.
     pub solves: usize,
-    /// The most sources that were solved at the same time.
+    /// The most sources solved at the same time.
     pub at_once: usize,
     pub reading: Duration,
     pub rows: Duration,

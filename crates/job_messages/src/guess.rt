@@ -53,7 +53,7 @@ const UTF_16: &str = "it looks like UTF-16: iconv -f UTF-16 -t UTF-8 FILE | obim
 
 const JSON: &str = "it looks like JSON: write 'p sp N M', and each edge as 'a U V W'";
 
-/// The bytes between the columns of a table, and what to do with it.
+/// The bytes between columns of a table, and what to do with it.
 const TABLES: [(u8, &str); 3] = [
     (b',', "it looks like CSV: examples/to_gr.py FILE >GRAPH"),
     (
@@ -69,7 +69,7 @@ const TABLES: [(u8, &str); 3] = [
 const NUMBERS: &str = "it looks like METIS or a list of edges; of a list: \
     examples/to_gr.py --delimiter blanks FILE >GRAPH";
 
-/// The beginnings of other problem lines of DIMACS, and what they are of.
+/// The beginnings of other DIMACS problem lines, and what they are of.
 const PROBLEMS: [(&[u8], &str); 6] = [
     (b"p edge", COLOURING),
     (b"p col", COLOURING),
@@ -99,7 +99,7 @@ const QUERIES_FIRST: &str = "the graph comes before its queries: cat GRAPH QUERI
 const JOINED: &str =
     "the file before lacks its last line feed: sed -s '$a\\' GRAPH QUERIES | obim_query";
 
-/// Guesses from the line that is wrong what the text is, and says what to do.
+/// Guesses what the text is, and says what to do.
 pub(crate) fn guess(explanation: &Explanation) -> Option<&'static str> {
     let Some(text) = &explanation.text else {
         return None;
@@ -113,7 +113,7 @@ pub(crate) fn guess(explanation: &Explanation) -> Option<&'static str> {
     }
 }
 
-/// Guesses what a file is, from a line of no form before any problem line.
+/// Guesses by a line of no form before any problem line.
 fn guess_of_file(line: &[u8]) -> Option<&'static str> {
     let first = line.first().copied().unwrap_or(0);
     let second = line.get(1).copied().unwrap_or(1);
@@ -133,7 +133,6 @@ fn guess_of_file(line: &[u8]) -> Option<&'static str> {
     }
 }
 
-/// Gives the guess of the first beginning that the line has.
 fn beginning_of(line: &[u8], rows: &[(&[u8], &'static str)]) -> Option<&'static str> {
     for (beginning, advice) in rows {
         if line.starts_with(beginning) {
@@ -143,7 +142,6 @@ fn beginning_of(line: &[u8], rows: &[(&[u8], &'static str)]) -> Option<&'static 
     None
 }
 
-/// Gives the guess of the first of these bytes that is in the line.
 fn table_of(line: &[u8]) -> Option<&'static str> {
     for (between, advice) in TABLES {
         if line.contains(&between) {
@@ -153,7 +151,6 @@ fn table_of(line: &[u8]) -> Option<&'static str> {
     None
 }
 
-/// Tells if the words are in the line, but not at its beginning.
 fn has_later(line: &[u8], words: &[u8]) -> bool {
     for at in 1..line.len() {
         if line[at..].starts_with(words) {

@@ -1,11 +1,10 @@
 //! The texts of a job on standard error.
 //!
-//! `Progress` watches a job and prints from time to time how far it is, in lines or at a terminal in one that is
-//! replaced. It keeps the job's `Figures`, and why its text is refused if it is. A `Counter` is a gate that counts
-//! visits. `print_stats` prints both.
+//! `Progress` prints how far a job is, and keeps its `Figures` and the explanation of its fault. A `Counter` is a gate
+//! that counts visits. `print_stats` prints both.
 //!
-//! `print_explanation` prints what explains a fault: the line, the field, what was expected there, and a guess what the
-//! text is. For example of the job `p sp 2 1`, `a 1 3 7`, whose arc leads to a vertex that is not there:
+//! `print_explanation` explains a fault. For example of the job `p sp 2 1`, `a 1 3 7`, whose arc leads to a vertex that
+//! is not there:
 //!
 //! ```text
 //! obim_query: why: line 2 is 'a 1 3 7'
@@ -13,11 +12,8 @@
 //! obim_query: why: it stands in place of arc 1 of 1 of the section that line 1 begins
 //! ```
 //!
-//! No contract says what is printed: rows of texts do (`tests/explanations.tsv`), and tests of the program. If standard
-//! error is closed nobody reads it, and nothing is said of that.
-//!
-//! Stands on `job_answer`, which is watched, on `dimacs_text`, which says what is wrong with a line, on `obim_engine`,
-//! whose workers pass the gate, and on `route_walks` for refused memory.
+//! No contract says what is printed: `tests/explanations.tsv` does, and tests of the program. If standard error is
+//! closed, nothing is said of that.
 #![tactic(auto)]
 
 mod counter;

@@ -9,23 +9,23 @@ use std::time::{Clock, Duration};
 /// The most lines of a run.
 const MOST_LINES: u32 = 100;
 
-/// Lines after which the time from one to the next doubles: so a hundred lines are enough for hours.
+/// Lines after which the time between them doubles: a hundred lines are enough for hours.
 const LINES_AT_A_PACE: u32 = 10;
 
-/// Milliseconds between lines that replace one another, at a terminal.
+/// Milliseconds between lines at a terminal.
 const TERMINAL_PACE: u64 = 200;
 
 /// The place where progress is shown.
 #[derive(Clone, Copy, PartialEq)]
 pub enum Shown {
     Nowhere,
-    /// Progress in lines of their own.
+    /// In lines.
     Lines,
-    /// Progress in one line, which is replaced.
+    /// In one line, which is replaced.
     Terminal,
 }
 
-/// Figures of a job, of which it prints how far it is from time to time.
+/// Figures of a job, which it prints from time to time.
 #[derive(Drop)]
 pub struct Progress<'a, H> {
     rt: &'a H,
@@ -36,7 +36,7 @@ pub struct Progress<'a, H> {
     shown: Shown,
     bytes: u64,
     lines: u32,
-    /// The times by the clock at which the job began, and at which its first query was solved.
+    /// The times at which the job began, and its first query was solved.
     began: Duration,
     began_queries: Option<Duration>,
     /// The time at which the next line is due.
@@ -44,7 +44,7 @@ pub struct Progress<'a, H> {
 }
 
 impl<'a, H: Eprint + Clock> Progress<'a, H> {
-    /// The progress of a job of which nothing is read yet: its time begins now.
+    /// The progress of a job whose time begins now.
     pub fn new(rt: &'a H, shown: Shown) -> Progress<'a, H> {
         let mut progress = Progress {
             rt,
@@ -61,7 +61,6 @@ impl<'a, H: Eprint + Clock> Progress<'a, H> {
         progress
     }
 
-    /// Gives the time from one line to the next.
     fn pace(&self) -> Duration {
         if self.shown == Shown::Terminal {
             return Duration::from_millis(TERMINAL_PACE);
@@ -69,7 +68,7 @@ impl<'a, H: Eprint + Clock> Progress<'a, H> {
         Duration::from_secs(1_u64 << (self.lines.min(MOST_LINES) / LINES_AT_A_PACE))
     }
 
-    /// The time by the clock, if a line is due. A clock that fails makes none due.
+    /// The time, if a line is due. A clock that fails makes none due.
     fn due(&mut self) -> Option<Duration> {
         if self.shown == Shown::Nowhere || self.lines >= MOST_LINES {
             return None;
@@ -87,7 +86,7 @@ impl<'a, H: Eprint + Clock> Progress<'a, H> {
         Some(now)
     }
 
-    /// Prints a line, if one is due. If standard error is closed, nobody reads it.
+    /// Prints a line, if one is due.
     fn tell(&mut self, step: Step) {
         let Some(now) = self.due() else {
             return;
@@ -104,8 +103,7 @@ impl<'a, H: Eprint + Clock> Progress<'a, H> {
         }
     }
 
-    /// Prints that the answer is whole, if a line was printed before: so a log tells a job that ended from one that
-    /// hangs.
+    /// Prints that the answer is whole, if a line was printed before.
     pub fn tell_end(&self) {
         if self.lines == 0 {
             return;
@@ -115,7 +113,7 @@ impl<'a, H: Eprint + Clock> Progress<'a, H> {
         let _ = eprintln!(self.rt; "obim_query: answered, {spent} s");
     }
 
-    /// Takes the line at a terminal away, before something else is printed.
+    /// Clears the line at a terminal.
     pub fn clear(&self) {
         if self.shown == Shown::Terminal {
             let _ = eprint!(self.rt; "\r\u{1b}[K");
@@ -162,19 +160,19 @@ impl<H: Eprint + Clock> Watch for Progress<'_, H> {
     }
 }
 
-/// A step of a job, and how far it is.
+/// A step of a job.
 #[derive(Clone, Copy)]
 enum Step {
-    /// The bytes of it that were read, and no problem line yet.
+    /// The bytes read, before the problem line.
     Bytes(u64),
-    /// The number of arcs of its graph that were read, and of all.
+    /// The arcs read, and all.
     Arcs(usize, usize),
-    /// The number of its queries that were answered, and of all.
+    /// The queries answered, and all.
     Answered(usize, usize),
 }
 
 impl Step {
-    /// Estimates how much longer this step takes, if it goes on as it did since it began.
+    /// Estimates the time that is left, from the pace since the step began.
     fn left(self, spent: Duration) -> Option<Duration> {
         let (done, all) = match self {
             Step::Bytes(_) => return None,
@@ -199,7 +197,7 @@ impl fmt::Display for Step {
     }
 }
 
-/// A line: how far the job is, how long it took so far, and how much longer this step may take.
+/// A line: how far the job is, its time, and how much longer the step may take.
 #[derive(Clone, Copy)]
 struct Line {
     step: Step,

@@ -5,17 +5,15 @@ use crate::figures::Figures;
 use job_answer::Asked;
 use obim_engine::{Buckets, Settings};
 
-/// The number of buckets above which they cost time: each is looked into again as workers go on to the next.
+/// More buckets cost time: each is looked into again as workers go on.
 const MANY: u64 = 4000;
 
-/// The number of buckets below which labels may fall again and again: if a vertex is visited more than `OFTEN`
-/// hundredths of a time, they do.
+/// With fewer buckets labels may fall again and again, if vertices are visited more than `OFTEN` hundredths of a time.
 const FEW: u64 = 20;
 
 const OFTEN: u64 = 200;
 
-/// Prints a line for each of the figures and for the visits of each worker, and a hint if they say that the default
-/// shift would serve better.
+/// Prints a line for each figure and for each worker's visits, and a hint if the default shift would serve better.
 pub fn print_stats<H: Eprint>(rt: &H, asked: &Asked, figures: &Figures, counter: &Counter) {
     // If standard error is closed, nobody reads them.
     let _ = eprintln!(rt; "vertices: {}", figures.vertices);
@@ -37,7 +35,6 @@ pub fn print_stats<H: Eprint>(rt: &H, asked: &Asked, figures: &Figures, counter:
     print_worklist(rt, &asked.settings, figures, counter);
 }
 
-/// The lines of the worklist and of the visits, and the hint.
 fn print_worklist<H: Eprint>(rt: &H, settings: &Settings, figures: &Figures, counter: &Counter) {
     let worklist = counter.worklist();
     let _ = eprintln!(rt; "buckets: {}", worklist.buckets);
@@ -62,7 +59,7 @@ fn hundredths(visits: u64, figures: &Figures) -> u64 {
     visits.saturating_mul(100) / each.max(1)
 }
 
-/// Tells if a shift was given that makes too many buckets, or so few that vertices are visited again and again.
+/// Tells if the given shift makes too many buckets, or so few that vertices are visited again and again.
 fn misfits(settings: &Settings, buckets: u64, rate: u64) -> bool {
     settings.buckets != Buckets::Widening && (buckets > MANY || buckets < FEW && rate > OFTEN)
 }
