@@ -9,7 +9,6 @@ use route_walks::INF;
 /// The most bytes of a line: a letter, three numbers of 20 digits, three spaces and a line feed.
 pub(crate) const ROOM: usize = 65;
 
-/// Puts a byte in front of a line's end.
 pub(crate) fn put_byte(line: &mut [u8], end: usize, byte: u8) -> usize
     requires { (0 < end) × (end ≤ length line.old) }
     ensures place { result + 1 ≡ end }
@@ -19,7 +18,6 @@ pub(crate) fn put_byte(line: &mut [u8], end: usize, byte: u8) -> usize
     end - 1
 }
 
-/// Puts a number in front of a line's end.
 pub(crate) fn put_number(line: &mut [u8], end: usize, number: u64) -> usize
     requires { (20 ≤ end) × (end ≤ length line.old) }
     ensures place { (end ≤ result + 20) × (result ≤ end) }
@@ -39,7 +37,6 @@ pub(crate) fn put_start(line: &mut [u8], end: usize, letter: u8, number: u64) ->
     put_byte(line, end, letter)
 }
 
-/// Puts a cost in front of a line's end.
 pub(crate) fn put_cost(line: &mut [u8], end: usize, label: u64) -> usize
     requires { (20 ≤ end) × (end ≤ length line.old) }
     ensures place { (end ≤ result + 20) × (result ≤ end) }

@@ -82,7 +82,6 @@ fn put_head(lines: &mut [u8], end: usize, head: &Head) -> usize
     end - HEAD + head.start
 }
 
-/// Puts the two digits of a number below 100 in front of some lines.
 fn put_two(lines: &mut [u8], end: usize, pair: u32) -> usize
     requires room { (2 ≤ end) × (end ≤ length lines.old) }
     requires pair { pair < 100 }
@@ -108,7 +107,6 @@ fn put_last(lines: &mut [u8], end: usize, number: u32, pair: u32) -> usize
     }
 }
 
-/// Puts the line `d V COST` in front of some lines.
 fn put_label_line(lines: &mut [u8], end: usize, head: &Head, v: u32, label: u64) -> usize
     requires room { (LINE ≤ end) × (end ≤ length lines.old) }
     requires vertex { v < MAX_VERTICES }
@@ -125,7 +123,6 @@ fn put_label_line(lines: &mut [u8], end: usize, head: &Head, v: u32, label: u64)
     put_head(lines, end, head)
 }
 
-/// Puts the line `k V LABEL` in front of some lines.
 fn put_component_line(lines: &mut [u8], end: usize, head: &Head, v: u32, label: u64) -> usize
     requires room { (LINE ≤ end) × (end ≤ length lines.old) }
     requires vertex { v < MAX_VERTICES }

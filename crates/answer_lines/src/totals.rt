@@ -94,7 +94,6 @@ pub fn put_totals(out: &mut Vec<u8>, s: u32, totals: &Totals) -> Result<(), Memo
     Ok(())
 }
 
-/// Puts a space and a number in front of a line's end.
 fn put_field(line: &mut [u8], end: usize, number: u64) -> usize
     requires { (21 ≤ end) × (end ≤ length line.old) }
     ensures place { (end ≤ result + 21) × (result ≤ end) }

@@ -160,7 +160,6 @@ fn with_settings<'a>(
     Ok(command)
 }
 
-/// Adds the flags of standard error, and `-`.
 fn with_flags<'a>(alloc: Global, command: Command<'a>) -> Result<Command<'a>, AllocError>
     ensures { IfOk result (λ with. app_of with ≡ with_rule (with_rule (with_rule (with_rule
         (app_of command.entry) (flag (codes "progress"))) (flag (codes "stats"))) (flag (codes "explain")))

@@ -28,7 +28,6 @@ pub(crate) fn lines_in(
     lines_of(alloc, walks, within, raw, totals)
 }
 
-/// The lines that have all this, if there are such.
 fn lines_of(
     alloc: Global,
     walks: bool,

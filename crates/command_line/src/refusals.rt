@@ -43,7 +43,6 @@ impl From<Misuse> for Refusal {
     }
 }
 
-/// Turns an error of `clap` into a refusal.
 pub(crate) fn refused_by<S: AsStr>(alloc: Global, error: Error, arguments: &[S]) -> Refusal
     ensures text { IsText result → IsTextKind (kind_of error) }
     ensures line { IsLine result → kind_of error ≢ OutOfMemory }

@@ -145,7 +145,6 @@ impl fmt::Display for Numbers {
     }
 }
 
-/// The number that the text writes, if it is from `least` to `most`.
 fn number_in(text: &str, least: u64, most: u64) -> Option<u64>
     ensures { MatchOption result ((number : ℕ) → IsNumberIn least most text.now number → ⊥)
         (IsNumberIn least most text.now) }

@@ -1,10 +1,8 @@
 //! The arcs that leave each vertex, in rows.
 //!
-//! A `Csr` is a directed graph in compressed sparse rows: the arcs that leave a vertex are one run of places, in the
-//! order in which they were given.
-//!
-//! `Csr::build` sorts by counting, `Csr::build_from` by several threads, and `Csr::build_both_ways` takes each arc
-//! along and against, at no cost. `first` and `end` bound a vertex's run; `target` and `arc` read a place.
+//! A `Csr` is a directed graph in compressed sparse rows: the arcs that leave a vertex are one run of places, from
+//! `first` to `end`, in the order in which they were given. It is built by one thread, by several, or of each arc along
+//! and against.
 #![tactic(auto)]
 
 mod bin_sort;

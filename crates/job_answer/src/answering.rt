@@ -45,8 +45,8 @@ const MANY_SOURCES: usize = 32;
 /// Reads a job text to its end and writes its answer: exactly the bytes that the least labels of the job make, whatever
 /// the settings and the gate are. A fault of the text is found before anything is written.
 ///
-/// Within a bound, the block of a source has the lines of vertices that cost at most the bound, in rising order, and a
-/// job with pairs has no answer. Components have the same answer by all lines.
+/// Within a bound, a source has the lines of vertices that cost at most the bound, and pairs have no answer. Components
+/// have one answer by all lines.
 pub fn answer<H: Threads + Wait + Clock + Sync, R: Read, W: Write, G: Gate + Sync>(
     rt: &H,
     alloc: Global,
@@ -154,7 +154,6 @@ fn answer_job<H: Threads + Wait + Clock + Sync, W: Write, G: Gate + Sync>(
     answer_question(context, writer, &question, &mut kept, watch)
 }
 
-/// Reverses the rows of the network, if `turns`.
 fn reverse_if(turns: bool, alloc: Global, graphs: &mut Graphs)
     ensures { graphs.new ≡ graphs.old }
 {
@@ -183,10 +182,8 @@ fn count_sources(pairs: &[(u32, u32)]) -> usize {
     count
 }
 
-/// Writes the answer to a question: exactly the bytes that answer a job of the same graph which asks the same. The
-/// writer is flushed once, at the end.
-///
-/// What is kept from one question to the next is taken, and returned with the answer.
+/// Writes the answer to a question, as to a job of that graph, and flushes the writer once. It takes what is kept from
+/// one question to the next, and returns it.
 pub fn answer_question<H: Threads + Wait + Clock + Sync, W: Write, G: Gate + Sync>(
     context: &Context<'_, H, G>,
     writer: &mut W,

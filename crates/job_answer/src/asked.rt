@@ -66,7 +66,6 @@ impl Lines {
         matches!(self, Lines::Each { walks: false })
     }
 
-    /// The greatest label that has a line.
     pub(crate) fn bound(self) -> u64
         ensures { result ≡ bound_of self }
     {

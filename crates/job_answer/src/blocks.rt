@@ -365,7 +365,6 @@ fn put_vertices<W: Write>(
     put_within(alloc, sink, source, bound, labels, &walks)
 }
 
-/// The walks, if the lines have them.
 fn walks_for(
     alloc: Global,
     network: &Network,

@@ -63,9 +63,8 @@ pub fn asked_jobs_have_answers_by_lines()
     hops_and_parents_exist();
 }
 
-/// In an answer of distances or levels, a vertex's line says `inf` if no walk leads there from the source, and else
-/// what the cheapest costs. The line after it has the vertices of such a walk, with the fewest arcs, if walks are asked
-/// for.
+/// In an answer of distances or levels, a vertex's line says `inf` if no walk leads there, and else what the cheapest
+/// costs. With walks the next line has the vertices of such a walk, with the fewest arcs.
 pub fn answers_say_costs()
     ensures { AnswersSayCosts }
 {
@@ -74,7 +73,7 @@ pub fn answers_say_costs()
 }
 
 /// Within a bound exactly the vertices have a line to which a walk leads that costs no more. It says what the cheapest
-/// costs, and which walk that is if walks are asked for.
+/// costs, and with walks its vertices.
 pub fn answers_say_costs_within()
     ensures { AnswersSayCostsWithin }
 {
@@ -82,7 +81,7 @@ pub fn answers_say_costs_within()
     printed_walks_are_walks();
 }
 
-/// In an answer of pairs, a line says `inf` or the cost from source to target, with its walk if walks are asked for.
+/// The line of a pair says `inf` or the cost from source to target, with its walk if asked for.
 pub fn answers_say_pair_costs()
     ensures { AnswersSayPairCosts }
 {
@@ -111,7 +110,7 @@ pub fn totals_add_up()
     least_labels_are_unique();
 }
 
-/// If the sources or pairs of a job are cut in two, the answers of the parts, one after the other, are the job's. Each
+/// If the sources or pairs of a job are cut in two, the answers of both parts, one after the other, are the job's. Each
 /// part has the graph and the added arcs.
 pub fn answers_of_parts_join()
     ensures { AnswersOfPartsJoin }

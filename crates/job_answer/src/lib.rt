@@ -1,10 +1,8 @@
 //! Bytes in, bytes out: the answer of a job.
 //!
 //! `answer` reads a job text and writes exactly the bytes that the least labels of the job make, for all settings and
-//! however workers' steps interleave. Its contract also says what was read and written at each fault. `answer_watched`
-//! shows how far it is. `Asked` says which labels and which lines.
-//!
-//! `answer_question` answers by networks that a caller keeps (`graphs_for`).
+//! however workers' steps interleave. Its contract also says what was read and written at each fault. `answer_question`
+//! answers by networks that a caller keeps.
 //!
 //! The answer to a text in memory, by two workers:
 //!

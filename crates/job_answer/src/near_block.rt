@@ -28,8 +28,8 @@ pub(crate) struct NearBlock {
     pub found: Vec<(u32, u64)>,
 }
 
-/// The vertices of a start's block, if the thread that asks finds them. `None` if the block has other lines than those
-/// within a bound without walks, or arcs are added.
+/// The vertices of a start's block, if the thread that asks finds them. `None` if there are walks, no bound, or added
+/// arcs.
 pub(crate) fn near_block<G: Gate + Sync>(
     alloc: Global,
     graphs: &Graphs,

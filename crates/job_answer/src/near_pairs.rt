@@ -47,7 +47,6 @@ pub(crate) fn near_walks<G: Gate + Sync>(
     }
 }
 
-/// Puts the lines of a solve's pairs, each with its walk.
 pub(crate) fn put_found<W: Write>(
     sink: &mut Sink<'_, W>,
     queries: &PairQueries<'_>,

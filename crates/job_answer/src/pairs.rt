@@ -45,13 +45,10 @@ impl<W: Watch> Progress for PairWatch<'_, W> {
     }
 }
 
-/// Puts the lines of each pair in turn, with its walk if asked for. If the network grows, those in the grown one come
-/// after each.
+/// Puts the lines of each pair in turn, with its walk if asked for, and those in the grown network.
 ///
-/// Targets near their source are found without workers, if there is room.
-///
-/// Without walks each source is solved once, and costs are kept until all are known. With walks only neighbouring pairs
-/// share the solve of their source.
+/// Targets near their source are found without workers, if there is room. Without walks each source is solved once, and
+/// costs are kept until all are known. With walks only neighbouring pairs share the solve of their source.
 pub fn put_pairs<H: Threads + Wait + Clock + Sync, W: Write, G: Gate + Sync>(
     context: &Context<'_, H, G>,
     sink: &mut Sink<'_, W>,
@@ -76,7 +73,6 @@ pub fn put_pairs<H: Threads + Wait + Clock + Sync, W: Write, G: Gate + Sync>(
     put_lines(sink, &queries, &costs)
 }
 
-/// The costs of the pairs, and those in the grown network.
 fn costs_between<H: Threads + Wait + Clock + Sync, G: Gate + Sync>(
     context: &Context<'_, H, G>,
     queries: &PairQueries<'_>,

@@ -13,10 +13,10 @@ use obim_engine::{MAX_CHUNK, Settings};
 /// several sources or pairs count.
 const FEW: usize = 1 << 14;
 
-/// That number for a single source or pair, which workers share: each step takes longer there.
+/// The number in place of `FEW` for a single source or pair, which workers share: each step takes longer there.
 const FEW_SHARED: usize = 1 << 17;
 
-/// That number for a single one and two workers, which gain the least.
+/// The number in place of `FEW_SHARED` for two workers, which gain the least.
 const FEW_SHARED_BY_TWO: usize = 3 << 18;
 
 /// Returns the question with one worker, if workers are saved and there is too little to do for another.
@@ -29,7 +29,6 @@ pub(crate) fn asked_for(asked: &Asked, graphs: &Graphs, ask: &Ask) -> Asked
     *asked
 }
 
-/// Tells if there is too little to do for a second worker.
 fn is_little(asked: &Asked, graphs: &Graphs, ask: &Ask) -> bool {
     let rows = graphs.network.rows();
     let size = rows.arc_count().saturating_add(rows.n() as usize);

@@ -40,7 +40,6 @@ impl<'a, W: Write> Sink<'a, W> {
         self.send()
     }
 
-    /// Writes what waits.
     fn send(&mut self) -> Result<(), Fault>
         ensures same { IsSame self.old self.new }
         ensures put { OnOk result (Puts W.contents (Is []) self.old self.new) }
@@ -137,7 +136,6 @@ fn write_bytes<W: Write>(writer: &mut W, bytes: &[u8]) -> Result<(), Fault>
     Ok(())
 }
 
-/// Writes at least a byte.
 fn write_some<W: Write>(writer: &mut W, bytes: &[u8]) -> Result<usize, Fault>
     ensures count { IfOk result (λ count. (0 < count) × (count ≤ length bytes.now)) }
     ensures bytes { WriteAppends (W.contents writer.old) (W.contents writer.new) result bytes.now }

@@ -37,8 +37,7 @@ pub fn costs_from<H: Threads + Wait + Clock + Sync, G: Gate + Sync>(
     Ok(costs)
 }
 
-/// The costs of the grown network from the same start, by what the run before left. Only what the added arcs change,
-/// and the goal wants, is visited.
+/// The costs of the grown network from the same start, by what the run before left.
 pub fn costs_after<H: Threads + Wait + Clock + Sync, G: Gate + Sync>(
     env: &Env<'_, H>,
     network: &Network,

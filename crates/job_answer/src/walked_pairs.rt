@@ -58,7 +58,6 @@ pub struct LinesText {
 impl<'a> Tasks<LinesText> for WalkTasks<'a> {
     ghost is_part = { AreLines };
 
-    /// The place of the first pair of the next source.
     fn after(&self, place: usize) -> usize {
         next_source(self.queries.pairs, place)
     }
@@ -264,7 +263,6 @@ fn put_solved_pairs<H: Threads + Wait + Clock + Sync, W: Write, G: Gate + Sync>(
     Ok(())
 }
 
-/// Solves for a task's pairs by workers, and puts their lines.
 fn put_by_workers<H: Threads + Wait + Clock + Sync, W: Write, G: Gate + Sync>(
     env: &Env<'_, H>,
     sink: &mut Sink<'_, W>,
@@ -358,7 +356,6 @@ fn walks_to<H: Threads + Wait + Clock + Sync, G: Gate + Sync>(
     }
 }
 
-/// The walks from a source by labels that are least up to a limit.
 fn walked_from(
     alloc: Global,
     network: &Network,
@@ -412,7 +409,6 @@ fn put_walked<W: Write>(
     Ok(())
 }
 
-/// Puts the line of a pair, and that in the grown network.
 fn put_walked_lines(
     alloc: Global,
     out: &mut Vec<u8>,

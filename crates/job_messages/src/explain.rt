@@ -5,8 +5,8 @@ use dimacs_text::{Explanation, LineKind, MAX_KEPT};
 use job_answer::{Fault, MAX_BYTES};
 use std::{fmt, io};
 
-/// Prints at most four lines that explain a fault: by the explanation of a text's fault, or the system's error of a
-/// read or write. Without these nothing is printed.
+/// Prints at most four lines that explain a fault: by a text's explanation, or the system's error. Without these it
+/// prints nothing.
 pub fn print_explanation<H: Eprint>(
     rt: &H,
     fault: Fault,

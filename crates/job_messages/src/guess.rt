@@ -99,7 +99,6 @@ const QUERIES_FIRST: &str = "the graph comes before its queries: cat GRAPH QUERI
 const JOINED: &str =
     "the file before lacks its last line feed: sed -s '$a\\' GRAPH QUERIES | obim_query";
 
-/// Guesses what the text is, and says what to do.
 pub(crate) fn guess(explanation: &Explanation) -> Option<&'static str> {
     let Some(text) = &explanation.text else {
         return None;

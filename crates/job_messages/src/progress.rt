@@ -39,7 +39,6 @@ pub struct Progress<'a, H> {
     /// The times at which the job began, and its first query was solved.
     began: Duration,
     began_queries: Option<Duration>,
-    /// The time at which the next line is due.
     next: Duration,
 }
 
@@ -86,7 +85,6 @@ impl<'a, H: Eprint + Clock> Progress<'a, H> {
         Some(now)
     }
 
-    /// Prints a line, if one is due.
     fn tell(&mut self, step: Step) {
         let Some(now) = self.due() else {
             return;
@@ -160,7 +158,6 @@ impl<H: Eprint + Clock> Watch for Progress<'_, H> {
     }
 }
 
-/// A step of a job.
 #[derive(Clone, Copy)]
 enum Step {
     /// The bytes read, before the problem line.

@@ -1,7 +1,7 @@
 //! The arcs of a graph that are sure to come.
 //!
-//! A reader that stays open may give nothing after a graph until it is answered. So no more bytes may be waited for
-//! than the graph has: each missing arc has a line of at least `SHORTEST_ARC` bytes, of which the first may have begun.
+//! A reader that stays open may give nothing after a graph until it is answered. So no more bytes are waited for than
+//! the missing arcs have.
 
 ghost use Rattle.std.specs.Prelude.{◌≡◌, ◌≤◌, ◌+◌, [], IfOk, IfErr, length};
 ghost use Rattle.job_reader.specs.Pieces.{Feeds};

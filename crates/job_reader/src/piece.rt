@@ -52,7 +52,7 @@ impl Piece {
         self.count
     }
 
-    /// Takes the reader's next bytes, as many as the limit or, if memory is refused, as there is room for. Returns true
+    /// Takes the reader's next bytes, up to the limit, or to the room that there is if memory is refused. Returns true
     /// if the reader has ended.
     pub(crate) fn fill<R: Read>(&mut self, reader: &mut R, limit: usize) -> Result<bool, ReadFault>
         ensures bytes { OnOk result (Consumes

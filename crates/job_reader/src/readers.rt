@@ -34,7 +34,6 @@ pub(crate) struct Readers {
     /// The bytes that one thread last read, and the nanoseconds.
     read_alone: u128,
     spent_alone: u128,
-    /// True if several were slower at the last piece.
     were_slower: bool,
     ghost within: { threads ≤ MOST_THREADS },
 }

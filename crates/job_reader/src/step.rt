@@ -15,8 +15,8 @@ use std::io::Read;
 use std::thread::{Threads, join_mut};
 use std::time::{Clock, Duration};
 
-/// Feeds the front piece and takes the next bytes, up to the limit, into the spare one. Other threads read ahead in the
-/// back one if that is faster. Returns true if the reader has ended. On an error at most `left` bytes were taken.
+/// Feeds the front piece and takes the next bytes, up to the limit, into the spare one, while threads read ahead in the
+/// back one. Returns true if the reader has ended. On an error at most `left` bytes were taken.
 pub(crate) fn step<H: Threads + Clock + Sync, R: Read>(
     rt: &H,
     reader: &mut R,
@@ -89,8 +89,8 @@ fn step_beside<H: Threads + Sync, R: Read>(
     ended
 }
 
-/// Has another thread feed the front piece and fills the spare one, while further threads read ahead in the back one,
-/// and then these two. Returns true if the reader has ended.
+/// Feeds the front piece by another thread, fills the spare one, and reads ahead in the back one by all threads.
+/// Returns true if the reader has ended.
 fn feed_fill_and_read<H: Threads + Sync, R: Read>(
     rt: &H,
     reader: &mut R,
@@ -140,8 +140,7 @@ fn feed_fill_and_read<H: Threads + Sync, R: Read>(
     Ok(ended)
 }
 
-/// Fills a piece while other threads read ahead for lists of their own, and then reads ahead too. Returns true if the
-/// reader has ended.
+/// Fills a piece while other threads read ahead, and then reads ahead too. Returns true if the reader has ended.
 fn fill_beside<H: Threads + Sync, R: Read>(
     rt: &H,
     reader: &mut R,

@@ -42,7 +42,6 @@ impl Closed {
     }
 }
 
-/// Reads the labels of the first `n` vertices.
 pub(crate) fn read_labels(last: &LastWords<(), Global>, n: usize, labels: &mut Vec<u64>)
     requires full { IsFull last.now.words }
     requires vertices { n ≤ MAX_VERTICES }
@@ -57,7 +56,6 @@ pub(crate) fn read_labels(last: &LastWords<(), Global>, n: usize, labels: &mut V
     }
 }
 
-/// Reads labels and marks in one pass.
 pub(crate) fn read_words(last: &LastWords<(), Global>, labels: &mut Vec<u64>, marks: &mut [bool])
     requires full { IsFull last.now.words }
     requires vertices { length marks.old ≤ MAX_VERTICES }

@@ -17,8 +17,8 @@ pub struct Known {
     pub seeds: LinkedList<Seed>,
 }
 
-/// The graph, the seeds that a run begins with, and the labels that it goes on from; one of the two lists is empty. For
-/// the contracts alone: it takes no room.
+/// The graph, the seeds, and the labels that a run goes on from, which are none if there are seeds. For the contracts
+/// alone: it takes no room.
 pub(crate) type Key = (Snapshot<Csr>, Snapshot<Vec<Seed>>, Snapshot<Vec<u64>>);
 
 pub(crate) struct WordsRule;

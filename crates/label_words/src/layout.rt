@@ -1,7 +1,7 @@
 //! The places of the words of a run.
 //!
-//! Word 0 is the pending total, alone in its line of the cache. From word 8 on each vertex has two words in one line,
-//! its label and its mark. Nothing outside this file relies on that.
+//! Word 0 is the pending total, alone in its line of the cache. From word 8 on each vertex has its label and its mark,
+//! in one line.
 
 ghost use Rattle.std.specs.Prelude.{◌≡◌, ◌≤◌, [], replicate, IfOk};
 ghost use Rattle.route_walks.specs.declared.graph.TheConstants.{MAX_VERTICES};

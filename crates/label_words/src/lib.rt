@@ -1,10 +1,7 @@
 //! The words of a run, which many seats share, one atomic step at a time.
 //!
-//! The words are the pending total, and a label and a mark for each vertex. A call of a `WorkSeat` is one atomic step
-//! on one word, takes no lock and no memory, and never waits. Hints are plain loads.
-//!
-//! Between any two steps the words and the seats are a lawful core of `relax_core`. So a seat that saw the total at 0
-//! closes the words to least labels.
+//! The words are the pending total, a label and a mark for each vertex. A call of a `WorkSeat` is one atomic step,
+//! without lock, memory or wait. Between two steps words and seats are a lawful core of `relax_core`.
 //!
 //! A worker's turn at vertex `u`:
 //!
@@ -27,9 +24,8 @@
 //! }
 //! ```
 //!
-//! A worker without a vertex calls `see`, and is done if it returns true. Credits that a worker keeps (`raise_by`,
-//! `keep`) pay for later marks without a step on the total. No seat sees 0 while one keeps credits, so it calls
-//! `give_back` before `see`.
+//! A worker without a vertex is done if `see` returns true. No seat sees 0 while one keeps credits for later marks
+//! (`raise_by`, `keep`), so it calls `give_back` before.
 #![tactic(auto)]
 
 mod closed;

@@ -48,7 +48,6 @@ fn sow(words: &mut [u64], seed: &Seed)
     words[mark] = 1;
 }
 
-/// The words of `n` vertices with these labels and marks.
 pub(crate) fn lay_rest(
     alloc: Global,
     n: u32,

@@ -6,7 +6,6 @@ ghost use Rattle.near_labels.specs.Noted.{AreListed};
 
 use std::alloc::Global;
 
-/// The noted vertices whose labels are at most the bound, each with its label.
 pub(crate) fn listed(
     alloc: Global,
     labels: &[u64],

@@ -209,7 +209,6 @@ fn least_of(
     labels_of(alloc, labels, vertices)
 }
 
-/// The noted vertices within the bound.
 fn list_within(
     state: &mut State,
     alloc: Global,

@@ -222,7 +222,6 @@ impl State {
         }
     }
 
-    /// Makes the noted vertices blank.
     pub(crate) fn wipe(&mut self)
         requires { AreNoted self.old.labels.items self.old.marks.items self.old.noted.items }
         ensures count { length self.new.labels.items ≡ length self.old.labels.items }

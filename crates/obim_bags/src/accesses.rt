@@ -107,7 +107,6 @@ impl Accesses {
         Ok(place)
     }
 
-    /// Gains a place of each entry that it lacks.
     pub(crate) fn catch_up(&mut self, entries: &mut Entries) -> Result<usize, LogFault>
         requires list { IsPrefix (bags_in self.old.list) (bags_of entries.old) }
         requires index { IsPrefix self.old.index (metrics_of (bags_of entries.old)) }

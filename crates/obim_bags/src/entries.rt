@@ -89,7 +89,6 @@ impl Entry {
         }
     }
 
-    /// Puts all passes that are still here last.
     pub(crate) fn claim_all(&mut self, passes: &mut Vec<BagPass>) -> Result<(), Memory>
         ensures bag { self.new.bag ≡ self.old.bag }
         ensures added { OnOk result (AreAdded self.old.bag passes.old.items passes.new.items) }

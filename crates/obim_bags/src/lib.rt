@@ -1,11 +1,8 @@
 //! Chunks in bags: nothing lost, nothing twice, one bag a metric.
 //!
 //! A `Bag` is a queue of chunks without a lock, of which each worker has a `BagPass`. A `BagLog` is the list of all
-//! bags, which only grows. Each worker has a `Mirror` of it, and takes the log's slot only for a metric that the mirror
-//! lacks, or to catch up.
-//!
-//! The chunks that all passes of a bag put are those that they got and those in the bag. So `drain` returns what is
-//! left and nothing else. No clause says that a put succeeds, or which chunk a get finds.
+//! bags. Each worker has a `Mirror` of it, and takes the log's slot only for a metric that the mirror lacks, or to
+//! catch up.
 //!
 //! ```text
 //! let (log, mut mirrors) = BagLog::open(alloc, 2)?;
@@ -17,7 +14,8 @@
 //! log.get_at(&rt, &mut mirrors[1], place) // the chunk, unless another worker got it
 //! ```
 //!
-//! Stands on `crossbeam_queue` for the queue, and on `atomic_table` for the log's word and slot.
+//! The chunks that passes put are those that they got and those in the bag, so `drain` returns what is left. No clause
+//! says that a put succeeds, or which chunk a get finds.
 #![tactic(auto)]
 
 mod access;

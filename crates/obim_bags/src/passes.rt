@@ -54,7 +54,6 @@ impl BagPass {
     }
 }
 
-/// Gives the first pass a share for each worker.
 pub(crate) fn add_workers(queue: &ChunkQueue, first: &mut QueuePass, workers: u32)
     requires pass { IsSegPassOf queue.now first.old }
     requires new { first.old.me.view.client ≡ first_tally }
@@ -118,7 +117,6 @@ pub(crate) fn join_all(
     }
 }
 
-/// Takes what is left, by the pass that has all shares.
 pub(crate) fn take_all<R: Wait>(
     rt: &R,
     alloc: Global,

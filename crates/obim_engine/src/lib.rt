@@ -1,12 +1,8 @@
 //! Workers, the end of a run, and its labels.
 //!
-//! `run` gives least labels by any number of workers. Each draws a vertex, takes its mark, relaxes its arcs, and pushes
-//! the heads whose labels fell. It leaves when the pending total is 0.
-//!
-//! Pool, gate and settings are hints: the labels are least whatever they do, in whichever order threads step.
-//!
-//! `run_for` and `resume` work in pieces, and `grow` adds arcs between two. `run_until` and `resume_until` may stop
-//! once the wanted labels are least.
+//! `run` gives least labels by any number of workers, whatever the pool, the gate and the settings do, in whichever
+//! order threads step. `run_for` and `resume` work in pieces, and `grow` adds arcs between two. `run_until` and
+//! `resume_until` may stop once the wanted labels are least.
 //!
 //! No contract promises that workers return.
 #![tactic(auto)]

@@ -28,7 +28,6 @@ pub(crate) struct Opened {
 }
 
 impl Opened {
-    /// Words with the labels of the seeds.
     pub(crate) fn from_seeds(alloc: Global, csr: &Csr, seeds: &[Seed]) -> Result<Opened, Memory>
         requires { AreSeeds csr.now.n seeds.now }
         ensures { IfOk result (λ opened. opened.seat.known ≡ first_known csr.now seeds.now) }

@@ -58,10 +58,8 @@ impl From<route_walks::Memory> for RunFault {
 /// The least label of each vertex, by a worker for each side of the pool. Marked vertices are pushed first, in rising
 /// order, at their labels shifted right.
 ///
-/// A worker that draws nothing for long looks at every vertex itself, so a pool that loses vertices does not keep a run
-/// from its end.
-///
-/// A visit takes the time of the vertex's arcs. If the pool gives low labels first, each vertex is visited about once.
+/// A pool that loses vertices does not keep a run from its end. If the pool gives low labels first, each vertex is
+/// visited about once, in the time of its arcs.
 pub fn run<H: Threads + Wait + Clock + Sync, P: WorkPool + Sync, G: Gate + Sync>(
     rt: &H,
     alloc: Global,

@@ -80,7 +80,6 @@ impl<'a, P, G> Run<'a, P, G> {
         }
     }
 
-    /// This run, to its end.
     pub(crate) fn to_end(&self) -> Run<'a, P, G>
         ensures csr { result.csr.now ≡ self.now.csr.now }
         ensures pool { result.pool.now ≡ self.now.pool.now }

@@ -1,8 +1,7 @@
 //! One worker: it draws a vertex, takes it, relaxes its arcs, and begins again.
 //!
-//! Every worker would step on the pending total at each mark. So a worker keeps its credits from visit to visit: that
-//! of a vertex pays for a head's mark, and otherwise it raises many at once. It gives all back before it looks at the
-//! total, naps, sweeps or leaves.
+//! A worker keeps its credits from visit to visit, and raises many at once, since all would step on the pending total
+//! at each mark. It gives all back before it looks at the total, naps, sweeps or leaves.
 
 ghost use Rattle.std.specs.Prelude.{◌≡◌, ◌≢◌, ◌≤◌, ◌<◌, true, false, IfNone, IfSome};
 ghost use Rattle.relax_core.specs.declared.views.Hand.TheVariants.{Idle, Fresh};
@@ -252,8 +251,8 @@ fn show<P, G>(shared: &Shared<'_, P, G>, worker: u32, seat: &WorkSeat, vertex: O
     }
 }
 
-/// Visits each marked vertex below the limit, in rising order, until the budget is spent, also those that the pool
-/// lost. Returns the seat and the rest of the budget.
+/// Visits each marked vertex below the limit, in rising order, also those that the pool lost. Returns the seat and the
+/// rest of the budget.
 #[inline(never)]
 fn sweep<H: Wait, P: WorkPool, G: Gate, A: Aim>(
     rt: &H,
@@ -339,8 +338,8 @@ fn visit<H: Wait, P: WorkPool, G: Gate, A: Aim>(
     }
 }
 
-/// Relaxes arcs of `u` until the label of a head falls: the head, which is owed a mark, and its label. `None` at the
-/// row's end. It doesn't wait: a call that may costs more.
+/// Relaxes arcs of `u` until the label of a head falls: the head, which is owed a mark, and its label; `None` at the
+/// row's end. It never waits.
 #[inline(always)]
 fn next_lowered(
     words: &Words,

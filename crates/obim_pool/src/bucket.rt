@@ -10,10 +10,8 @@ const NARROW: u64 = 1 << 8;
 /// The number of buckets for all labels of 64 bits.
 pub const BUCKETS: u64 = 7424;
 
-/// The bucket of a label: below 256 the label itself, and above it rounded down to its leading eight bits. So no bucket
-/// is wider than a 128th of its labels, and there are 128 for each doubling: a thousand or two for most graphs.
-///
-/// [HdrHistogram](http://hdrhistogram.org) has such buckets too.
+/// The bucket of a label: below 256 the label itself, and above it rounded down to its leading eight bits, as in
+/// [HdrHistogram](http://hdrhistogram.org). There are 128 for each doubling: a thousand or two for most graphs.
 pub fn bucket_of(label: u64) -> u64
     ensures exact { result ≡ widening_bucket label }
     ensures narrow { label < 256 → result ≡ label }

@@ -92,8 +92,8 @@ impl BagChunks {
         last
     }
 
-    /// Does as `take_last`, or takes the only vertex of the filling chunk if no chunk waits. So if vertices are visited
-    /// one after another, no chunk is handed over.
+    /// Does as `take_last`, or takes the only vertex of the filling chunk if no chunk waits, as where one vertex
+    /// follows another.
     #[inline(always)]
     pub(crate) fn take_near(&mut self, maker: &mut ChunkMaker) -> Option<u32>
         ensures taken { IfSome result (λ v. AreSame (v ∷ held_of self.new) (held_of self.old)) }

@@ -1,10 +1,8 @@
 //! The vertex that a worker takes next.
 //!
-//! A pool is a hint: no label depends on what it keeps, drops, repeats or invents. So `WorkPool` promises only that a
-//! side, which one worker uses, stays one.
-//!
-//! `ObimPool` has a bag for each metric, a queue of chunks that all sides share. A side draws from its current bag,
-//! which is the lowest that it knows, softly. By its own contracts nothing is lost or comes twice.
+//! A pool is a hint: no label depends on what it keeps, drops, repeats or invents. `ObimPool` has a bag for each
+//! metric. A side, which one worker uses, draws from the lowest that it knows, softly. By its own contracts nothing is
+//! lost or comes twice.
 //!
 //! ```text
 //! let (pool, mut sides) = ObimPool::open(alloc, workers, 64)?;
@@ -15,10 +13,8 @@
 //! let left = pool.settle(&rt, alloc, sides)?; // the chunks that no side got
 //! ```
 //!
-//! A chunk that isn't full waits for its side, so each side pops until it has nothing.
-//!
-//! `WideningPool` has a bag for each bucket of metrics: a thousand or two, whatever the labels are. `LockedPool` is the
-//! plain pool, under one lock.
+//! A chunk that isn't full waits for its side, which pops until it has nothing. `WideningPool` has a bag for each
+//! bucket of metrics, and `LockedPool` one lock over all.
 #![tactic(auto)]
 
 mod bags;

@@ -78,8 +78,8 @@ impl ObimPool {
     }
 
     /// Takes a vertex out of the current bag, or else out of the lowest bag of this side that gives one, which becomes
-    /// current. `None` if no bag does; another side may still hold vertices. Takes constant time while the current bag
-    /// gives one, and else a look at each bag up to the one that does.
+    /// current. `None` if no bag does; another side may still hold vertices. Looks at each bag up to the one that gives
+    /// it.
     #[inline(always)]
     pub fn pop<R: Wait>(&self, rt: &R, side: &mut ObimSide) -> Option<u32>
         requires { IsSideOf self.now side.old }

@@ -2,8 +2,7 @@
 
 const SLOTS: usize = 16;
 
-/// By a metric's lowest bits, the place where such a bag was found last. A hint: whoever takes it looks at the bag's
-/// metric, which costs less than the index. Most pushes go to a few buckets.
+/// By a metric's lowest bits, the place where such a bag was found last: a hint, since most pushes go to a few buckets.
 #[derive(Clone, Copy, Drop)]
 pub(crate) struct Recent {
     places: [usize; SLOTS],

@@ -104,7 +104,6 @@ impl ObimSide {
         true
     }
 
-    /// Does as `ObimPool::push`.
     #[inline(never)]
     pub(crate) fn push_far<R: Wait>(
         &mut self,
@@ -163,7 +162,6 @@ impl ObimSide {
         }
     }
 
-    /// Does as `ObimPool::pop`.
     #[inline(always)]
     pub(crate) fn pop<R: Wait>(&mut self, rt: &R, log: &BagLog, alloc: Global) -> Option<u32>
         requires { IsSideOf log.now self.old }
@@ -192,7 +190,6 @@ impl ObimSide {
         Some(v)
     }
 
-    /// Does as `pop`.
     #[inline(never)]
     fn pop_far<R: Wait>(&mut self, rt: &R, log: &BagLog, alloc: Global) -> Option<u32>
         requires { IsSideOf log.now self.old }
@@ -207,7 +204,6 @@ impl ObimSide {
         }
     }
 
-    /// Does as `ObimPool::ahead`.
     #[inline(always)]
     pub(crate) fn ahead(&self, by: usize) -> Option<u32> {
         let at = self.current?;

@@ -32,7 +32,6 @@ use std::{env, fmt};
 /// The status of a refused command line.
 const USAGE: u8 = 1;
 
-/// The status of a refused text.
 const REFUSED: u8 = 2;
 
 /// The refusal to read a job from a terminal.
@@ -110,7 +109,6 @@ fn print_refusal<H: Print + Eprint>(rt: &H, refusal: Refusal) -> u8
     }
 }
 
-/// Prints the help or the version, and returns the status.
 fn print_clap<H: Print + Eprint>(rt: &H, text: &clap::Error) -> u8
     ensures { IsTextStatus result }
 {

@@ -6,7 +6,7 @@
 //! Cover: each arc is relaxed, or its tail is marked, or a worker holds it. Account: the pending total is the number of
 //! marks plus all credits in hands. So whoever sees 0 knows that every arc is relaxed.
 //!
-//! `laws` has both ideas for each event over label functions, so a layer whose words change one at a time can use them.
+//! `laws` has both for layers whose words change one at a time.
 #![tactic(auto)]
 
 mod events;

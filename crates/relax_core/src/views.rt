@@ -84,8 +84,7 @@ impl View {
         self.hand = Hand::Open { u, d, k };
     }
 
-    /// `Relax`: the arc at place `k` is done, and its head is owed a mark if its label fell. The other parameters are
-    /// those of the open hand.
+    /// `Relax`: the arc at place `k` is done, and its head is owed a mark if its label fell.
     pub fn relax(&mut self, fell: bool, u: u32, d: u64, k: usize, head: u32)
         requires hand { self.old.hand ≡ Open u d k }
         requires place { k < 2 ^ 64 - 1 }
@@ -114,8 +113,7 @@ impl View {
         self.credits += count;
     }
 
-    /// `SetMark`: nothing is owed any more, and one credit went to the mark unless it was set before. The parameters
-    /// are those of the hand.
+    /// `SetMark`: nothing is owed any more, and one credit went to the mark unless it was set before.
     pub fn set_mark(&mut self, was_marked: bool, u: u32, d: u64, k: usize)
         requires hand { self.old.hand ≡ Owe u d k (owed_of self.old.hand) }
         requires credits { 1 ≤ self.old.credits }

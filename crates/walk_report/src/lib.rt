@@ -2,10 +2,7 @@
 //!
 //! The hop of a vertex is the fewest arcs of a walk of least cost. Its parent is the least vertex from which an arc
 //! leads to it, along least labels and from one hop nearer. So parents lead back to the source, also round circles of
-//! free arcs.
-//!
-//! `hops` or `hops_below`, `parents` and `walk_to` compute them. A `WalkSpace` keeps its lists from one question to the
-//! next, so walks take the time of what is nearer than the limit.
+//! free arcs. A `WalkSpace` keeps its lists from one question to the next.
 #![tactic(auto)]
 
 mod hop;

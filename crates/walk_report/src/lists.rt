@@ -35,7 +35,6 @@ impl Lists {
         })
     }
 
-    /// The walks from a source to these targets.
     pub(crate) fn walks_to(
         &mut self,
         alloc: Global,
@@ -60,7 +59,6 @@ impl Lists {
         walks_by(alloc, &self.hops, &self.parents, targets)
     }
 
-    /// Makes the lists blank.
     pub(crate) fn wipe(&mut self)
         requires { AreKept (length self.old.hops.items) self.old }
         ensures { AreBlank (length self.old.hops.items) self.new }

@@ -11,7 +11,7 @@ use route_walks::{ArcRec, Memory};
 use std::alloc::Global;
 
 /// The parent of each vertex: the least from which an arc leads to it along least labels and from one hop nearer;
-/// `NONE` if it has no hop. Takes time in proportion to all vertices and the arcs of those that have a hop.
+/// `NONE` without a hop. Takes the time of all vertices and of the arcs of those that have a hop.
 pub fn parents(alloc: Global, csr: &Csr, labels: &[u64], hops: &[u32]) -> Result<Vec<u32>, Memory>
     requires { AreFromOneSource csr.now.n csr.now.arcs labels.now hops.now }
     ensures exact { IfOk result

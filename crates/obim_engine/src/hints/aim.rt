@@ -35,7 +35,6 @@ pub(crate) trait Aim {
         false
     }
 
-    /// Tells if a vertex is left alone: not taken.
     #[inline(always)]
     fn leaves<P, G>(&self, shared: &Shared<'_, P, G>, seat: &WorkSeat, v: u32) -> bool
         requires words { seat.now.words ≡ shared.now.words.now }
@@ -159,7 +158,6 @@ impl Seeker {
 pub(crate) struct Wanted {
     /// Vertices with at least this label are left alone. It never rises.
     limit: u64,
-    /// Fruitless pops in a row.
     idle: u32,
     /// True if a sweep since the last visit found no marked vertex below the limit.
     has_swept: bool,
@@ -238,7 +236,6 @@ impl Wanted {
         self.limit = goal.limit_past(farthest).min(self.limit);
     }
 
-    /// Tells if a worker that drew nothing is to leave.
     fn is_done<P, G>(&mut self, shared: &Shared<'_, P, G>, seat: &WorkSeat, worker: u32) -> bool
         requires words { seat.now.words ≡ shared.now.words.now }
         requires graph { shared.now.run.csr.now ≡ seat.now.known.graph }

@@ -50,7 +50,6 @@ impl Pace {
         })
     }
 
-    /// Tells if the run has one worker.
     pub(crate) fn is_alone(&self) -> bool {
         self.workers == 1
     }
@@ -97,7 +96,6 @@ impl Pace {
         self.begun.load(Ordering::Relaxed)
     }
 
-    /// Tells if no other worker shows a lower bucket.
     pub(crate) fn is_lowest(&self, worker: u32, metric: u64) -> bool {
         let bucket = bucket_of(metric);
         for (other, shown) in self.buckets.iter().enumerate() {
@@ -125,7 +123,6 @@ impl Pace {
 #[derive(Drop)]
 pub(crate) struct Watch {
     worker: u32,
-    /// Visits before the next look.
     left: u32,
     /// Naps to take if it is far ahead then.
     naps: u32,
@@ -149,7 +146,6 @@ impl Watch {
         self.left = self.left.min(visits).max(1);
     }
 
-    /// Tells, after a visit, if a look is due.
     #[inline(always)]
     pub(crate) fn visited(&mut self) -> bool
         requires { 0 < self.old.left }

@@ -27,11 +27,9 @@ pub struct Widths {
 /// The widths that operators take if no shift is given, by a sample of the weights.
 ///
 /// If no vertex has a light arc to another of its bucket, no label falls twice. So buckets are as wide as light weights
-/// let them be, and narrower if vertices have more arcs.
-///
-/// Larger labels have wider buckets, up to two to four times a usual weight. There are about as many of these as the
-/// root of the number of vertices, so that looks into empty ones are at most twice the vertices. Buckets of a graph
-/// with free arcs only widen, and a chain, where no label falls twice, has few.
+/// let them be, and narrower if vertices have more arcs. Those of larger labels widen to two to four usual weights,
+/// about as many as the root of the number of vertices. Buckets of a graph with free arcs only widen, and a chain has
+/// few.
 pub fn widths_of(csr: &Csr) -> Widths {
     let sample = Sample::of(csr);
     let mean = sample.sum.checked_div(sample.count).unwrap_or(0);
@@ -110,7 +108,6 @@ fn leads_to(csr: &Csr, from: u32, to: u32) -> bool {
     row.len() <= 2 && row.iter().any(|target| target.head == to)
 }
 
-/// The weights of sampled arcs.
 #[derive(Clone, Copy)]
 struct Sample {
     count: u64,
@@ -146,7 +143,6 @@ impl Sample {
         }
     }
 
-    /// The binary digits of the heaviest light weight.
     fn light_bits(&self) -> u32 {
         let mut bits = 0_u32;
         let mut seen = 0_u64;
