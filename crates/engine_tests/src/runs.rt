@@ -1,4 +1,4 @@
-//! Tables of graphs, pools and pauses with their labels, gates that watch, and runs at random beside the plain way.
+//! Tables of runs with their labels, gates that watch, and random runs beside the plain way.
 
 mod draws;
 mod gates;

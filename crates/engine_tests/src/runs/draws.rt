@@ -1,4 +1,4 @@
-//! Numbers and pieces of runs drawn at random, the same ones each time.
+//! Random numbers and pieces, the same ones each time.
 
 use crate::runs::pieces::{Kind, Piece};
 use obim_engine::Settings;
@@ -30,14 +30,13 @@ impl Draws {
         (self.bits() >> 32) as u32 % end.max(1)
     }
 
-    /// Other draws, begun at a number that is drawn.
     pub fn other(&mut self) -> Draws {
         Draws {
             state: self.bits() | 1,
         }
     }
 
-    /// Draws a piece: from 1 to 8 workers, with a shift and chunks that fit or don't, over a pool of any kind.
+    /// Draws a piece: 1 to 8 workers, any shift and chunks, over a pool of any kind.
     pub fn piece(&mut self, rt: &impl Abort) -> Piece {
         let (workers, shift) = (1 + self.below(8) % 8, self.below(16));
         let chunk = 1 + self.below(64) as usize % 64;

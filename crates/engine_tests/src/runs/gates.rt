@@ -1,4 +1,4 @@
-//! A gate that holds a worker back, and counts; and what is asked of these numbers.
+//! A gate that holds a worker back and counts.
 
 use crate::runs::graphs::{random_arcs, rows_of, star, street_arcs};
 use csr_graph::Csr;
@@ -11,13 +11,12 @@ use std::test::Fail;
 use std::thread::{Threads, sleep};
 use std::time::{Clock, Duration};
 
-/// Holds one worker at one of its visits, as a busy machine does that has taken its processor, and counts
-/// all visits and chunks.
+/// Holds one worker at one of its visits, as a busy machine does, and counts visits and chunks.
 #[derive(Drop)]
 pub(crate) struct Holding<'a, C> {
     clock: &'a C,
     held: u32,
-    /// Counted from 1; none is visit 0.
+    /// The visit, counted from 1; 0 for none.
     at: u64,
     visits_of_held: AtomicU64,
     visits: AtomicU64,
@@ -25,7 +24,6 @@ pub(crate) struct Holding<'a, C> {
 }
 
 impl<'a, C> Holding<'a, C> {
-    /// Holds the worker `held` at its visit `at`.
     pub fn new(clock: &'a C, (held, at): (u32, u64)) -> Holding<'a, C> {
         Holding {
             clock,
@@ -55,7 +53,7 @@ impl<'a, C: Clock> Gate for Holding<'a, C> {
     }
 }
 
-/// The labels that a run gives, and the numbers of visits and chunks that it takes.
+/// The labels, visits and chunks of a run.
 #[derive(Drop)]
 struct Counted {
     labels: Vec<u64>,
@@ -63,7 +61,7 @@ struct Counted {
     chunks: u64,
 }
 
-/// Counts over a run of which a worker is held at one of its visits for a twentieth of a second.
+/// Counts over a run with a worker held at one of its visits for a twentieth of a second.
 fn count<H: Threads + Wait + Clock + Abort + Sync>(
     rt: &H,
     alloc: Global,
@@ -83,15 +81,14 @@ fn count<H: Threads + Wait + Clock + Abort + Sync>(
     })
 }
 
-/// Chunks of a size, and buckets that are as narrow as can be.
+/// Chunks of a size, and the narrowest buckets.
 pub(crate) fn settings_of(rt: &impl Abort, workers: u32, chunk: usize) -> Settings {
     let settings = Settings::new(workers, 0, chunk);
     settings.expect(rt, "settings within their limits")
 }
 
-/// The size of a chunk, and the number that one worker opens on a star of 64 leaves, with even buckets and with
-/// widening ones. One is for vertex 0, and the others are for the leaves, which share a bucket. Widening buckets put
-/// vertex 0 into that one too: the leaves go on with its chunk if it isn't full.
+/// A chunk's size, and the chunks that one worker opens on a star of 64 leaves, with even buckets and with widening
+/// ones. These put vertex 0 into the bucket of the leaves, which go on with its chunk if it isn't full.
 const CHUNKS: &[(usize, u64, u64)] = &[
     (1, 65, 65),
     (3, 23, 22),
@@ -100,7 +97,6 @@ const CHUNKS: &[(usize, u64, u64)] = &[
     (256, 2, 1),
 ];
 
-/// Returns the number of chunks that one worker opens.
 fn chunks_by<H: Threads + Wait + Clock + Abort + Sync>(
     rt: &H,
     alloc: Global,
@@ -123,11 +119,9 @@ fn chunks_are_of_the_size_asked(rt: HostRuntime) -> Result<(), Fail> {
     Ok(())
 }
 
-/// A shift, if buckets don't widen, and the most visits that one worker makes of 3,000 vertices: a tenth more than it
-/// makes.
+/// A shift, or widening buckets, and the most visits of one worker to 3,000 vertices: a tenth more than it makes.
 const VISITS: &[(Option<u32>, u64)] = &[(None, 3_300), (Some(4), 3_300), (Some(10), 3_900)];
 
-/// Buckets by a shift, or those that widen.
 fn settings_by(rt: &impl Abort, shift: Option<u32>) -> Settings {
     let narrow = Settings::new(1, shift.unwrap_or(0), 256);
     let narrow = narrow.expect(rt, "settings within their limits");
@@ -138,7 +132,6 @@ fn settings_by(rt: &impl Abort, shift: Option<u32>) -> Settings {
     }
 }
 
-/// Asserts how many visits one worker makes at most.
 fn expect_visits<H: Threads + Wait + Clock + Abort + Sync>(
     rt: &H,
     alloc: Global,
@@ -151,8 +144,7 @@ fn expect_visits<H: Threads + Wait + Clock + Abort + Sync>(
     Ok(())
 }
 
-// A random graph of which nearly all vertices are reached. A vertex that the pool loses is found by a sweep, which
-// comes too early for its label.
+// A random graph whose vertices are nearly all reached: a sweep would find a lost vertex too early for its label.
 #[test]
 fn few_visits_of_random_arcs(rt: HostRuntime) -> Result<(), Fail> {
     let alloc = rt.alloc();
@@ -163,7 +155,7 @@ fn few_visits_of_random_arcs(rt: HostRuntime) -> Result<(), Fail> {
     Ok(())
 }
 
-// A long strip of streets, from a corner: buckets that only widen make 1.17 visits a vertex of it.
+// A long strip of streets: buckets that only widen make 1.17 visits a vertex of it.
 #[test]
 fn few_visits_of_a_long_strip(rt: HostRuntime) -> Result<(), Fail> {
     let alloc = rt.alloc();
@@ -176,7 +168,7 @@ fn few_visits_of_a_long_strip(rt: HostRuntime) -> Result<(), Fail> {
     expect_visits(&rt, alloc, &csr, &settings_by(&rt, None), 295_680)
 }
 
-/// So many workers, one of which is held at this visit of its own.
+/// The number of workers, and the worker and visit that are held.
 const HELD: &[(u32, u64)] = &[
     (2, 1),
     (2, 20),
@@ -190,7 +182,6 @@ const HELD: &[(u32, u64)] = &[
     (8, 200),
 ];
 
-/// Counts over a run from the middle of a grid.
 fn count_in_grid<H: Threads + Wait + Clock + Abort + Sync>(
     rt: &H,
     alloc: Global,
@@ -202,7 +193,7 @@ fn count_in_grid<H: Threads + Wait + Clock + Abort + Sync>(
     count(rt, alloc, csr, 125_250, &settings, held)
 }
 
-/// Asserts that a run in which a worker was held gives the labels of one worker alone, for not much more.
+/// Asserts the labels of one worker alone, for not much more work.
 fn expect_like(rt: &impl Abort, row: usize, counted: &Counted, alone: &Counted) {
     assert!(rt;
         counted.labels.as_slice() == alone.labels.as_slice(),
@@ -214,13 +205,13 @@ fn expect_like(rt: &impl Abort, row: usize, counted: &Counted, alone: &Counted) 
     assert!(rt; dense, "row {row}: {} chunks", counted.chunks);
 }
 
-/// A square of 500 by 500 vertices with streets both ways, as a road map has them. Lengths go from 200 to 3199.
+/// A square of 500 by 500 vertices with streets both ways, of lengths 200 to 3199.
 fn grid(rt: &impl Abort, alloc: Global) -> Result<Csr, Fail> {
     let arcs = street_arcs(alloc, 500, 500, 200, 3000)?;
     rows_of(rt, alloc, 250_000, &arcs)
 }
 
-// A worker that is held with much of the work: the others wait for it, and make no fruitless visits.
+// The others wait for a worker that is held with much of the work.
 #[test]
 fn a_worker_that_is_held(rt: HostRuntime) -> Result<(), Fail> {
     let alloc = rt.alloc();

@@ -1,5 +1,5 @@
-//! Tests of runs that stop once they have the labels that are wanted: beside whole runs on graphs of several shapes,
-//! and over pools that lose, repeat and invent vertices. They also bound the visits.
+//! Tests of runs that stop at a goal: beside whole runs, and over pools that lose, repeat and invent vertices. They
+//! also bound visits.
 
 ghost use Rattle.std.specs.Prelude.{◌≡◌, ◌<◌, length, All, IfOk};
 ghost use Rattle.route_walks.specs.Label.{AreLeastLabels};
@@ -27,18 +27,18 @@ use std::test::Fail;
 use std::thread::Threads;
 use std::time::Clock;
 
-/// A graph of 3,001 vertices, of which the last has no arc.
+/// A graph of 3,001 vertices, the last without an arc.
 #[derive(Clone, Copy, Debug)]
 enum Shape {
-    /// Arcs at random, with weights below 1,000.
+    /// Random arcs, with weights below 1,000.
     Random,
     /// Most arcs lead to few vertices.
     Hubs,
     /// Streets both ways.
     Grid,
-    /// One vertex after the other.
+    /// One vertex after another.
     Path,
-    /// Arcs at random, all of them free.
+    /// Random free arcs.
     Free,
 }
 
@@ -50,7 +50,7 @@ const SHAPES: [Shape; 5] = [
     Shape::Free,
 ];
 
-/// Arcs among 3,000 vertices: most lead to low ones if there are hubs.
+/// Arcs among 3,000 vertices, most of them to low ones if there are hubs.
 fn drawn_arcs(alloc: Global, hubs: bool, weights: u32) -> Result<Vec<ArcRec>, Memory> {
     let mut draws = Draws::new();
     let mut arcs = Vec::new(alloc);
@@ -86,7 +86,7 @@ fn graph_of(rt: &impl Abort, alloc: Global, shape: Shape) -> Result<Csr, Fail>
     rows_of(rt, alloc, 3_001, &arcs)
 }
 
-/// The goal of a run, by places of vertices in the order of their labels.
+/// The goal of a run, by places in the order of labels.
 #[derive(Clone, Copy, Debug)]
 enum Wanted {
     Each,
@@ -109,7 +109,7 @@ const WANTED: [Wanted; 8] = [
     Wanted::Unreached,
 ];
 
-/// The vertices that are wanted, and a bound, by a whole run.
+/// The wanted vertices and bound, by a whole run.
 #[derive(Drop)]
 struct Named {
     targets: Vec<u32>,
@@ -158,7 +158,6 @@ fn agree_up_to(limit: u64, labels: &[u64], whole: &[u64]) -> bool {
     labels.len() == whole.len() && pairs.all(|(one, other)| *one.min(&limit) == *other.min(&limit))
 }
 
-/// Counts visits.
 #[derive(Drop)]
 struct Counting {
     visits: AtomicU64,
@@ -170,8 +169,7 @@ impl Gate for Counting {
     }
 }
 
-/// Asserts that a run gives the labels of a whole run as far as its limit. Returns the number of its visits, and true
-/// if it stopped before its end.
+/// Asserts the labels of a whole run up to the run's limit. Returns its visits, and true if it stopped early.
 fn count_until<H: Threads + Wait + Clock + Abort + Sync>(
     rt: &H,
     alloc: Global,
@@ -194,7 +192,6 @@ fn count_until<H: Threads + Wait + Clock + Abort + Sync>(
     Ok((gate.visits.load(Ordering::Relaxed), stopped))
 }
 
-/// The labels of a whole run.
 fn whole_of<H: Threads + Wait + Clock + Abort + Sync>(
     rt: &H,
     alloc: Global,
@@ -205,7 +202,6 @@ fn whole_of<H: Threads + Wait + Clock + Abort + Sync>(
     Ok(distances(rt, alloc, csr, 0, &one, &OpenGate)?)
 }
 
-/// Asserts that each goal gives the labels of a whole run as far as its limit.
 fn expect_wanted<H: Threads + Wait + Clock + Abort + Sync>(
     rt: &H,
     alloc: Global,
@@ -221,7 +217,6 @@ fn expect_wanted<H: Threads + Wait + Clock + Abort + Sync>(
     Ok(())
 }
 
-// Each goal in each graph, by one worker and by several.
 #[test]
 fn goals_beside_whole_runs(rt: HostRuntime) -> Result<(), Fail> {
     for shape in SHAPES {
@@ -232,7 +227,7 @@ fn goals_beside_whole_runs(rt: HostRuntime) -> Result<(), Fail> {
     Ok(())
 }
 
-/// A graph, what is wanted in it, and how many visits are made at most.
+/// A graph, a goal, and the most visits.
 const FEW: &[(Shape, Wanted, u64)] = &[
     (Shape::Random, Wanted::Nothing, 0),
     (Shape::Random, Wanted::Labels(0, 3), 200),
@@ -245,8 +240,8 @@ const FEW: &[(Shape, Wanted, u64)] = &[
     (Shape::Path, Wanted::Within(1_500), 1_650),
 ];
 
-/// Tells if one of eight runs stops early, after so many visits at most. If the system holds back the worker at the
-/// lowest labels, the others visit more.
+/// Tells if one of eight runs stops early with so few visits. If the system holds back the worker at the lowest labels,
+/// others visit more.
 fn visits_few<H: Threads + Wait + Clock + Abort + Sync>(
     rt: &H,
     alloc: Global,
@@ -265,7 +260,6 @@ fn visits_few<H: Threads + Wait + Clock + Abort + Sync>(
     Ok(false)
 }
 
-/// Asserts that a run stops early, after so many visits at most.
 fn expect_few<H: Threads + Wait + Clock + Abort + Sync>(
     rt: &H,
     alloc: Global,
@@ -282,7 +276,7 @@ fn expect_few<H: Threads + Wait + Clock + Abort + Sync>(
     Ok(())
 }
 
-// A pool that loses nothing: the run isn't gone on with to its end.
+// A pool that loses nothing: the run stops early.
 #[test]
 fn few_visits_of_what_is_near(rt: HostRuntime) -> Result<(), Fail> {
     for &(shape, wanted, most) in FEW {
@@ -293,7 +287,7 @@ fn few_visits_of_what_is_near(rt: HostRuntime) -> Result<(), Fail> {
     Ok(())
 }
 
-/// The labels of a run that stops at a goal and goes on to its end from there.
+/// The labels of a run that stops at a goal and goes on to its end.
 fn stop_and_go_on<H: Threads + Wait + Clock + Sync, P: WorkPool + Sync>(
     rt: &H,
     alloc: Global,
@@ -326,7 +320,7 @@ where
     Ok(reached.closed.into_labels())
 }
 
-/// The labels of a run that stops at a goal and goes on to its end from there, over a new pool of a kind.
+/// Such labels over a new pool of a kind.
 fn over_pool<H: Threads + Wait + Clock + Sync>(
     rt: &H,
     alloc: Global,
@@ -369,7 +363,7 @@ fn over_pool<H: Threads + Wait + Clock + Sync>(
     }
 }
 
-/// Pools, of which some keep nothing, how many workers there are, and what is wanted of the six vertices.
+/// Pools, some of which keep nothing, the workers, and a goal among the six vertices.
 const POOLS: &[(Kind, u32, Goal<'static>)] = &[
     (Kind::Locked, 1, Goal::Targets(&[1])),
     (Kind::Locked, 4, Goal::Targets(&[5, 0])),

@@ -22,7 +22,6 @@ pub(crate) fn fit_rows(n: u32, arcs: &[ArcRec]) -> bool
     n <= MAX_VERTICES && arcs.len() <= MAX_ARCS && is_graph(n, arcs)
 }
 
-/// The rows of arcs, which fit them.
 pub(crate) fn rows_of(rt: &impl Abort, alloc: Global, n: u32, arcs: &[ArcRec]) -> Result<Csr, Fail>
     ensures { IfOk result (λ csr. csr.n ≡ n) }
 {
@@ -38,12 +37,11 @@ pub(crate) fn six(alloc: Global) -> Result<Csr, Memory>
     Csr::build(alloc, 6, &EXAMPLE_ARCS)
 }
 
-/// Asserts that these are the labels of a row of a table.
 pub(crate) fn same_labels(rt: &impl Abort, row: usize, labels: &[u64], want: &[u64]) {
     assert!(rt; labels == want, "row {row}");
 }
 
-/// Returns `count` arcs among `n` vertices, the same ones at each call.
+/// Random arcs, the same ones at each call.
 pub(crate) fn random_arcs(alloc: Global, n: u32, count: usize) -> Result<Vec<ArcRec>, Memory> {
     let mut arcs = Vec::with_capacity(alloc, count)?;
     let mut draws = Draws::new();
@@ -57,7 +55,7 @@ pub(crate) fn random_arcs(alloc: Global, n: u32, count: usize) -> Result<Vec<Arc
     Ok(arcs)
 }
 
-/// Arcs from vertex 0 to each other one of `n`, the last one first, with weights from 1 to `weights` in turn.
+/// Arcs from vertex 0 to each other one, the last first, with weights 1 to `weights` in turn.
 pub(crate) fn star(rt: &impl Abort, alloc: Global, n: u32, weights: u32) -> Result<Csr, Fail>
     ensures { IfOk result (λ csr. csr.n ≡ n) }
 {
@@ -69,7 +67,7 @@ pub(crate) fn star(rt: &impl Abort, alloc: Global, n: u32, weights: u32) -> Resu
     rows_of(rt, alloc, n, &arcs)
 }
 
-/// Streets both ways between `width` by `height` vertices, of `lengths` lengths from the `least` on.
+/// Streets both ways, of `lengths` lengths from the `least` on.
 pub(crate) fn street_arcs(
     alloc: Global,
     width: u32,

@@ -1,4 +1,4 @@
-//! Runs with a budget, runs that go on from a pause, and graphs that get more arcs meanwhile.
+//! Runs with a budget, runs that go on, and graphs that grow between.
 
 ghost use Rattle.std.specs.Prelude.{◌≡◌, ◌+◌, ◌≤◌, ◌++◌, length, IfOk};
 ghost use Rattle.route_walks.specs.Label.{AreLeastLabels};
@@ -26,12 +26,11 @@ use std::test::Fail;
 use std::thread::Threads;
 use std::time::Clock;
 
-/// The arc that is added to the six vertices, and their labels then.
+/// An arc that is added to the six vertices, and their labels then.
 const SHORTER: [ArcRec; 1] = arcs![(0, 5, 4)];
 
 const SHORTER_LABELS: [u64; 6] = [0, 10, 10, 12, 10, 4];
 
-/// Least labels, taken as a pause.
 fn settled_pause(
     alloc: Global,
     csr: &Csr,
@@ -67,8 +66,7 @@ fn grown_pause(
     Ok((grown, grow(rest, added)))
 }
 
-/// The least labels of a graph with these arcs added, from its own least labels. That it gives them is proved
-/// from the contracts of the calls.
+/// The least labels of a grown graph, by those that it had: proved from the contracts of the calls.
 fn grown_labels<H: Threads + Wait + Clock + Abort + Sync>(
     rt: &H,
     alloc: Global,
@@ -91,7 +89,6 @@ fn grown_labels<H: Threads + Wait + Clock + Abort + Sync>(
     settle(rt, alloc, &grown, seeds, Some(rest), plan)
 }
 
-/// Asserts the labels and the marked vertices of a pause of the six.
 pub(crate) fn expect_pause(
     rt: &impl Abort,
     row: usize,
@@ -110,15 +107,14 @@ pub(crate) fn expect_pause(
     }
 }
 
-/// The labels of the six vertices when no vertex was visited.
+/// The labels before any visit.
 const NO_VISIT: [u64; 6] = [0, INF, INF, INF, INF, INF];
 
-/// The labels when only vertex 0 was visited.
+/// The labels after a visit of vertex 0.
 pub(crate) const ONE_VISIT: [u64; 6] = [0, 17, 10, INF, INF, INF];
 
-/// A pool, how many workers, how many visits each makes, the labels and the marked vertices that this leaves, and the
-/// marked ones once the graph has the shorter arc. Visits of a sweep count: over a pool that keeps nothing there are no
-/// others.
+/// A pool, the workers, the visits of each, the labels and marks that are left, and the marks with the shorter arc.
+/// Visits of a sweep count: a pool that keeps nothing has no others.
 type PauseRow = (
     Kind,
     u32,
@@ -141,7 +137,7 @@ const PAUSES: &[PauseRow] = &[
     ),
 ];
 
-/// Asserts that a pause comes back from a run that may visit nothing.
+/// Asserts that a run without visits returns its pause.
 fn expect_same_pause<H: Threads + Wait + Clock + Abort + Sync>(
     rt: &H,
     alloc: Global,
@@ -166,7 +162,7 @@ fn expect_same_pause<H: Threads + Wait + Clock + Abort + Sync>(
     Ok(rest)
 }
 
-/// Asserts the labels and marks of a row, and the labels at the end once there is the shorter arc.
+/// Asserts a row, and the labels at the end with the shorter arc.
 fn expect_row<H: Threads + Wait + Clock + Abort + Sync>(
     rt: &H,
     alloc: Global,
@@ -203,7 +199,6 @@ fn expect_row<H: Threads + Wait + Clock + Abort + Sync>(
     Ok(())
 }
 
-// A pause comes back, gets an arc, and is settled.
 #[test]
 fn pauses_of_a_budget(rt: HostRuntime) -> Result<(), Fail> {
     let csr = six(rt.alloc())?;
@@ -213,7 +208,7 @@ fn pauses_of_a_budget(rt: HostRuntime) -> Result<(), Fail> {
     Ok(())
 }
 
-// If there is no vertex there is nothing left to do, whatever the budget.
+// Without a vertex nothing is left to do.
 #[test]
 fn no_vertices_are_settled(rt: HostRuntime) -> Result<(), Fail> {
     let alloc = rt.alloc();
@@ -230,7 +225,7 @@ fn no_vertices_are_settled(rt: HostRuntime) -> Result<(), Fail> {
     Ok(())
 }
 
-/// A pool, how many workers, how many visits each makes in a piece, and how often the run is made.
+/// A pool, the workers, the visits of each in a piece, and the number of runs.
 const POOLS: &[(Kind, u32, u64, u32)] = &[
     (Kind::Locked, 1, 1, 1),
     (Kind::Locked, 1, 1 << 32, 1),
@@ -248,7 +243,7 @@ const POOLS: &[(Kind, u32, u64, u32)] = &[
     (Kind::Useless(false, Some(6)), 2, u64::MAX, 1),
 ];
 
-/// Asserts the labels of the six vertices, and those that they get from there by the shorter arc.
+/// Asserts the labels of the six vertices, and those with the shorter arc.
 fn expect_six<H: Threads + Wait + Clock + Abort + Sync>(
     rt: &H,
     alloc: Global,
@@ -282,7 +277,7 @@ fn labels_over_each_pool(rt: HostRuntime) -> Result<(), Fail> {
     Ok(())
 }
 
-/// The labels of a graph that grows when a run has gone on for a piece, paused or done.
+/// The labels of a graph that grows after a piece of a run.
 fn labels_that_grow<H: Threads + Wait + Clock + Abort + Sync>(
     rt: &H,
     alloc: Global,
@@ -304,7 +299,7 @@ fn labels_that_grow<H: Threads + Wait + Clock + Abort + Sync>(
     Ok(settle(rt, alloc, &grown, seeds, Some(rest), plan)?)
 }
 
-/// Asserts that a graph of 3,000 vertices gets the labels of its arcs, some of which are added in the midst of a run.
+/// Asserts that a graph of 3,000 vertices that grows within a run gets the labels of all its arcs.
 fn expect_growth<H: Threads + Wait + Clock + Abort + Sync>(
     rt: &H,
     alloc: Global,
@@ -343,7 +338,7 @@ fn growths_at_random(rt: HostRuntime) -> Result<(), Fail> {
     Ok(())
 }
 
-/// Goes on after settled labels got these arcs. The gate sees that run alone.
+/// Goes on after settled labels got these arcs, watched by the gate.
 fn go_on_grown<H: Threads + Wait + Clock + Abort + Sync, G: Gate + Sync>(
     rt: &H,
     alloc: Global,
@@ -369,7 +364,6 @@ fn go_on_grown<H: Threads + Wait + Clock + Abort + Sync, G: Gate + Sync>(
     Ok(())
 }
 
-/// Asserts which vertices that run visits.
 fn expect_visited<H: Threads + Wait + Clock + Abort + Sync>(
     rt: &H,
     alloc: Global,
@@ -398,8 +392,7 @@ fn expect_visited<H: Threads + Wait + Clock + Abort + Sync>(
 /// Arcs that lower no label.
 const NO_SHORTER: [ArcRec; 3] = arcs![(17, 0, 3), (9, 9, 0), (17, 0, 3)];
 
-// The second run costs what the added arcs change: their tails are visited once each, and if a label falls the
-// vertices that this concerns, of however many there are.
+// A second run visits the tails of the added arcs once each, and vertices whose labels fall.
 #[test]
 fn only_what_changes_is_visited(rt: HostRuntime) -> Result<(), Fail> {
     let alloc = rt.alloc();
@@ -410,7 +403,7 @@ fn only_what_changes_is_visited(rt: HostRuntime) -> Result<(), Fail> {
     expect_visited(&rt, alloc, &six(alloc)?, &SHORTER, &[0, 5])
 }
 
-// If no label falls, nothing is pushed but the tails that are marked: each into a chunk of its own.
+// If no label falls only marked tails are pushed, each into a chunk of its own.
 #[test]
 fn tails_of_added_arcs_are_handed_over(rt: HostRuntime) -> Result<(), Fail> {
     let alloc = rt.alloc();

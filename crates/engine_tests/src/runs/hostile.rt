@@ -8,14 +8,13 @@ use route_walks::Memory;
 use std::alloc::Global;
 use std::sync::{Mutex, Wait};
 
-/// Drops, refuses and repeats vertices, invents some, gives what another side was handed, and hints at vertices
-/// that there are not.
+/// Drops, refuses, repeats and invents vertices, swaps those of sides, and hints at some that there are not.
 #[derive(Drop)]
 pub(crate) struct Hostile {
     lists: Vec<Mutex<Vec<u32>>>,
 }
 
-/// A worker's side: the number of its list, and what it gave last.
+/// A side: the number of its list, and the vertex that it gave last.
 #[derive(Clone, Copy)]
 pub(crate) struct HostileSide {
     number: u32,
@@ -44,7 +43,7 @@ impl Hostile {
         Ok((Hostile { lists }, sides))
     }
 
-    /// Keeps a vertex `times` times in a side's list. Whether there was memory for it.
+    /// Keeps a vertex `times` times in a side's list, if there is memory.
     fn keep<H: Wait>(&self, rt: &H, number: u32, v: u32, times: u32) -> bool {
         let Some(list) = self.lists.get(number as usize) else {
             return false;
@@ -53,7 +52,6 @@ impl Hostile {
         (0..times).all(|_| list.push(v).is_ok())
     }
 
-    /// The last vertex of a side's list.
     fn last_of<H: Wait>(&self, rt: &H, number: u32) -> Option<u32> {
         self.lists.get(number as usize)?.lock(rt).pop()
     }

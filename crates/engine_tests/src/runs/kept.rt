@@ -1,5 +1,5 @@
-//! Runs that must end though workers keep credits. One worker is held in its pop, budgets are spent, or a sweep has to
-//! find what the pool has lost. That their labels are least is by contract.
+//! Runs that must end though workers keep credits: a worker is held in its pop, budgets are spent, or a sweep has to
+//! find what was lost.
 
 ghost use Rattle.std.specs.Prelude.{◌≡◌, length, IfOk, ⊤};
 
@@ -15,14 +15,14 @@ use std::sync::{Mutex, Wait};
 use std::test::Fail;
 use std::thread::yield_now;
 
-/// A worker is held for this many turns at most: a turn takes as long as other processes like.
+/// The most turns for which a worker is held.
 const TURNS: u32 = 1_000;
 
-/// The number of fruitless pops of others until which a worker is held.
+/// The fruitless pops of others until which a worker is held.
 const POPS: u64 = 8;
 
-/// Gives what was pushed last to whoever asks first. A worker that finds nothing after it has visited, and so keeps
-/// credits, is held until others have found no vertices and have looked at the total. One worker at least isn't held.
+/// Gives what was pushed last to whoever asks first. A worker that finds nothing after a visit keeps credits, and is
+/// held until others have found no vertices and looked at the total. One worker at least isn't held.
 #[derive(Drop)]
 struct HoldsInPop {
     waiting: Mutex<Vec<u32>>,
@@ -32,7 +32,7 @@ struct HoldsInPop {
     in_vain: AtomicU64,
 }
 
-/// A side of the pool: true if the worker was given a vertex by its last pop.
+/// True if the last pop gave a vertex.
 #[derive(Clone, Copy)]
 struct Asking(bool);
 
@@ -102,8 +102,7 @@ fn a_worker_that_keeps_credits_is_held(rt: HostRuntime) -> Result<(), Fail> {
     Ok(())
 }
 
-/// Pools and budgets, by which a run goes on until it is settled. With a budget of 1 a worker leaves after each visit,
-/// and has raised credits if that was vertex 0.
+/// Pools and budgets. With a budget of 1 a worker leaves after each visit, with credits if that was of vertex 0.
 const PIECES: &[(Kind, u64)] = &[
     (Kind::Obim, u64::MAX),
     (Kind::Obim, 1),

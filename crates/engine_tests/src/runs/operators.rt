@@ -1,5 +1,4 @@
-//! Tests of `run` and of each call that brings a pool of its own: a table of graphs, with labels that another program
-//! worked out.
+//! Tests of `run` and the operators: a table of graphs, with labels by another program.
 
 ghost use Rattle.std.specs.Prelude.{◌≡◌, IfOk};
 ghost use Rattle.route_walks.specs.Label.{AreLeastLabels};
@@ -72,7 +71,7 @@ const SEVERAL: [Seed; 3] = [
 /// The vertex with the greatest label.
 pub(crate) const FARTHEST: Goal<'static> = Goal::Targets(&[5]);
 
-/// The number of vertices, the arcs, what is asked of them, and the labels.
+/// Vertices, arcs, what is asked, and the labels.
 const ROWS: &[(u32, &[ArcRec], Ask, &[u64])] = &[
     (6, &EXAMPLE_ARCS, Distances(0), &SIX_LABELS),
     (6, &EXAMPLE_ARCS, Distances(2), &[INF, 0, 0, 2, 0, 5]),
@@ -142,7 +141,7 @@ const ROWS: &[(u32, &[ArcRec], Ask, &[u64])] = &[
     (0, &[], Components, &[]),
 ];
 
-/// The labels of a run over each pool that comes with the engine.
+/// The labels of a run over each pool of `obim_pool`.
 fn run_from<H: Threads + Wait + Clock + Abort + Sync>(
     rt: &H,
     alloc: Global,
@@ -182,7 +181,7 @@ fn one_visit_each(settings: &Settings) -> Piece
     }
 }
 
-/// The labels that go on from where each worker has visited one vertex.
+/// The labels after each worker has visited one vertex and the run went on.
 fn resumed_from<H: Threads + Wait + Clock + Abort + Sync>(
     rt: &H,
     alloc: Global,
@@ -197,8 +196,7 @@ fn resumed_from<H: Threads + Wait + Clock + Abort + Sync>(
     least_labels_resumed(rt, alloc, csr, rest, settings, &OpenGate)
 }
 
-/// The labels of a run that stops at a goal, over a pool that comes with the engine. It begins, or goes on from where
-/// each worker has visited one vertex.
+/// The labels of a run that stops at a goal. It begins, or goes on after one visit of each worker.
 fn stopped_at<H: Threads + Wait + Clock + Abort + Sync>(
     rt: &H,
     alloc: Global,
@@ -227,7 +225,7 @@ fn stopped_at<H: Threads + Wait + Clock + Abort + Sync>(
     Ok(reached.closed.into_labels())
 }
 
-/// The labels of an operator that stops at a goal. It begins, or goes on from where each worker has visited one vertex.
+/// The labels of an operator that stops at a goal. It begins, or goes on after one visit of each worker.
 fn operated_until<H: Threads + Wait + Clock + Abort + Sync>(
     rt: &H,
     alloc: Global,
@@ -251,7 +249,6 @@ fn operated_until<H: Threads + Wait + Clock + Abort + Sync>(
     Ok(reached.closed.into_labels())
 }
 
-/// The labels of a call that stops at a goal.
 fn labels_until<H: Threads + Wait + Clock + Abort + Sync>(
     rt: &H,
     alloc: Global,
@@ -283,7 +280,6 @@ fn labels_until<H: Threads + Wait + Clock + Abort + Sync>(
     }
 }
 
-/// The goal of a call, if it may stop early.
 fn goal_in(ask: Ask) -> Option<Goal<'static>> {
     match ask {
         DistancesUntil(_, goal) => Some(goal),
@@ -326,7 +322,7 @@ pub(crate) fn labels_of<H: Threads + Wait + Clock + Abort + Sync>(
     }
 }
 
-/// The number of workers, one, two or more than vertices, and then true if buckets widen.
+/// The workers, and true if buckets widen.
 const SETTINGS: &[(u32, bool)] = &[(1, false), (2, false), (8, false), (1, true), (8, true)];
 
 #[test]

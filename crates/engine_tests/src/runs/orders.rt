@@ -1,4 +1,4 @@
-//! Tests of the order in which workers visit: what is pushed and what passes the gate.
+//! Tests of the order in which workers push and visit.
 
 ghost use Rattle.std.specs.Prelude.{◌≡◌, length, IfOk};
 
@@ -16,8 +16,8 @@ use std::test::Fail;
 use std::thread::Threads;
 use std::time::Clock;
 
-/// The work of one worker over a pool that gives the first pushed first, on the arcs of `n` vertices. It is what the
-/// worker is handed and pushes, at which metrics, what the gate sees, and the labels.
+/// The work of one worker over a pool that gives the first pushed first: the pushes and their metrics, the visits, and
+/// the labels.
 struct Order {
     n: u32,
     arcs: &'static [ArcRec],
@@ -133,7 +133,6 @@ const ORDERS: &[Order] = &[
     },
 ];
 
-/// The labels of an order. The side keeps what is pushed.
 fn labels_of<H: Threads + Wait + Clock + Abort + Sync>(
     rt: &H,
     alloc: Global,
@@ -173,14 +172,13 @@ fn visits_and_pushes_of_one_worker(rt: HostRuntime) -> Result<(), Fail> {
     Ok(())
 }
 
-/// After so many visits of the first order a run is paused, and these are handed to the pool as it goes on.
+/// The visits of the first order after which a run is paused, and what is then pushed as it goes on.
 const HANDED: &[(u64, &[(u32, u64)])] = &[
     (0, &[(0, 0)]),
     (1, &[(1, 17), (2, 10)]),
     (4, &[(4, 10), (5, 22)]),
 ];
 
-/// Returns what a run that goes on, but whose worker visits nothing, hands to a new pool.
 fn handed_after<H: Threads + Wait + Clock + Abort + Sync>(
     rt: &H,
     alloc: Global,
@@ -216,8 +214,8 @@ fn marked_vertices_are_handed_over(rt: HostRuntime) -> Result<(), Fail> {
     Ok(())
 }
 
-// A pool that gives a vertex again and again still has others. Up to as many times as there are vertices the worker
-// takes them in the pool's order, and from then on in the order of their numbers.
+// A worker takes the vertices of a pool that repeats one up to as many times as there are vertices, and then those of a
+// sweep.
 #[test]
 fn a_pool_that_repeats_is_borne(rt: HostRuntime) -> Result<(), Fail> {
     let (alloc, seeds, n) = (rt.alloc(), EXAMPLE_SEEDS, 3000);
@@ -236,7 +234,7 @@ fn a_pool_that_repeats_is_borne(rt: HostRuntime) -> Result<(), Fail> {
     Ok(())
 }
 
-// A pool that keeps nothing, and more vertices than a sweep meets in the other tests.
+// A pool that keeps nothing, on a large graph.
 #[test]
 fn a_sweep_of_a_large_star(rt: HostRuntime) -> Result<(), Fail> {
     let alloc = rt.alloc();

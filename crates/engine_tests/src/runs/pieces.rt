@@ -1,4 +1,4 @@
-//! Runs in pieces, each with settings, a pool and a budget of its own.
+//! Runs in pieces, each with its own settings, pool and budget.
 
 ghost use Rattle.std.specs.Prelude.{◌≡◌, length, All, IfOk, IfSome};
 ghost use Rattle.route_walks.specs.Label.{AreLeastLabels};
@@ -19,7 +19,7 @@ use std::sync::Wait;
 use std::thread::Threads;
 use std::time::Clock;
 
-/// A pool: those that come with the engine, and callers' own.
+/// A pool of `obim_pool` or of a caller.
 #[derive(Clone, Copy)]
 pub(crate) enum Kind {
     Locked,
@@ -27,7 +27,7 @@ pub(crate) enum Kind {
     Widening,
     Misleading,
     Hostile(Draws),
-    /// A useless pool: true if it says that it keeps a vertex, and the vertex that it gives.
+    /// A pool that keeps nothing: true if it says it does, and the vertex that it gives.
     Useless(bool, Option<u32>),
 }
 
@@ -39,7 +39,7 @@ pub(crate) struct Piece {
     pub budget: u64,
 }
 
-/// The pieces by which a run goes on: the same one again and again, or others that are drawn.
+/// The pieces of a run: one kind again and again, or drawn ones.
 #[derive(Clone, Copy)]
 pub(crate) enum Plan {
     Same(Piece),
@@ -55,10 +55,9 @@ impl Plan {
     }
 }
 
-/// The most pieces of a run.
 const MOST_PIECES: u32 = 100_000;
 
-/// Goes on from a pause for a while, or begins without one.
+/// Goes on from a pause for a piece, or begins.
 fn go_on_over<H: Threads + Wait + Clock + Sync, P: WorkPool + Sync>(
     rt: &H,
     alloc: Global,
@@ -92,7 +91,7 @@ where
     }
 }
 
-/// Goes on from a pause for a while, or begins without one, over a new pool of the piece's kind.
+/// Goes on from a pause for a piece, or begins, over a new pool of the piece's kind.
 pub(crate) fn go_on<H: Threads + Wait + Clock + Sync>(
     rt: &H,
     alloc: Global,
@@ -136,7 +135,6 @@ pub(crate) fn go_on<H: Threads + Wait + Clock + Sync>(
     }
 }
 
-/// The pause after a piece that does not come to the end.
 pub(crate) fn pause_after<H: Threads + Wait + Clock + Abort + Sync>(
     rt: &H,
     alloc: Global,
@@ -155,7 +153,6 @@ pub(crate) fn pause_after<H: Threads + Wait + Clock + Abort + Sync>(
     }
 }
 
-/// The labels at the end, from a pause or from the beginning.
 pub(crate) fn settle<H: Threads + Wait + Clock + Abort + Sync>(
     rt: &H,
     alloc: Global,

@@ -1,4 +1,4 @@
-//! Pools of a caller's own, which know nothing of labels, marks or seats.
+//! Pools of callers.
 
 ghost use Rattle.std.specs.Prelude.{◌≡◌, length, IfOk, ⊤};
 
@@ -50,7 +50,7 @@ pub(crate) struct Repeating {
     pub times: u32,
 }
 
-/// The vertices that wait, and the number of times that the first was given.
+/// The vertices that wait, and how often the first was given.
 #[derive(Drop)]
 pub(crate) struct Repeated {
     waiting: VecDeque<u32>,
@@ -85,7 +85,7 @@ impl WorkPool for Repeating {
     }
 }
 
-/// Drops a vertex that waits already, gives each vertex twice, and now and then one that nobody pushed.
+/// Drops a vertex that waits already, gives each twice, and now and then one that nobody pushed.
 #[derive(Drop)]
 pub(crate) struct Misleading {
     waiting: Mutex<Vec<u32>>,
@@ -136,14 +136,13 @@ impl WorkPool for Misleading {
     }
 }
 
-/// Keeps nothing, whatever it says of it, and always draws the same.
+/// Keeps nothing, and always draws the same.
 #[derive(Clone, Copy)]
 pub(crate) struct Useless {
     pub accepts: bool,
     pub gives: Option<u32>,
 }
 
-/// A worker's side of a useless pool.
 #[derive(Clone, Copy)]
 pub(crate) struct Unused(u8);
 

@@ -1,6 +1,5 @@
-//! Each call with one allocation of it refused, inside a worker's push too: `RunFault::Memory` then, and made once more
-//! it gives the labels that were worked by hand. `tests/refusals` refuses each in turn; `tests/refusals.tsv` has the
-//! calls.
+//! Each call with one allocation refused, also inside a worker's push: `RunFault::Memory`, and made once more it gives
+//! the labels worked by hand.
 
 ghost use Rattle.std.specs.Prelude.{◌≡◌, IfOk};
 ghost use Rattle.route_walks.specs.Walk.{AreSeeds};
@@ -25,10 +24,9 @@ use std::test::Fail;
 use std::thread::Threads;
 use std::time::Clock;
 
-// So many workers, and whether buckets widen.
+// The workers, and true if buckets widen.
 const SETTINGS: &[(u32, bool)] = &[(1, false), (2, false), (1, true), (2, true)];
 
-// The labels of the six vertices, asked once more if memory was refused.
 fn asked_again<H: Threads + Wait + Clock + Abort + Sync>(
     rt: &H,
     alloc: Global,
@@ -120,7 +118,7 @@ fn of_resume_until(rt: HostRuntime) -> Result<(), Fail> {
     expect_labels(&rt, rt.alloc(), ask, &SIX_LABELS)
 }
 
-// A pool that comes with the engine, and how many workers.
+// A pool, and the workers.
 const POOLS: &[(Kind, u32)] = &[
     (Kind::Locked, 1),
     (Kind::Locked, 2),
@@ -128,7 +126,7 @@ const POOLS: &[(Kind, u32)] = &[
     (Kind::Obim, 2),
 ];
 
-// The pause after a piece, which is made once more if memory was refused.
+// The pause after a piece, made once more if memory was refused.
 fn begun_again<H: Threads + Wait + Clock + Abort + Sync>(
     rt: &H,
     alloc: Global,
@@ -148,7 +146,7 @@ fn begun_again<H: Threads + Wait + Clock + Abort + Sync>(
     }
 }
 
-// What a pause comes to. After a refusal it is gone, and the run goes on from the same one.
+// The outcome of a pause. After a refusal it is gone, and the run goes on from an equal one.
 fn gone_on_again<H: Threads + Wait + Clock + Abort + Sync>(
     rt: &H,
     alloc: Global,
@@ -179,7 +177,6 @@ fn piece_of(rt: &impl Abort, kind: Kind, workers: u32, budget: u64) -> Piece {
     }
 }
 
-// Asserts what a run leaves, and that it goes on to the end from there.
 fn expect_begun<H: Threads + Wait + Clock + Abort + Sync>(
     rt: &H,
     alloc: Global,
@@ -201,7 +198,7 @@ fn expect_begun<H: Threads + Wait + Clock + Abort + Sync>(
     Ok(())
 }
 
-// A run leaves what one worker's first visit leaves.
+// A run leaves what one visit leaves.
 #[test]
 fn of_run_for(rt: HostRuntime) -> Result<(), Fail> {
     let csr = six(rt.alloc())?;
@@ -211,7 +208,6 @@ fn of_run_for(rt: HostRuntime) -> Result<(), Fail> {
     Ok(())
 }
 
-// The end of a run that goes on.
 fn resumed_again<H: Threads + Wait + Clock + Abort + Sync>(
     rt: &H,
     alloc: Global,

@@ -1,4 +1,4 @@
-//! Tests of what a gate and a pool see of workers (numbers, and marks before pushes), and of random yields.
+//! Tests of what a gate and a pool see of workers, and of random yields.
 
 ghost use Rattle.std.specs.Prelude.{◌<◌, ⊤};
 
@@ -18,15 +18,13 @@ use std::test::Fail;
 use std::thread::{Threads, yield_now};
 use std::time::Clock;
 
-/// A worker waits this many turns at most.
+/// The most turns that a worker waits.
 const TURNS: u32 = 10_000_000;
 
-/// Holds each worker at its first leaf until each of the workers has one, and keeps their numbers.
+/// Holds each worker at its first leaf until all have one, and keeps their numbers.
 #[derive(Drop)]
 struct Numbers {
-    /// A bit for each worker that came.
     came: AtomicU64,
-    /// The bits of all workers.
     all: u64,
 }
 
@@ -45,7 +43,7 @@ impl Gate for Numbers {
     }
 }
 
-/// So many workers, and a bit for each.
+/// The workers, and a bit for each.
 const NUMBERS: &[(u32, u64)] = &[(1, 0b1), (2, 0b11), (4, 0b1111)];
 
 #[test]
@@ -64,15 +62,14 @@ fn each_worker_has_its_number(rt: HostRuntime) -> Result<(), Fail> {
     Ok(())
 }
 
-/// Gives vertex 1 to the other worker at once, and keeps the one that pushed it in its push until the other has popped
-/// again.
+/// Gives vertex 1 to the other worker at once, and keeps its pusher in the push until the other has popped again.
 #[derive(Drop)]
 struct Relay {
-    /// The vertex that waits, and 1 more; 0 if none does.
+    /// The vertex that waits, plus 1; 0 for none.
     waiting: AtomicU64,
-    /// The number of pops since vertex 1 was given, that one counted.
+    /// The pops since vertex 1 was given, with that one.
     pops: AtomicU64,
-    /// The number of them when vertex 1 was visited.
+    /// These pops when vertex 1 was visited.
     pops_at_visit: AtomicU64,
 }
 
@@ -110,7 +107,7 @@ impl Gate for Relay {
     }
 }
 
-// A vertex is marked before it is pushed: a worker that is given it at once visits it.
+// A vertex is marked before it is pushed, so a worker that gets it at once visits it.
 #[test]
 fn a_vertex_is_marked_before_it_is_pushed(rt: HostRuntime) -> Result<(), Fail> {
     let (alloc, seeds) = (rt.alloc(), EXAMPLE_SEEDS);
@@ -130,9 +127,8 @@ fn a_vertex_is_marked_before_it_is_pushed(rt: HostRuntime) -> Result<(), Fail> {
     Ok(())
 }
 
-/// Holds a worker back before one visit in eight, drawn at random. It holds it for up to 248 turns of a loop, and
-/// before one visit in 2,048 until other processes have had the processor. That takes as long as these like, so it is
-/// seldom.
+/// Holds a worker before one random visit in eight for up to 248 turns of a loop, and before one in 2,048 until other
+/// processes have had the processor.
 #[derive(Drop)]
 struct Dawdling {
     state: AtomicU64,
@@ -140,7 +136,6 @@ struct Dawdling {
 }
 
 impl Dawdling {
-    /// Draws from this seed on.
     fn new(seed: u64) -> Dawdling {
         Dawdling {
             state: AtomicU64::new(seed),
@@ -164,7 +159,6 @@ impl Gate for Dawdling {
     }
 }
 
-/// Asserts that workers that are held back at random give these labels.
 fn expect_held<H: Threads + Wait + Clock + Abort + Sync>(
     rt: &H,
     alloc: Global,

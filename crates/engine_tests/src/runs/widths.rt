@@ -1,4 +1,4 @@
-//! Buckets for a graph: the widths that its arcs ask for.
+//! The widths that arcs ask for.
 
 use crate::runs::graphs::rows_of;
 use csr_graph::Csr;
@@ -9,7 +9,7 @@ use std::alloc::Global;
 use std::process::Abort;
 use std::test::Fail;
 
-/// Returns the rows of `count` arcs from vertex 0 of `n` to itself, with the weights in turn.
+/// Arcs from vertex 0 to itself, with the weights in turn.
 fn loops(
     rt: &impl Abort,
     alloc: Global,
@@ -28,9 +28,8 @@ fn loops(
     rows_of(rt, alloc, n, &arcs)
 }
 
-/// The number of vertices, the weights in turn, the number of arcs, and the shift and the scale for them: no scale is
-/// one that only widens. The shift is worked out from the light weights and the arcs of a vertex. The scale is worked
-/// out from the mean weight, and from the root of the vertices.
+/// Vertices, weights in turn, arcs, and their shift and scale; no scale only widens. The shift comes from light weights
+/// and the arcs of a vertex, the scale from the mean weight and the root of the vertices.
 const WIDTHS: &[(u32, &[u32], usize, u32, Option<(u32, u64)>)] = &[
     (1, &[], 0, 0, None),
     (1, &[0], 1, 0, None),
@@ -62,11 +61,11 @@ fn widths_of_graphs(rt: HostRuntime) -> Result<(), Fail> {
     Ok(())
 }
 
-/// Vertices one after another. A row has the number by which each one's arcs go on, and true if an arc leads back from
-/// the next one. Last it has the shift of 4,096 of them with weights of 7. A chain has wider buckets.
+/// Chains: the number by which arcs go on, true if an arc leads back from the next vertex, and the shift for 4,096
+/// vertices with weights of 7.
 const CHAINS: &[(u32, bool, u32)] = &[(1, false, 9), (1, true, 9), (2, false, 5), (2, true, 4)];
 
-/// Arcs from each of `n` vertices to the next `ahead` ones, and perhaps one back from the next.
+/// Arcs from each vertex to the next `ahead` ones, and perhaps one back from the next.
 fn forward(alloc: Global, n: u32, ahead: u32, back: bool) -> Result<Vec<ArcRec>, Memory> {
     let mut arcs = Vec::new(alloc);
     for v in 1..n {
