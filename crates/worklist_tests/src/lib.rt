@@ -1,7 +1,6 @@
-//! Tests of what the worklist's public calls do that no contract says.
+//! Tests of what the public calls of `obim_bags` and `obim_pool` do that no contract says.
 //!
-//! Tests of `obim_bags` and `obim_pool`, which know their public calls and contracts alone. They stand in a crate of
-//! their own, since a crate is proved once more for the tests that it has.
+//! A crate of tests is apart, since a crate with tests is proved once more for them.
 
 #![tactic(auto)]
 

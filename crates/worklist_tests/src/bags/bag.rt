@@ -9,20 +9,20 @@ use std::alloc::Global;
 use std::process::Abort;
 use std::sync::Wait;
 
-// A call on a bag, with the serial and the vertices of a chunk of worker 0, and what it gives.
+// A call on a bag, with a chunk's serial and vertices, and its result.
 #[derive(Clone, Copy)]
 pub(crate) enum Call {
     Put(u64, &'static [u32]),
     PutBoxed(u64, &'static [u32]),
     Get(u64, &'static [u32]),
     GetBoxed(u64, &'static [u32]),
-    // Nothing is found, by any look.
+    // No look finds anything.
     FindNone,
     // A look finds something.
     FindSome,
 }
 
-// A chunk in its box, if memory is there.
+// A chunk in its box.
 pub(crate) fn boxed<R: Abort>(
     rt: &R,
     alloc: Global,
@@ -69,7 +69,7 @@ pub(crate) fn is_right<R: Wait + Abort>(
     }
 }
 
-// Each call is made by the pass of its number, and gives what it should.
+// Makes each call by the pass of its number, and asserts its result.
 pub(crate) fn expect_calls<R: Wait + Abort>(
     rt: &R,
     alloc: Global,
@@ -87,7 +87,6 @@ pub(crate) fn expect_calls<R: Wait + Abort>(
     }
 }
 
-// One worker puts two chunks, and the other gets the first.
 const HANDED_OVER: &[(usize, Call)] = &[
     (0, Call::Put(0, &[4, 5])),
     (0, Call::Put(1, &[6])),
@@ -96,7 +95,7 @@ const HANDED_OVER: &[(usize, Call)] = &[
 
 const TWO_PUT: &[(usize, Call)] = &[(0, Call::Put(0, &[4])), (0, Call::Put(1, &[5]))];
 
-// What one pass put in its box the other gets, and then neither finds anything.
+// One pass puts a box, the other gets it, and then neither finds anything.
 const A_BOX_COMES_BACK: &[(usize, Call)] = &[
     (0, Call::PutBoxed(1, &[7])),
     (1, Call::FindSome),
@@ -105,7 +104,7 @@ const A_BOX_COMES_BACK: &[(usize, Call)] = &[
     (1, Call::FindNone),
 ];
 
-// The workers of a bag, what is called, how many of the last passes are handed in then, and what is left.
+// The workers of a bag, the calls, the number of last passes that are handed in, and what is left.
 const ROWS: [(u32, &[(usize, Call)], usize, Result<&[u64], SettleFault>); 5] = [
     (2, HANDED_OVER, 2, Ok(&[1])),
     (2, HANDED_OVER, 1, Err(SettleFault::Missing)),

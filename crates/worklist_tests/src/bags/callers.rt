@@ -1,4 +1,4 @@
-//! The facts that a caller learns of what it put. Each clause is proved from the contracts of bags and logs alone.
+//! The facts that callers of bags and logs learn, each proved from the contracts.
 
 ghost use Rattle.std.specs.Prelude.{◌≡◌, ◌≢◌, ◌+◌, ◌<◌, ℕ, [], ◌∷◌, Some, length, slice_get};
 ghost use Rattle.std.specs.Prelude.{All, IfErr, IfNone, IfOk, IfSome, OnErr};
@@ -15,7 +15,6 @@ use std::alloc::Global;
 use std::process::Abort;
 use std::sync::Wait;
 
-// One of the passes of a new bag.
 fn take_new(rt: &impl Abort, bag: &Bag, passes: &mut Vec<BagPass>) -> BagPass
     requires { All (λ pass. pass ≡ new_pass bag.now) passes.old.items }
     ensures pass { result ≡ new_pass bag.now }
@@ -25,8 +24,7 @@ fn take_new(rt: &impl Abort, bag: &Bag, passes: &mut Vec<BagPass>) -> BagPass
     passes.pop().expect(rt, "a pass for each worker")
 }
 
-// Two chunks are put by one pass of a bag of two, and the other gets: what it got and what is left are the
-// two chunks, each once. Both passes are handed in, so none is missing.
+// Two chunks are put by one pass and the other gets: what it got and what is left are these two. No pass is missing.
 fn hand_over<R: Wait + Abort>(
     rt: &R,
     alloc: Global,
@@ -59,7 +57,7 @@ fn two_chunks_come_once_each(rt: HostRuntime) {
     assert!(rt; got.is_some() && left.len() == 1);
 }
 
-// A metric that a mirror asks for twice has one place.
+// A metric that is asked for twice has one place.
 fn ask_twice<R: Wait>(
     rt: &R,
     alloc: Global,
@@ -76,7 +74,6 @@ fn ask_twice<R: Wait>(
     Ok((first, second))
 }
 
-// The place where the mirror finds a metric.
 fn place_in<R: Wait + Abort>(
     rt: &R,
     alloc: Global,
@@ -92,7 +89,6 @@ fn place_in<R: Wait + Abort>(
     found.expect(rt, "the place of a bag")
 }
 
-// Drains a log by two mirrors.
 fn drain_by<R: Wait + Abort>(
     rt: &R,
     alloc: Global,
@@ -107,7 +103,7 @@ fn drain_by<R: Wait + Abort>(
     log.drain(rt, alloc, list_of(rt, alloc, [first, second]))
 }
 
-// A metric for which two mirrors ask has one place, if their log can be drained.
+// A metric that two mirrors ask for has one place, if their log can be drained.
 fn ask_by_two<R: Wait + Abort>(
     rt: &R,
     alloc: Global,
@@ -126,7 +122,6 @@ fn ask_by_two<R: Wait + Abort>(
     Ok((place, other))
 }
 
-// A log without bags, and both its mirrors.
 fn open_new(rt: &impl Abort, alloc: Global) -> (BagLog, Mirror, Mirror)
     ensures first { result.1 ≡ new_mirror result.0 }
     ensures second { result.2 ≡ new_mirror result.0 }
@@ -145,9 +140,8 @@ fn a_metric_has_one_place(rt: HostRuntime) {
     assert!(rt; ask_by_two(&rt, alloc, &log, first, second, 5) == Ok((1, 1)));
 }
 
-// A chunk is put at a place and one is got there: nothing else of the mirror changes. If a bag has one worker, that
-// one finds the chunk that it put, if nothing was put before. A chunk that is refused comes back, and the mirror is as
-// it was.
+// A chunk is put and one is got at a place, and nothing else of the mirror changes. A worker that is alone finds the
+// chunk that it put, if nothing was put before. A refused chunk comes back.
 fn put_and_get_at<R: Wait>(
     rt: &R,
     log: &BagLog,
@@ -173,7 +167,7 @@ fn put_and_get_at<R: Wait>(
     Ok(log.get_at(rt, mirror, place))
 }
 
-// In a log into which nothing was put nothing is left.
+// Nothing is left in a log into which nothing was put.
 fn drain_unused<R: Wait + Abort>(
     rt: &R,
     alloc: Global,
@@ -191,7 +185,6 @@ fn drain_unused<R: Wait + Abort>(
     Ok(left)
 }
 
-// The chunk that is put at the place of metric 9 is got there.
 fn expect_back<R: Wait + Abort>(
     rt: &R,
     alloc: Global,

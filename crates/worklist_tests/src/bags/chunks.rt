@@ -8,7 +8,7 @@ const ID: ChunkId = ChunkId {
     serial: 9,
 };
 
-// What each pop from now on takes, if it takes one, and none is pushed before.
+// The vertex that each coming pop takes, if none is pushed before.
 const AHEAD: [(usize, Option<u32>); 5] = [
     (1, Some(5)),
     (2, Some(4)),
@@ -17,7 +17,7 @@ const AHEAD: [(usize, Option<u32>); 5] = [
     (usize::MAX, None),
 ];
 
-// What pushes give: two vertices fit.
+// The results of pushes: two vertices fit.
 const PUSHES: [(u32, Result<(), Full>); 3] = [(4, Ok(())), (5, Ok(())), (6, Err(Full))];
 
 fn push_each(rt: &impl Abort, chunk: &mut Chunk) {

@@ -5,7 +5,6 @@ use std::alloc::Global;
 use std::fmt::Display;
 use std::process::Abort;
 
-// The text of a fault is this one.
 fn expect_text<T: Display>(rt: &impl Abort, alloc: Global, fault: &T, text: &str) {
     let said = format!(in alloc; "{fault}").expect(rt, "memory for a text");
     assert!(rt; said.as_str() == text);

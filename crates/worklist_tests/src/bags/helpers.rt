@@ -1,4 +1,4 @@
-//! The helpers of the tests: a bag with passes of their own, chunks of size 2, and a log with mirrors of their own.
+//! Bags and logs with their passes and mirrors, and chunks of size 2.
 
 ghost use Rattle.std.specs.Prelude.{◌≡◌, ◌≢◌, ◌≤◌, [], All, IfSome};
 ghost use Rattle.obim_bags.specs.Bags.{IsPassOf, after_put};
@@ -27,7 +27,6 @@ pub(crate) fn take_pass<R: Abort>(rt: &R, bag: &Bag, passes: &mut Vec<BagPass>) 
     passes.pop().expect(rt, "a pass for each worker")
 }
 
-// A bag of two workers, and the pass of each.
 pub(crate) fn open_two<R: Wait + Abort>(rt: &R, alloc: Global) -> (Bag, BagPass, BagPass)
     ensures first { IsPassOf result.0 result.1 }
     ensures second { IsPassOf result.0 result.2 }
@@ -38,7 +37,6 @@ pub(crate) fn open_two<R: Wait + Abort>(rt: &R, alloc: Global) -> (Bag, BagPass,
     (bag, first, second)
 }
 
-// These passes or mirrors as a list.
 pub(crate) fn list_of<T: Drop, const N: usize>(
     rt: &impl Abort,
     alloc: Global,
@@ -69,7 +67,7 @@ pub(crate) fn put<R: Wait + Abort>(rt: &R, bag: &Bag, pass: &mut BagPass, chunk:
     assert!(rt; bag.put(rt, pass, chunk).is_ok());
 }
 
-// It is the chunk of worker 0 with this serial, and has these vertices.
+// Tells if it is worker 0's chunk of this serial, with these vertices.
 pub(crate) fn holds(chunk: Option<Chunk>, serial: u64, vertices: &[u32]) -> bool {
     let Some(mut chunk) = chunk else {
         return false;
@@ -82,7 +80,6 @@ pub(crate) fn holds(chunk: Option<Chunk>, serial: u64, vertices: &[u32]) -> bool
     chunk.id() == ChunkId { worker: 0, serial } && chunk.pop().is_none()
 }
 
-// These are the chunks of worker 0 with these serials, in order.
 fn are_serials(left: &[Chunk], serials: &[u64]) -> bool {
     for (chunk, &serial) in left.iter().zip(serials) {
         if chunk.id() != (ChunkId { worker: 0, serial }) {
@@ -92,7 +89,7 @@ fn are_serials(left: &[Chunk], serials: &[u64]) -> bool {
     left.len() == serials.len()
 }
 
-// Asserts that a bag or a log that is drained gives the chunks of these serials, or else this fault.
+// Asserts that a drained bag or log gives chunks of these serials, or this fault.
 pub(crate) fn expect_left(
     rt: &impl Abort,
     row: usize,
@@ -123,7 +120,6 @@ pub(crate) fn take_mirror<R: Abort>(rt: &R, log: &BagLog, mirrors: &mut Vec<Mirr
     mirrors.pop().expect(rt, "a mirror for each worker")
 }
 
-// Puts a chunk into the bag of a metric.
 pub(crate) fn put_by_metric<R: Wait + Abort>(
     rt: &R,
     alloc: Global,

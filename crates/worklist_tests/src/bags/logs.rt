@@ -1,4 +1,4 @@
-//! Logs and their mirrors, with what each mirror then has and what is left.
+//! Logs and their mirrors.
 
 ghost use Rattle.std.specs.Prelude.{◌≡◌, ◌<◌, All, length};
 ghost use Rattle.obim_bags.specs.Logs.{IsMirrorOf};
@@ -10,20 +10,20 @@ use std::alloc::Global;
 use std::process::Abort;
 use std::sync::Wait;
 
-// A call on a log through a mirror, and what it gives.
+// A call on a log through a mirror, and its result.
 #[derive(Clone, Copy)]
 pub(crate) enum LogCall {
-    // The place of a metric, which is appended if the log hasn't it.
+    // The place of a metric, which may be appended.
     Find(u64, Result<usize, LogFault>),
-    // How many bags the mirror has then.
+    // The number of bags that the mirror then has.
     CatchUp(Result<usize, LogFault>),
-    // The mirror has these metrics, in this order.
+    // The mirror's metrics, in order.
     Has(&'static [u64]),
-    // It has no such metric.
+    // A metric that it lacks.
     Lacks(u64),
     // A call on the bag at this place.
     At(usize, Call),
-    // The places of so many metrics: they are appended if the log hasn't them, or the mirror has them.
+    // The places of this many metrics, which may be appended.
     FindAll(usize),
     HasAll(usize),
 }
@@ -31,7 +31,7 @@ pub(crate) enum LogCall {
 // More bags than a mirror claims at a time or an index begins with.
 const BAGS: usize = 3000;
 
-// Metrics lie this far apart, so that most take more than 32 bits.
+// The distance of metrics: most take more than 32 bits.
 const APART: u64 = 1 << 51;
 
 pub(crate) fn is_right<R: Wait + Abort>(
@@ -130,7 +130,7 @@ fn has_all(mirror: &Mirror, count: usize) -> bool {
     true
 }
 
-// Each call is made through the mirror of its number, and gives what it should.
+// Makes each call through the mirror of its number, and asserts its result.
 pub(crate) fn expect_calls<R: Wait + Abort>(
     rt: &R,
     alloc: Global,
@@ -148,8 +148,8 @@ pub(crate) fn expect_calls<R: Wait + Abort>(
     }
 }
 
-// The second mirror appends a bag, and the first another; neither knows of the other's until it catches up or asks.
-// Then two chunks go through the bag at place 1, and nothing is found at place 0.
+// Each mirror appends a bag, and knows of the other's once it catches up or asks. Then two chunks go through the bag at
+// place 1.
 const HANDED_ON: &[(usize, LogCall)] = &[
     (1, LogCall::Lacks(5)),
     (1, LogCall::Find(5, Ok(0))),
@@ -183,16 +183,16 @@ pub(crate) const FIVE_CHUNKS: &[(usize, LogCall)] = &[
     (0, LogCall::At(1, Call::Put(4, &[5]))),
 ];
 
-// What is left of them: by place, and then in the order of the bag.
+// What is left of them, by place and then in order.
 pub(crate) const FIVE_LEFT: &[u64] = &[0, 2, 1, 4, 3];
 
-// The passes that nobody claimed are joined in.
+// Passes that nobody claimed are joined in.
 const UNCLAIMED: &[(usize, LogCall)] = &[
     (2, LogCall::Find(5, Ok(0))),
     (2, LogCall::At(0, Call::Put(7, &[5]))),
 ];
 
-// The log has no passes any more for a mirror that was not handed in.
+// The log has no passes left for a mirror that was not handed in.
 const TAKEN: &[(usize, LogCall)] = &[
     (0, LogCall::CatchUp(Err(LogFault::Taken))),
     (0, LogCall::Find(5, Err(LogFault::Taken))),
@@ -205,14 +205,14 @@ const TWO_CLAIMED: &[(usize, LogCall)] = &[
     (1, LogCall::CatchUp(Ok(1))),
 ];
 
-// A drain that fails gives the log back: a mirror that was not handed in is answered, and does not wait.
+// A drain that fails gives the log back: another mirror is answered.
 const GOES_ON: &[(usize, LogCall)] = &[
     (1, LogCall::Find(5, Ok(0))),
     (0, LogCall::CatchUp(Err(LogFault::Taken))),
     (0, LogCall::Find(9, Err(LogFault::Taken))),
 ];
 
-// A chunk lies in a bag of which no mirror that is handed in knows.
+// A chunk lies in a bag that no mirror handed in knows.
 const UNKNOWN: &[(usize, LogCall)] = &[
     (0, LogCall::Find(5, Ok(0))),
     (0, LogCall::At(0, Call::Put(0, &[5]))),
@@ -225,12 +225,12 @@ const MANY_BAGS: &[(usize, LogCall)] = &[
     (1, LogCall::HasAll(BAGS)),
 ];
 
-// How many of the last mirrors are handed in, and what is left.
+// The number of last mirrors that are handed in, and what is left.
 type Drain = (usize, Result<&'static [u64], SettleFault>);
 
 const MISSING: Drain = (0, Err(SettleFault::Missing));
 
-// The workers of a log, what is called, how it is drained once and again, and what is called then.
+// The workers of a log, the calls, two drains, and the calls after them.
 type Row = (
     u32,
     &'static [(usize, LogCall)],
@@ -254,7 +254,6 @@ const ROWS: [Row; 8] = [
     (2, MANY_BAGS, &[(2, Ok(&[]))], &[]),
 ];
 
-// Drains the log by the last mirrors, once and again.
 fn expect_drains<R: Wait + Abort>(
     rt: &R,
     alloc: Global,

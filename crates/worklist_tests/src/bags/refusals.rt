@@ -1,6 +1,5 @@
-//! Each call that may be refused memory, with one allocation of it refused. Made once more the call gives what was
-//! worked by hand, and nothing of the refused one is there. `tests/refusals` refuses each in turn;
-//! `tests/refusals.tsv` has the calls.
+//! Each call with one allocation refused: made once more it gives what was worked by hand, and nothing of the refused
+//! one is there.
 
 ghost use Rattle.std.specs.Prelude.{◌≡◌, All};
 ghost use Rattle.obim_bags.specs.Bags.{IsPassOf};
@@ -16,7 +15,7 @@ use std::alloc::Global;
 use std::process::Abort;
 use std::sync::Wait;
 
-// More chunks than a block of a bag's queue has, so that one put takes memory for the next block.
+// More chunks than a block of a queue has, so that a put takes memory for the next block.
 const CHUNKS: u64 = 40;
 
 // More metrics than a list or an index has room for at first.
@@ -56,7 +55,7 @@ fn put_of(is_boxed: bool, serial: u64) -> Call {
     }
 }
 
-// One pass puts chunks, and the other gets each. If a put is refused the bag is empty.
+// One pass puts chunks, and the other gets each. After a refused put the bag is empty.
 fn hand_over<R: Wait + Abort>(
     rt: &R,
     alloc: Global,
@@ -109,7 +108,7 @@ fn of_bag_put_boxed(rt: HostRuntime) {
     expect_puts(&rt, rt.alloc(), true);
 }
 
-// Whether these chunks are left. Else memory was refused, and nothing is given.
+// Tells if these chunks are left, or memory was refused and nothing is given.
 fn is_left(rt: &impl Abort, drained: Result<Vec<Chunk>, SettleFault>, serials: &[u64]) -> bool {
     if let Err(SettleFault::Memory) = drained {
         return false;
@@ -150,7 +149,6 @@ fn of_bag_drain(rt: HostRuntime) {
     assert!(rt; drain_filled(&rt, rt.alloc()) || drain_filled(&rt, rt.alloc()));
 }
 
-// Finds the bag of a metric, which is its place.
 fn find_again<R: Wait + Abort>(
     rt: &R,
     alloc: Global,
@@ -169,7 +167,7 @@ fn find_again<R: Wait + Abort>(
     Ok(())
 }
 
-// Each metric has one bag, whichever allocation was refused: the other mirror finds it at the same place.
+// Each metric has one bag, at one place for both mirrors.
 fn find_each<R: Wait + Abort>(rt: &R, alloc: Global, log: &BagLog, mirrors: &mut [Mirror])
     requires { All (IsMirrorOf log.now) mirrors.old }
 {
@@ -187,7 +185,6 @@ fn of_bag_log_find_or_append(rt: HostRuntime) {
     find_each(&rt, rt.alloc(), &log, &mut mirrors);
 }
 
-// Catches up, to `count` bags.
 fn catch_up_again<R: Wait + Abort>(
     rt: &R,
     alloc: Global,
@@ -206,7 +203,7 @@ fn catch_up_again<R: Wait + Abort>(
     Ok(())
 }
 
-// One mirror appends the bags, and at every fourth the other catches up.
+// One mirror appends bags, and at every fourth the other catches up.
 fn append_each<R: Wait + Abort>(rt: &R, alloc: Global, log: &BagLog, mirrors: &mut [Mirror])
     requires { All (IsMirrorOf log.now) mirrors.old }
 {
@@ -227,7 +224,7 @@ fn of_bag_log_catch_up(rt: HostRuntime) {
     append_each(&rt, rt.alloc(), &log, &mut mirrors);
 }
 
-// Puts chunks into the second bag, and gets each. If a put is refused the bag is empty.
+// Puts chunks into the second bag, and gets each. After a refused put the bag is empty.
 fn put_each_at<R: Wait + Abort>(
     rt: &R,
     alloc: Global,
@@ -294,7 +291,7 @@ fn drain_log<R: Wait + Abort>(
     Ok(refusable!(alloc, is_left(rt, log.drain(rt, alloc, mirrors), FIVE_LEFT)))
 }
 
-// After a refusal the slot is free: a mirror that was not handed in is answered, though it may find its passes taken.
+// After a refusal the slot is free: another mirror is answered, though its passes may be taken.
 fn drain_filled_log<R: Wait + Abort>(rt: &R, alloc: Global) -> bool {
     let (log, mut mirrors) = open_log(rt, alloc, 3);
     let mut third = take_mirror(rt, &log, &mut mirrors);

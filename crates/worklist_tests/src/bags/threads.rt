@@ -11,10 +11,10 @@ use std::sync::Wait;
 use std::sync::atomic::{AtomicU64, Ordering};
 use std::thread::{Threads, for_each_mut};
 
-// How many chunks each thread puts.
+// The chunks of each thread.
 const CHUNKS: u64 = 5000;
 
-// How often each chunk of these workers came, by worker and then by serial: not yet.
+// The number of times that each chunk came, by worker and serial.
 fn open_counts(rt: &impl Abort, alloc: Global, workers: u32) -> Vec<AtomicU64> {
     let mut counts = Vec::new(alloc);
     for _ in 0..u64::from(workers) * CHUNKS {
@@ -31,7 +31,7 @@ fn count(rt: &impl Abort, counts: &[AtomicU64], chunk: &Chunk) {
     counts[at].fetch_add(1, Ordering::SeqCst);
 }
 
-// With what is left, each chunk came once.
+// Asserts that each chunk came once, with those left.
 fn expect_each_once(rt: &impl Abort, counts: &[AtomicU64], left: &[Chunk]) {
     for chunk in left {
         count(rt, counts, chunk);
@@ -41,7 +41,7 @@ fn expect_each_once(rt: &impl Abort, counts: &[AtomicU64], left: &[Chunk]) {
     }
 }
 
-// Puts chunks of the worker of this number at metrics in turn, and after every second one gets what is there.
+// Puts chunks of this worker at metrics in turn, and after every second one gets what is there.
 fn work<R: Wait + Abort>(
     rt: &R,
     alloc: Global,
@@ -80,7 +80,6 @@ fn get_each<R: Wait + Abort>(rt: &R, log: &BagLog, mirror: &mut Mirror, counts: 
     }
 }
 
-// Each worker by a thread of its own.
 fn work_by_threads<R: Threads + Wait + Abort + Sync>(
     rt: &R,
     alloc: Global,

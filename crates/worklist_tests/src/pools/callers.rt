@@ -1,4 +1,4 @@
-//! The facts that a caller learns of its side. Each clause is proved from the contract of the pool alone.
+//! The facts that callers of a pool learn, each proved from its contract.
 
 ghost use Rattle.std.specs.Prelude.{◌≡◌, ◌<◌, ◌⊎◌, ℕ, [], ◌∷◌, None, Some, IfNone, IfOk, IfSome, length, get_or};
 ghost use Rattle.std.specs.Bool.{OnFalse, OnTrue};
@@ -12,8 +12,7 @@ use std::alloc::Global;
 use std::process::Abort;
 use std::sync::Wait;
 
-// Tries a push twice. If one is accepted the vertex is in the bag of its metric once, and the lower of its
-// metric and the current one before is current; else nothing is.
+// Tries a push twice. If one is accepted, the vertex is in the bag of its metric once, and the lower metric is current.
 fn push_stubbornly<R: Wait>(
     rt: &R,
     pool: &ObimPool,
@@ -35,7 +34,7 @@ fn push_stubbornly<R: Wait>(
     pool.push(rt, side, v, metric)
 }
 
-// A pop that leaves the current metric for a higher one leaves nothing of its bag that the side holds.
+// A pop that goes on to a higher metric leaves nothing that the side holds of the current one.
 fn pop_onwards<R: Wait>(rt: &R, pool: &ObimPool, side: &mut ObimSide) -> Option<u32>
     requires { IsSideOf pool.now side.old }
     ensures side { IsSideOf pool.now side.new }
@@ -46,7 +45,7 @@ fn pop_onwards<R: Wait>(rt: &R, pool: &ObimPool, side: &mut ObimSide) -> Option<
     pool.pop(rt, side)
 }
 
-// Pops until there is none, `most` times at most: then the side holds no vertex of any bag of its own.
+// Pops until there is none, `most` times at most: the side then holds no vertex.
 fn pop_to_end<R: Wait>(rt: &R, pool: &ObimPool, side: &mut ObimSide, most: u32) -> bool
     requires { IsSideOf pool.now side.old }
     ensures side { IsSideOf pool.now side.new }
@@ -62,7 +61,7 @@ fn pop_to_end<R: Wait>(rt: &R, pool: &ObimPool, side: &mut ObimSide, most: u32) 
     false
 }
 
-// A pop that gives none found each of the side's bags empty, once or twice, and counted it.
+// A pop that gives none found each bag of the side empty, and counted it.
 fn pop_in_vain<R: Wait>(rt: &R, pool: &ObimPool, side: &mut ObimSide) -> Option<u32>
     requires { IsSideOf pool.now side.old }
     ensures side { IsSideOf pool.now side.new }
@@ -73,7 +72,7 @@ fn pop_in_vain<R: Wait>(rt: &R, pool: &ObimPool, side: &mut ObimSide) -> Option<
     pool.pop(rt, side)
 }
 
-// By two pops that give none no chunk is put or got, and no vertex comes or goes, in any bag.
+// Two pops that give none change no bag.
 fn pop_twice_in_vain<R: Wait>(rt: &R, pool: &ObimPool, side: &mut ObimSide) -> bool
     requires { IsSideOf pool.now side.old }
     ensures side { IsSideOf pool.now side.new }
@@ -88,8 +87,7 @@ fn pop_twice_in_vain<R: Wait>(rt: &R, pool: &ObimPool, side: &mut ObimSide) -> b
     }
 }
 
-// What one side of a new pool pushes, another may pop. If the pool can be settled then, that was the very vertex: no
-// other comes out of the pool.
+// A vertex that one side pushes and another pops is the very one, if the pool can be settled.
 fn pass_on<R: Wait>(
     rt: &R,
     alloc: Global,
@@ -112,7 +110,6 @@ fn pass_on<R: Wait>(
     Ok(None)
 }
 
-// Calls each of them on a side that is alone.
 fn expect_alone<R: Wait + Abort>(rt: &R, pool: &ObimPool, side: &mut ObimSide)
     requires { IsSideOf pool.now side.old }
 {

@@ -1,4 +1,4 @@
-//! Calls on a pool in a given order, and what they give. They are made through the trait alone.
+//! Calls on a pool through its trait, and their results.
 
 ghost use Rattle.std.specs.Prelude.{All};
 
@@ -6,24 +6,24 @@ use obim_pool::WorkPool;
 use std::process::Abort;
 use std::sync::Wait;
 
-// Calls by one side of a pool, and what they give.
+// Calls by one side of a pool, and their results.
 #[derive(Clone, Copy)]
 pub(crate) enum Call {
-    // Of these vertices at these metrics.
+    // Pushes of these vertices at these metrics.
     Push(&'static [(u32, u64)]),
     Pop(&'static [Option<u32>]),
-    // What the pop of this number from now on gives.
+    // The vertex that the pop of this number gives.
     Ahead(usize, Option<u32>),
-    // Of each vertex below a count, in the order of the multiples of a step, at itself times a factor.
+    // Pushes of each vertex below a count, in the order of multiples of a step, at itself times a factor.
     PushAll(u32, u32, u64),
-    // Of the vertices from the first on and before the end: the lowest first, or the highest.
+    // Pops of the vertices from the first up to the end: rising or falling.
     PopRising(u32, u32),
     PopFalling(u32, u32),
-    // A vertex is pushed and popped, so many times.
+    // So many pushes, each popped.
     PushAndPop(u32),
 }
 
-// Each call is made by the side of its number, and gives what it should.
+// Makes each call by the side of its number, and asserts its result.
 pub(crate) fn expect_calls<P: WorkPool, R: Wait + Abort>(
     rt: &R,
     pool: &P,

@@ -1,4 +1,4 @@
-//! A locked pool gives the lowest metric first, the last vertex of a bag first, and loses none.
+//! A locked pool gives the lowest metric and its last vertex first, and loses none.
 
 use crate::pools::calls::{Call, expect_calls};
 use crate::pools::obim::{POPS, PUSHES};
@@ -21,7 +21,7 @@ const HANDED_OVER: &[(usize, Call)] = &[
     (0, Call::Pop(&[None])),
 ];
 
-// The workers of a pool, and what is called.
+// The workers of a pool, and the calls.
 const ROWS: [(u32, &[(usize, Call)]); 3] = [(0, &[]), (1, IN_ORDER), (64, HANDED_OVER)];
 
 #[test]

@@ -1,4 +1,4 @@
-//! Pools of bags: in which order vertices come, and what is left of them.
+//! Pools of bags: the order of vertices, and what is left.
 
 ghost use Rattle.std.specs.Prelude.{◌≡◌, ◌≤◌, All, vec_len};
 ghost use Rattle.obim_bags.specs.declared.chunk.TheConstants.{MAX_SIZE};
@@ -13,7 +13,7 @@ use std::sync::Wait;
 
 pub(crate) const PUSHES: Call = Call::Push(&[(10, 3), (11, 1), (12, 3), (13, 1)]);
 
-// What the pops after them give.
+// The pops after them.
 pub(crate) const POPS: Call = Call::Pop(&[Some(13), Some(11), Some(12), Some(10), None]);
 
 const NONE: Call = Call::Pop(&[None]);
@@ -34,14 +34,14 @@ const AHEAD: &[(usize, Call)] = &[
     (0, Call::Ahead(1, None)),
 ];
 
-// What the one side pushes the other pops.
+// One side pushes, the other pops.
 const HANDED_OVER: &[(usize, Call)] = &[
     (0, Call::Push(&[(7, 0)])),
     (1, Call::Pop(&[Some(7)])),
     (0, NONE),
 ];
 
-// A vertex lies in a bag of which no side that is handed in knows.
+// A vertex lies in a bag that no side handed in knows.
 const UNKNOWN: &[(usize, Call)] = &[(1, Call::Push(&[(7, 0)]))];
 
 const A_LOWER_METRIC_COMES_NEXT: &[(usize, Call)] = &[
@@ -56,7 +56,7 @@ const A_LOWER_METRIC_COMES_NEXT: &[(usize, Call)] = &[
     ),
 ];
 
-// A side goes on with its current bag, and learns of lower ones as that runs empty.
+// A side goes on with its current bag, and learns of lower ones when that is empty.
 const AFTER_AN_EMPTY_BAG_COMES_THE_LOWEST: &[(usize, Call)] = &[
     (0, Call::Push(&[(50, 5), (51, 5), (90, 9)])),
     (1, Call::Push(&[(20, 2), (70, 7)])),
@@ -65,7 +65,7 @@ const AFTER_AN_EMPTY_BAG_COMES_THE_LOWEST: &[(usize, Call)] = &[
     (1, NONE),
 ];
 
-// A prime: the multiples of a smaller number, modulo this, are each of the lower numbers once.
+// A prime: multiples of a smaller number, modulo this, are each of the lower numbers once.
 const METRICS: u32 = 1009;
 
 const BY_METRIC: (usize, Call) = (0, Call::PopRising(0, METRICS));
@@ -96,7 +96,7 @@ const CHUNKS_OF_A_BAG: &[(usize, Call)] = &[
     (0, NONE),
 ];
 
-// A side is more bags behind than a mirror claims at a time. Most metrics take more than 32 bits.
+// A side is more bags behind than a mirror claims at a time.
 const MANY_BAGS_BEHIND: &[(usize, Call)] = &[
     (0, Call::PushAll(100, 1, 1 << 57)),
     (1, Call::PopRising(0, 100)),
@@ -111,7 +111,7 @@ const MANY_BAGS: &[(usize, Call)] = &[
 
 const TIMES: u32 = 1_100_000;
 
-// Chunks are named by their side and in turn, in boxes that were used before too.
+// Chunks are named by side and serial, also in used boxes.
 const NAMED: &[(usize, Call)] = &[
     (0, Call::PushAndPop(TIMES)),
     (0, Call::Push(&[(8, 7)])),
@@ -120,21 +120,21 @@ const NAMED: &[(usize, Call)] = &[
 
 const MANY_CHUNKS: &[(usize, Call)] = &[(0, Call::PushAll(110_000, 1, 0))];
 
-// What a pool gives as it is settled.
+// What a settled pool gives.
 #[derive(Clone, Copy)]
 pub(crate) enum Left {
     // So many chunks.
     Count(usize),
-    // Chunks of these workers and serials, with these vertices.
+    // Chunks of these workers, serials and vertices.
     Chunks(&'static [(u32, u64, &'static [u32])]),
-    // Nothing, since the last side is withheld.
+    // Nothing: the last side is withheld.
     Missing,
 }
 
-// The full chunks that are left of the first pushes by one side.
+// The full chunks that are left of the first pushes.
 pub(crate) const LEFT: Left = Left::Chunks(&[(0, 0, &[10, 12]), (0, 1, &[11, 13])]);
 
-// The workers of a pool, the size of its chunks, what is called and what is left.
+// The workers of a pool, the size of chunks, the calls and what is left.
 const ROWS: [(u32, usize, &[(usize, Call)], Left); 16] = [
     (1, 2, IN_ORDER, Left::Count(0)),
     (1, 3, AHEAD, Left::Count(0)),
@@ -167,7 +167,6 @@ pub(crate) fn open_pool<R: Abort>(
     ObimPool::open(alloc, workers, chunk).expect(rt, "memory for a pool")
 }
 
-// The chunk has this name and these vertices.
 fn is_chunk(mut chunk: Chunk, (worker, serial, vertices): (u32, u64, &[u32])) -> bool {
     for &v in vertices.iter().rev() {
         if chunk.pop() != Some(v) {
@@ -202,7 +201,6 @@ pub(crate) fn expect_left<R: Abort>(
     assert!(rt; right, "row {row}");
 }
 
-// The calls give what they should, and the pool that is settled then leaves what it should.
 fn expect_row<R: Wait + Abort>(
     rt: &R,
     alloc: Global,

@@ -1,6 +1,5 @@
-//! Each call on a pool that may be refused memory, with one allocation of it refused. No vertex that was pushed is
-//! lost or comes twice, and a refused push leaves the current metric. `tests/refusals` refuses each in turn;
-//! `tests/refusals.tsv` has the calls.
+//! Each call on a pool with one allocation refused: no vertex is lost or comes twice, and a refused push leaves the
+//! current metric.
 
 ghost use Rattle.std.specs.Prelude.{◌≤◌, All, IfOk};
 ghost use Rattle.obim_pool.specs.Sides.{IsSideOf};
@@ -14,8 +13,8 @@ use std::alloc::Global;
 use std::process::Abort;
 use std::sync::Wait;
 
-// The first vertices have a metric each, of which the last is the lowest. All others have that one: more than a
-// block of a bag's queue has chunks, so that some put takes memory for the next block.
+// The first vertices have a metric each, the last one the lowest. All others have that one, with more chunks than a
+// block of a queue has.
 const METRICS: u32 = 12;
 
 const VERTICES: u32 = 52;
@@ -24,7 +23,7 @@ fn metric_of(v: u32) -> u64 {
     u64::from(METRICS.saturating_sub(v).max(1))
 }
 
-// Pushes a vertex. A refused push leaves the current metric: the vertex that was pushed last comes out then.
+// Pushes a vertex. A refused push leaves the current metric: the vertex pushed last comes out then.
 fn push_again<P: WorkPool, R: Wait + Abort>(
     rt: &R,
     alloc: Global,
@@ -47,7 +46,7 @@ fn push_again<P: WorkPool, R: Wait + Abort>(
     Ok(())
 }
 
-// Notes a vertex that was popped, and was not before.
+// Notes a vertex that was popped for the first time.
 fn note(rt: &impl Abort, popped: &mut u64, v: u32) {
     assert!(rt; v < VERTICES);
     let bit = 1_u64 << v;
@@ -55,7 +54,7 @@ fn note(rt: &impl Abort, popped: &mut u64, v: u32) {
     *popped |= bit;
 }
 
-// A side pushes all vertices and pops them. Each comes once, by rising metric.
+// A side pushes all vertices and pops them, each once, by rising metric.
 fn expect_pushes<P: WorkPool, R: Wait + Abort>(
     rt: &R,
     alloc: Global,
@@ -104,7 +103,7 @@ fn push_plainly<P: WorkPool, R: Wait + Abort>(rt: &R, pool: &P, side: &mut P::Si
     }
 }
 
-// A refused pop goes on with the bags that its side has, and if it has none gives none, once.
+// A refused pop goes on with the bags that its side has, or gives none once.
 fn pop_again<P: WorkPool, R: Wait + Abort>(
     rt: &R,
     alloc: Global,
@@ -140,7 +139,6 @@ fn opens(alloc: Global, kind: Kind) -> bool {
     }
 }
 
-// Opens a pool, once more if memory was refused.
 fn open_again(rt: &impl Abort, alloc: Global, kind: Kind) -> Result<(), Memory> {
     let opened = refusable!(alloc, opens(alloc, kind));
     assert!(rt; opened || opens(alloc, kind));
@@ -181,7 +179,6 @@ fn of_obim_pool_pop(rt: HostRuntime) {
     expect_pops(&rt, rt.alloc(), &pool, &mut sides);
 }
 
-// Settles a pool with a full chunk in each of two bags. False if memory is refused.
 fn settle<R: Wait + Abort>(rt: &R, alloc: Global) -> Result<bool, Memory> {
     let (pool, mut sides) = open_pool(rt, alloc, 1, 2);
     expect_calls(rt, &pool, &mut sides, 0, &[(0, PUSHES)]);

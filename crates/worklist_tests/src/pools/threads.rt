@@ -10,12 +10,12 @@ use std::sync::Wait;
 use std::sync::atomic::{AtomicU64, Ordering};
 use std::thread::{Threads, for_each_mut};
 
-// How many vertices each thread pushes, over how many metrics.
+// The vertices that each thread pushes, and their metrics.
 const PUSHES: u32 = 5000;
 
 const METRICS: u32 = 7;
 
-// How often each vertex that these workers push was popped: not yet.
+// The number of times that each vertex was popped.
 fn open_counts<R: Abort>(rt: &R, alloc: Global, workers: usize) -> Vec<AtomicU64> {
     let mut counts = Vec::new(alloc);
     for _ in 0..workers.saturating_mul(PUSHES as usize) {
@@ -24,7 +24,6 @@ fn open_counts<R: Abort>(rt: &R, alloc: Global, workers: usize) -> Vec<AtomicU64
     counts
 }
 
-// Pops a vertex, and counts it if there is one.
 fn pop<P: WorkPool, R: Wait + Abort>(
     rt: &R,
     pool: &P,
@@ -44,7 +43,7 @@ fn pop<P: WorkPool, R: Wait + Abort>(
     true
 }
 
-// Pushes the vertices of the worker of this number, and pops after two of three pushes.
+// Pushes this worker's vertices, and pops after two of three pushes.
 fn work<P: WorkPool, R: Wait + Abort>(
     rt: &R,
     pool: &P,
@@ -66,7 +65,6 @@ fn work<P: WorkPool, R: Wait + Abort>(
     }
 }
 
-// Pops what this side can.
 fn pop_rest<P: WorkPool, R: Wait + Abort>(
     rt: &R,
     pool: &P,
@@ -82,7 +80,7 @@ fn pop_rest<P: WorkPool, R: Wait + Abort>(
     assert!(rt; !pop(rt, pool, side, counts));
 }
 
-// Each worker by a thread of its own; then one after the other pops what is left. Every vertex was popped once.
+// Each worker by a thread of its own; then each pops what is left. Every vertex was popped once.
 fn share<P: WorkPool<Side = S> + Sync, S: Send, R: Threads + Wait + Abort + Sync>(
     rt: &R,
     pool: &P,

@@ -1,4 +1,4 @@
-//! Buckets that widen: which labels share one, and in which order a pool of them gives vertices.
+//! Buckets that widen, and the order in which their pool gives vertices.
 
 use crate::pools::calls::{Call, expect_calls};
 use obim_pool::{BUCKETS, MOST_BUCKETS, ObimSide, Scale, WideningPool, Worklist, bucket_of};
@@ -21,8 +21,8 @@ const BUCKETS_OF_LABELS: [(u64, u64); 13] = [
     (u64::MAX, BUCKETS - 1),
 ];
 
-// Worked by hand: widths of 8 up to 512 of them, then the leading eight bits again; and the ends of scales. A row has
-// the shift and the number of even widths, a label and its bucket.
+// Worked by hand: widths of 8 up to 512 of them, then the leading eight bits; and the ends of scales. A shift, a number
+// of even widths, a label and its bucket.
 const BUCKETS_OF_SCALES: [(u32, u64, u64, u64); 20] = [
     (3, 512, 255, 255),
     (3, 512, 257, 256),
@@ -58,8 +58,7 @@ fn buckets_of_labels(rt: HostRuntime) {
     }
 }
 
-// The next label has the same bucket or the next one, if buckets widen; and of a scale no bucket has labels of two
-// of those.
+// The next label has the same bucket or the next one, and no bucket of a scale has labels of two widening ones.
 fn expect_next(rt: &impl Abort, scale: Scale, label: u64) {
     let next = label.saturating_add(1);
     let widened = bucket_of(next).wrapping_sub(bucket_of(label));
@@ -92,7 +91,7 @@ fn buckets_leave_no_number_out(rt: HostRuntime) {
     }
 }
 
-// 1000 and 1001 share a bucket, whose last vertex comes first; 999 has the one before.
+// 1000 and 1001 share a bucket, whose last vertex comes first; 999 is in the one before.
 const PUSHES: &[(usize, Call)] = &[(0, Call::Push(&[(1, 1000), (2, 2000), (3, 1001), (4, 999)]))];
 
 const LOWEST_FIRST: &[(usize, Call)] = &[
@@ -118,7 +117,7 @@ fn near_metrics_share_a_bag(rt: HostRuntime) {
     expect_calls(&rt, &pool, &mut sides, 0, PUSHES);
     assert!(rt; has_figures(&sides, 0));
     expect_calls(&rt, &pool, &mut sides, 1, LOWEST_FIRST);
-    // Worked by hand: the bags of 999 and 1000 were found empty 4 times, that of 2000 3 times. The single vertex of the
-    // first, which was current, was taken without a look.
+    // Worked by hand: the bags of 999 and 1000 were found empty 4 times, that of 2000 3 times. The first vertex was
+    // taken without a look.
     assert!(rt; has_figures(&sides, 11));
 }
