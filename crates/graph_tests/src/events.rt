@@ -1,4 +1,4 @@
-//! Two schedules over four vertices, worked out by hand, one of which keeps credits, and short lists of events.
+//! Two schedules over four vertices, worked by hand, one of which keeps credits, and short lists of events.
 
 ghost use Rattle.std.specs.Prelude.{◌≡◌, ◌<◌, IfOk};
 ghost use Rattle.relax_core.specs.State.{IsOf};
@@ -18,11 +18,10 @@ use std::test::Fail;
 
 const ARCS: [ArcRec; 4] = arcs![(0, 1, 10), (0, 2, 1), (2, 1, 1), (1, 3, 1)];
 
-// An event, and what stands after it: the hand and the credits of the seat that stepped, the pending
-// total, the labels, and which vertices are marked.
+// An event, and what follows it: the seat's hand and credits, the total, the labels, and the marks.
 type Row = (Event, Hand, u8, u64, [u64; 4], [u8; 4]);
 
-// The rows of the schedule, each on a line: event => hand, credits, total, labels, marks.
+// The rows of a schedule: event => hand, credits, total, labels, marks.
 macro_rules! rows {
     ($($event:expr => $hand:expr, $credits:expr, $total:expr, $labels:expr, $marks:expr;)*) => {
         [$(($event, $hand, $credits, $total, $labels, $marks)),*]
@@ -65,7 +64,7 @@ const SCHEDULE: [Row; 33] = rows![
     Join(0, 1) => Idle, 0, 0, [0, 2, 1, 3], [0, 0, 0, 0];
 ];
 
-// One seat that raises three credits at once and keeps what is left, from vertex to vertex.
+// One seat that raises three credits at once and keeps them from vertex to vertex.
 const KEPT_SCHEDULE: [Row; 25] = rows![
     Take(0, 0) => Fresh { u: 0 }, 1, 1, [0, INF, INF, INF], [0, 0, 0, 0];
     Read(0) => Open { u: 0, d: 0, k: 0 }, 1, 1, [0, INF, INF, INF], [0, 0, 0, 0];
@@ -133,7 +132,6 @@ fn expect_pending(rt: &impl Abort, core: &Core, total: u64, i: usize) {
     assert_eq!(rt; core.pending(), total, "after event {i}");
 }
 
-// What a core says is what stands in the row, which is that of event i.
 fn stands_as(rt: &impl Abort, core: &Core, csr: &Csr, row: &Row, i: usize)
     requires vertices { csr.now.n ≡ 4 }
     requires belongs { IsOf csr.now core.now }
@@ -147,7 +145,6 @@ fn stands_as(rt: &impl Abort, core: &Core, csr: &Csr, row: &Row, i: usize)
     expect_seat(rt, core.views().get(seat_of(event)), (hand, credits), i);
 }
 
-// What a core says is what stands after event i of the schedule.
 fn stands(rt: &impl Abort, core: &Core, csr: &Csr, i: usize)
     requires vertices { csr.now.n ≡ 4 }
     requires belongs { IsOf csr.now core.now }
@@ -156,7 +153,7 @@ fn stands(rt: &impl Abort, core: &Core, csr: &Csr, i: usize)
     stands_as(rt, core, csr, &row(i), i);
 }
 
-// Does a schedule to a core that is just open, and looks at it after each event.
+// Plays a schedule on an open core, and looks at it after each event.
 fn play(
     rt: &impl Abort,
     alloc: Global,
@@ -227,7 +224,7 @@ fn the_schedule_by_replay(rt: HostRuntime) -> Result<(), Fail> {
     Ok(())
 }
 
-// The place where a list of events stops, or nothing if it is a run.
+// Asserts where a list of events stops, or that it is a run.
 fn expect_stop(
     rt: &impl Abort,
     alloc: Global,
@@ -276,7 +273,7 @@ const STOPS: [(&[Event], Option<usize>); 6] = [
     (&[Split(0), Take(0, 0), Relax(0)], Some(2)),
 ];
 
-// Events that aren't enabled after so many events of the schedule with kept credits.
+// Events that aren't enabled after this many events of the schedule with kept credits.
 const NOT_ENABLED: [(usize, Event); 12] = [
     (0, RaiseBy(0, 1)),
     (0, Keep(0)),
@@ -305,7 +302,7 @@ fn what_kept_credits_do_not_allow(rt: HostRuntime) -> Result<(), Fail> {
     Ok(())
 }
 
-// The events of the schedule but those that raise credits and look at the total.
+// The schedule without events that raise credits or look at the total.
 fn events_without_credits(alloc: Global) -> Result<Vec<Event>, Fail> {
     let mut events = events(alloc)?;
     events.retain(|event| !matches!(event, Raise(_) | See(_)));

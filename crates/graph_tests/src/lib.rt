@@ -1,8 +1,7 @@
-//! Tests of what the public calls on graphs, on their labels and on walks do that no contract says.
+//! Tests of what the public calls on graphs, labels and walks do that no contract says: of `route_walks`, `csr_graph`,
+//! `relax_core`, `label_words`, `walk_report` and `near_labels`.
 //!
-//! Tests of `route_walks`, `csr_graph`, `relax_core`, `label_words`, `walk_report` and `near_labels`, which know their
-//! public calls and contracts alone. They stand in a crate of their own, since a crate is proved once more for the
-//! tests that it has.
+//! A crate of tests is apart, since a crate with tests is proved once more for them.
 
 #![tactic(auto)]
 

@@ -1,4 +1,4 @@
-//! Searches near a source beside the plain program and the walks of a whole run, one after another in the same lists.
+//! Searches near a source beside the plain way and the walks of a whole run, one after another in the same lists.
 
 ghost use Rattle.near_labels.specs.Meeting.{IsReversed};
 ghost use Rattle.std.specs.Prelude.{◌≡◌, ◌<◌};
@@ -14,8 +14,7 @@ use std::process::Abort;
 use std::test::Fail;
 use walk_report::{WalkSpace, hops, parents, walk_to};
 
-/// A graph with parallel arcs, arcs both ways that cost nothing, a circle, a loop, a vertex that no arc enters, and the
-/// greatest weights.
+/// Parallel arcs, free arcs both ways, a circle, a loop, a vertex that no arc enters, and the greatest weights.
 const TANGLED: [ArcRec; 12] = arcs![
     (0, 1, 3),
     (0, 1, 2),
@@ -31,7 +30,7 @@ const TANGLED: [ArcRec; 12] = arcs![
     (4, 0, 0),
 ];
 
-/// A question that is asked of a source.
+/// A question to a source.
 #[derive(Clone, Copy)]
 enum Question {
     /// The labels of these vertices.
@@ -73,15 +72,14 @@ const QUESTIONS: [Question; 24] = [
     Within(INF - 1),
 ];
 
-/// A number of visits that is enough for each search.
+/// Enough visits for each search.
 const ENOUGH: u32 = 100;
 
-/// The numbers of visits that are allowed, in turn.
+/// The visits that are allowed, in turn.
 const VISITS: [u32; 8] = [0, ENOUGH, 1, ENOUGH, 2, ENOUGH, 3, ENOUGH];
 
 const ALL: [u32; 6] = [0, 1, 2, 3, 4, 5];
 
-/// The lists of all searches.
 #[derive(Drop)]
 struct Room {
     forward: SearchSpace,
@@ -89,7 +87,6 @@ struct Room {
     walks: WalkSpace,
 }
 
-/// Makes the lists for graphs of `n` vertices.
 fn room_of(alloc: Global, n: u32) -> Result<Room, Memory> {
     Ok(Room {
         forward: SearchSpace::new(alloc, n)?,
@@ -98,7 +95,7 @@ fn room_of(alloc: Global, n: u32) -> Result<Room, Memory> {
     })
 }
 
-/// The labels and the walks that are expected from a source: one for each vertex, empty for no walk.
+/// The expected labels and walks, one for each vertex; empty for no walk.
 #[derive(Clone, Copy)]
 struct Want<'a> {
     source: u32,
@@ -106,7 +103,7 @@ struct Want<'a> {
     walks: &'a [&'a [u32]],
 }
 
-/// The walks to all vertices, by hops and parents of the whole graph.
+/// The walks by hops and parents of the whole graph.
 fn walks_from(rt: &impl Abort, alloc: Global, csr: &Csr, s: u32) -> Result<Vec<Vec<u32>>, Fail>
     requires { s < csr.now.n }
 {
@@ -122,7 +119,7 @@ fn walks_from(rt: &impl Abort, alloc: Global, csr: &Csr, s: u32) -> Result<Vec<V
     Ok(walks)
 }
 
-/// Tells if these are the vertices whose labels are at most the bound, in rising order, each with its label.
+/// Tells if these are the vertices within the bound, in order, each with its label.
 fn are_within(found: &[(u32, u64)], labels: &[u64], bound: u64) -> bool {
     let mut rest = found.iter();
     for (v, label) in ALL.iter().zip(labels) {
@@ -133,14 +130,12 @@ fn are_within(found: &[(u32, u64)], labels: &[u64], bound: u64) -> bool {
     rest.next().is_none()
 }
 
-/// Tells if these are the labels of the targets.
 fn are_labels(found: &[u64], targets: &[u32], want: &Want) -> bool {
     let mut each = found.iter().zip(targets);
     found.len() == targets.len()
         && each.all(|(label, target)| want.labels.get(*target as usize) == Some(label))
 }
 
-/// Tells if these are the labels of all vertices, and the walks to them.
 fn are_walks(found: &WalksFound, want: &Want) -> bool {
     let mut each = found.walks.iter().zip(want.walks);
     found.labels.as_slice() == want.labels
@@ -148,8 +143,7 @@ fn are_walks(found: &WalksFound, want: &Want) -> bool {
         && each.all(|(walk, want)| walk.as_slice() == *want)
 }
 
-/// Tells if the answer to a question is what is expected; `None` if there is no answer. Takes no memory of its
-/// own.
+/// Tells if an answer is right; `None` if there is none. Takes no memory.
 fn is_right(
     rt: &impl Abort,
     alloc: Global,
@@ -189,8 +183,7 @@ fn is_right(
     }
 }
 
-/// Asserts that each answer is what is expected, and that there is one if enough visits are allowed. Returns how
-/// often there is none.
+/// Asserts that answers are right, and there if enough visits are allowed. Returns how often there is none.
 fn expect_answers(
     rt: &impl Abort,
     alloc: Global,
@@ -216,7 +209,6 @@ fn expect_answers(
     unanswered
 }
 
-/// Asserts the answers to all questions of a source. Returns how often there is none.
 fn expect_from(
     rt: &impl Abort,
     alloc: Global,
@@ -244,7 +236,6 @@ fn expect_from(
     Ok(unanswered)
 }
 
-/// Asserts the answers of a graph of six vertices.
 fn expect_graph(rt: &impl Abort, alloc: Global, arcs: &[ArcRec]) -> Result<(), Fail> {
     let csr = build(rt, alloc, 6, arcs)?;
     let reversed = csr.reversed(alloc)?;
@@ -276,7 +267,7 @@ const FROM_0: Want<'static> = Want {
     ],
 };
 
-/// Asserts that a search by few visits finds what is expected after many that gave up.
+/// Asserts that a search is right after many that gave up.
 fn expect_after_many(
     rt: &impl Abort,
     alloc: Global,

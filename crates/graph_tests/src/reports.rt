@@ -1,4 +1,4 @@
-//! Worked examples of hops, parents and walks.
+//! Hops, parents and walks worked by hand.
 
 ghost use Rattle.std.specs.Prelude.{◌≡◌, ◌<◌, true, All, IfOk};
 ghost use Rattle.route_walks.specs.Label.{AreLeastLabels};
@@ -30,7 +30,7 @@ pub(crate) fn distances(alloc: Global, csr: &Csr, s: u32) -> Result<Vec<u64>, Me
     plain_labels(alloc, csr.n(), &arcs, &seeds)
 }
 
-/// The least distances from `s` that are below a limit, and `INF` for the others: a run that stops early knows no more.
+/// The least distances below a limit, and `INF` for the others, as a run that stops early gives.
 fn distances_below(alloc: Global, csr: &Csr, s: u32, limit: u64) -> Result<Vec<u64>, Memory>
     requires { s < csr.now.n }
     ensures { IfOk result (λ labels.
@@ -46,14 +46,13 @@ fn distances_below(alloc: Global, csr: &Csr, s: u32, limit: u64) -> Result<Vec<u
     Ok(labels)
 }
 
-/// Tells if these are vertices of a graph of `n`.
 pub(crate) fn are_below(n: u32, targets: &[u32]) -> bool
     ensures { result ≡ true → All (λ t. t < n) targets.now }
 {
     targets.iter().all(|t| *t < n)
 }
 
-/// The expected report of a graph: for each vertex its hop, its parent and its walk, empty for none.
+/// The expected hop, parent and walk of each vertex; empty for no walk.
 #[derive(Clone, Copy)]
 struct Want<'a> {
     hops: &'a [u32],
@@ -61,7 +60,6 @@ struct Want<'a> {
     walks: &'a [&'a [u32]],
 }
 
-/// The rows of these arcs among `n` vertices.
 pub(crate) fn build(rt: &impl Abort, alloc: Global, n: u32, arcs: &[ArcRec]) -> Result<Csr, Fail>
     ensures { IfOk result (λ csr. csr.n ≡ n) }
 {
@@ -70,7 +68,6 @@ pub(crate) fn build(rt: &impl Abort, alloc: Global, n: u32, arcs: &[ArcRec]) -> 
     Ok(Csr::build(alloc, n, arcs)?)
 }
 
-/// Asserts what hops, parents and walks a graph has.
 fn expect_walks(
     rt: &impl Abort,
     alloc: Global,
@@ -86,7 +83,6 @@ fn expect_walks(
     expect_told(rt, alloc, &csr, &labels, &hops, want)
 }
 
-/// Asserts what hops, parents and walks a graph has below a limit.
 fn expect_walks_below(
     rt: &impl Abort,
     alloc: Global,
@@ -103,7 +99,6 @@ fn expect_walks_below(
     expect_told(rt, alloc, &csr, &labels, &hops, want)
 }
 
-/// Asserts that these are the hops, and which parents and walks they have.
 fn expect_told(
     rt: &impl Abort,
     alloc: Global,

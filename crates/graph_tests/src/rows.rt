@@ -1,4 +1,4 @@
-//! A graph of six vertices, whose places were worked out by hand.
+//! A graph of six vertices, whose places were worked by hand.
 
 ghost use Rattle.std.specs.Prelude.{◌<◌, ◌≤◌, ◌≡◌, ◌^◌, length, IfOk};
 ghost use Rattle.route_walks.specs.Walk.{IsGraph};
@@ -13,7 +13,7 @@ use std::process::Abort;
 use std::test::Fail;
 use std::thread::Threads;
 
-// The arcs of the example, not by tail: two leave 3 and come last here.
+// The example's arcs, not by tail.
 const GIVEN: [ArcRec; 8] = arcs![
     (4, 1, 0),
     (0, 1, 17),
@@ -25,7 +25,7 @@ const GIVEN: [ArcRec; 8] = arcs![
     (3, 5, 3),
 ];
 
-/// These arcs turned round, by tail.
+/// The arcs turned round, by tail.
 const ENTERING: [ArcRec; 8] = arcs![
     (1, 0, 17),
     (1, 4, 0),
@@ -39,7 +39,7 @@ const ENTERING: [ArcRec; 8] = arcs![
 
 const ADDED: [ArcRec; 1] = arcs![(0, 5, 4)];
 
-/// The example with the added arc, which comes after the arcs that leave 0.
+/// The example with the added arc.
 const GROWN: [ArcRec; 9] = arcs![
     (0, 1, 17),
     (0, 2, 10),
@@ -52,7 +52,6 @@ const GROWN: [ArcRec; 9] = arcs![
     (4, 5, 20),
 ];
 
-/// The rows of `GIVEN`.
 fn six(rt: &impl Abort, alloc: Global) -> Result<Csr, Fail>
     ensures { IfOk result (λ csr. csr.n ≡ 6 × length csr.arcs ≡ 8) }
 {
@@ -60,7 +59,6 @@ fn six(rt: &impl Abort, alloc: Global) -> Result<Csr, Fail>
     Ok(Csr::build(alloc, 6, &GIVEN)?)
 }
 
-/// Asserts that a graph has this number of vertices and these arcs, by tail.
 fn expect_rows(
     rt: &impl Abort,
     alloc: Global,
@@ -73,7 +71,6 @@ fn expect_rows(
     Ok(())
 }
 
-/// Asserts where the row of a vertex begins and ends.
 fn expect_row(rt: &impl Abort, csr: &Csr, u: u32, first: usize, end: usize)
     requires { u < csr.now.n }
 {
@@ -81,7 +78,6 @@ fn expect_row(rt: &impl Abort, csr: &Csr, u: u32, first: usize, end: usize)
     assert_eq!(rt; csr.end(u), end, "end of {u}");
 }
 
-/// Asserts that an arc is at a place.
 fn expect_arc(rt: &impl Abort, csr: &Csr, k: usize, arc: ArcRec)
     requires { k < length csr.now.arcs }
 {
@@ -121,7 +117,7 @@ fn a_graph_without_vertices(rt: HostRuntime) -> Result<(), Fail> {
     expect_rows(&rt, rt.alloc(), &csr, 0, &[])
 }
 
-/// A number below `bound`, drawn by Knuth's multiplier and increment for numbers of 64 bits.
+/// A number below `bound`, by Knuth's multiplier and increment.
 fn draw(state: &mut u64, bound: u32) -> u32
     requires { 0 < bound }
 {
@@ -131,7 +127,6 @@ fn draw(state: &mut u64, bound: u32) -> u32
     (*state >> 33) as u32 % bound
 }
 
-/// Arcs among n vertices, in no order.
 fn drawn(alloc: Global, n: u32, count: usize) -> Result<Vec<ArcRec>, Memory>
     requires { 0 < n }
 {
@@ -144,7 +139,7 @@ fn drawn(alloc: Global, n: u32, count: usize) -> Result<Vec<ArcRec>, Memory>
     Ok(arcs)
 }
 
-/// The arcs that `drawn` gives, of which rows can be made, also both ways.
+/// The arcs of `drawn`, of which rows can be made, also both ways.
 fn graph_of(rt: &impl Abort, alloc: Global, n: u32, count: usize) -> Result<Vec<ArcRec>, Fail>
     requires { 0 < n }
     ensures few { IfOk result (λ arcs. length arcs.items ≤ 2 ^ 30) }
@@ -155,7 +150,7 @@ fn graph_of(rt: &impl Abort, alloc: Global, n: u32, count: usize) -> Result<Vec<
     Ok(arcs)
 }
 
-// Arcs that stand by rising tail are sorted by two threads, each of which takes some of them.
+// Two threads sort arcs by rising tail, each some of them.
 #[test]
 fn rows_of_arcs_by_rising_tail(rt: HostRuntime) -> Result<(), Fail> {
     let (alloc, n) = (rt.alloc(), 700);
@@ -164,8 +159,7 @@ fn rows_of_arcs_by_rising_tail(rt: HostRuntime) -> Result<(), Fail> {
     expect_rows(&rt, alloc, &again, n, &csr.arcs(alloc)?)
 }
 
-/// Streets both ways, each from a vertex to the next and to the hundredth after it, as they come: the arcs stand
-/// nearly by rising tail.
+/// Streets both ways, each to the next vertex and to the hundredth: nearly by rising tail.
 fn streets(alloc: Global) -> Result<Vec<ArcRec>, Memory> {
     let mut arcs = Vec::with_capacity(alloc, 40_000)?;
     for u in 0..10_000_u32 {
@@ -179,7 +173,7 @@ fn streets(alloc: Global) -> Result<Vec<ArcRec>, Memory> {
     Ok(arcs)
 }
 
-/// Asserts that several threads make of arcs the rows that one makes.
+/// Asserts that several threads make the rows that one makes.
 fn expect_same_rows<H: Abort + Threads + Sync>(
     rt: &H,
     alloc: Global,
@@ -194,14 +188,14 @@ fn expect_same_rows<H: Abort + Threads + Sync>(
     expect_rows(rt, alloc, &again, n, &csr.arcs(alloc)?)
 }
 
-// Each of two threads finds the arcs of its rows near one another.
+// Each of two threads finds its arcs near one another.
 #[test]
 fn rows_of_arcs_nearly_in_order(rt: HostRuntime) -> Result<(), Fail> {
     let alloc = rt.alloc();
     expect_same_rows(&rt, alloc, 10_100, streets(alloc)?)
 }
 
-// Arcs of the first vertex stand where none of the threads looks for them: one thread sorts all.
+// Some arcs are where no thread looks for them: one thread sorts all.
 #[test]
 fn rows_of_arcs_far_out_of_place(rt: HostRuntime) -> Result<(), Fail> {
     let alloc = rt.alloc();
@@ -211,7 +205,6 @@ fn rows_of_arcs_far_out_of_place(rt: HostRuntime) -> Result<(), Fail> {
     expect_same_rows(&rt, alloc, 10_100, arcs)
 }
 
-/// The rows of the list of arcs both ways.
 fn both_rows(rt: &impl Abort, alloc: Global, n: u32, arcs: &[ArcRec]) -> Result<Vec<ArcRec>, Fail>
     requires vertices { n ≤ MAX_VERTICES }
     requires few { length arcs.now ≤ 2 ^ 30 }

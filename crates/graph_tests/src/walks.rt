@@ -1,4 +1,4 @@
-//! Tests of labels, arcs and seeds beside those that were worked out by hand.
+//! Labels, arcs and seeds worked by hand.
 
 mod refusals;
 
@@ -10,7 +10,6 @@ use std::alloc::Global;
 use std::process::Abort;
 use std::test::Fail;
 
-/// Asserts the labels of a graph, and whether they are settled.
 fn expect_labels(
     rt: &impl Abort,
     alloc: Global,

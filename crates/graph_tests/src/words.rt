@@ -1,4 +1,4 @@
-//! Scripts of calls on the words, worked out by hand, and callers that know the words by their contracts.
+//! Scripts of calls on the words, worked by hand.
 
 ghost use Rattle.std.specs.Prelude.{◌≡◌, IfOk};
 ghost use Rattle.relax_core.specs.declared.views.TheConstants.{SHARES};
@@ -37,7 +37,7 @@ const SEVERAL: [Seed; 3] = [
     },
 ];
 
-// A call, and what it returns.
+// A call, and its result.
 #[derive(Clone, Copy)]
 enum Call {
     Take(u32, bool),
@@ -54,10 +54,10 @@ enum Call {
 
 use Call::{Finish, GiveBack, Keep, Lowers, Raise, RaiseBy, Read, See, SetMark, Take};
 
-// What two seats of the words of four vertices do, and what the words are then: settled if no vertex is marked.
+// The calls of two seats on words of four vertices, and what is left: settled if no vertex is marked.
 struct Script {
     seeds: &'static [Seed],
-    // Which of the two seats calls, what it calls, and the credits that it has then.
+    // The seat that calls, its call, and its credits then.
     calls: &'static [(u8, Call, u8)],
     labels: [u64; 4],
     marked: &'static [u32],
@@ -109,8 +109,7 @@ const TO_THE_END: Script = Script {
     marked: &[],
 };
 
-// The first seat raises three credits at once and lives on them; while the second one keeps a credit, the first sees
-// no 0.
+// The first seat raises three credits at once and lives on them; while the second keeps one, the first sees no 0.
 const KEPT: Script = Script {
     seeds: &EXAMPLE_SEEDS,
     calls: &[
@@ -147,7 +146,7 @@ const KEPT: Script = Script {
     marked: &[],
 };
 
-// A run that is closed while there is a mark that kept credits paid for.
+// A run that is closed with a mark that kept credits paid for.
 const KEPT_AND_PAUSED: Script = Script {
     seeds: &EXAMPLE_SEEDS,
     calls: &[
@@ -192,7 +191,7 @@ fn graph(alloc: Global) -> Result<Csr, Memory>
     Csr::build(alloc, 4, &ARCS)
 }
 
-// Whether the row is at its end, where the seat lets go of it, and its credits leave the total or are kept.
+// Tells if the row is at its end, where the seat leaves it and gives back or keeps its credits.
 fn ends_row(words: &Words, seat: &mut WorkSeat, csr: &Csr, keeps: bool) -> bool
     requires words { seat.old.words ≡ words.now }
     requires graph { csr.now ≡ seat.old.known.graph }
@@ -210,8 +209,7 @@ fn ends_row(words: &Words, seat: &mut WorkSeat, csr: &Csr, keeps: bool) -> bool
     true
 }
 
-// Whether the seat is as the call asks, the call returns what the script says, and the credits are those of the
-// script then.
+// Tells if the seat is as the call needs, and result and credits are those of the script.
 fn goes(words: &Words, seat: &mut WorkSeat, csr: &Csr, call: Call, credits: u8) -> bool
     requires words { seat.old.words ≡ words.now }
     requires graph { csr.now ≡ seat.old.known.graph }
@@ -244,12 +242,10 @@ fn goes(words: &Words, seat: &mut WorkSeat, csr: &Csr, call: Call, credits: u8) 
     answers && seat.credits() == credits
 }
 
-// Stops where something does not hold, and says where in the script.
 fn expect(rt: &impl Abort, holds: bool, what: &str, number: usize) {
     assert!(rt; holds, "{what} {number}");
 }
 
-// Goes through the calls of a script with two seats of the same words.
 fn go_along(
     rt: &impl Abort,
     words: &Words,
@@ -274,7 +270,7 @@ fn go_along(
     }
 }
 
-// Goes through a script with this seat and one that is split off it and joined again.
+// Plays a script with this seat and one that is split off and joined again.
 fn play(rt: &impl Abort, words: &Words, seat: &mut WorkSeat, csr: &Csr, script: &Script)
     requires words { seat.old.words ≡ words.now }
     requires graph { csr.now ≡ seat.old.known.graph }
@@ -293,7 +289,7 @@ fn play(rt: &impl Abort, words: &Words, seat: &mut WorkSeat, csr: &Csr, script: 
     assert!(rt; seat.share() == SHARES);
 }
 
-// The words give the label of each marked vertex of a script, and no other.
+// Asserts the labels of marked vertices, and that no others have one.
 fn expect_marked_labels(rt: &impl Abort, words: &Words, seat: &WorkSeat, script: &Script)
     requires words { seat.now.words ≡ words.now }
     requires vertices { seat.now.known.graph.n ≡ 4 }
@@ -310,7 +306,6 @@ fn expect_marked_labels(rt: &impl Abort, words: &Words, seat: &WorkSeat, script:
     }
 }
 
-// Closes words to what a script says.
 fn close(
     rt: &impl Abort,
     alloc: Global,
@@ -338,7 +333,6 @@ fn close(
     Ok(closed)
 }
 
-// What words were closed to, as a pause.
 fn pause_of(alloc: Global, csr: &Csr, seeds: &[Seed], closed: Closed) -> Result<Paused, Memory>
     requires seeds { AreSeeds csr.now.n seeds.now }
     requires end { IsEnd csr.now seeds.now closed }
@@ -352,7 +346,7 @@ fn pause_of(alloc: Global, csr: &Csr, seeds: &[Seed], closed: Closed) -> Result<
     }
 }
 
-// Goes through a script from opening to closing. What is left is taken as a pause, and comes back as it was.
+// Plays a script from opening to closing. What is left comes back from a pause as it was.
 fn open_and_close(rt: &impl Abort, alloc: Global, csr: &Csr, script: &Script) -> Result<(), Memory>
     requires { csr.now.n ≡ 4 }
 {

@@ -1,6 +1,5 @@
-//! Each call that takes memory, with one allocation of it refused. It gives its fault then, with the core as it was,
-//! and made once more it gives what the worked schedule shows. `tests/refusals` refuses each in turn;
-//! `tests/refusals.tsv` has the calls.
+//! Each call with one allocation refused: it gives its fault with the core as it was, and made once more what the
+//! schedule shows.
 
 ghost use Rattle.std.specs.Prelude.{◌≡◌};
 ghost use Rattle.relax_core.specs.State.{IsOf};
@@ -15,7 +14,7 @@ use std::alloc::Global;
 use std::process::Abort;
 use std::test::Fail;
 
-// This number of splits of one seat is enabled: its share is halved by each.
+// The splits of one seat that are enabled.
 const SPLITS: usize = 16;
 
 #[test]
@@ -47,7 +46,7 @@ fn expect_unchanged(rt: &impl Abort, alloc: Global, core: &Core, before: &str) -
     Ok(())
 }
 
-// Does an event. A refusal leaves all of the core as it was.
+// Does an event. A refusal leaves the core as it was.
 fn apply_again(
     rt: &impl Abort,
     alloc: Global,
@@ -67,7 +66,6 @@ fn apply_again(
     Ok(())
 }
 
-// The schedule, looked at after each event.
 fn play_again(rt: &impl Abort, alloc: Global, core: &mut Core, csr: &Csr) -> Result<(), Fail>
     requires vertices { csr.now.n ≡ 4 }
     requires belongs { IsOf csr.now core.old }
@@ -80,7 +78,7 @@ fn play_again(rt: &impl Abort, alloc: Global, core: &mut Core, csr: &Csr) -> Res
     Ok(())
 }
 
-// As many splits of one seat as there can be: room for views is asked for by some of them.
+// As many splits as there can be: some of them take memory for views.
 fn split_again(rt: &impl Abort, alloc: Global, core: &mut Core, csr: &Csr) -> Result<(), Fail>
     requires { IsOf csr.now core.old }
     ensures { IsOf csr.now core.new }
@@ -104,7 +102,7 @@ fn of_apply(rt: HostRuntime) -> Result<(), Fail> {
     Ok(())
 }
 
-// A list of events that stops at the third one, whether memory is refused or not.
+// A list that stops at the third event, also if memory is refused.
 fn expect_stop_again(rt: &impl Abort, alloc: Global, csr: &Csr) -> Result<(), Fail>
     requires { csr.now.n ≡ 4 }
 {

@@ -1,6 +1,5 @@
-//! Each call that takes memory, with one allocation of it refused: it finds nothing then, and made once more in the
-//! same lists it gives what was worked by hand. `tests/refusals` refuses each in turn; `tests/refusals.tsv` has the
-//! calls.
+//! Each call with one allocation refused: it finds nothing, and made once more in the same lists what was worked by
+//! hand.
 
 use crate::near::Question::{Cost, Labels, Walks, Within};
 use crate::near::{ALL, ENOUGH, FROM_0, Question, is_right, room_of};
@@ -11,7 +10,7 @@ use std::alloc::Global;
 use std::process::Abort;
 use std::test::Fail;
 
-/// Asserts that the answer is right, by one more call if there was none.
+/// Asserts that the answer is right, asked once more if there was none.
 fn expect_again(rt: &impl Abort, alloc: Global, question: Question) -> Result<(), Fail> {
     let csr = build(rt, alloc, 6, &EXAMPLE_ARCS)?;
     let reversed = csr.reversed(alloc)?;
@@ -36,7 +35,7 @@ fn of_search_space_new(rt: HostRuntime) -> Result<(), Fail> {
     Ok(())
 }
 
-// The search from both ends, which takes no allocator and has no row, is refused memory here too.
+// Also the search from both ends, which takes no allocator and has no row.
 #[test]
 fn of_search_space_labels_to(rt: HostRuntime) -> Result<(), Fail> {
     expect_again(&rt, rt.alloc(), Labels(&ALL))?;

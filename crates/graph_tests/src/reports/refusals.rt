@@ -1,12 +1,10 @@
-//! Each call that takes memory, with one allocation of it refused: `Memory` then, and made once more it gives the
-//! walks that were worked by hand. `tests/refusals` refuses each in turn; `tests/refusals.tsv` has the calls.
+//! Each call with one allocation refused: `Memory`, and made once more the walks worked by hand.
 
 use crate::reports::{are_below, build, distances, distances_below};
 use route_walks::{EXAMPLE_ARCS, Memory, tried_again};
 use std::test::Fail;
 use walk_report::{NONE, WalkSpace, hops, hops_below, parents, walk_to};
 
-// Hops and parents of the six vertices from the first.
 const HOPS: [u32; 6] = [0, 3, 1, 4, 2, 5];
 
 const PARENTS: [u32; 6] = [NONE, 4, 0, 1, 2, 3];

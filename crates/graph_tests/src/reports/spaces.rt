@@ -1,4 +1,4 @@
-//! One space is asked again and again, and each time gives the walks that were worked by hand.
+//! One space, asked again and again.
 
 ghost use Rattle.std.specs.Prelude.{◌≡◌};
 
@@ -10,7 +10,7 @@ use std::process::Abort;
 use std::test::Fail;
 use walk_report::WalkSpace;
 
-/// A question, and the walk that is expected to each target, empty for none.
+/// A question, and the expected walks; empty for none.
 #[derive(Clone, Copy)]
 struct Asked<'a> {
     source: u32,
@@ -19,7 +19,6 @@ struct Asked<'a> {
     walks: &'a [&'a [u32]],
 }
 
-/// Asserts what a space gives to a question.
 fn expect_asked(
     rt: &impl Abort,
     alloc: Global,
@@ -47,7 +46,7 @@ fn expect_asked(
     Ok(())
 }
 
-/// Asserts what a space gives to questions that follow one another, and what a new one gives to each.
+/// Asserts what a space gives to questions in turn, and a new one to each.
 fn expect_all(rt: &impl Abort, alloc: Global, csr: &Csr, questions: &[Asked]) -> Result<(), Fail> {
     let n = csr.n();
     let mut space = WalkSpace::new(alloc, n)?;

@@ -1,12 +1,11 @@
-//! Each call that takes memory, with one allocation of it refused: `Memory` then, and made once more it gives the
-//! rows that were worked by hand. `tests/refusals` refuses each in turn; `tests/refusals.tsv` has the calls.
+//! Each call with one allocation refused: `Memory`, and made once more the rows worked by hand.
 
 use crate::rows::{ADDED, ENTERING, GIVEN, GROWN, both_rows, expect_rows, graph_of, six};
 use csr_graph::Csr;
 use route_walks::{EXAMPLE_ARCS, Memory, is_graph, tried_again};
 use std::test::Fail;
 
-// No arc; few, which are sorted as they stand; and as many as are put into bins by two threads.
+// No arc; few, sorted where they stand; and enough for bins by two threads.
 const SIZES: [(u32, usize); 3] = [(1, 0), (10, 64), (4, 65_600)];
 
 #[test]

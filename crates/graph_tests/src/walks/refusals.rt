@@ -1,5 +1,4 @@
-//! Each call that takes memory, with one allocation of it refused: `Memory` then, and made once more it gives what
-//! was worked by hand. `tests/refusals` refuses each in turn; `tests/refusals.tsv` has the calls.
+//! Each call with one allocation refused: `Memory`, and made once more what was worked by hand.
 
 use route_walks::{
     ArcRec, EXAMPLE_ARCS, Memory, Seed, arcs, are_seeds, both_ways, is_graph, plain_labels,

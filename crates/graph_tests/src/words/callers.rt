@@ -1,4 +1,4 @@
-//! Callers that know the words by the contracts of the calls alone.
+//! Callers that know the words by the contracts of the calls.
 
 ghost use Rattle.std.specs.Prelude.{◌≡◌, true, false, ◌<◌, ◌≤◌, ◌+◌, ◌∷◌, All, Contains};
 ghost use Rattle.std.specs.Prelude.{IfOk, IfSome, slice_index};
@@ -20,7 +20,7 @@ use std::process::Abort;
 use std::test::Fail;
 use std::thread::{self, Threads};
 
-// Relaxes the next arc of the row of u, and sets the mark that is owed for it. False at the row's end.
+// Relaxes the next arc of `u` and sets the mark that is owed. Returns false at the row's end.
 fn relax_next(words: &Words, seat: &mut WorkSeat, csr: &Csr, u: u32) -> bool
     requires words { seat.old.words ≡ words.now }
     requires graph { csr.now ≡ seat.old.known.graph }
@@ -57,7 +57,7 @@ fn relax_row(words: &Words, seat: &mut WorkSeat, csr: &Csr, u: u32)
     words.finish(seat, csr);
 }
 
-// Takes a vertex, relaxes its row and finishes. Nothing happens if it isn't marked.
+// Visits a vertex if it is marked.
 fn visit(words: &Words, seat: &mut WorkSeat, csr: &Csr, u: u32)
     requires words { seat.old.words ≡ words.now }
     requires graph { csr.now ≡ seat.old.known.graph }
@@ -85,7 +85,7 @@ fn sweep(words: &Words, seat: &mut WorkSeat, csr: &Csr)
     }
 }
 
-// Sweeps until the seat sees the total at 0, a thousand times at most.
+// Sweeps until the seat sees the total at 0, at most a thousand times.
 fn sweep_until_seen(words: &Words, seat: &mut WorkSeat, csr: &Csr)
     requires words { seat.old.words ≡ words.now }
     requires graph { csr.now ≡ seat.old.known.graph }
@@ -101,8 +101,7 @@ fn sweep_until_seen(words: &Words, seat: &mut WorkSeat, csr: &Csr)
     }
 }
 
-// Reads the label of a vertex that no arc leaves, and lets the vertex go; nothing if it isn't marked
-// or has an arc.
+// Reads the label of a marked vertex without arcs, and leaves it.
 fn read_leaf(words: &Words, seat: &mut WorkSeat, csr: &Csr, u: u32) -> Option<u64>
     requires words { seat.old.words ≡ words.now }
     requires graph { csr.now ≡ seat.old.known.graph }
@@ -124,8 +123,7 @@ fn read_leaf(words: &Words, seat: &mut WorkSeat, csr: &Csr, u: u32) -> Option<u6
     Some(label)
 }
 
-// Reads the label of a vertex that no arc leaves by a seat that is split off, and joins one that was split off that
-// one since. It knows the label too.
+// Reads such a label by a seat that is split off, and joins one that was split off that one. It knows the label too.
 fn read_by_others(words: &Words, seat: &mut WorkSeat, csr: &Csr, u: u32) -> Option<u64>
     requires words { seat.old.words ≡ words.now }
     requires graph { csr.now ≡ seat.old.known.graph }
@@ -143,7 +141,7 @@ fn read_by_others(words: &Words, seat: &mut WorkSeat, csr: &Csr, u: u32) -> Opti
     Some(label)
 }
 
-// What was read is not exceeded by the label that the words are closed to.
+// A label that was read is no less than the one at the end.
 fn read_and_closed(
     alloc: Global,
     csr: &Csr,
@@ -166,7 +164,6 @@ fn read_and_closed(
     }
 }
 
-// Three sweeps with a seat of one's own.
 fn sweep_thrice(words: &Words, mut seat: WorkSeat, csr: &Csr) -> WorkSeat
     requires words { seat.words ≡ words.now }
     requires graph { csr.now ≡ seat.known.graph }
@@ -180,7 +177,7 @@ fn sweep_thrice(words: &Words, mut seat: WorkSeat, csr: &Csr) -> WorkSeat
     seat
 }
 
-// The same by each of two threads, with one seat's share between them.
+// Three sweeps by each of two threads.
 fn sweep_by_two<R: Threads + Sync>(rt: &R, words: &Words, mut seat: WorkSeat, csr: &Csr) -> WorkSeat
     requires words { seat.words ≡ words.now }
     requires graph { csr.now ≡ seat.known.graph }
@@ -201,7 +198,7 @@ fn sweep_by_two<R: Threads + Sync>(rt: &R, words: &Words, mut seat: WorkSeat, cs
     left
 }
 
-// The least labels of a graph by two threads.
+// The least labels by two threads.
 fn settle<R: Threads + Abort + Sync>(
     rt: &R,
     alloc: Global,

@@ -1,5 +1,4 @@
-//! Each call that takes memory, in a script of its own with one allocation refused: `Memory` then, and made once more
-//! it gives what was worked by hand. `tests/refusals` refuses each in turn; `tests/refusals.tsv` has the calls.
+//! Each call in a script with one allocation refused: `Memory`, and made once more what was worked by hand.
 
 use crate::words::{NO_SEEDS, OPENED, SEVERAL_SEEDS, Script, TO_THE_END, graph, open_and_close};
 use route_walks::{Memory, refusable};
@@ -7,7 +6,7 @@ use std::alloc::Global;
 use std::process::Abort;
 use std::test::Fail;
 
-// After a refusal the words, the pause or the labels are gone, and the script begins again.
+// After a refusal words, pause or labels are gone, and the script begins again.
 fn try_script(rt: &impl Abort, alloc: Global, script: &Script) -> Result<(), Memory> {
     let csr = graph(alloc)?;
     match refusable!(alloc, open_and_close(rt, alloc, &csr, script)) {
