@@ -1,5 +1,4 @@
-//! `answer` over readers and writers that fail, its faults, figures and
-//! visits. Whole jobs and their answers, by all settings, stand in `tests/answers.txt`.
+//! `answer` over readers and writers that fail, its faults, figures and visits. Whole jobs are in `tests/answers.txt`.
 
 mod added;
 mod at_once;
@@ -30,12 +29,12 @@ const SIX: &[u8] =
     b"p sp 6 8\na 1 2 17\na 1 3 10\na 2 4 2\na 3 5 0\na 4 3 0\na 4 6 3\na 5 2 0\na 5 6 20\n\
       p aux sp ss 1\ns 1\n";
 
-/// The number of its bytes that are the graph.
+/// The bytes of its graph.
 const SIX_GRAPH: usize = 76;
 
 const SIX_ANSWER: &[u8] = b"s 1\nd 1 0\nd 2 10\nd 3 10\nd 4 12\nd 5 10\nd 6 15\n";
 
-/// The answer of `SIX` with a walk of fewest arcs beside each label, along least tails.
+/// The answer of `SIX` with walks.
 const SIX_WALKS: &[u8] =
     b"s 1\nd 1 0\nw 1 0 1\nd 2 10\nw 2 10 1 3 5 2\nd 3 10\nw 3 10 1 3\nd 4 12\n\
       w 4 12 1 3 5 2 4\nd 5 10\nw 5 10 1 3 5\nd 6 15\nw 6 15 1 3 5 2 4 6\n";
@@ -44,7 +43,6 @@ fn asked(rt: &impl Abort, answer: Answer, limit: u64) -> Asked {
     asked_with(rt, answer, limit, (2, 4, 16))
 }
 
-/// Asks for an answer with this number of workers, this shift and chunks of this size.
 fn asked_with(
     rt: &impl Abort,
     answer: Answer,
@@ -55,7 +53,6 @@ fn asked_with(
     Asked::new(answer, settings, false, limit).expect(rt, "a limit of at most 2^36")
 }
 
-/// Distances with walks, by this number of workers.
 fn asked_for_walks(rt: &impl Abort, workers: u32, limit: u64) -> Asked {
     let settings = Settings::new(workers, 4, 16).expect(rt, "settings within their limits");
     Asked::new(Answer::Distances, settings, true, limit).expect(rt, "walks of distances")
@@ -65,7 +62,6 @@ fn fault(line: u64, kind: LineKind) -> Fault {
     Fault::Text { line, kind }
 }
 
-/// The answer to a text, and the figures of it.
 fn answer_with_figures<H: Threads + Wait + Clock + Sync, G: Gate + Sync>(
     rt: &H,
     alloc: Global,
@@ -87,7 +83,7 @@ fn answer_with_figures<H: Threads + Wait + Clock + Sync, G: Gate + Sync>(
     Ok((bytes, figures))
 }
 
-// One worker visits the vertices in the order of their distance.
+// One worker visits vertices in the order of their distance.
 #[test]
 fn visits_of_one_worker(rt: HostRuntime) -> Result<(), Fail> {
     let gate = Recorder::new(rt.alloc());
@@ -99,7 +95,7 @@ fn visits_of_one_worker(rt: HostRuntime) -> Result<(), Fail> {
     Ok(())
 }
 
-// The first pushed is the first visited: chunks of one vertex come out of their bag in order.
+// Chunks of one vertex come out of their bag in order.
 #[test]
 fn visits_of_one_worker_in_one_bag(rt: HostRuntime) -> Result<(), Fail> {
     let gate = Recorder::new(rt.alloc());
@@ -111,13 +107,13 @@ fn visits_of_one_worker_in_one_bag(rt: HostRuntime) -> Result<(), Fail> {
     Ok(())
 }
 
-// Of each row the answer, the job, and its vertices, each of which is visited once.
+// The answer, the job, and its vertices, each visited once.
 const ALONE: [(Answer, &[u8], u64); 2] = [
     (Answer::Distances, SIX, 6),
     (Answer::Components, b"p sp 300 0\n", 300),
 ];
 
-// Of two workers one works alone in a small graph, if that is asked for.
+// One of two workers works alone in a small graph.
 #[test]
 fn visits_of_one_worker_alone(rt: HostRuntime) -> Result<(), Fail> {
     for (answer, text, visits) in ALONE {
@@ -129,7 +125,7 @@ fn visits_of_one_worker_alone(rt: HostRuntime) -> Result<(), Fail> {
     Ok(())
 }
 
-// Of each row the answer, the job, its vertices, arcs and runs, and the buckets of the largest run at a shift of 4.
+// The answer, the job, its vertices, arcs and runs, and the most buckets at a shift of 4.
 const FIGURES: [(Answer, &[u8], (u32, usize, usize), u64); 5] = [
     (Answer::Distances, SIX, (6, 8, 1), 2),
     (Answer::Levels, SIX, (6, 8, 1), 1),
@@ -155,7 +151,7 @@ fn figures_of_jobs(rt: HostRuntime) -> Result<(), Fail> {
     Ok(())
 }
 
-// Two workers run at the same time: the first to pass waits until the other has come.
+// Two workers at once: the first to pass waits for the other.
 #[test]
 fn two_workers_meet(rt: HostRuntime) -> Result<(), Fail> {
     let gate = Meeting::new();
@@ -166,7 +162,7 @@ fn two_workers_meet(rt: HostRuntime) -> Result<(), Fail> {
     Ok(())
 }
 
-// Of each row the text, the limit, the fault, and how many bytes of the text are left then.
+// The text, the limit, the fault, and the bytes that are left.
 const REFUSED: [(&[u8], u64, Fault, usize); 4] = [
     (SIX, 93, Fault::TooLong, 0),
     (SIX, 10, Fault::TooLong, 83),
@@ -179,7 +175,7 @@ const NO_PROBLEM: Fault = Fault::Text {
     kind: LineKind::NoProblem,
 };
 
-// If the text is refused, what stands in the vector stays as it is.
+// A refused text leaves the vector as it was.
 #[test]
 fn refusals_of_texts(rt: HostRuntime) -> Result<(), Fail> {
     for (text, limit, want, left) in REFUSED {
@@ -194,7 +190,6 @@ fn refusals_of_texts(rt: HostRuntime) -> Result<(), Fail> {
     Ok(())
 }
 
-/// Asserts that a text has this fault, and that what stands in a vector stays as it is.
 fn expect_refusal(
     rt: &(impl Abort + Threads + Wait + Clock + Sync),
     alloc: Global,
@@ -256,7 +251,7 @@ fn writers_that_fail_or_take_little(rt: HostRuntime) -> Result<(), Fail> {
     Ok(())
 }
 
-// Of each row the answer, the text, its outcome, and how often the writer is flushed.
+// The answer, the text, the outcome, and the flushes.
 const FLUSHED: [(Answer, &[u8], Result<(), Fault>, u32); 6] = [
     (Answer::Distances, SIX, Ok(()), 1),
     (Answer::Components, SIX, Ok(()), 1),
@@ -266,7 +261,7 @@ const FLUSHED: [(Answer, &[u8], Result<(), Fault>, u32); 6] = [
     (Answer::Distances, b"", Err(NO_PROBLEM), 0),
 ];
 
-// A writer is flushed once, after an empty answer too, and never if the text is refused.
+// A writer is flushed once, and never if the text is refused.
 #[test]
 fn flushes_of_answers(rt: HostRuntime) -> Result<(), Fail> {
     for (kind, text, want, flushes) in FLUSHED {
@@ -279,7 +274,7 @@ fn flushes_of_answers(rt: HostRuntime) -> Result<(), Fail> {
     Ok(())
 }
 
-// Of each row the answer, the lines, the limit, and whether it can be asked for.
+// The answer, the lines, the limit, and true if it can be asked for.
 const ASKED: [(Answer, Lines, u64, bool); 9] = [
     (Answer::Levels, Lines::Each { walks: true }, 0, true),
     (Answer::Components, Lines::Each { walks: true }, 0, false),

@@ -1,8 +1,7 @@
-//! Tests of what `answer`, `answer_session` and `parse_options` do that no contract says.
+//! Tests of what `answer`, `answer_session` and `parse_options` do that no contract says: of `job_answer`,
+//! `session_answer` and `command_line`, and of the counts of `job_messages`.
 //!
-//! Tests of `job_answer`, `session_answer` and `command_line`, and of what `job_messages` counts, which know their
-//! public calls and contracts alone. They stand in a crate of their own, since a crate is proved once more for the
-//! tests that it has.
+//! A crate of tests is apart, since a crate with tests is proved once more for them.
 
 #![tactic(auto)]
 

@@ -1,5 +1,5 @@
-//! Tests of what the words of a command line ask for. Command lines of all options and faults stand in
-//! `tests/command_lines.tsv` and in `tests/command_line_faults.tsv`.
+//! The words of command lines. Those of all options and faults are in `tests/command_lines.tsv` and
+//! `tests/command_line_faults.tsv`.
 
 mod refusals;
 
@@ -9,7 +9,7 @@ use obim_engine::Buckets;
 use std::alloc::Global;
 use std::test::Fail;
 
-/// Words, and which labels, which lines, and how many workers with which buckets they ask for.
+/// Words, and the labels, lines, workers and buckets that they ask for.
 struct Row {
     words: &'static [&'static str],
     answer: Answer,
@@ -64,7 +64,7 @@ fn is_asked(options: &Options, row: &Row) -> bool {
         && settings.buckets == row.buckets
 }
 
-// Of no use to a caller who prints nothing, a text is distinguished from what is refused.
+// A text is told from a refusal, though a caller prints neither.
 #[test]
 fn words_are_refused(rt: HostRuntime) -> Result<(), Fail> {
     assert!(rt; is_text(rt.alloc(), &["obim_query", "--help"]));
@@ -74,7 +74,7 @@ fn words_are_refused(rt: HostRuntime) -> Result<(), Fail> {
     Ok(())
 }
 
-/// Tells if the words ask for a text, in place of an answer, or are refused in a sentence.
+/// Tells if the words ask for a text, not a sentence.
 fn is_text(alloc: Global, words: &[&str]) -> bool {
     match parse_options(alloc, words) {
         Err(Refusal::Text(_)) => true,

@@ -1,4 +1,4 @@
-//! Added arcs: how often labels are worked out, and which vertices are visited.
+//! Added arcs: solves and visits.
 
 use crate::answers::{SIX, SIX_GRAPH, answer_with_figures};
 use job_answer::{Answer, Asked, answer_bytes};
@@ -7,7 +7,7 @@ use std::alloc::Global;
 use std::process::Abort;
 use std::test::Fail;
 
-/// The six vertices with an arc from 1 to 6 that is cheaper than the way there.
+/// The six vertices with a cheaper arc from 1 to 6.
 pub const SIX_ADDED: &[u8] =
     b"p sp 6 8\na 1 2 17\na 1 3 10\na 2 4 2\na 3 5 0\na 4 3 0\na 4 6 3\na 5 2 0\na 5 6 20\n\
       p aux sp ss 1\ns 1\np aux sp add 1\na 1 6 4\n";
@@ -51,7 +51,7 @@ const PAIRS_ONE: &[u8] = b"p aux sp p2p 4\nq 1 6\nq 6 1\nq 1 6\nq 1 1\np aux sp 
 
 const ONE: &[u8] = b"p aux sp add 1\na 1 6 4\n";
 
-// Of each row the answer, walks or not, what follows the graph, and how often labels are worked out.
+// The answer, walks or not, what follows the graph, and the solves.
 const RUNS: [(Answer, bool, &[u8], usize); 11] = [
     (Answer::Distances, false, SOURCES, 3),
     (Answer::Distances, false, SOURCES_NONE, 6),
@@ -66,7 +66,7 @@ const RUNS: [(Answer, bool, &[u8], usize); 11] = [
     (Answer::Components, false, ONE, 2),
 ];
 
-// If arcs are added labels are worked out twice as often: before and after.
+// With added arcs labels are worked out twice as often.
 #[test]
 fn runs_with_added_arcs(rt: HostRuntime) -> Result<(), Fail> {
     for (kind, walks, sections, runs) in RUNS {
@@ -78,14 +78,14 @@ fn runs_with_added_arcs(rt: HostRuntime) -> Result<(), Fail> {
     Ok(())
 }
 
-// Of each row what follows the graph, and the vertices that one worker visits, one after the other.
+// What follows the graph, and the vertices that one worker visits.
 const VISITS: [(&[u8], &[u32]); 4] = [
     (b"p aux sp ss 1\ns 1\np aux sp add 0\n", &[0, 2, 4, 1, 3, 5]),
     (
         b"p aux sp ss 1\ns 1\np aux sp add 1\na 1 6 4\n",
         &[0, 2, 4, 1, 3, 5, 0, 5],
     ),
-    // It lowers no label, so its tail alone is visited.
+    // It lowers no label: only its tail is visited.
     (
         b"p aux sp ss 1\ns 1\np aux sp add 1\na 3 6 5\n",
         &[0, 2, 4, 1, 3, 5, 2],
@@ -96,7 +96,7 @@ const VISITS: [(&[u8], &[u32]); 4] = [
     ),
 ];
 
-// After the added arcs one worker visits their tails and what they lower, and no other vertex.
+// After added arcs one worker visits their tails and what they lower.
 #[test]
 fn visits_of_added_arcs(rt: HostRuntime) -> Result<(), Fail> {
     for (sections, visits) in VISITS {

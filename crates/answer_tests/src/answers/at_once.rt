@@ -1,4 +1,4 @@
-//! Sources side by side: which workers solve them, and what happens if walks are long.
+//! Sources side by side: their workers, and long walks.
 
 use crate::answers::answer_with_figures;
 use crate::answers::gates::Meeting;
@@ -23,19 +23,17 @@ pub const SIX_SOURCES_ANSWER: &[u8] = b"s 1\nd 1 0\nd 2 10\nd 3 10\nd 4 12\nd 5 
       s 2\nd 1 inf\nd 2 0\nd 3 2\nd 4 2\nd 5 2\nd 6 5\n\
       s 1\nd 1 0\nd 2 10\nd 3 10\nd 4 12\nd 5 10\nd 6 15\n";
 
-/// Distances by this number of workers, and of sources at once.
 pub fn asked_at_once(rt: &impl Abort, workers: u32, at_once: AtOnce) -> Asked {
     asked_for(rt, false, workers, at_once)
 }
 
-/// Distances by this number of workers, and of sources at once, with walks or without.
 fn asked_for(rt: &impl Abort, walks: bool, workers: u32, at_once: AtOnce) -> Asked {
     let settings = Settings::new(workers, 0, 16).expect(rt, "settings within their limits");
     let asked = Asked::new(Answer::Distances, settings, walks, 1 << 20).expect(rt, "distances");
     asked.with_at_once(at_once)
 }
 
-// Each of these sources reaches itself alone, so the second visit is of another source.
+// Each source reaches itself alone, so the second visit is of another.
 #[test]
 fn sources_meet(rt: HostRuntime) -> Result<(), Fail> {
     let job = b"p sp 2 0\np aux sp ss 2\ns 1\ns 2\n".as_slice();
@@ -51,7 +49,7 @@ fn sources_meet(rt: HostRuntime) -> Result<(), Fail> {
     Ok(())
 }
 
-// Of each row the workers, the sources at once that are asked for, and how many were solved at once.
+// The workers, the sources at once that are asked for, and those that were solved at once.
 const AT_ONCE: [(u32, AtOnce, usize); 6] = [
     (5, AtOnce::Most(2), 2),
     (8, AtOnce::Most(3), 3),
@@ -61,7 +59,7 @@ const AT_ONCE: [(u32, AtOnce, usize); 6] = [
     (1, AtOnce::Most(3), 1),
 ];
 
-// One at a time takes each source's visits by one worker: 6, 1, 5, 5 and 6 of them. At a time they are as many.
+// One at a time takes 6, 1, 5, 5 and 6 visits, and several at once as many.
 #[test]
 fn figures_of_sources_at_once(rt: HostRuntime) -> Result<(), Fail> {
     let alloc = rt.alloc();
@@ -76,7 +74,7 @@ fn figures_of_sources_at_once(rt: HostRuntime) -> Result<(), Fail> {
     Ok(())
 }
 
-// The same visits, all of them by one worker, if that one works alone in a small graph.
+// One worker makes these visits in a small graph.
 #[test]
 fn sources_of_one_worker_alone(rt: HostRuntime) -> Result<(), Fail> {
     let counter = Counter::open(rt.alloc(), 8)?;
@@ -88,7 +86,6 @@ fn sources_of_one_worker_alone(rt: HostRuntime) -> Result<(), Fail> {
     Ok(())
 }
 
-/// The visits of all workers.
 fn all_visits(counter: &Counter, workers: u32) -> u64 {
     let mut visits = 0_u64;
     for worker in 0..workers {
@@ -97,7 +94,7 @@ fn all_visits(counter: &Counter, workers: u32) -> u64 {
     visits
 }
 
-/// A path of 200 vertices with arcs of weight 1, and these queries.
+/// A path of 200 vertices with these queries.
 fn path(alloc: Global, queries: &[u8]) -> Result<Vec<u8>, Fail> {
     let mut text = Vec::from_slice(alloc, b"p sp 200 199\n")?;
     for v in 1..200_u32 {
@@ -108,7 +105,7 @@ fn path(alloc: Global, queries: &[u8]) -> Result<Vec<u8>, Fail> {
     Ok(text)
 }
 
-/// Forty pairs, of two sources in turn of twenty, each with a walk of almost all vertices.
+/// Forty pairs of twenty sources, two each, with walks of almost all vertices.
 fn long_pairs(alloc: Global) -> Result<Vec<u8>, Fail> {
     let mut queries = Vec::from_slice(alloc, b"p aux sp p2p 40\n")?;
     for place in 0..40_u32 {
@@ -118,8 +115,7 @@ fn long_pairs(alloc: Global) -> Result<Vec<u8>, Fail> {
     path(alloc, &queries)
 }
 
-// With walks the text of each solve has more than 64 bytes a vertex, so none is kept. The two that were tried are
-// solved once more, and then one at a time.
+// The text of each solve has more than 64 bytes a vertex, so none is kept: the two that were tried are solved again.
 #[test]
 fn long_walks_are_not_kept(rt: HostRuntime) -> Result<(), Fail> {
     let sources = path(rt.alloc(), b"p aux sp ss 6\ns 1\ns 2\ns 3\ns 4\ns 5\ns 6\n")?;
@@ -132,7 +128,7 @@ fn long_walks_are_not_kept(rt: HostRuntime) -> Result<(), Fail> {
     Ok(())
 }
 
-/// The answer with walks by two workers and this number of sources at once, which takes this number of runs.
+/// The answer with walks by two workers, and its runs.
 fn answer_by<H: Abort + Threads + Wait + Clock + Sync>(
     rt: &H,
     alloc: Global,

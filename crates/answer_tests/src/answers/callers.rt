@@ -1,4 +1,4 @@
-//! The facts that a caller learns at a fault. Each clause is proved from the contract of `answer` alone.
+//! The facts that a caller learns at a fault, each proved from the contract of `answer`.
 
 ghost use Rattle.std.specs.Prelude.{◌≡◌, ◌≢◌, ◌+◌, ◌≤◌, ◌++◌, ℕ, List, length, IfErr};
 ghost use Rattle.dimacs_text.specs.Jobs.{Content, IsJobText};
@@ -15,8 +15,7 @@ use std::sync::Wait;
 use std::thread::Threads;
 use std::time::Clock;
 
-/// Appends the answer to the vector. The vector is as it was if the text is refused, and has at most a prefix of the
-/// answer more at a fault after that.
+/// Appends the answer to the vector, or nothing if the text is refused, or a prefix at a later fault.
 pub(crate) fn append_answer<H: Threads + Wait + Clock + Sync, G: Gate + Sync>(
     rt: &H,
     alloc: Global,
@@ -33,7 +32,7 @@ pub(crate) fn append_answer<H: Threads + Wait + Clock + Sync, G: Gate + Sync>(
     ensures prefix { IfErr result (λ _. (job : Content) (reply : List ℕ)
         → IsJobText text.now job → IsAnswerTextBy asked.now.answer asked.now.lines job reply
         → (left : List ℕ) × (bytes.old.items ++ reply ≡ bytes.new.items ++ left)) }
-    // And there is an answer, of which it is a prefix.
+    // It is a prefix of an answer.
     ensures begun { result ≡ Err Fault.Write → (reply : List ℕ)
         × IsAnswerOf asked.now.answer asked.now.lines text.now reply
         × (left : List ℕ) × (bytes.old.items ++ reply ≡ bytes.new.items ++ left) }
@@ -44,8 +43,8 @@ pub(crate) fn append_answer<H: Threads + Wait + Clock + Sync, G: Gate + Sync>(
     answer(rt, alloc, &mut reader, bytes, asked, gate)
 }
 
-/// Returns the number of bytes of the text that are left after a fault. One more than the limit is gone if the text
-/// is too long, and at most the limit at any other fault.
+/// The bytes of the text that are left after a fault: one more than the limit is gone if it is too long, and else at
+/// most the limit.
 pub(crate) fn left_after_fault<H: Threads + Wait + Clock + Sync, G: Gate + Sync>(
     rt: &H,
     alloc: Global,

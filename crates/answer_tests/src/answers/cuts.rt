@@ -1,5 +1,4 @@
-//! Texts that end early, and texts that come in pieces: a fault that is named and nothing written, or
-//! the whole answer.
+//! Texts that end early or come in pieces: a fault and nothing written, or the whole answer.
 
 use super::streams::{Sink, Source};
 use super::{SIX, SIX_ANSWER, asked, asked_with, fault};
@@ -13,7 +12,7 @@ use std::test::Fail;
 use std::thread::Threads;
 use std::time::Clock;
 
-/// Bytes of a piece as long as no arcs have come.
+/// The bytes of a piece before arcs have come.
 const PIECE: usize = 1 << 16;
 
 const FIELDS: LineKind = LineKind::Fields;
@@ -22,7 +21,7 @@ const FEW: LineKind = LineKind::TooFew;
 
 const UNKNOWN: LineKind = LineKind::Unknown;
 
-// The first bytes of the job of six vertices that are refused: from which length, to which, and the fault.
+// The beginnings of the job of six vertices that are refused: from a length to a length, and the fault.
 const BEGINNINGS: [(usize, usize, u64, LineKind); 23] = [
     (0, 0, 1, LineKind::NoProblem),
     (1, 3, 1, UNKNOWN),
@@ -64,7 +63,6 @@ fn beginnings_of_a_job(rt: HostRuntime) {
     }
 }
 
-/// Asserts the outcome of the first bytes of the job of six vertices, and what is written.
 fn expect_beginning(
     rt: &(impl Abort + Threads + Wait + Clock + Sync),
     alloc: Global,
@@ -80,7 +78,7 @@ fn expect_beginning(
     assert_eq!(rt; sink.taken.as_slice(), reply, "the first {length} bytes");
 }
 
-/// The job of six vertices behind a comment that leaves this number of its bytes to the first piece.
+/// The job behind a comment that leaves this many of its bytes to the first piece.
 fn behind_a_comment(alloc: Global, inside: usize) -> Result<Vec<u8>, AllocError> {
     let mut text = Vec::new(alloc);
     text.push(b'c')?;
@@ -90,8 +88,7 @@ fn behind_a_comment(alloc: Global, inside: usize) -> Result<Vec<u8>, AllocError>
     Ok(text)
 }
 
-/// Asserts the answers of a text that comes in a first read and then in others of a size, up to each of two limits.
-/// They are the whole text, and a byte less.
+/// Asserts the answers of a text in a first read and then others of a size, within the whole text and a byte less.
 fn assert_cut(
     rt: &(impl Abort + Threads + Wait + Clock + Sync),
     alloc: Global,
@@ -120,7 +117,7 @@ fn assert_cut(
     }
 }
 
-// Each byte of a job comes first after a piece, or beside that, in reads of pieces and of bytes.
+// Each byte of a job comes first after a piece, or beside that.
 #[test]
 fn jobs_cut_at_pieces(rt: HostRuntime) -> Result<(), Fail> {
     let alloc = rt.alloc();

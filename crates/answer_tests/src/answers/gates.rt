@@ -5,15 +5,14 @@ use std::sync::Wait;
 use std::sync::atomic::{AtomicU64, Ordering};
 use std::thread::yield_now;
 
-/// The first call yields this often at most.
+/// The most yields of the first call.
 const TURNS: u32 = 10_000_000;
 
-/// Holds the first call back until a second one has come, which only another worker can make.
+/// Holds the first call back until another worker calls.
 #[derive(Drop)]
 pub(crate) struct Meeting {
     calls: AtomicU64,
     met: AtomicU64,
-    // A bit for each worker that called.
     workers: AtomicU64,
 }
 
@@ -26,12 +25,12 @@ impl Meeting {
         }
     }
 
-    /// The workers that called, worker 0 as the lowest bit.
+    /// A bit for each worker that called, worker 0 the lowest.
     pub fn workers(&self) -> u64 {
         self.workers.load(Ordering::SeqCst)
     }
 
-    /// Tells if the first call saw the second before its turns ran out.
+    /// Tells if the first call saw the second in time.
     pub fn met(&self) -> bool {
         self.met.load(Ordering::SeqCst) > 0
     }

@@ -1,4 +1,4 @@
-//! Blocks in short: labels as bytes, and lines of what they come to.
+//! Raw labels and totals.
 
 use crate::answers::added::six_with;
 use crate::answers::pairs::SIX_PAIRS_ANSWER;
@@ -38,7 +38,7 @@ const SIX_RAW_TWO: &[u8] = b"s 6\n\xff\xff\xff\xff\xff\xff\xff\xff\xff\xff\xff\x
 
 const SIX_COMPONENTS: &[u8] = b"k 1 1\nk 2 1\nk 3 1\nk 4 1\nk 5 1\nk 6 1\n";
 
-// Of each row the answer, as bytes or what they come to, what follows the graph, and what is written.
+// The answer, raw or totals, what follows the graph, and what is written.
 const ANSWERS: [(Answer, bool, &[u8], &[u8]); 14] = [
     (Answer::Distances, true, ONE, SIX_RAW),
     (Answer::Distances, true, TWO, SIX_RAW_TWO),
@@ -61,7 +61,6 @@ const ANSWERS: [(Answer, bool, &[u8], &[u8]); 14] = [
     (Answer::Components, false, b"", SIX_COMPONENTS),
 ];
 
-/// Labels as bytes, or what they come to.
 fn asked_in_short(rt: &impl Abort, kind: Answer, raw: bool, workers: u32) -> Asked {
     let settings = Settings::new(workers, 4, 16).expect(rt, "settings within their limits");
     let lines = if raw { Lines::Raw } else { Lines::Totals };

@@ -1,4 +1,4 @@
-//! Pairs: how often labels are worked out for them.
+//! Pairs: solves.
 
 use crate::answers::added::{asked, six_with};
 use crate::answers::answer_with_figures;
@@ -6,7 +6,7 @@ use job_answer::Answer;
 use obim_engine::OpenGate;
 use std::test::Fail;
 
-/// Two pairs of one source, with one of another between them and one to itself.
+/// Two pairs of one source, with one of another between, and one to itself.
 pub const SIX_PAIRS: &[u8] =
     b"p sp 6 8\na 1 2 17\na 1 3 10\na 2 4 2\na 3 5 0\na 4 3 0\na 4 6 3\na 5 2 0\na 5 6 20\n\
       p aux sp p2p 4\nq 1 6\nq 6 1\nq 1 6\nq 1 1\n";
@@ -22,7 +22,7 @@ const TURNED: &[u8] = b"p aux sp p2p 6\nq 2 1\nq 1 2\nq 3 1\nq 2 3\nq 1 3\nq 3 2
 
 const BY_SOURCE: &[u8] = b"p aux sp p2p 6\nq 1 2\nq 1 3\nq 2 1\nq 2 3\nq 3 1\nq 3 2\n";
 
-// Of each row walks or not, the pairs, and how often labels are worked out.
+// Walks or not, the pairs, and the solves.
 const RUNS: [(bool, &[u8], usize); 5] = [
     (false, b"p aux sp p2p 0\n", 0),
     (false, FOUR, 2),
@@ -31,8 +31,7 @@ const RUNS: [(bool, &[u8], usize); 5] = [
     (true, BY_SOURCE, 3),
 ];
 
-// Without walks a source is solved once, and with walks once for each run of pairs that it begins. So it is
-// where three of them are solved at the same time.
+// Without walks a source is solved once, and with walks once for each run of pairs that it begins, also three at once.
 #[test]
 fn runs_of_pairs(rt: HostRuntime) -> Result<(), Fail> {
     for (walks, queries, runs) in RUNS {

@@ -1,6 +1,5 @@
-//! Each call with one allocation of it refused, inside a worker's push too. It gives `Memory` or `Spawn` then, with a
-//! prefix of the answer, and made once more it writes the answer that was worked by hand. `tests/refusals` refuses
-//! each in turn; `tests/refusals.tsv` has the calls.
+//! Each call with one allocation refused, also inside a worker's push: `Memory` or `Spawn` with a prefix of the answer,
+//! and made once more the answer worked by hand.
 
 use crate::answers::added::{SIX_ADDED, SIX_ADDED_WALKS};
 use crate::answers::at_once::{SIX_SOURCES, SIX_SOURCES_ANSWER, asked_at_once};
@@ -16,7 +15,7 @@ use route_walks::{Memory, refusable, tried_again};
 use std::process::Abort;
 use std::test::Fail;
 
-// A writer with room for more than the answer takes no memory of its own.
+// A writer with room for the answer takes no memory.
 const ROOM: usize = 1000;
 
 fn expect_refused(rt: &impl Abort, fault: Fault) {
@@ -27,7 +26,6 @@ fn expect_refused(rt: &impl Abort, fault: Fault) {
 const SIX_WITHIN: &[u8] =
     b"s 1\nd 1 0\nw 1 0 1\nd 2 10\nw 2 10 1 3 5 2\nd 3 10\nw 3 10 1 3\nd 5 10\nw 5 10 1 3 5\n";
 
-// Distances by these lines.
 fn asked_by(rt: &impl Abort, lines: Lines) -> Asked {
     let settings = Settings::new(2, 4, 16).expect(rt, "settings within their limits");
     Asked::by_lines(Answer::Distances, settings, lines, 1000).expect(rt, "a bound below INF")

@@ -1,12 +1,11 @@
-//! A reader and a writer that tell their bytes, and fail, or give and take little at a time.
+//! A reader and a writer that fail, or give and take little at a time.
 
 ghost use Rattle.std.specs.Prelude.{◌<◌, Some};
 
 use std::alloc::Global;
 use std::io::{self, ErrorKind, Read, Write};
 
-/// Gives its bytes, and then fails or is at its end. The first read gives at most `first` of them, and
-/// each after that at most `step`.
+/// Gives at most `first` bytes by the first read and `step` by each other, and then fails or ends.
 #[derive(Drop)]
 pub(crate) struct Source<'a> {
     rest: &'a [u8],
@@ -18,7 +17,6 @@ pub(crate) struct Source<'a> {
 }
 
 impl<'a> Source<'a> {
-    /// A reader that gives all in such reads, of a byte at least.
     pub fn new(bytes: &'a [u8], first: usize, step: usize) -> Source<'a> {
         Source {
             rest: bytes,
@@ -28,7 +26,7 @@ impl<'a> Source<'a> {
         }
     }
 
-    /// A reader that gives all in such reads, and fails if no bytes are left.
+    /// A reader that fails if no bytes are left.
     pub fn failing(bytes: &'a [u8], step: usize) -> Source<'a> {
         let mut source = Source::new(bytes, step, step);
         source.fails = true;
@@ -52,8 +50,8 @@ impl Read for Source<'_> {
     }
 }
 
-/// Takes bytes in writes of at most `step`, and once it has `room` of them fails, or takes none. Counts
-/// its flushes, each of which fails if `flush_fails` is set.
+/// Takes at most `step` bytes a write, and after `room` of them fails or takes none. Counts flushes, which fail if
+/// `flush_fails` is set.
 #[derive(Drop)]
 pub(crate) struct Sink {
     pub taken: Vec<u8>,
@@ -65,7 +63,6 @@ pub(crate) struct Sink {
 }
 
 impl Sink {
-    /// A writer that takes all in writes of at most `step`.
     pub fn new(alloc: Global, step: usize) -> Sink {
         Sink {
             taken: Vec::new(alloc),
@@ -77,7 +74,7 @@ impl Sink {
         }
     }
 
-    /// A writer with room for this number of bytes, after which it fails or takes none.
+    /// A writer with room for this many bytes.
     pub fn with_room(alloc: Global, step: usize, room: usize, fails: bool) -> Sink {
         let mut sink = Sink::new(alloc, step);
         sink.room = room;
@@ -85,7 +82,7 @@ impl Sink {
         sink
     }
 
-    /// A writer that takes all in writes of at most `step`, but each flush fails.
+    /// A writer whose flushes fail.
     pub fn never_flushed(alloc: Global, step: usize) -> Sink {
         let mut sink = Sink::new(alloc, step);
         sink.flush_fails = true;

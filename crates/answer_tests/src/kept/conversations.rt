@@ -1,4 +1,4 @@
-//! A client that writes a line only if the replies to all lines before it are out, and the limit of a session's graph.
+//! A client that writes a line once all earlier replies are out, and the limit of a session's graph.
 
 ghost use Rattle.std.specs.Prelude.{Some};
 
@@ -13,7 +13,7 @@ use std::test::Fail;
 
 const GRAPH: &[u8] = b"p sp 2 0\n";
 
-/// A line of a client, and how many replies are out once it was taken.
+/// A line of a client, and the replies that are out after it.
 const LINES: [(&[u8], u64); 10] = [
     (GRAPH, 1),
     (b"p aux sp p2p 1\n", 1),
@@ -30,7 +30,7 @@ const LINES: [(&[u8], u64); 10] = [
 const REPLIES: &[u8] =
     b"r 2 0\nq 1 2 inf\nr 2 0\ne 6 out of range\ng 1\nr 2 1\nq 1 2 5\nw 2 5 1 2\nr 2 1\n";
 
-/// The part of a session that a client sees: the number of replies that have come, and true if bytes wait for a flush.
+/// The number of replies that a client sees, and true if bytes wait for a flush.
 #[derive(Drop)]
 struct Wire {
     replies: AtomicU64,
@@ -45,7 +45,6 @@ impl Wire {
         }
     }
 
-    /// Tells if this number of replies has come, and nothing waits.
     fn has(&self, replies: u64) -> bool {
         self.replies.load(Ordering::SeqCst) == replies && self.waiting.load(Ordering::SeqCst) == 0
     }
@@ -56,7 +55,7 @@ impl Wire {
 struct Client<'a> {
     wire: &'a Wire,
     place: usize,
-    /// The number of reads that were made before the replies to all lines so far were out.
+    /// The reads before the replies to all earlier lines were out.
     early: u64,
 }
 
@@ -141,7 +140,7 @@ fn each_reply_is_out_before_more_is_read(rt: HostRuntime) -> Result<(), Fail> {
     Ok(())
 }
 
-// Of each row the limit, the outcome of the session, and what is written.
+// The limit, the outcome, and what is written.
 const LIMITS: [(u64, Result<(), Fault>, &[u8]); 3] = [
     (9, Ok(()), b"r 2 0\n"),
     (8, Err(Fault::TooLong), b""),

@@ -1,5 +1,4 @@
-//! Each call with one allocation of it refused: `Memory` or `Spawn` then, and made once more it gives what was worked
-//! by hand. `tests/refusals` refuses each in turn; `tests/refusals.tsv` has the calls.
+//! Each call with one allocation refused: `Memory` or `Spawn`, and made once more what was worked by hand.
 
 use crate::kept::asked;
 use dimacs_text::Ask;
@@ -13,7 +12,7 @@ use route_walks::{ArcRec, EXAMPLE_ARCS, Memory, refusable, tried_again};
 use session_answer::answer_session;
 use std::test::Fail;
 
-// A writer with room for more than the answer takes no memory of its own.
+// A writer with room for the answer takes no memory.
 const ROOM: usize = 1000;
 
 const JOINED: &[u8] = b"k 1 1\nk 2 1\nk 3 1\nk 4 1\nk 5 1\nk 6 1\n";
@@ -81,7 +80,7 @@ fn of_write_whole(rt: HostRuntime) -> Result<(), Fail> {
     Ok(())
 }
 
-// A request may be refused memory in one line, too, and the others are answered.
+// A request may be refused in one line, and the others are answered.
 #[test]
 fn of_answer_session(rt: HostRuntime) -> Result<(), Fail> {
     let alloc = rt.alloc();
@@ -105,7 +104,6 @@ fn of_answer_session(rt: HostRuntime) -> Result<(), Fail> {
     Ok(())
 }
 
-/// Tells if a request was refused for want of memory.
 fn has_refusal(replies: &[u8]) -> bool {
     replies
         .windows(15)

@@ -1,5 +1,4 @@
-//! The command line with one allocation refused: `Memory` then, and judged once more it asks for what it asks for.
-//! `tests/refusals` refuses each in turn; `tests/refusals.tsv` has the calls.
+//! The command line with one allocation refused: `Memory`, and judged once more what it asks for.
 
 use command_line::{Options, Refusal, parse_options};
 use job_answer::Answer;
