@@ -1,5 +1,5 @@
-//! Tables of networks with their costs, beside the plain way at random, sources side by side, and what is kept from one
-//! call to the next.
+//! Tables of networks with their costs, random ones beside the plain way, sources side by side, and what is kept
+//! between calls.
 
 mod draws;
 mod kept;
@@ -16,7 +16,6 @@ use std::process::Abort;
 use std::test::Fail;
 use std::thread::Threads;
 
-/// A network of so many vertices.
 fn network_of<H: Threads + Abort + Sync>(
     rt: &H,
     alloc: Global,
@@ -29,14 +28,13 @@ fn network_of<H: Threads + Abort + Sync>(
     Ok(Network::new(rt, alloc, n, arcs.to_vec(alloc)?, cost, 2)?)
 }
 
-/// The network of the six vertices.
 pub(crate) fn six<H: Threads + Abort + Sync>(rt: &H, alloc: Global) -> Result<Network, Fail>
     ensures { IfOk result (λ network. network.n ≡ 6) }
 {
     network_of(rt, alloc, 6, &EXAMPLE_ARCS, Cost::Weight)
 }
 
-/// One vertex after the other, 3,000 of them.
+/// A chain of 3,000 vertices.
 fn path<H: Threads + Abort + Sync>(rt: &H, alloc: Global) -> Result<Network, Fail>
     ensures { IfOk result (λ network. network.n ≡ 3000) }
 {
@@ -58,7 +56,6 @@ fn tree<H: Threads + Abort + Sync>(rt: &H, alloc: Global) -> Result<Network, Fai
     network_of(rt, alloc, 3_000, &arcs, Cost::Weight)
 }
 
-/// Asserts that these are the costs of a row of a table.
 fn expect_costs(rt: &impl Abort, row: usize, network: &Network, costs: &Costs, want: &[Option<u64>])
     requires { costs.now.net ≡ network.now }
 {
@@ -71,7 +68,6 @@ fn expect_costs(rt: &impl Abort, row: usize, network: &Network, costs: &Costs, w
     }
 }
 
-/// Asserts that these costs within a bound are those of a row of a table.
 fn expect_within(
     rt: &impl Abort,
     row: usize,

@@ -1,7 +1,6 @@
-//! Tests of what the library's public calls on costs do that no contract says.
+//! Tests of what the public calls of `least_costs` do that no contract says.
 //!
-//! Tests of `least_costs`, which know its public calls and contracts alone. They stand in a crate of their own, since a
-//! crate is proved once more for the tests that it has.
+//! A crate of tests is apart, since a crate with tests is proved once more for them.
 
 #![tactic(auto)]
 

@@ -1,4 +1,4 @@
-//! Tasks that teams do before their turn: who does them, and what becomes of those that can't be done.
+//! Tasks that teams do before their turn, and those that can't be done.
 
 mod refusals;
 
@@ -20,7 +20,7 @@ impl Tasks<(usize, u32)> for Places {
     ghost is_part = { λ of place part. ⊤ };
 }
 
-/// A task that gives its place and the number of its workers. That of place 5 can't be done.
+/// A task that gives its place and its workers. That of place 5 can't be done.
 fn part_at(
     place: usize,
     workers: &mut Workers<'_, TeamGate<'_, OpenGate>>,
@@ -32,7 +32,7 @@ fn part_at(
     }
 }
 
-/// Returns the part that is taken at each place below 8, by so many teams of four workers.
+/// The parts at the places below 8, by teams of four workers.
 fn taken<H: Threads + Wait + Abort + Sync>(
     rt: &H,
     alloc: Global,
@@ -48,8 +48,8 @@ fn taken<H: Threads + Wait + Abort + Sync>(
     all
 }
 
-// One team does nothing before its turn. Two share the workers, and do two tasks each in a round; if one can't be done,
-// its round is the last.
+// One team does nothing ahead. Two share the workers and do two tasks each in a round; if one can't be done, the round
+// is the last.
 #[test]
 fn teams_share_the_workers(rt: HostRuntime) -> Result<(), Fail> {
     let alone = taken(&rt, rt.alloc(), 1);

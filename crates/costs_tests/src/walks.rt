@@ -1,4 +1,4 @@
-//! Tests of the vertices over which least walks go.
+//! The vertices of least walks.
 
 mod refusals;
 
@@ -11,7 +11,6 @@ use std::test::Fail;
 use std::thread::Threads;
 use std::time::Clock;
 
-/// The source, the target and the vertices of the walk.
 const WALKS: [(u32, u32, Option<&[u32]>); 4] = [
     (0, 5, Some(&[0, 2, 4, 1, 3, 5])),
     (0, 0, Some(&[0])),
@@ -19,7 +18,6 @@ const WALKS: [(u32, u32, Option<&[u32]>); 4] = [
     (2, 0, None),
 ];
 
-/// Asserts the walk from a source to a target.
 fn expect_walk<H: Threads + Wait + Clock + Abort + Sync>(
     rt: &H,
     alloc: Global,

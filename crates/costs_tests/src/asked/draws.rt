@@ -1,4 +1,4 @@
-//! Tests of networks at random: their costs are those of the plain way.
+//! Random networks: their costs are those of the plain way.
 
 ghost use Rattle.std.specs.Prelude.{◌≡◌, ◌≤◌};
 
@@ -39,7 +39,7 @@ impl Draws {
     }
 }
 
-/// The arcs along which the plain way is gone.
+/// The arcs of the plain way.
 fn arcs_of(alloc: Global, cost: Cost, arcs: &[ArcRec]) -> Result<Vec<ArcRec>, Memory> {
     match cost {
         Cost::Weight => Ok(arcs.to_vec(alloc)?),
@@ -48,7 +48,6 @@ fn arcs_of(alloc: Global, cost: Cost, arcs: &[ArcRec]) -> Result<Vec<ArcRec>, Me
     }
 }
 
-/// The label of each vertex from a source, by rounds over all arcs.
 fn plain_from(
     rt: &impl Abort,
     alloc: Global,
@@ -62,12 +61,10 @@ fn plain_from(
     Ok(plain_labels(alloc, n, arcs, &seeds)?)
 }
 
-/// Returns the cost that a label says.
 fn cost_of(label: u64) -> Option<u64> {
     if label == INF { None } else { Some(label) }
 }
 
-/// Asserts that these are the costs that labels say.
 fn expect_said(rt: &impl Abort, costs: &Costs, n: u32, labels: &[u64], source: u32)
     requires { costs.now.net.n ≡ n }
 {
@@ -78,10 +75,8 @@ fn expect_said(rt: &impl Abort, costs: &Costs, n: u32, labels: &[u64], source: u
     }
 }
 
-/// The sources that are asked for.
 const SOURCES: [u32; 3] = [1, 0, 1];
 
-/// Asserts that the costs from two sources at once are those of the plain way.
 fn expect_plain<H: Threads + Wait + Clock + Abort + Sync>(
     rt: &H,
     alloc: Global,

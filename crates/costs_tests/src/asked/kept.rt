@@ -1,4 +1,4 @@
-//! Tests of calls one after another with what is kept: the costs are those of whole runs.
+//! Calls one after another with what is kept: the costs are those of whole runs.
 
 ghost use Rattle.std.specs.Prelude.{◌≡◌, ◌<◌, true};
 ghost use Rattle.least_costs.specs.Pairs.{ArePairsWithin};
@@ -14,15 +14,14 @@ use std::test::Fail;
 use std::thread::Threads;
 use std::time::Clock;
 
-/// Tells if these are pairs of vertices of a network of `n`.
 fn are_within(n: u32, pairs: &[(u32, u32)]) -> bool
     ensures { result ≡ true → ArePairsWithin n pairs.now }
 {
     pairs.iter().all(|pair| pair.0 < n && pair.1 < n)
 }
 
-/// The calls in their order: true if the path of 3,000 vertices is asked, and not the six vertices, and the pairs. In
-/// both a search gives up after 512 visits.
+/// True if the path of 3,000 vertices is asked, and not the six, and the pairs. In both a search gives up after 512
+/// visits.
 const CALLS: [(bool, &[(u32, u32)]); 8] = [
     (false, &[(0, 5)]),
     (true, &[(10, 13), (20, 21)]),
@@ -34,7 +33,6 @@ const CALLS: [(bool, &[(u32, u32)]); 8] = [
     (false, &[(2, 0), (2, 5)]),
 ];
 
-/// Asserts that the cost of a pair is that of a whole run from its source.
 fn expect_cost<H: Threads + Wait + Clock + Abort + Sync>(
     rt: &H,
     alloc: Global,
@@ -48,7 +46,7 @@ fn expect_cost<H: Threads + Wait + Clock + Abort + Sync>(
     Ok(())
 }
 
-/// Asserts the costs of pairs, and that what is kept is given back.
+/// Asserts the costs of pairs, and that what is kept is returned.
 fn expect_pairs<H: Threads + Wait + Clock + Abort + Sync>(
     rt: &H,
     alloc: Global,
@@ -67,7 +65,6 @@ fn expect_pairs<H: Threads + Wait + Clock + Abort + Sync>(
     Ok(())
 }
 
-/// Asserts the costs of all calls, one after another.
 fn expect_calls<H: Threads + Wait + Clock + Abort + Sync>(
     rt: &H,
     alloc: Global,
@@ -94,7 +91,7 @@ fn costs_of_one_call_after_another(rt: HostRuntime) -> Result<(), Fail> {
     expect_calls(&rt, alloc, &short, &long, &mut kept)
 }
 
-/// Asks for a far target from many vertices, so often that the rows are worth reversing if frontiers are wide.
+/// Asks for a far target from many vertices, until rows are worth reversing if frontiers are wide.
 pub fn ask_in_vain<H: Threads + Wait + Clock + Sync>(
     rt: &H,
     alloc: Global,
@@ -110,7 +107,6 @@ pub fn ask_in_vain<H: Threads + Wait + Clock + Sync>(
     Ok(())
 }
 
-/// Prepares a network for what is asked next.
 pub fn prepare(alloc: Global, network: &mut Network, kept: &mut Option<Workspace>)
     ensures { network.new ≡ network.old }
 {
@@ -138,16 +134,16 @@ fn rows_are_reversed_after_wide_searches_in_vain(rt: HostRuntime) -> Result<(), 
     Ok(())
 }
 
-/// A question of which the thread that asks finds the answers by itself, or none.
+/// A question whose answers the thread that asks finds, or not.
 #[derive(Clone, Copy)]
 struct Near<'a> {
     is_long: bool,
     source: u32,
     target: u32,
-    /// The label of the target and the walk to it; `INF` and no vertices if there is no walk.
+    /// The target's label and walk; `INF` and no vertices if there is no walk.
     walk: Option<(u64, &'a [u32])>,
     bound: u64,
-    /// The vertices whose costs are at most the bound, each with its cost.
+    /// The vertices within the bound, each with its cost.
     within: Option<&'a [(u32, u64)]>,
 }
 
@@ -186,7 +182,7 @@ const NEAR: [Near<'static>; 4] = [
     },
 ];
 
-/// Asserts what the thread that asks finds; nothing if it doesn't search.
+/// Asserts what the thread that asks finds, if it searches.
 fn expect_near(
     rt: &impl Abort,
     alloc: Global,
@@ -213,7 +209,7 @@ fn expect_near(
     );
 }
 
-/// Asserts all that the thread that asks finds, by what is kept. Returns what is kept then.
+/// Asserts what the thread that asks finds by what is kept, and returns that.
 fn expect_kept(
     rt: &impl Abort,
     alloc: Global,

@@ -1,4 +1,4 @@
-//! Tests of networks that were worked out by hand: their costs, or the fault for which there is no network.
+//! Networks worked by hand: their costs, or their fault.
 
 ghost use Rattle.std.specs.Prelude.{◌≡◌, ◌<◌, ◌^◌, length};
 ghost use Rattle.least_costs.specs.Pairs.{ArePairsWithin};
@@ -16,7 +16,7 @@ use std::time::Clock;
 
 const ISLANDS: [ArcRec; 3] = arcs![(2, 1, 7), (3, 4, 1), (4, 3, 1)];
 
-/// Vertices, arcs, what an arc costs, the start and the costs.
+/// Vertices, arcs, the cost of an arc, the start and the costs.
 const ROWS: [(u32, &[ArcRec], Cost, Start, &[Option<u64>]); 7] = [
     (
         6,
@@ -63,7 +63,6 @@ const ROWS: [(u32, &[ArcRec], Cost, Start, &[Option<u64>]); 7] = [
     (1, &[], Cost::Weight, Start::At(0), &[Some(0)]),
 ];
 
-/// Asserts the costs of a row.
 fn expect_row<H: Threads + Wait + Clock + Abort + Sync>(
     rt: &H,
     alloc: Global,
@@ -92,7 +91,7 @@ fn costs_from_a_start(rt: HostRuntime) -> Result<(), Fail> {
 
 const SHORTER: [ArcRec; 1] = arcs![(0, 5, 4)];
 
-/// The cost of an arc, and the costs from vertex 0 once there is the shorter arc.
+/// The cost of an arc, and the costs with the shorter arc.
 const GROWN: [(Cost, &[Option<u64>]); 3] = [
     (
         Cost::Weight,
@@ -105,7 +104,6 @@ const GROWN: [(Cost, &[Option<u64>]); 3] = [
     (Cost::FreeBothWays, &[Some(0); 6]),
 ];
 
-/// Asserts the costs from vertex 0 once there is the shorter arc.
 fn expect_grown<H: Threads + Wait + Clock + Abort + Sync>(
     rt: &H,
     alloc: Global,
@@ -143,7 +141,6 @@ const FAULTS: [(u32, &[ArcRec], NetworkFault); 3] = [
     (0, &OUTSIDE, NetworkFault::Outside(0)),
 ];
 
-/// The text that each fault prints.
 const TEXTS: [(NetworkFault, &str); 5] = [
     (NetworkFault::Vertices, "too many vertices"),
     (NetworkFault::Outside(1), "arc 1: an end is no vertex"),
@@ -177,7 +174,6 @@ const PAIRS: [(u32, u32); 6] = [(3, 1), (0, 5), (5, 0), (0, 3), (3, 5), (0, 5)];
 
 const PAIR_COSTS: [Option<u64>; 6] = [Some(0), Some(15), None, Some(12), Some(3), Some(15)];
 
-/// Asserts the costs of pairs.
 fn expect_between<H: Threads + Wait + Clock + Abort + Sync>(
     rt: &H,
     alloc: Global,
@@ -204,7 +200,7 @@ fn costs_between_pairs(rt: HostRuntime) -> Result<(), Fail> {
     Ok(())
 }
 
-/// A bound, and the costs from vertex 0 that are at most the bound.
+/// A bound, and the costs from vertex 0 within it.
 const BOUNDS: [(u64, [Option<u64>; 6]); 5] = [
     (0, [Some(0), None, None, None, None, None]),
     (9, [Some(0), None, None, None, None, None]),
@@ -216,7 +212,6 @@ const BOUNDS: [(u64, [Option<u64>; 6]); 5] = [
     ),
 ];
 
-/// Asserts the costs from vertex 0 within a bound.
 fn expect_bound<H: Threads + Wait + Clock + Abort + Sync>(
     rt: &H,
     alloc: Global,

@@ -1,5 +1,4 @@
-//! Each call that takes memory, with one allocation of it refused: `Memory` then, and made once more it gives what
-//! was worked by hand. `tests/refusals` refuses each in turn; `tests/refusals.tsv` has the calls.
+//! Each call with one allocation refused: `Memory`, and made once more what was worked by hand.
 
 ghost use Rattle.std.specs.Prelude.{◌≡◌, IfOk, IfSome};
 ghost use Rattle.least_costs.specs.Each.{AreWithin};
@@ -31,7 +30,6 @@ const SHORTER_FROM_0: [Option<u64>; 6] = [Some(0), Some(10), Some(10), Some(12),
 
 const WITHIN_12: [Option<u64>; 6] = [Some(0), Some(10), Some(10), Some(12), Some(10), None];
 
-/// The network of the six vertices, asked once more if memory was refused.
 fn made_again<H: Threads + Abort + Sync>(
     rt: &H,
     alloc: Global,
@@ -56,7 +54,6 @@ fn of_network_new(rt: HostRuntime) -> Result<(), Fail> {
     Ok(())
 }
 
-/// The network with the shorter arc, asked once more if memory was refused.
 fn grown_again<H: Threads + Abort + Sync>(
     rt: &H,
     alloc: Global,
@@ -81,10 +78,10 @@ fn of_network_with_arcs(rt: HostRuntime) -> Result<(), Fail> {
     Ok(())
 }
 
-/// A call for the costs of the six vertices, from vertex 0 but for `Everywhere`, and once there is the shorter arc.
+/// A call for the costs of the six vertices, also with the shorter arc.
 #[derive(Clone, Copy)]
 enum Call {
-    /// By so many workers.
+    /// By this many workers.
     From(u32),
     Everywhere,
     After,
@@ -92,7 +89,7 @@ enum Call {
     Copied,
 }
 
-/// Costs in the first network, or in the second, to which it grew.
+/// Costs in the first network, or in the grown one.
 fn costs_by<H: Threads + Wait + Clock + Sync>(
     rt: &H,
     alloc: Global,
@@ -123,7 +120,7 @@ fn costs_by<H: Threads + Wait + Clock + Sync>(
     }
 }
 
-/// The costs, asked once more if memory was refused, by the same runner.
+/// The costs, asked once more of the same runner if memory was refused.
 fn asked_again<H: Threads + Wait + Clock + Sync>(
     rt: &H,
     alloc: Global,
@@ -142,7 +139,6 @@ fn asked_again<H: Threads + Wait + Clock + Sync>(
     }
 }
 
-/// Asserts that these are the costs of the six vertices.
 fn expect_six(rt: &impl Abort, costs: &Costs, want: &[Option<u64>; 6])
     requires { costs.now.net.n ≡ 6 }
 {
@@ -151,7 +147,6 @@ fn expect_six(rt: &impl Abort, costs: &Costs, want: &[Option<u64>; 6])
     }
 }
 
-/// The costs, by a runner of their own.
 fn costs_of<H: Threads + Wait + Clock + Sync>(
     rt: &H,
     alloc: Global,
@@ -168,7 +163,6 @@ fn costs_of<H: Threads + Wait + Clock + Sync>(
     asked_again(rt, alloc, call, network, grown, &mut runner)
 }
 
-/// Asserts what a call gives, by one more of it if memory was refused.
 fn expect_again<H: Threads + Wait + Clock + Abort + Sync>(
     rt: &H,
     alloc: Global,
@@ -205,7 +199,7 @@ fn of_runner_costs_from(rt: HostRuntime) -> Result<(), Fail> {
     expect_again(&rt, rt.alloc(), Call::FromRunner, &FROM_0)
 }
 
-/// The costs that serve walks to vertex 5, asked once more if memory was refused: workers open another pool then.
+/// The costs for walks to vertex 5, asked once more: workers then open another pool.
 fn served_again<H: Threads + Wait + Clock + Sync>(
     rt: &H,
     alloc: Global,
@@ -231,7 +225,7 @@ fn of_workers_costs_for(rt: HostRuntime) -> Result<(), Fail> {
     Ok(())
 }
 
-/// The costs that serve walks to vertex 5 in the network with the shorter arc, from what a run left.
+/// The costs for walks to vertex 5 with the shorter arc, from what a run left.
 fn served_after<H: Threads + Wait + Clock + Sync>(
     rt: &H,
     alloc: Global,
@@ -270,7 +264,6 @@ fn of_costs_copied(rt: HostRuntime) -> Result<(), Fail> {
     expect_again(&rt, rt.alloc(), Call::Copied, &FROM_0)
 }
 
-/// A runner by two workers, asked once more if memory was refused.
 fn opened_again(alloc: Global, network: &Network) -> Result<Runner, Memory> {
     let settings = Plan::usual(2).settings;
     match refusable!(alloc, Runner::open(alloc, network, &settings)) {
@@ -287,7 +280,6 @@ fn of_runner_open(rt: HostRuntime) -> Result<(), Fail> {
     Ok(())
 }
 
-/// The costs from vertex 0 of at most 12, asked once more if memory was refused.
 fn within_again<H: Threads + Wait + Clock + Sync>(
     rt: &H,
     alloc: Global,
@@ -311,7 +303,7 @@ fn of_solver_within(rt: HostRuntime) -> Result<(), Fail> {
     Ok(())
 }
 
-/// Asks for the costs from each source, and for none of them.
+/// Asks for the costs from each source, and takes none.
 fn ask_for_each(alloc: Global, solver: &Solver<'_, OpenGate>, sources: &[u32])
     requires { AreWithin solver.now.network.now sources.now }
 {
@@ -325,7 +317,6 @@ fn asked_for_each(alloc: Global, solver: &Solver<'_, OpenGate>) -> Result<(), Me
     Ok(())
 }
 
-/// The costs from the first of the sources.
 fn first_costs<H: Threads + Wait + Clock + Sync>(
     rt: &H,
     alloc: Global,
@@ -352,10 +343,10 @@ fn of_solver_each(rt: HostRuntime) -> Result<(), Fail> {
     Ok(())
 }
 
-/// The number of workers, and the number of sources at once.
+/// The workers, and the sources at once.
 const PLANS: [(u32, u32); 3] = [(1, 1), (2, 2), (4, 2)];
 
-/// Returns the number of four sources that are refused memory. The others have their costs.
+/// Returns how many of four sources are refused memory.
 fn refused_of_each<H: Threads + Wait + Clock + Abort + Sync>(
     rt: &H,
     alloc: Global,
@@ -382,7 +373,7 @@ fn refused_of_each<H: Threads + Wait + Clock + Abort + Sync>(
     refused
 }
 
-// One refusal is of one source at most, and side by side of none: it is tried once more in its turn.
+// One refusal is of at most one source, and side by side of none: it is tried again in its turn.
 #[test]
 fn of_each_next(rt: HostRuntime) -> Result<(), Fail> {
     let alloc = rt.alloc();
@@ -399,7 +390,6 @@ fn of_each_next(rt: HostRuntime) -> Result<(), Fail> {
 
 const PAIRS: [(u32, u32); 2] = [(3, 1), (0, 5)];
 
-/// The costs of the pairs, and those in the network with the shorter arc if one is given.
 fn pairs_by<H: Threads + Wait + Clock + Sync>(
     rt: &H,
     alloc: Global,
@@ -421,7 +411,6 @@ fn pairs_by<H: Threads + Wait + Clock + Sync>(
     Ok(PairCosts { costs, after })
 }
 
-/// Asserts the costs of the pairs, by one more call if memory was refused, with what that left.
 fn expect_pairs<H: Threads + Wait + Clock + Abort + Sync>(
     rt: &H,
     alloc: Global,
@@ -479,7 +468,7 @@ fn of_network_reverse(rt: HostRuntime) -> Result<(), Fail> {
     Ok(())
 }
 
-// It waits for more fruitless searches then, before it reverses the rows.
+// It then waits for more fruitless searches before it reverses the rows.
 #[test]
 fn of_workspace_prepare(rt: HostRuntime) -> Result<(), Fail> {
     let alloc = rt.alloc();
@@ -495,7 +484,7 @@ fn of_workspace_prepare(rt: HostRuntime) -> Result<(), Fail> {
     Ok(())
 }
 
-// The same workers are asked once more, with the lists that the refusal left.
+// The same workers are asked again, with the lists that the refusal left.
 #[test]
 fn of_workers_near_walks(rt: HostRuntime) -> Result<(), Fail> {
     let alloc = rt.alloc();

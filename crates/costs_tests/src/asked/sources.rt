@@ -1,4 +1,4 @@
-//! Tests of many sources: the order in which they come, and the workers that solve them.
+//! Many sources: their order, and the workers that solve them.
 
 ghost use Rattle.std.specs.Prelude.{◌≡◌, IfOk, IfSome};
 
@@ -14,7 +14,7 @@ use std::test::Fail;
 use std::thread::Threads;
 use std::time::Clock;
 
-/// Sources of the six vertices, and the costs from each.
+/// Sources, and the costs from each.
 const SOURCES: [u32; 5] = [0, 5, 3, 1, 0];
 
 const FROM_0: [Option<u64>; 6] = [Some(0), Some(10), Some(10), Some(12), Some(10), Some(15)];
@@ -27,7 +27,7 @@ const COSTS: [[Option<u64>; 6]; 5] = [
     FROM_0,
 ];
 
-/// The number of workers, true if buckets fit the network, and the sources at once.
+/// The workers, true if buckets fit the network, and the sources at once.
 const PLANS: [(u32, bool, AtOnce); 6] = [
     (1, true, AtOnce::Auto),
     (2, true, AtOnce::Auto),
@@ -47,7 +47,6 @@ fn plan_of(rt: &impl Abort, workers: u32, fitted: bool, at_once: AtOnce) -> Plan
     Plan { settings, at_once }
 }
 
-/// Asserts that these are the costs of the source at a place, or that there are none past the last source.
 fn expect_next(
     rt: &impl Abort,
     row: usize,
@@ -64,7 +63,7 @@ fn expect_next(
     Ok(())
 }
 
-/// Asserts that the first so many sources come in their order, and none after the last.
+/// Asserts that the first sources come in order, and none after the last.
 fn expect_first<H: Threads + Wait + Clock + Abort + Sync>(
     rt: &H,
     alloc: Global,
@@ -94,7 +93,7 @@ fn sources_come_in_order(rt: HostRuntime) -> Result<(), Fail> {
     Ok(())
 }
 
-/// Waits at the first visit of each source until two sources are visited at the same time, for a while.
+/// Waits at the first visit of each source until two are visited at once, for a while.
 #[derive(Drop)]
 struct Meeting {
     workers: AtomicU64,
@@ -111,7 +110,7 @@ impl Gate for Meeting {
     }
 }
 
-// Each of the sources reaches itself alone, so the second worker visits another source.
+// Each source reaches itself alone, so the second worker visits another.
 #[test]
 fn sources_meet(rt: HostRuntime) -> Result<(), Fail> {
     let alloc = rt.alloc();
@@ -132,7 +131,6 @@ fn sources_meet(rt: HostRuntime) -> Result<(), Fail> {
     Ok(())
 }
 
-/// Counts visits.
 #[derive(Drop)]
 struct Counting {
     visits: AtomicU64,
@@ -156,7 +154,7 @@ fn solver_that_counts(network: &Network) -> Solver<'_, Counting>
     }
 }
 
-// One vertex after the other: workers go little further than to the target.
+// Workers go little further than to the target.
 #[test]
 fn few_visits_of_near_targets(rt: HostRuntime) -> Result<(), Fail> {
     let network = path(&rt, rt.alloc())?;
@@ -169,7 +167,7 @@ fn few_visits_of_near_targets(rt: HostRuntime) -> Result<(), Fail> {
     Ok(())
 }
 
-// If the thread that asks finds the targets, workers visit none.
+// If the thread that asks finds the targets, workers visit nothing.
 #[test]
 fn no_visits_of_targets_found_before(rt: HostRuntime) -> Result<(), Fail> {
     let network = path(&rt, rt.alloc())?;
@@ -180,7 +178,7 @@ fn no_visits_of_targets_found_before(rt: HostRuntime) -> Result<(), Fail> {
     Ok(())
 }
 
-// Or to the bound.
+// Workers go little further than to the bound.
 #[test]
 fn few_visits_within_a_bound(rt: HostRuntime) -> Result<(), Fail> {
     let network = path(&rt, rt.alloc())?;

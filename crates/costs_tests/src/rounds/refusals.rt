@@ -1,5 +1,4 @@
-//! Each call that takes memory, with one allocation of it refused: a task is not done then, and the caller does it.
-//! `tests/refusals` refuses each in turn; `tests/refusals.tsv` has the calls.
+//! Each call with one allocation refused: a task is then done by the caller.
 
 use crate::rounds::{Places, part_at, taken};
 use least_costs::{Plan, Rounds, Workers};

@@ -1,4 +1,4 @@
-//! Each call that takes memory, with one allocation of it refused: `Memory` then, and made once more it gives the walk.
+//! Each call with one allocation refused: `Memory`, and made once more the walk.
 
 ghost use Rattle.std.specs.Prelude.{◌≡◌, IfOk};
 ghost use Rattle.least_costs.specs.Costs.{IsFrom};
@@ -13,14 +13,12 @@ use std::test::Fail;
 use std::thread::Threads;
 use std::time::Clock;
 
-/// The walk from vertex 0 to vertex 4.
 fn walk_by(alloc: Global, network: &Network, costs: &Costs) -> Result<Option<Vec<u32>>, Memory>
     requires { IsFrom network.now 0 costs.now × (network.now.n ≡ 6) }
 {
     costs.walks(alloc, network)?.to(alloc, 4)
 }
 
-/// That walk, asked for once more if memory was refused.
 fn walk_again(alloc: Global, network: &Network, costs: &Costs) -> Result<Option<Vec<u32>>, Memory>
     requires { IsFrom network.now 0 costs.now × (network.now.n ≡ 6) }
 {
@@ -41,7 +39,6 @@ fn costs_from_0<H: Threads + Wait + Clock + Sync>(
     Solver::new(network, Plan::usual(1)).from(rt, alloc, 0)
 }
 
-/// Asserts that walk.
 fn expect_walk<H: Threads + Wait + Clock + Abort + Sync>(
     rt: &H,
     alloc: Global,
