@@ -1,7 +1,7 @@
-//! Tests of what the public calls on texts do that no contract says.
+//! Tests of what the public calls of `answer_lines`, `dimacs_text`, `job_reader` and `request_reader` do that no
+//! contract says.
 //!
-//! Tests of `answer_lines`, `dimacs_text`, `job_reader` and `request_reader`, which know their public calls and
-//! contracts alone. They stand in a crate of their own, since a crate is proved once more for the tests that it has.
+//! A crate of tests is apart, since a crate with tests is proved once more for them.
 
 #![tactic(auto)]
 

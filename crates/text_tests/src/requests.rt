@@ -1,12 +1,11 @@
-//! Lines after a graph of 2 vertices, and what they come to.
+//! Lines after a graph of 2 vertices, and their requests.
 
 use request_reader::{Request, RequestReader};
 use std::alloc::{AllocError, Global};
 use std::process::Abort;
 use std::test::Fail;
 
-/// Lines, the first of which has the number 2; what each request comes to; and the line one past the last, where the
-/// last request lacks lines.
+/// Lines from line 2 on, the outcome of each request, and the line past the last if the last request lacks lines.
 type Row = (&'static [&'static str], &'static str, Option<u64>);
 
 const ROWS: [Row; 38] = [
@@ -54,7 +53,7 @@ const ROWS: [Row; 38] = [
         "Sources([]) None Within { bound: 18446744073709551614 }\n",
         None,
     ),
-    // The bound is that of one request alone.
+    // A bound is of one request.
     (
         &["p aux sp within 3 1", "s 1", "p aux sp ss 1", "s 1"],
         "Sources([0]) None Within { bound: 3 }\nSources([0]) None Plain\n",
@@ -70,7 +69,7 @@ const ROWS: [Row; 38] = [
         "e 3 misplaced line\nSources([]) None Plain\n",
         None,
     ),
-    // A head that is wrong: the number of fields first, then what is no number, then what is out of range.
+    // A wrong head: the number of fields, no number, out of range.
     (
         &["p aux sp within 7", "p aux sp ss 0"],
         "e 2 wrong number of fields\nSources([]) None Plain\n",
@@ -107,7 +106,7 @@ const ROWS: [Row; 38] = [
         None,
     ),
     (&["p aux sp withins 7 0"], "e 2 unknown line\n", None),
-    // Walks are wanted of one request alone.
+    // Walks are of one request.
     (
         &["p aux sp walk 1", "q 1 2", "p aux sp p2p 1", "q 2 1"],
         "Pairs([(0, 1)]) None Walks\nPairs([(1, 0)]) None Plain\n",
@@ -116,7 +115,7 @@ const ROWS: [Row; 38] = [
     // Nothing more comes, or nothing that says something.
     (&[], "", None),
     (&["c nothing", " "], "", None),
-    // A record too many begins the next request, which is refused at it.
+    // A record too many begins the next request.
     (
         &[
             "p aux sp p2p 1",
@@ -150,7 +149,7 @@ const ROWS: [Row; 38] = [
         "e 4 too few lines\nPairs([]) None Walks\n",
         None,
     ),
-    // A section line that is wrong is one, and that of an unknown section is not.
+    // A wrong section line begins a request, and that of an unknown section doesn't.
     (
         &["p aux sp ss", "p aux sp ss 0"],
         "e 2 wrong number of fields\nSources([]) None Plain\n",
@@ -171,7 +170,7 @@ const ROWS: [Row; 38] = [
         "e 2 unknown line\n",
         None,
     ),
-    // A vertex that the graph doesn't have; what follows is skipped.
+    // A vertex that the graph doesn't have; the rest is skipped.
     (
         &["p aux sp ss 2", "s 3", "s 1", "s 1", "p aux sp ss 1", "s 2"],
         "e 3 out of range\nSources([1]) None Plain\n",
@@ -189,7 +188,6 @@ const ROWS: [Row; 38] = [
     (&["p aux sp ss 2", "s 3"], "e 3 out of range\n", None),
 ];
 
-/// Appends what a request came to, in a line.
 fn put_told(alloc: Global, told: &mut String, request: Option<Request>) -> Result<(), AllocError> {
     let line = match request {
         None => return Ok(()),
@@ -204,7 +202,6 @@ fn put_told(alloc: Global, told: &mut String, request: Option<Request>) -> Resul
     Ok(())
 }
 
-/// Asserts what lines come to.
 fn expect(rt: &impl Abort, alloc: Global, row: &Row) -> Result<(), Fail> {
     let mut requests = RequestReader::new(alloc, 2, 2);
     let mut told = String::new(alloc);

@@ -1,4 +1,4 @@
-//! Texts with the job or the fault that they must give, and the lines of answers.
+//! Texts with their job or fault, and lines of answers.
 
 mod explanations;
 mod in_short;
@@ -15,18 +15,16 @@ use std::alloc::Global;
 use std::process::Abort;
 use std::test::Fail;
 
-/// A graph of 6 vertices and 8 arcs, on lines 1 to 9.
+/// 6 vertices and 8 arcs, on lines 1 to 9.
 const GRAPH: &str =
     "p sp 6 8\na 1 2 17\na 1 3 10\na 2 4 2\na 3 5 0\na 4 3 0\na 4 6 3\na 5 2 0\na 5 6 20\n";
 
-/// A text in two pieces.
 fn joined(alloc: Global, front: &str, tail: &[u8]) -> Result<Vec<u8>, TextFault> {
     let mut text = Vec::from_slice(alloc, front.as_bytes())?;
     text.extend_from_slice(tail)?;
     Ok(text)
 }
 
-/// Returns the job of a text, or its fault.
 fn read(alloc: Global, front: &str, tail: &[u8]) -> Result<Job, TextFault> {
     let text = joined(alloc, front, tail)?;
     if text.len() > 1000 {
@@ -35,7 +33,7 @@ fn read(alloc: Global, front: &str, tail: &[u8]) -> Result<Job, TextFault> {
     read_job(alloc, &text)
 }
 
-/// Returns the job, or the fault, of a text that comes in pieces of `size` bytes.
+/// The job or fault of a text in pieces of `size` bytes.
 fn read_pieces(alloc: Global, text: &[u8], size: usize) -> Result<Job, TextFault> {
     let mut reader = JobReader::new(alloc);
     for piece in text.chunks(size.max(1)) {
@@ -65,7 +63,7 @@ fn fails(alloc: Global, front: &str, tail: &[u8], line: u64, kind: LineKind) -> 
     }
 }
 
-/// Asserts that each text, behind that front, has its first fault on that line.
+/// Asserts the first fault of each text behind that front.
 fn expect_faults(rt: &impl Abort, alloc: Global, front: &str, rows: &[(&str, u64, LineKind)]) {
     for &(tail, line, kind) in rows {
         assert!(rt; fails(alloc, front, tail.as_bytes(), line, kind), "{tail}");
@@ -150,7 +148,7 @@ const AFTER_A_GRAPH: [(&str, u64, LineKind); 32] = [
     ("p aux sp p2p 1\nq 1 6\nq 1 6\n", 12, LineKind::TooMany),
     ("p aux sp p2p 0\nq 1 6\n", 11, LineKind::TooMany),
     ("p aux sp p2p 1\nq 1 6\na 1 2 1\n", 12, LineKind::Misplaced),
-    // A second section of queries is misplaced, of whichever form and also if the first lacks some.
+    // A second section of queries is misplaced, also if the first lacks some.
     ("p aux sp p2p 0\np aux sp ss 0\n", 11, LineKind::Misplaced),
     ("p aux sp ss 1\np aux sp p2p 1\n", 11, LineKind::Misplaced),
     ("p aux sp p2p 1\np aux sp p2p 1\n", 11, LineKind::Misplaced),
@@ -181,7 +179,7 @@ const ADDED_SECTIONS: [(&str, u64, LineKind); 31] = [
         14,
         LineKind::TooMany,
     ),
-    // It comes after all queries, and queries never come after it, also if it lacks arcs.
+    // It comes after all queries, and queries never after it, also if it lacks arcs.
     ("p aux sp ss 1\np aux sp add 1\n", 11, LineKind::TooFew),
     (
         "p aux sp p2p 2\nq 1 6\np aux sp add 1\n",
@@ -207,7 +205,7 @@ const ADDED_SECTIONS: [(&str, u64, LineKind); 31] = [
     ("p aux sp add 0\np aux sp add 0\n", 11, LineKind::Misplaced),
     ("p aux sp add 1\np aux sp add 1\n", 11, LineKind::Misplaced),
     ("p aux sp add 0\np sp 1 0\n", 11, LineKind::Misplaced),
-    // After the line of a query section no arc comes before that of the added section.
+    // After a query section's line no arc comes before the added section.
     ("p aux sp ss 0\na 1 6 1\n", 11, LineKind::Misplaced),
     ("p aux sp ss 1\ns 1\na 1 6 1\n", 12, LineKind::Misplaced),
     (
@@ -222,7 +220,6 @@ fn faults_of_added_sections(rt: HostRuntime) {
     expect_faults(&rt, rt.alloc(), GRAPH, &ADDED_SECTIONS);
 }
 
-/// Asserts what a job's text asks for, and its last arc.
 fn assert_job(rt: &impl Abort, job: &Job, n: u32, last: ArcRec, sources: &[u32]) {
     assert!(rt; job.n == n && job.arcs.last().copied() == Some(last));
     let same = match &job.ask {
@@ -233,7 +230,6 @@ fn assert_job(rt: &impl Abort, job: &Job, n: u32, last: ArcRec, sources: &[u32])
     assert!(rt; same);
 }
 
-/// Asserts that a text asks for these pairs.
 fn assert_pairs(rt: &impl Abort, job: &Job, pairs: &[(u32, u32)]) {
     let same = match &job.ask {
         Ask::Pairs(given) => given.as_slice() == pairs,
@@ -262,7 +258,7 @@ fn jobs_of_pairs(rt: HostRuntime) -> Result<(), Fail> {
     Ok(())
 }
 
-/// Asserts what a job of `GRAPH` asks for, as `Debug` has it, and which arcs it adds.
+/// Asserts what a job of `GRAPH` asks, as `Debug` prints it, and its added arcs.
 fn assert_added(
     rt: &impl Abort,
     alloc: Global,
@@ -296,8 +292,7 @@ const BACK: ArcRec = ArcRec {
     weight: 0,
 };
 
-/// The text after `GRAPH`, what it asks for, and the arcs that it adds. A section of no sources or of no pairs counts
-/// as asked for.
+/// The text after `GRAPH`, its question, and its added arcs. A section without queries counts as asked for.
 const ADDING: [(&[u8], &str, &[ArcRec]); 8] = [
     (b"p aux sp add 0", "Absent", &[]),
     (b"p aux sp add 1\na 1 6 4", "Absent", &[SHORT]),
@@ -325,7 +320,6 @@ const ADDING: [(&[u8], &str, &[ArcRec]); 8] = [
     ),
 ];
 
-/// Asserts what a text that comes in pieces of `size` bytes asks for, and adds.
 fn expect_added(
     rt: &impl Abort,
     alloc: Global,
@@ -349,7 +343,7 @@ fn jobs_with_added_arcs(rt: HostRuntime) -> Result<(), Fail> {
     Ok(())
 }
 
-// The same of texts that come whole.
+// Texts that come whole.
 #[test]
 fn whole_jobs_with_added_arcs(rt: HostRuntime) -> Result<(), Fail> {
     for (tail, ask, added) in ADDING {
@@ -388,7 +382,6 @@ fn a_job_with_all_kinds_of_blanks(rt: HostRuntime) -> Result<(), Fail> {
     Ok(())
 }
 
-/// Asserts the lines that were put.
 fn expect_lines(rt: &impl Abort, out: &[u8], want: &str) {
     assert!(rt; out == want.as_bytes());
 }
@@ -424,7 +417,7 @@ fn answers(rt: HostRuntime) -> Result<(), Fail> {
     Ok(())
 }
 
-/// Lines where groups begin and end, and at the ends of what numbers there are.
+/// Lines at the ends of groups and of number ranges.
 fn put_groups(out: &mut Vec<u8>) -> Result<(), Memory> {
     put_labels(out, 268435456, &[])?;
     put_labels(out, 8, &[0, INF, 12])?;
@@ -463,7 +456,6 @@ const KINDS: [(LineKind, &str); 8] = [
     (LineKind::NoProblem, "line 1: no problem line"),
 ];
 
-/// Asserts what a fault prints.
 fn expect_text(rt: &impl Abort, alloc: Global, fault: &TextFault, want: &str) -> Result<(), Fail> {
     let text = format!(in alloc; "{fault}")?;
     assert!(rt; text.as_str() == want);

@@ -1,12 +1,11 @@
-//! Tests of explanations of wrong lines: texts beside words that were worked out by hand. Rows of all kinds of
-//! faults, as the program prints them, stand in `tests/explanations.tsv`.
+//! Explanations of wrong lines, worked by hand. Those of all faults are in `tests/explanations.tsv`.
 
 use dimacs_text::{ExplainedFault, Explanation, JobReader, LineKind, MAX_KEPT, TextFault};
 use std::alloc::Global;
 use std::process::Abort;
 use std::test::Fail;
 
-/// Returns the fault that a reader explains of a text that comes in pieces of a size.
+/// The explained fault of a text in pieces of a size.
 fn refused(alloc: Global, text: &[u8], size: usize) -> Option<ExplainedFault> {
     let mut reader = JobReader::new(alloc);
     for piece in text.chunks(size.max(1)) {
@@ -17,7 +16,6 @@ fn refused(alloc: Global, text: &[u8], size: usize) -> Option<ExplainedFault> {
     reader.finish_explained().err()
 }
 
-/// The line itself.
 fn line_of(alloc: Global, explanation: &Explanation) -> Result<String, Fail> {
     Ok(match explanation.text {
         Some(text) => format!(in alloc; "{text}")?,
@@ -25,7 +23,6 @@ fn line_of(alloc: Global, explanation: &Explanation) -> Result<String, Fail> {
     })
 }
 
-/// Returns the text of the line's place.
 fn place_of(alloc: Global, explanation: &Explanation) -> Result<String, Fail> {
     Ok(match explanation.place {
         Some(place) => format!(in alloc; "{place}")?,
@@ -33,7 +30,7 @@ fn place_of(alloc: Global, explanation: &Explanation) -> Result<String, Fail> {
     })
 }
 
-/// The line with its fields and the one that is wrong, what belongs there, and where it stands.
+/// The line with its fields and the wrong one, what belongs there, and its place.
 fn told(alloc: Global, explanation: &Explanation) -> Result<String, Fail> {
     let (line, fields, expected) = (explanation.line, explanation.fields, explanation.expected);
     let field = explanation.field.unwrap_or(0);
@@ -79,7 +76,6 @@ const EXPLAINED: [(&str, &str); 9] = [
     ),
 ];
 
-/// The explanation of a text that is refused and comes in pieces of a size.
 fn explanation_of(rt: &impl Abort, alloc: Global, text: &[u8], size: usize) -> Explanation {
     let refused = refused(alloc, text, size);
     let explanation = refused.and_then(|refused| refused.explanation);
@@ -129,7 +125,7 @@ fn fault_of_a_long_line(rt: HostRuntime) -> Result<(), Fail> {
     Ok(())
 }
 
-/// Asserts that of the line the first bytes are kept, and its length.
+/// Asserts that the line's first bytes and its length are kept.
 fn expect_beginning(rt: &impl Abort, alloc: Global, explanation: &Explanation) -> Result<(), Fail> {
     assert!(rt; explanation.line == 2 && explanation.kind == LineKind::Unknown);
     let line = explanation.text.expect(rt, "a line");

@@ -1,4 +1,4 @@
-//! Labels as bytes, and what labels come to.
+//! Raw labels and totals.
 
 use answer_lines::{Totals, put_raw, put_totals};
 use route_walks::{INF, Memory};
@@ -6,7 +6,7 @@ use std::alloc::Global;
 use std::process::Abort;
 use std::test::Fail;
 
-// Of each row the labels, and the line of what they come to, from vertex 8.
+// The labels, and their totals from vertex 8.
 const TOTALS: [(&[u64], &str); 8] = [
     (&[0], "t 8 1 0 0 1\n"),
     (&[INF, 0, INF], "t 8 1 0 0 2\n"),
@@ -28,7 +28,6 @@ const TOTALS: [(&[u64], &str); 8] = [
     (&[INF, INF], "t 8 0 0 0 3\n"),
 ];
 
-/// Puts the line of what labels come to.
 fn put_totals_of(rt: &impl Abort, alloc: Global, labels: &[u64]) -> Result<Vec<u8>, Memory> {
     assert!(rt; labels.len() < 100);
     let mut out = Vec::new(alloc);
@@ -54,7 +53,7 @@ const MANY: [u64; 300] = [INF - 1; 300];
 
 const WORD: &[u8] = b"\xfe\xff\xff\xff\xff\xff\xff\xff";
 
-// Also if labels are more than one group.
+// Also more labels than a group.
 #[test]
 fn raw_labels(rt: HostRuntime) -> Result<(), Fail> {
     let mut out = Vec::new(rt.alloc());

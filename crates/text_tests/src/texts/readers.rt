@@ -1,4 +1,4 @@
-//! Tests of jobs that come from a reader: what its text gives, what a watch sees, and what is left.
+//! Jobs from a reader: what its text gives, a watch sees, and is left.
 
 use dimacs_text::{Explanation, JobReader, LineKind};
 use job_reader::{ReadFault, ReadWatch, read_arcs_from, read_job_from};
@@ -44,7 +44,6 @@ const ALL: Told = Told {
     faults: 0,
 };
 
-/// Asserts the job, what the watch sees, and that nothing is left.
 fn expect_one_arc<H: Threads + Clock + Abort + Sync>(
     rt: &H,
     alloc: Global,
@@ -70,7 +69,7 @@ const UNKNOWN: ReadFault = ReadFault::Text {
     kind: LineKind::Unknown,
 };
 
-// Of each row the text, the limit, the fault, how many bytes are left, and how many faults the watch has seen.
+// The text, the limit, the fault, the bytes left, and the faults that the watch has seen.
 const REFUSED: [(&[u8], u64, ReadFault, usize, u32); 4] = [
     (ONE_ARC, 16, ReadFault::TooLong, 0, 0),
     (ONE_ARC, 3, ReadFault::TooLong, 13, 0),
@@ -89,7 +88,7 @@ fn readers_without_a_job(rt: HostRuntime) {
     }
 }
 
-// Of each row a front of a graph, the limit, how many threads there are, and how many of the next 16 bytes they read.
+// A front of a graph, the limit, the threads, and how many of the next 16 bytes they read.
 const READ_ON: [(&[u8], usize, usize, usize); 7] = [
     (b"p sp 2 200000\n", 100, 4, 16),
     (b"p sp 2 200000\n", 10, 4, 10),

@@ -1,6 +1,5 @@
-//! Each call that takes memory, with one allocation of it refused. It gives `Memory` then, with the vector as it was,
-//! and made once more it gives the job, the fault or the bytes that were worked by hand. `tests/refusals` refuses each
-//! in turn; `tests/refusals.tsv` has the calls.
+//! Each call with one allocation refused: `Memory` with the vector as it was, and made once more what was worked by
+//! hand.
 
 ghost use Rattle.std.specs.Prelude.{◌<◌, length};
 ghost use Rattle.dimacs_text.specs.Reading.{IsReadAhead};
@@ -25,16 +24,15 @@ use std::test::Fail;
 use std::thread::Threads;
 use std::time::Clock;
 
-// What stands in a vector before a call puts its lines there.
+// The vector before a call.
 const FRONT: &[u8] = b"c\n";
 
-// Sources and an added arc, for the graph of 6 vertices.
+// Sources and an added arc, for 6 vertices.
 const QUERIES: &[u8] = b"p aux sp ss 3\ns 3\ns 5\ns 3\np aux sp add 1\na 1 6 4";
 
 // More vertices than a walk's line has room for at first.
 const WALK: [u32; 12] = [0, 2, 4, 1, 3, 5, 3, 2, 4, 1, 3, 5];
 
-// A line that is put into a vector.
 #[derive(Clone, Copy)]
 enum Line {
     Source,
@@ -51,7 +49,6 @@ enum Line {
     Totals,
 }
 
-// What a line of totals says.
 const TOTALS: Totals = Totals {
     reached: 6,
     sum: 57,
@@ -76,7 +73,7 @@ fn put(out: &mut Vec<u8>, line: Line) -> Result<(), Memory> {
     }
 }
 
-// Asserts the outcome of a line that is put into a vector without room, or of the vector as it was and then the line.
+// Asserts the outcome of a line in a vector without room: the vector as it was, and then the line.
 fn expect_put(rt: &impl Abort, alloc: Global, line: Line, want: &str) -> Result<(), Fail> {
     let mut out = Vec::from_slice(alloc, FRONT)?;
     if let Err(Memory) = refusable!(alloc, put(&mut out, line)) {
@@ -87,13 +84,11 @@ fn expect_put(rt: &impl Abort, alloc: Global, line: Line, want: &str) -> Result<
     Ok(())
 }
 
-// Hands a reader a text in two pieces.
 fn feed_both(reader: &mut JobReader, front: &[u8], back: &[u8]) -> Result<(), Memory> {
     reader.feed(front)?;
     reader.feed(back)
 }
 
-// What gives the job of a text.
 #[derive(Clone, Copy)]
 enum Read {
     Text,
@@ -102,7 +97,6 @@ enum Read {
     Reader,
 }
 
-// A reader that was fed a text.
 fn fed(alloc: Global, text: &[u8]) -> Result<JobReader, Memory> {
     let mut reader = JobReader::new(alloc);
     reader.feed(text)?;
@@ -128,7 +122,7 @@ fn explained(alloc: Global, text: &[u8]) -> Result<Job, ExplainedFault> {
     }
 }
 
-// The job of a text, or whether the fault is that memory was refused.
+// The job of a text, or true if memory was refused.
 fn job_by<H: Threads + Clock + Sync>(
     rt: &H,
     alloc: Global,
@@ -148,7 +142,6 @@ fn job_by<H: Threads + Clock + Sync>(
     }
 }
 
-// The job of a text, read once more if memory was refused.
 fn read_again<H: Threads + Clock + Abort + Sync>(
     rt: &H,
     alloc: Global,
@@ -174,7 +167,6 @@ fn of_read_job(rt: HostRuntime) -> Result<(), Fail> {
 }
 
 // After a refusal nothing is known of the reader: the text goes to another one.
-// The job of a text in two pieces, by another reader if memory was refused.
 fn fed_again(rt: &impl Abort, alloc: Global, text: &[u8], cut: usize) -> Result<(), Fail> {
     let (front, back) = text.split_at(text.len().min(cut));
     let mut reader = JobReader::new(alloc);
@@ -195,14 +187,13 @@ fn of_job_reader_feed(rt: HostRuntime) -> Result<(), Fail> {
     Ok(())
 }
 
-// Asserts that the reader, which was fed a large text, gives its job.
 fn expect_large(rt: &impl Abort, reader: JobReader) -> Result<(), Fail> {
     let job = reader.finish()?;
     assert_job(rt, &job, 5000, ArcRec::new(999, 1993, 5999), &[4999]);
     Ok(())
 }
 
-// Reads ahead in the text: two threads, and what they leave this one.
+// Reads ahead in the text by two threads and this one.
 fn read_ahead(rt: &(impl Threads + Sync), ahead: &mut ReadAhead, text: &[u8])
     ensures { IsReadAhead text.now ahead.new }
 {
@@ -213,7 +204,7 @@ fn read_ahead(rt: &(impl Threads + Sync), ahead: &mut ReadAhead, text: &[u8])
     ahead.another.read(parts);
 }
 
-// If reading ahead is refused memory, one thread reads all lines.
+// If that is refused memory, one thread reads all lines.
 #[test]
 fn of_read_side_by_side(rt: HostRuntime) -> Result<(), Fail> {
     let alloc = rt.alloc();
@@ -225,7 +216,7 @@ fn of_read_side_by_side(rt: HostRuntime) -> Result<(), Fail> {
     expect_large(&rt, reader)
 }
 
-// If a run is refused memory its lines are read one by one; else as above.
+// If a run is refused memory its lines are read one by one.
 #[test]
 fn of_job_reader_feed_with(rt: HostRuntime) -> Result<(), Fail> {
     let alloc = rt.alloc();
@@ -252,7 +243,6 @@ fn of_read_ahead_new(rt: HostRuntime) -> Result<(), Fail> {
     Ok(())
 }
 
-// Asserts the job of a text of one arc.
 fn expect_one_arc<H: Threads + Clock + Abort + Sync>(
     rt: &H,
     alloc: Global,
@@ -264,7 +254,7 @@ fn expect_one_arc<H: Threads + Clock + Abort + Sync>(
     Ok(())
 }
 
-// The last line of an arc has no end.
+// The last line has no end.
 const UNENDED: &[u8] = b"p sp 2 1\na 1 2 7";
 
 #[test]
@@ -322,7 +312,7 @@ fn of_read_job_from(rt: HostRuntime) -> Result<(), Fail> {
     expect_one_arc(&rt, rt.alloc(), ONE_ARC, Read::Reader)
 }
 
-// What was read of a graph of many arcs, of which one comes, and how many bytes of it several threads read.
+// The read bytes of a graph of which one arc comes, by several threads.
 fn read_on<H: Threads + Clock + Sync>(
     rt: &H,
     alloc: Global,
@@ -412,7 +402,6 @@ fn of_put_totals(rt: HostRuntime) -> Result<(), Fail> {
     expect_put(&rt, rt.alloc(), Line::Totals, "c\nt 1 6 57 15 6\n")
 }
 
-// A section of one source, by another draft if memory was refused.
 fn drafted(alloc: Global, vertices: u32) -> Result<RequestDraft, TextFault> {
     let mut draft = refusable!(alloc, RequestDraft::new(alloc, vertices));
     draft.read(b"p aux sp ss 1", 10)?;

@@ -1,11 +1,11 @@
-//! A large text, which several threads read ahead, and how many of its arcs have come.
+//! A large text, which several threads read ahead.
 
 use dimacs_text::JobReader;
 use std::alloc::{AllocError, Global};
 use std::process::Abort;
 use std::test::Fail;
 
-/// Arcs of a text. It has some 80 KB, which are five parts at most.
+/// The arcs of a text of some 80 KB, at most five parts.
 const ARCS: u32 = 6000;
 
 /// A text of many arcs, with other bytes in front of one of them.
@@ -23,7 +23,6 @@ pub fn large(alloc: Global, place: u32, odd: &[u8]) -> Result<Vec<u8>, AllocErro
     Ok(text)
 }
 
-/// Asserts how many arcs came, of how many, and what vertices of arcs to come count to.
 fn expect_count(
     rt: &impl Abort,
     reader: &JobReader,
