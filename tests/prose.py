@@ -20,7 +20,7 @@ from collections import defaultdict
 from pathlib import Path
 
 ALLOWED = Path("tests/prose.tsv")
-DOCUMENTS = ["*.md", "docs/**/*.md", "bench/**/*.md", "tests/*.md", "python/*.md"]
+DOCUMENTS = ["*.md", "docs/**/*.md", "bench/**/*.md", "tests/*.md", "python/*.md", "crates/*/CALLING.md"]
 MOST_WORDS = {"sentences": 30, "paragraphs": 90}
 
 OPENING = re.compile(r"(What|Which|Who|Whom|Whose|When|Where|Why|How|Whether|The same)\b")
