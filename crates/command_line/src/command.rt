@@ -10,8 +10,8 @@ use crate::values::{AT_ONCE, CHUNK, KINDS, LABELS, SHIFT, WORKERS};
 use clap::{Arg, ArgAction, Command};
 use std::alloc::{AllocError, Global};
 
-/// The version that `--version` prints.
-const VERSION: &str = "0.1.0";
+/// The version that `--version` prints: that of `python/pyproject.toml`.
+const VERSION: &str = "0.2.0";
 
 const USAGE: &str = "obim_query [OPTIONS] < JOB";
 

@@ -39,4 +39,4 @@ try:
     # Packages say of which commit they were made; a clone has git.
     from ._build import COMMIT as __commit__, VERSION as __version__
 except ImportError:
-    __commit__, __version__ = None, "0.1.0"
+    __commit__, __version__ = None, "0.2.0"
