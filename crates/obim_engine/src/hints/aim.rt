@@ -1,10 +1,7 @@
 //! The aim of a worker: the label past which nothing is wanted.
 //!
-//! A worker looks at the labels of targets now and then. Until each has one, no label is compared with a limit. From
-//! then on vertices past the greatest are left alone and stay marked.
-//!
-//! A worker without a vertex leaves if no other is at work below the limit. Marks that are left show if the wanted
-//! labels are least.
+//! Until each target has a label, no label is compared with a limit. From then on vertices past the greatest are left
+//! alone and stay marked. A worker without a vertex leaves if no other is at work below the limit.
 
 ghost use Rattle.std.specs.Prelude.{◌≡◌, ◌≢◌, ◌<◌, true};
 ghost use Rattle.obim_engine.specs.declared.goal.Goal.TheVariants as goal;

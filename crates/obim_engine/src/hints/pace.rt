@@ -1,7 +1,7 @@
 //! The pace of workers.
 //!
-//! If the system takes the processor of a worker that holds the lowest labels, all that others do falls again later. So
-//! each worker shows the bucket that it visits, and one that is far ahead naps now and then.
+//! If the system takes the processor of a worker with the lowest labels, all that others do falls again. So each shows
+//! the bucket that it visits, and one that is far ahead naps.
 
 ghost use Rattle.std.specs.Prelude.{◌≡◌, ◌<◌, false};
 

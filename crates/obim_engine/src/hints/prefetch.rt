@@ -6,8 +6,8 @@ use crate::shared::Shared;
 use label_words::WorkSeat;
 use obim_pool::WorkPool;
 
-/// Loads what the next two vertices of the pool need: of the first its first arc, of the second its words and the place
-/// of its row. So they come from memory together.
+/// Loads what the next two vertices of the pool need, side by side: of the first its first arc, of the second its words
+/// and the place of its row.
 #[inline(always)]
 pub(crate) fn prefetch<P: WorkPool, G>(
     shared: &Shared<'_, P, G>,
