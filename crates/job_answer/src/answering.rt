@@ -182,8 +182,8 @@ fn count_sources(pairs: &[(u32, u32)]) -> usize {
     count
 }
 
-/// Writes the answer to a question, as to a job of that graph, and flushes the writer once. It takes what is kept from
-/// one question to the next, and returns it.
+/// Writes the answer to a question, as to a job of that graph, and flushes the writer once; at a fault a prefix was
+/// written. It takes what is kept from one question to the next, and returns it.
 pub fn answer_question<H: Threads + Wait + Clock + Sync, W: Write, G: Gate + Sync>(
     context: &Context<'_, H, G>,
     writer: &mut W,

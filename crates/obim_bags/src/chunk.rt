@@ -89,7 +89,7 @@ impl Chunk {
         self.vertices.len()
     }
 
-    /// Puts `v` last.
+    /// Puts `v` last; `Full` at the chunk's size.
     pub fn push(&mut self, v: u32) -> Result<(), Full>
         ensures last { OnOk result (self.new ≡ with_vertices (self.old.vertices ++ v ∷ []) self.old) }
         ensures full { OnErr result (length self.old.vertices ≡ self.old.size) }

@@ -88,7 +88,7 @@ impl BagLog {
     }
 
     /// The place of the metric's bag. If the mirror has it, there is no wait. Otherwise the mirror catches up, and a
-    /// missing bag is appended.
+    /// missing bag is appended. It is refused without memory, or once a drain took this worker's passes.
     pub fn find_or_append<R: Wait>(
         &self,
         rt: &R,

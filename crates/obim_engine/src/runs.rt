@@ -30,7 +30,7 @@ use std::time::Clock;
 /// The reason why a run gives no labels. Sides stay sides of the pool.
 #[derive(Clone, Copy, Debug, PartialEq, Eq)]
 pub enum RunFault {
-    /// The system refused memory.
+    /// The system refused memory, before workers started or at the end.
     Memory,
     /// The system refused a thread. No run returns it: workers without a thread run on the one that wanted it.
     Spawn,
