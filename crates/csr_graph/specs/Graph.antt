@@ -1,5 +1,5 @@
--- A directed graph as a number of vertices and a list of arcs, and its rows. (Compressed sparse rows
--- are those of Saad, Iterative Methods for Sparse Linear Systems, 3.4, with arcs for entries.)
+-- A directed graph as a number of vertices and a list of arcs, and its rows (as in Saad, Iterative Methods for Sparse
+-- Linear Systems, 3.4, with arcs for entries).
 use Rattle.std.specs.Prelude.{◌≡◌, ℕ, ◌+◌, ◌<◌, ◌≤◌, ◌==◌, nat_lt, List, length}
 use Rattle.std.specs.Prelude.{map, filter, count_by, slice_get, Some, AllPairs}
 use Rattle.route_walks.specs.declared.graph.ArcRec.{ArcRec}
@@ -28,7 +28,7 @@ arc_to tail target = record { tail = tail; head = target.head; weight = target.w
 abbrev pub targets_of : List ArcRec → ℕ → List Target
 targets_of arcs u = map target_of (row_of arcs u)
 
--- where u's row begins when arcs stand by rising tail: how many arcs leave lower vertices
+-- where u's row begins if arcs are by rising tail: how many arcs leave lower vertices
 abbrev pub first_place : List ArcRec → ℕ → ℕ
 first_place arcs u = count_by (λ arc. nat_lt arc.tail u) arcs
 
@@ -52,8 +52,7 @@ turned_arc arc = record { tail = arc.head; head = arc.tail; weight = arc.weight 
 abbrev pub turned : List ArcRec → List ArcRec
 turned arcs = map turned_arc arcs
 
--- a graph in rows: the arcs' ends are vertices, the arcs stand by rising tail, and both counts are
--- within their limits
+-- a graph in rows: the arcs' ends are vertices, arcs are by rising tail, and both counts are within their limits
 pub record IsInRows (graph : Graph) : Type 0 where
   pub ends : IsGraph graph.n graph.arcs
   pub by_tail : AreByTail graph.arcs

@@ -20,7 +20,7 @@ arcs_for answer.Distances arcs = arcs
 arcs_for answer.Levels arcs = unit_weights arcs
 arcs_for answer.Components arcs = both_ways arcs
 
--- the line of the printed walk to a vertex, where a walk leads to it
+-- the line of the printed walk to a vertex, if a walk leads there
 abbrev pub walk_line : (ℕ → ℕ) → (ℕ → ℕ) → ℕ → ℕ → List ℕ
 walk_line hop parent v label = if label == INF then [] else walk_text label (printed_walk parent (hop v) v)
 
@@ -86,7 +86,7 @@ abbrev pub IsPairBlock : Bool → ℕ → List ArcRec → ℕ × ℕ → List �
 IsPairBlock true n arcs pair text = IsWalkedPair n arcs pair text
 IsPairBlock false n arcs pair text = IsPairLine n arcs pair text
 
--- a block for each query, in their order, where a relation says which text is a query's block
+-- a block for each query, in order, by a relation of a query and its block
 abbrev pub AreBlocks : {Query : Type 0} → (Query → List ℕ → Type 0) → List Query → List ℕ → Type 0
 AreBlocks IsBlockOf [] text = text ≡ []
 AreBlocks IsBlockOf (query ∷ queries) text =
@@ -96,12 +96,12 @@ AreBlocks IsBlockOf (query ∷ queries) text =
     × AreBlocks IsBlockOf queries rest
     × (text ≡ block ++ rest)
 
--- the graph of a job after its added arcs: how many were added, and all arcs
+-- a job's graph after its added arcs: how many, and all arcs
 pub record Growth : Type 0 where
   pub count : ℕ
   pub arcs : List ArcRec
 
--- the text of the arcs before, the line of how many were added, and the text of all arcs
+-- the text of the arcs before, the line of how many are added, and the text of all arcs
 pub record AreBothTexts (IsTextOf : List ArcRec → List ℕ → Type 0) (arcs : List ArcRec) (growth : Growth)
     (text : List ℕ) : Type 0 where
   pub before : List ℕ
@@ -110,16 +110,16 @@ pub record AreBothTexts (IsTextOf : List ArcRec → List ℕ → Type 0) (arcs :
   pub second : IsTextOf growth.arcs after
   pub written : text ≡ before ++ grown_text growth.count ++ after
 
--- where a relation says which text is that of a graph's arcs: that text, and where the graph grows both
+-- the text of a graph's arcs; if the graph grows, both
 abbrev pub IsGrownText : (List ArcRec → List ℕ → Type 0) → List ArcRec → Option Growth → List ℕ → Type 0
 IsGrownText IsTextOf arcs None text = IsTextOf arcs text
 IsGrownText IsTextOf arcs (Some growth) text = AreBothTexts IsTextOf arcs growth text
 
--- the lines of one source, in the graph and after it grows
+-- the lines of a source, in the graph and after it grows
 abbrev pub IsGrownBlock : Bool → ℕ → List ArcRec → Option Growth → ℕ → List ℕ → Type 0
 IsGrownBlock walks n arcs growth source text = IsGrownText (λ along. IsBlock walks n along source) arcs growth text
 
--- the lines of one pair, in the graph and after it grows
+-- the lines of a pair, in the graph and after it grows
 abbrev pub IsGrownPair : Bool → ℕ → List ArcRec → Option Growth → ℕ × ℕ → List ℕ → Type 0
 IsGrownPair walks n arcs growth pair text = IsGrownText (λ along. IsPairBlock walks n along pair) arcs growth text
 
@@ -131,37 +131,36 @@ AreSourceBlocks walks n arcs growth sources text = AreBlocks (IsGrownBlock walks
 abbrev pub ArePairBlocks : Bool → ℕ → List ArcRec → Option Growth → List (ℕ × ℕ) → List ℕ → Type 0
 ArePairBlocks walks n arcs growth pairs text = AreBlocks (IsGrownPair walks n arcs growth) pairs text
 
--- the answer to what is asked; without a section of queries there is none
+-- the answer to what is asked; none without a section of queries
 abbrev pub AreAskedBlocks : Bool → ℕ → List ArcRec → Option Growth → Question → List ℕ → Type 0
 AreAskedBlocks walks n arcs growth absent text = ⊥
 AreAskedBlocks walks n arcs growth (from_sources sources) text = AreSourceBlocks walks n arcs growth sources text
 AreAskedBlocks walks n arcs growth (of_pairs pairs) text = ArePairBlocks walks n arcs growth pairs text
 
--- the lines of the components: the least labels from all vertices, along arcs that stand both ways and free
+-- the lines of the components: the least labels from all vertices, along arcs both ways and free
 pub record IsComponentsBlock (n : ℕ) (arcs : List ArcRec) (text : List ℕ) : Type 0 where
   pub labels : List ℕ
   pub least : AreLeastLabels n arcs (seeds_all n) labels
   pub written : text ≡ components_text labels
 
--- how a graph of these arcs grows by the added ones, in the arcs that are made of a list of arcs
+-- how a graph grows by the added arcs, in the arcs that are made of a list
 abbrev pub growth_from : (List ArcRec → List ArcRec) → List ArcRec → Option (List ArcRec) → Option Growth
 growth_from along arcs added =
     option_map (λ more. record { count = length more; arcs = along (arcs ++ more) }) added
 
--- how a job's graph grows, in the arcs along which an answer's labels are least
+-- how a job's graph grows, in the arcs of an answer
 abbrev pub growth_for : Answer → Content → Option Growth
 growth_for kind job = growth_from (arcs_for kind) job.arcs job.added
 
--- the text of an answer kind, for the graph in which its labels are least: distances and levels answer what
--- is asked, and components ask nothing
+-- the text of an answer kind: distances and levels answer what is asked, and components ask nothing
 abbrev pub IsTextFor : Answer → Bool → ℕ → List ArcRec → Option Growth → Question → List ℕ → Type 0
 IsTextFor answer.Distances walks n arcs growth question text = AreAskedBlocks walks n arcs growth question text
 IsTextFor answer.Levels walks n arcs growth question text = AreAskedBlocks walks n arcs growth question text
 IsTextFor answer.Components walks n arcs growth question text = IsGrownText (IsComponentsBlock n) arcs growth text
 
--- the text answers the job: distances along its arcs or hop levels along the same arcs of weight 1, with
--- their walks or without; or components along its arcs both ways and free; and after each block, where the
--- job adds arcs, how many, and the same block with them
+-- the text answers the job: distances along its arcs, hop levels along the same arcs of weight 1, with walks or
+-- without, or components along its arcs both ways and free; after each block, if the job adds arcs, how many, and the
+-- same block with them
 abbrev pub IsAnswerText : Answer → Bool → Content → List ℕ → Type 0
 IsAnswerText kind walks job text =
     IsTextFor kind walks job.n (arcs_for kind job.arcs) (growth_for kind job) job.question text
@@ -178,7 +177,7 @@ IsOneText IsText =
 abbrev pub IsOneBlock : {Query : Type 0} → (Query → List ℕ → Type 0) → Type 0
 IsOneBlock {Query} IsBlockOf = (query : Query) → IsOneText (IsBlockOf query)
 
--- a source has only one block of a kind, and so have a pair and the components
+-- a source has only one block of a kind, and so have a pair and components
 abbrev pub BlocksAreUnique : Type 0
 BlocksAreUnique =
     (walks : Bool) (n : ℕ) (arcs : List ArcRec) (growth : Option Growth)

@@ -2,7 +2,7 @@
 use Rattle.std.specs.Prelude.{◌≡◌, ℕ, List, ◌++◌, Option}
 use Rattle.std.specs.Io.KnownBytes.{Appends}
 
--- some bytes begin a text: it is those bytes and what is left of it
+-- some bytes begin a text
 abbrev pub IsPrefix : List ℕ → List ℕ → Type 0
 IsPrefix bytes text = (left : List ℕ) × (text ≡ bytes ++ left)
 

@@ -1,4 +1,4 @@
--- What an answer says of each vertex: by walks and paths alone, with no labels and no seeds.
+-- What an answer says of each vertex: by walks and paths alone, without labels and seeds.
 use Rattle.std.specs.Prelude.{◌≡◌, ◌≢◌, ℕ, zero, suc, ◌+◌, ◌≤◌, Bool, false, List, [], ◌∷◌, ◌++◌}
 use Rattle.std.specs.Prelude.{codes, decimal, length, map}
 use Rattle.route_walks.specs.declared.graph.ArcRec.{ArcRec}
@@ -10,7 +10,7 @@ use Rattle.job_answer.specs.AnswerText.{AreBlocks, IsAnswerText, IsGrownText, ar
 use Rattle.job_answer.specs.declared.asked.Answer.{Answer}
 use Rattle.job_answer.specs.declared.asked.Answer.TheVariants.{Components}
 
--- the text of the cost from the source to v: 'inf' if there is no walk at all, else what the cheapest costs
+-- the text of the cost from the source to v: 'inf' if there is no walk, else what the cheapest costs
 pub data IsCostText (arcs : List ArcRec) (source v : ℕ) (text : List ℕ) : Type 0 where
   unreached : text ≡ codes "inf"
       → ((walk : List ArcRec) → ¬ (IsWalk arcs source walk v))
@@ -21,8 +21,8 @@ pub data IsCostText (arcs : List ArcRec) (source v : ℕ) (text : List ℕ) : Ty
       → text ≡ decimal (cost cheapest)
       → IsCostText arcs source v text
 
--- the line of the walk from the source to v: nothing where walks aren't asked for, or where there is none at
--- all; else the vertices of a cheapest walk, which has the fewest arcs of all that cost no more
+-- the line of the walk from the source to v: nothing if walks aren't asked for or there is none; else the vertices of a
+-- cheapest walk with the fewest arcs
 pub data IsWalkLine (walks : Bool) (arcs : List ArcRec) (source v : ℕ) (text : List ℕ) : Type 0 where
   unasked : walks ≡ false
       → text ≡ []
@@ -37,7 +37,7 @@ pub data IsWalkLine (walks : Bool) (arcs : List ArcRec) (source v : ℕ) (text :
       → text ≡ walk_text (cost walk) (source ∷ map (λ arc. arc.head) walk)
       → IsWalkLine walks arcs source v text
 
--- the lines of `count` vertices from v on: 'd V COST' for each, and after it perhaps that of a walk
+-- the lines of `count` vertices from v on: 'd V COST' for each, and perhaps that of a walk
 abbrev pub AreCostLines : Bool → List ArcRec → ℕ → ℕ → ℕ → List ℕ → Type 0
 AreCostLines walks arcs source v zero text = text ≡ []
 AreCostLines walks arcs source v (suc count) text =
@@ -56,8 +56,8 @@ SaysCosts walks n arcs source block =
     × AreCostLines walks arcs source 0 n lines
     × (block ≡ source_text source ++ lines)
 
--- the blocks of distances and levels say the costs from the sources of the job along its arcs, where each
--- counts 1 for levels; and where the job adds arcs, after each block the costs along all arcs
+-- the blocks of distances and levels say the costs from the job's sources along its arcs, where each counts 1 for
+-- levels; if the job adds arcs, after each block the costs along all arcs
 abbrev pub AnswersSayCosts : Type 0
 AnswersSayCosts =
     (kind : Answer) (walks : Bool) (job : Content) (sources text : List ℕ)
@@ -90,7 +90,7 @@ AnswersSayPairCosts =
     (λ pair. IsGrownText (λ arcs. SaysPairCost walks arcs pair) (arcs_for kind job.arcs) (growth_for kind job))
     pairs text
 
--- the lines of `count` vertices from v on: 'k V LABEL' for each, of the least vertex connected with it
+-- the lines of `count` vertices from v on: 'k V LABEL', of the least vertex connected with each
 abbrev pub AreComponentLines : List ArcRec → ℕ → ℕ → List ℕ → Type 0
 AreComponentLines arcs v zero text = text ≡ []
 AreComponentLines arcs v (suc count) text =
@@ -100,8 +100,8 @@ AreComponentLines arcs v (suc count) text =
     × AreComponentLines arcs (v + 1) count rest
     × (text ≡ component_text v least ++ rest)
 
--- the lines of components say the least vertex that is connected with each one along the job's arcs, and
--- where arcs are added, after them along all arcs
+-- the lines of components say the least vertex connected along the job's arcs; if arcs are added, after them along all
+-- arcs
 abbrev pub AnswersSayComponents : Type 0
 AnswersSayComponents =
     (walks : Bool) (job : Content) (text : List ℕ)

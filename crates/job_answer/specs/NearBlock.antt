@@ -9,8 +9,8 @@ use Rattle.job_answer.specs.declared.asked.Lines.{Lines}
 use Rattle.job_answer.specs.declared.asked.Lines.TheVariants as lines
 use Rattle.job_answer.specs.declared.near_block.NearBlock.{NearBlock}
 
--- a list for the block of a start: that of a source by lines within a bound, without walks. It has the vertices that cost
--- at most the bound from the source, each with its label
+-- a list for the block of a source by lines within a bound, without walks: the vertices that cost at most the bound,
+-- each with its label
 pub record IsNearBlock (by : Lines) (from : Start) (net : NetworkSeen) (near : NearBlock) : Type 0 where
   pub bound : ℕ
   pub lines_are : by ≡ lines.Within false bound

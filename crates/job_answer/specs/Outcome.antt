@@ -14,14 +14,14 @@ use Rattle.job_reader.specs.Taken.{TakesAtMost, TakesOneMore}
 use Rattle.job_answer.specs.Bytes.{Writes, WritesPrefix}
 use Rattle.job_answer.specs.Within.{HasNoSources, IsAnswerTextBy}
 
--- the whole text was taken, it is a job's, and the job's answer was written and nothing else
+-- the whole text was taken, it is a job's, and exactly the job's answer was written
 pub record IsAnsweredBy (limit : ℕ) (kind : Answer) (lines : Lines)
     (taken_from taken_to given_from given_to : Option (List ℕ)) : Type 0 where
   pub job : Content
   pub request : IsRequest limit taken_from taken_to job
   pub reply : Writes (IsAnswerTextBy kind lines job) given_from given_to
 
--- without a section of queries nothing is asked, but for components, which need none
+-- without a section of queries nothing is asked, but for components
 abbrev pub is_unasked : Answer → Question → Bool
 is_unasked answer.Distances absent = true
 is_unasked answer.Distances (from_sources sources) = false
@@ -31,20 +31,19 @@ is_unasked answer.Levels (from_sources sources) = false
 is_unasked answer.Levels (of_pairs pairs) = false
 is_unasked answer.Components question = false
 
--- the job has no section of queries, and only components need none
+-- the job has no section of queries, and isn't asked for components
 pub record IsUnasked (kind : Answer) (job : Content) : Type 0 where
   pub unasked : job.question ≡ absent
   pub needed : kind ≢ answer.Components
 
--- the job is asked, so it has an answer, and a prefix of that was written and nothing else
+-- the job is asked, and exactly a prefix of its answer was written
 pub record IsReplyBegun (kind : Answer) (lines : Lines) (job : Content)
     (before after : Option (List ℕ)) : Type 0 where
   pub asked : ¬ (IsUnasked kind job)
   pub has_sources : ¬ (HasNoSources kind lines job.question)
   pub cut : WritesPrefix (IsAnswerTextBy kind lines job) before after
 
--- the whole text was taken, it is a job's that is asked, and a prefix of its answer was written and
--- nothing else
+-- the whole text was taken, it is a job's that is asked, and exactly a prefix of its answer was written
 pub record IsBegunBy (limit : ℕ) (kind : Answer) (lines : Lines)
     (taken_from taken_to given_from given_to : Option (List ℕ)) : Type 0 where
   pub job : Content
@@ -82,8 +81,8 @@ pub record IsTextOfPairs (kind : Answer) (lines : Lines) (text : List ℕ) : Typ
   pub is_job : IsJobText text job
   pub pairs : HasNoSources kind lines job.question
 
--- What is so once a call has ended with a fault: how much of the text was taken, what the fault says of the text,
--- and what was written of the answer.
+-- What is so after a fault: how much of the text was taken, what the fault says of it, and what was written of the
+-- answer.
 pub record FaultRow : Type 1 where
   pub taken : Type 0
   pub says : Type 0
@@ -109,8 +108,8 @@ module _ (limit : ℕ) (kind : Answer) (lines : Lines)
   abbrev pub HasBegun : Type 0
   HasBegun = IsBegunBy limit kind lines taken_from taken_to given_from given_to
 
-  -- The table of the faults. A fault of the text is its first one, and where nothing is asked the job is legal all the
-  -- same. Once the job is read, a prefix of its answer was written; memory may be refused before that too.
+  -- The table of the faults. A fault of the text is its first one; if nothing is asked the job is legal all the same.
+  -- Once the job is read, a prefix of its answer was written; memory may be refused before that too.
   abbrev pub row_of : Fault → FaultRow
   row_of fault.TooLong = refused_row fault.TooLong ⊤
   row_of (fault.Text line what) = refused_row (fault.Text line what) (IsFaulty taken_from taken_to line what)
@@ -146,9 +145,9 @@ IsWritingFault fault.Spawn = ⊤
 IsWritingFault fault.Write = ⊤
 IsWritingFault _ = ⊥
 
--- What is so after each fault of answering a job that was read. NoAsk: the job asks for nothing, and nothing was
--- written. NoSources: it has pairs, a bound asks for sources, and nothing was written. After a fault of the system a
--- prefix of the answer was written. There is no other fault.
+-- What is so after each fault of answering a job that was read. NoAsk: the job asks for nothing. NoSources: it has
+-- pairs, and a bound asks for sources. Nothing was written then. After a fault of the system a prefix of the answer was
+-- written. There is no other fault.
 abbrev pub IsReplyFault : Answer → Lines → Content → Option (List ℕ) → Option (List ℕ) → Fault → Type 0
 IsReplyFault kind lines job before after fault.NoAsk = IsUnasked kind job × Keeps before after
 IsReplyFault kind lines job before after fault.NoSources = HasNoSources kind lines job.question × Keeps before after

@@ -10,8 +10,7 @@ use Rattle.job_answer.specs.Within.{IsAnswerTextBy}
 abbrev pub with_question : Content → Question → Content
 with_question job question = record job { question = question }
 
--- the answers of two parts by some lines, one after the other, are the answer by the same lines of the job with the
--- queries of both
+-- the answers of two parts, one after the other, are the answer by the same lines of the job with the queries of both
 abbrev pub DoPartsJoin : {Query : Type 0} → Answer → Lines → Content → (List Query → Question) → Type 0
 DoPartsJoin {Query} kind lines job ask =
     (first second : List Query) (text more : List ℕ)

@@ -22,7 +22,7 @@ pub record IsTotalsBlock (n : ℕ) (arcs : List ArcRec) (source : ℕ) (text : L
 
 -- ---- what they say
 
--- along the same arcs a source's block of bytes has the labels that its block of lines has, and they are the least
+-- a source's block of bytes has the least labels of its block of lines
 abbrev pub RawLabelsSayTheSame : Type 0
 RawLabelsSayTheSame =
     (n : ℕ) (arcs : List ArcRec) (source : ℕ) (raw text : List ℕ)
@@ -33,7 +33,7 @@ RawLabelsSayTheSame =
     × (raw ≡ raw_text source labels)
     × (text ≡ distances_text source labels)
 
--- and its line of totals says what these labels come to
+-- and its line of totals says what these come to
 abbrev pub TotalsAddUp : Type 0
 TotalsAddUp =
     (n : ℕ) (arcs : List ArcRec) (source : ℕ) (line text : List ℕ)

@@ -17,7 +17,7 @@ pub record Puts {W : Type 0} (contents : W → Option (List ℕ)) (IsText : List
     pub whole : old.waiting.now.items ++ text ≡ given ++ new.waiting.now.items
     pub appended : Appends (contents old.writer.now) (contents new.writer.now) given
 
--- a text of this kind was to be put, and a prefix was given of what waited and of any such text
+-- a text of this kind was to be put, and a prefix of what waited and of any such text was given
 pub record Cuts {W : Type 0} (contents : W → Option (List ℕ)) (IsText : List ℕ → Type 0) (old new : Sink W) : Type 0
   where
     pub given : List ℕ

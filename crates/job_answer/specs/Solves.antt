@@ -23,7 +23,7 @@ use Rattle.job_answer.specs.Choices.{IsLinesAsked}
 use Rattle.job_answer.specs.LineWalks.{HasWalkAt}
 use Rattle.job_answer.specs.Within.{IsLinesBlock}
 
--- the costs are those of a network from a start, least in it up to their limit, and that serves a goal
+-- the costs are those of a network from a start, least in it up to their limit, which serves a goal
 pub record AreCostsFor (net : NetworkSeen) (from : Start) (goal : Goal) (costs : BelowSeen) : Type 0 where
   pub net_is : costs.net ≡ net
   pub start_is : costs.start ≡ from
@@ -42,7 +42,7 @@ goal_of (lines.Within walks bound) = goal.Within bound
 goal_of lines.Raw = goal.EachVertex
 goal_of lines.Totals = goal.EachVertex
 
--- lines that may be asked for from a start: from everywhere a line of each vertex, since components have no costs
+-- lines that may be asked for from a start: from everywhere a line of each vertex
 abbrev pub IsStartLines : Start → Lines → Type 0
 IsStartLines (start.At source) lines = IsLinesAsked lines
 IsStartLines start.Everywhere (lines.Each walks) = ⊤
@@ -65,7 +65,7 @@ abbrev pub with_growth : Option Growth → List ℕ → List ℕ → List ℕ
 with_growth None before after = before
 with_growth (Some growth) before after = before ++ grown_text growth.count ++ after
 
--- the solve is for some of the queries, each of which begins with its source, and starts there
+-- the solve is for some of the queries, each of which begins with its source
 pub record IsForQueries (queries : List (ℕ × ℕ)) (solve : Solve) : Type 0 where
   pub some : solve.first < solve.end
   pub within : solve.end ≤ length queries
@@ -75,7 +75,7 @@ pub record IsForQueries (queries : List (ℕ × ℕ)) (solve : Solve) : Type 0 w
 abbrev pub EndsWithSource : List (ℕ × ℕ) → Solve → Type 0
 EndsWithSource queries solve = solve.end < length queries → solve.start ≢ start.At (pair_at queries solve.end).0
 
--- these are the targets of the queries of a solve, in their order, each of which ends with its target
+-- the targets of a solve's queries, in order
 pub record AreTargetsOf (queries : List (ℕ × ℕ)) (first end : ℕ) (targets : List ℕ) : Type 0 where
   pub count : first + length targets ≡ end
   pub each : (k : ℕ) → k < length targets → slice_index targets k ≡ (pair_at queries (first + k)).1
@@ -101,7 +101,7 @@ pub record IsWalked (n : ℕ) (arcs : List ArcRec) (pair : ℕ × ℕ) (walked :
   pub count : length walked.labels.items ≡ n
   pub target : HasWalkAt pair.1 (slice_index walked.labels.items pair.1) walked.walks
 
--- they do for each target from a source whose label is below the limit, or where the limit is INF
+-- they do for each target from a source whose label is below the limit, or if the limit is INF
 abbrev pub AreWalkedBelow : ℕ → ℕ → List ArcRec → ℕ → Walked → Type 0
 AreWalkedBelow limit n arcs source walked =
     (t : ℕ) → t < n → min (slice_index walked.labels.items t + 1) INF ≤ limit → IsWalked n arcs (source, t) walked

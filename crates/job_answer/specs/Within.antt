@@ -1,4 +1,4 @@
--- Answers by lines: of each source the vertices that cost no more than a bound, and no others; or its block in short.
+-- Answers by lines: of each source the vertices within a bound, or its block in short.
 use Rattle.std.specs.Prelude.{◌≡◌, ◌≢◌, ℕ, zero, suc, ◌+◌, ◌<◌, ◌≤◌, Bool, true, false, List, [], ◌∷◌, ◌++◌}
 use Rattle.std.specs.Prelude.{Option}
 use Rattle.std.specs.Prelude.{if◌then◌else◌, nat_le, slice_index, ⊤}
@@ -52,7 +52,7 @@ pub record IsWalksWithin (bound n : ℕ) (arcs : List ArcRec) (source : ℕ) (te
   pub walked : AreWalksFrom n arcs source labels hops parents
   pub written : text ≡ text_within source bound (vertex_text (slice_index hops) (slice_index parents)) labels
 
--- the block of one source: the lines of each vertex or within a bound, with walks or without, or in short
+-- the block of a source: the lines of each vertex or within a bound, with walks or without, or in short
 abbrev pub IsLinesBlock : Lines → ℕ → List ArcRec → ℕ → List ℕ → Type 0
 IsLinesBlock (lines.Each walks) n arcs source text = IsBlock walks n arcs source text
 IsLinesBlock (lines.Within true bound) n arcs source text = IsWalksWithin bound n arcs source text
@@ -74,26 +74,26 @@ IsOfPairs absent = ⊥
 IsOfPairs (from_sources sources) = ⊥
 IsOfPairs (of_pairs pairs) = ⊤
 
--- the text has the blocks within the bound of the sources that are asked for. Where none are, no text does
+-- the text has the blocks within the bound of the sources that are asked for; none does if pairs are
 abbrev pub AreBlocksWithin : Bool → ℕ → ℕ → List ArcRec → Option Growth → Question → List ℕ → Type 0
 AreBlocksWithin walks bound n arcs growth absent text = ⊥
 AreBlocksWithin walks bound n arcs growth (from_sources sources) text =
     AreLinesBlocks (lines.Within walks bound) n arcs growth sources text
 AreBlocksWithin walks bound n arcs growth (of_pairs pairs) text = ⊥
 
--- the text is one of an answer kind within the bound. Components have no costs, so a bound changes nothing there
+-- the text is one of an answer kind within the bound, which changes nothing of components
 abbrev pub IsTextWithin : Answer → Bool → ℕ → ℕ → List ArcRec → Option Growth → Question → List ℕ → Type 0
 IsTextWithin Distances walks bound n arcs growth question text = AreBlocksWithin walks bound n arcs growth question text
 IsTextWithin Levels walks bound n arcs growth question text = AreBlocksWithin walks bound n arcs growth question text
 IsTextWithin Components walks bound n arcs growth question text = IsGrownText (IsComponentsBlock n) arcs growth text
 
--- the text has the blocks in short of the sources that are asked for, or the lines of the pairs, which are short
+-- the text has the blocks in short of the sources that are asked for, or the lines of the pairs
 abbrev pub AreBlocksInShort : Lines → ℕ → List ArcRec → Option Growth → Question → List ℕ → Type 0
 AreBlocksInShort lines n arcs growth absent text = ⊥
 AreBlocksInShort lines n arcs growth (from_sources sources) text = AreLinesBlocks lines n arcs growth sources text
 AreBlocksInShort lines n arcs growth (of_pairs pairs) text = ArePairBlocks false n arcs growth pairs text
 
--- the text is one of an answer kind in short. That of components is the same
+-- the text is one of an answer kind in short, that of components in lines
 abbrev pub IsTextInShort : Answer → Lines → ℕ → List ArcRec → Option Growth → Question → List ℕ → Type 0
 IsTextInShort Distances lines n arcs growth question text = AreBlocksInShort lines n arcs growth question text
 IsTextInShort Levels lines n arcs growth question text = AreBlocksInShort lines n arcs growth question text
@@ -128,8 +128,8 @@ abbrev pub LinesAreUnique : Type 0
 LinesAreUnique =
     (lines : Lines) (n : ℕ) (arcs : List ArcRec) (growth : Option Growth) → IsOneBlock (IsGrownLines lines n arcs growth)
 
--- the lines of a vertex within a bound: none where each walk there costs more; else 'd V COST' with the cost of the
--- cheapest, which is within the bound, and after it perhaps that of a walk
+-- the lines of a vertex within a bound: none if each walk there costs more; else 'd V COST' with the cost of the
+-- cheapest, and perhaps that of a walk
 pub data AreLinesOf (walks : Bool) (bound : ℕ) (arcs : List ArcRec) (source v : ℕ) (text : List ℕ) : Type 0 where
   beyond : ((walk : List ArcRec) → IsWalk arcs source walk v → bound < cost walk)
       → text ≡ []
@@ -153,15 +153,15 @@ AreLinesFrom walks bound arcs source v (suc count) text =
     × AreLinesFrom walks bound arcs source (v + 1) count rest
     × (text ≡ lines_of_v ++ rest)
 
--- a block says which of n vertices cost no more than the bound from its source, and how much, in order
+-- a block says which of n vertices cost no more than the bound from its source, and how much
 abbrev pub SaysCostsWithin : Bool → ℕ → ℕ → List ArcRec → ℕ → List ℕ → Type 0
 SaysCostsWithin walks bound n arcs source block =
     (lines : List ℕ)
     × AreLinesFrom walks bound arcs source 0 n lines
     × (block ≡ source_text source ++ lines)
 
--- the blocks within a bound say which vertices cost no more from the sources of the job, along its arcs, where each
--- counts 1 for levels; and where the job adds arcs, after each block along all arcs
+-- the blocks within a bound say which vertices cost no more from the job's sources along its arcs, where each counts 1
+-- for levels; if the job adds arcs, after each block along all arcs
 abbrev pub AnswersSayCostsWithin : Type 0
 AnswersSayCostsWithin =
     (kind : Answer) (walks : Bool) (bound : ℕ) (job : Content) (sources text : List ℕ)

@@ -1,5 +1,4 @@
--- What a caller that goes along rows keeps true of its seat: for the clauses of such callers, in the
--- crates above and in the tests here.
+-- What a caller that goes along rows keeps true of its seat.
 use Rattle.std.specs.Prelude.{◌≡◌, ℕ, ◌≤◌}
 use Rattle.relax_core.specs.declared.views.View.{View}
 use Rattle.relax_core.specs.Views.{IsOpen, vertex_of}

@@ -41,7 +41,7 @@ HasSettled (Paused rest) = ⊥
 abbrev pub AreNoHigher : List ℕ → List ℕ → Type 0
 AreNoHigher new old = (v : ℕ) → v < length old → slice_index new v ≤ slice_index old v
 
--- ---- what the loops that read the words leave; not part of what a caller is promised
+-- ---- what the loops that read the words leave: no promise to callers
 
 -- d is the label of v as it stands in the words, where no number is above INF
 abbrev pub IsLabelOf : List ℕ → ℕ → ℕ → Type 0

@@ -1,5 +1,5 @@
--- What a seat knows, and what each call makes of it. A step finds a number in a word; what the seat
--- holds says which vertex and which arc it is about.
+-- What a seat knows, and what each call makes of it. A step finds a number in a word; the hand says of which vertex and
+-- arc.
 use Rattle.std.specs.Prelude.{◌≡◌, ℕ, ◌<◌, ◌≤◌, Bool, true, false, if◌then◌else◌, List, [], ◌∷◌, ◌++◌, All}
 use Rattle.route_walks.specs.declared.graph.Seed.{Seed}
 use Rattle.route_walks.specs.declared.graph.TheConstants.{INF}

@@ -1,6 +1,6 @@
--- Each call's one operation on one word is the event of its name: where the words hold a state of the
--- core, after the operation they hold the state after the event, and the seat's view is the event's.
--- And what the rule of the words keeps is a lawful core.
+-- Each call's one operation on one word is the event of its name: if the words hold a state of the core, then after it
+-- they hold the state after the event, and the seat's view is the event's. And what the rule of the words keeps is a
+-- lawful core.
 use Rattle.std.specs.Prelude.{◌≡◌, ◌≢◌, ℕ, ◌+◌, ◌-◌, ◌<◌, ◌≤◌, ◌==◌, nat_lt, min, true, false}
 use Rattle.std.specs.Prelude.{Some, List, [], ◌∷◌, ◌++◌, length, slice_index, slice_set}
 use Rattle.route_walks.specs.declared.graph.Seed.{Seed}
@@ -166,8 +166,7 @@ JoinIsItsEvent =
       views = slice_set (slice_set state.views s (both_known seat other).view) t gone.view;
     })
 
--- what the rule keeps is a lawful core: the words hold one state with the views of all seats, no other,
--- and it is lawful
+-- what the rule keeps is a lawful core: the words hold one state with the views of all seats, and it is lawful
 abbrev pub LawfulWordsHoldACore : Type 0
 LawfulWordsHoldACore =
     (graph : Graph) (seeds : List Seed) (words : List ℕ) (seats : List Known)
@@ -185,8 +184,7 @@ UnmarkedPauseIsLeast =
     → ((v : ℕ) → v < graph.n → mark_of rest.marks v ≡ false)
     → AreLeast graph.n graph.arcs seeds (slice_index rest.labels)
 
--- a run from the labels of a pause ends as a run from the pause's own seeds may end, and no label is
--- above what it was in the pause
+-- a run from a pause ends as a run from the pause's own seeds may, and no label rises
 abbrev pub ResumedRunsEndAlike : Type 0
 ResumedRunsEndAlike =
     (graph : Graph) (seeds : List Seed) (rest : Rest) (closed : Closed)
@@ -195,7 +193,7 @@ ResumedRunsEndAlike =
     → IsEnd graph (seeds_of rest.labels) closed
     → IsEnd graph seeds closed × AreNoHigher (closed_labels closed) rest.labels
 
--- a pause in which no vertex with a label below a limit is marked has labels that are least up to the limit
+-- a pause in which no vertex with a label below a limit is marked is least up to the limit
 abbrev pub PausesAreLeastUpTo : Type 0
 PausesAreLeastUpTo =
     (limit : ℕ) (graph : Graph) (seeds : List Seed) (rest : Rest)

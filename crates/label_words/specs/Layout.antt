@@ -1,5 +1,4 @@
--- Where the words of a run lie, and what they say. The total has a line of the cache of its own, and the
--- label and the mark of a vertex lie in one.
+-- Where the words of a run lie. The total has a line of the cache of its own, and a vertex's label and mark lie in one.
 use Rattle.std.specs.Prelude.{ℕ, ◌+◌, ◌-◌, ◌*◌, ◌/◌, nat_lt, Bool, List, slice_index}
 
 -- the label of v is in this word, and its mark in the next; the total is in word 0

@@ -1,5 +1,5 @@
--- The rule of the words: between any two steps they hold a lawful core with the views of all seats, and
--- no label is above what any seat knows of it.
+-- The rule of the words: between any two steps they hold a lawful core with the views of all seats, and no label is
+-- above what any seat knows.
 use Rattle.std.specs.Prelude.{◌≡◌, ◌≢◌, ◌==◌, ℕ, ◌<◌, ◌≤◌, Bool, List, ◌++◌, length, map, slice_index, All}
 use mathlib.Core.Option.{some}
 use lib.ListN.{get_elem?}
@@ -44,8 +44,7 @@ pub record AreLawful (graph : Graph) (seeds : List Seed) (words : List ℕ) (sea
   pub views_are : state.views ≡ views_of seats
   pub knows : AllKnow graph seeds (label_of words) seats
 
--- At one moment the words and all seats were lawful, this seat was one of them, and the flag said whether the total
--- was 0.
+-- At one moment words and seats were lawful, this seat was one of them, and the flag said whether the total was 0.
 pub record SeesLawful (zero : Bool) (seat : Known) : Type 0 where
   pub words : List ℕ
   pub seats : List Known

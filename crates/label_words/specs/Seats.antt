@@ -1,4 +1,4 @@
--- What is so of every seat between two calls. Not part of what a caller is promised.
+-- What is so of every seat between two calls. No promise to callers.
 use Rattle.std.specs.Prelude.{◌≡◌, ◌<◌, ◌≤◌}
 use Rattle.csr_graph.specs.Graph.{Graph, IsInRows, end_place}
 use Rattle.relax_core.specs.declared.views.Hand.{Hand}

@@ -1,5 +1,4 @@
--- What the words hold while seeds are sown into them, and where a run goes on. Not part of what a caller
--- is promised.
+-- What the words hold while seeds are sown, and where a run goes on. No promise to callers.
 use Rattle.std.specs.Prelude.{◌≡◌, ℕ, ◌≤◌, List, [], ◌∷◌, length}
 use Rattle.route_walks.specs.declared.graph.Seed.{Seed}
 use Rattle.route_walks.specs.declared.graph.TheConstants.{MAX_VERTICES}
@@ -21,8 +20,8 @@ pub record IsSown (n : ℕ) (seeds : List Seed) (words : List ℕ) : Type 0 wher
   pub total : state.total ≡ marks_below (mark_of state.marks) n
   pub views : state.views ≡ idle_view SHARES ∷ []
 
--- the state that a run goes on with: labels and marks as they were left, the number of marks as total,
--- and one idle view with all shares
+-- the state that a run goes on with: labels and marks as they were left, their number as total, and one idle view with
+-- all shares
 abbrev pub state_of : Rest → State
 state_of rest = record {
   labels = rest.labels;

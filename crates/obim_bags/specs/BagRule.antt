@@ -25,14 +25,13 @@ shares_of tallies = sum_by (λ (tally : Tally). tally.share) tallies
 abbrev pub IsSpent : Tally → Type 0
 IsSpent tally = (tally.put ≡ []) × (tally.got ≡ [])
 
--- Where there are this many shares in all, a tally with a share has this number as that of the workers. One without
--- a share has put and got nothing.
+-- With this many shares in all, a tally with a share has this number as that of the workers, and one without a share
+-- has put and got nothing.
 abbrev pub IsFair : ℕ → Tally → Type 0
 IsFair shares tally = (tally.share ≢ 0 → tally.workers ≡ shares) × (tally.share ≡ 0 → IsSpent tally)
 
--- The rule of a bag. However chunks are weighed, what was put weighs what was got and what the bag holds:
--- each chunk is as often among those put as among those got and held. No chunk held is empty, and each tally is
--- fair to the shares of all.
+-- The rule of a bag. However chunks are weighed, what was put weighs what was got and what the bag holds: each chunk is
+-- as often among those put. No chunk held is empty, and each tally is fair.
 pub record AreLawful (chunks : List ChunkSeen) (tallies : List Tally) : Type 0 where
   pub account : (weight : ChunkSeen → ℕ) → put_by weight tallies ≡ got_by weight tallies + weight_of weight chunks
   pub filled : All (λ (chunk : ChunkSeen). chunk.vertices ≢ []) chunks
@@ -46,9 +45,8 @@ IsSeenIn chunks tally =
     × AreLawful chunks tallies
     × (get_elem? tallies place ≡ some tally)
 
--- The bag was empty, if the pass is alone in it, with all shares: what it put is what it got, each chunk as often,
--- however chunks are weighed. Of a bag that has other passes it says nothing, since those may have put and got
--- anything.
+-- The bag was empty, if the pass is alone in it, with all shares: what it put is what it got, however chunks are
+-- weighed. Of a bag with other passes it says nothing.
 abbrev pub WasEmptyIfAlone : Tally → Type 0
 WasEmptyIfAlone tally =
     tally.share ≡ tally.workers → (weight : ChunkSeen → ℕ) → weight_of weight tally.put ≡ weight_of weight tally.got

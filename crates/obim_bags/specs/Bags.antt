@@ -60,14 +60,14 @@ pub record AreAdded (bag : BagSeen) (old new : List PassSeen) : Type 0 where
   pub last : new ≡ old ++ added
   pub are_new : All (λ (pass : PassSeen). pass ≡ new_pass bag) added
 
--- what these passes put is what they got and what was left, each chunk as often, however chunks are weighed
+-- what these passes put is what they got and what was left, however chunks are weighed
 abbrev pub AreSettled : List PassSeen → List ChunkSeen → Type 0
 AreSettled passes left =
     (weight : ChunkSeen → ℕ)
     → put_by weight (tallies_of passes) ≡ got_by weight (tallies_of passes) + weight_of weight left
 
--- of all these passes, all but the rest were joined to this tally: it has their shares, and has put and got what they
--- put and got, however chunks are weighed
+-- all but the rest of these passes were joined to this tally, which has their shares, and has put and got what they
+-- did, however chunks are weighed
 pub record AreJoined (all rest : List PassSeen) (tally : Tally) : Type 0 where
   pub shares : tally.share + shares_of (tallies_of rest) ≡ shares_of (tallies_of all)
   pub put : (weight : ChunkSeen → ℕ)

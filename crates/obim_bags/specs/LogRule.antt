@@ -7,7 +7,7 @@ use Rattle.atomic_table.specs.Table.{Me}
 use Rattle.obim_bags.specs.Bags.{BagSeen}
 use Rattle.obim_bags.specs.declared.log_rule.LogKnown.{LogKnown}
 
--- all that the seat saw, and all that seats joined into it saw, the list of bags begins with
+-- the list of bags begins with all that the seat, and seats joined into it, saw
 pub record IsWithin (bags : List BagSeen) (known : LogKnown) : Type 0 where
   pub list : IsPrefix known.list bags
   pub others : All (λ (list : List BagSeen). IsPrefix list bags) known.others
@@ -70,8 +70,8 @@ module _ {S : Type 0} (bags_of : S → List BagSeen) where
     pub within : EachKnown (IsWithin bags) all_known
     pub slot : IsFree bags words homes all_known ⊎ IsTaken bags words homes all_known
 
-  -- Where the word was 0 the seat takes the slot, and its list becomes the list in it, which begins with
-  -- all that the seat knew. Otherwise nothing changes.
+  -- If the word was 0 the seat takes the slot, and knows the list in it, which begins with all that it knew. Otherwise
+  -- nothing changes.
   abbrev pub MayTake : Me S LogKnown → ℕ → Me S LogKnown → Type 0
   MayTake old found new =
       (found ≡ 0 → (value : S) × (new ≡ (with_slot (bags_of value) old.0, (0, value) ∷ []))

@@ -38,8 +38,7 @@ new_mirror log = record { log = log; accesses = [] }
 abbrev pub IsNew : AccessSeen → Type 0
 IsNew place = place.pass ≡ new_pass place.bag
 
--- The mirror is longer by new accesses, or as it was: the accesses that it had are as before, passes
--- included, and no metric stands twice.
+-- The mirror is longer by new accesses, or as it was: its accesses are as before, and no metric is there twice.
 pub record Gains (old new : MirrorSeen) : Type 0 where
   pub log : new.log ≡ old.log
   pub kept : IsPrefix old.accesses new.accesses
@@ -96,9 +95,8 @@ abbrev pub all_of : List (List ChunkSeen) → List ChunkSeen
 all_of [] = []
 all_of (part ∷ parts) = part ++ all_of parts
 
--- There is one list of bags with distinct metrics, of which each mirror has a prefix. What is left is the
--- chunks of each of them in the order of their places; and in each bag the chunks that the mirrors put are those that
--- they got and those left, each as often.
+-- Each mirror has a prefix of one list of bags with distinct metrics. What is left is the chunks of each bag, by place;
+-- and in each bag the chunks that the mirrors put are those that they got and those left.
 pub record IsLogSettled (mirrors : List MirrorSeen) (left : List ChunkSeen) : Type 0 where
   pub bags : List BagSeen
   pub distinct : AreDistinct (metrics_of bags)

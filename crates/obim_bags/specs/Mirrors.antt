@@ -1,4 +1,4 @@
--- What is so of every mirror between two calls. Not part of what a caller is promised.
+-- What is so of every mirror between two calls. No promise to callers.
 use Rattle.std.specs.Prelude.{◌≡◌, false, []}
 use mathlib.Core.List.{IsPrefix}
 use Rattle.atomic_table.specs.Table.{Me}
@@ -8,8 +8,7 @@ use Rattle.obim_bags.specs.Logs.{bags_in, metrics_of}
 use Rattle.obim_bags.specs.Entries.{EntriesSeen}
 use Rattle.obim_bags.specs.Accesses.{AccessesSeen}
 
--- its seat doesn't hold the slot, what it keeps is no longer than the list that its seat saw, and in that
--- list no metric stands twice
+-- its seat doesn't hold the slot, what it keeps is no longer than the list that its seat saw, where no metric is twice
 pub record IsTied (me : Me EntriesSeen LogKnown) (accesses : AccessesSeen) : Type 0 where
   pub slots : me.1 ≡ []
   pub holds : me.0.holds ≡ false

@@ -3,8 +3,8 @@ use Rattle.std.specs.Prelude.{◌≡◌, ℕ, ◌+◌, ◌%◌, ◌^◌, List, [
 use Rattle.obim_bags.specs.Chunks.{ChunkSeen}
 use Rattle.obim_bags.specs.Logs.{AccessSeen}
 
--- the chunks that the side's pass put into the bag and got from it, how often it found the bag empty, modulo 2^64, and
--- the vertices in the side's two chunks of the bag
+-- the chunks that the side's pass put and got, how often it found the bag empty, modulo 2^64, and the vertices in the
+-- side's two chunks
 pub record Account : Type 0 where
   pub put : List ChunkSeen
   pub got : List ChunkSeen
@@ -30,15 +30,14 @@ abbrev pub vertices_of : List ChunkSeen → List ℕ
 vertices_of [] = []
 vertices_of (chunk ∷ chunks) = chunk.vertices ++ vertices_of chunks
 
--- Chunks were put: what is held, with the vertices of these chunks, is what was held and what came.
+-- Chunks were put: what is held, with their vertices, is what was held and what came.
 pub record Puts (came : List ℕ) (old new : Account) : Type 0 where
   pub chunks : List ChunkSeen
   pub put : new.put ≡ old.put ++ chunks
   pub got : new.got ≡ old.got
   pub account : AreSame (new.held ++ vertices_of chunks) (old.held ++ came)
 
--- Chunks were got, and this vertex was taken out: with it, what is held is what was held and the vertices of these
--- chunks.
+-- Chunks were got, and this vertex was taken out: with it, what is held is what was held and their vertices.
 pub record Gets (vertex : ℕ) (old new : Account) : Type 0 where
   pub chunks : List ChunkSeen
   pub put : new.put ≡ old.put

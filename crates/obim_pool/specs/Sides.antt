@@ -9,8 +9,8 @@ use Rattle.obim_pool.specs.declared.chunks.BagChunks.{BagChunks}
 use Rattle.obim_pool.specs.Accounts.{Account, FindsMore, Gets, OnlyLooks, Puts, account_of}
 use Rattle.obim_pool.specs.Orders.{IsAt, IsOrder}
 
--- its mirror of the log; by place, the vertices that it holds of each bag of its own, which are the first bags of the
--- mirror; and its current metric
+-- its mirror of the log; by place, the vertices that it holds of its own bags, the first of the mirror; and its current
+-- metric
 pub record SideSeen : Type 0 where
   pub mirror : MirrorSeen
   pub held : List (List ℕ)
@@ -64,7 +64,7 @@ HasLowered metric (Some current) new = new ≡ Some (min metric current)
 
 -- ---- pop
 
--- the vertex came out of the bag that is then current, and of each other bag the side only counted empty finds
+-- the vertex came out of the bag that is then current, and of other bags the side only counted empty finds
 pub record Pops (vertex : ℕ) (old new : SideSeen) : Type 0 where
   pub place : ℕ
   pub metric : ℕ
@@ -73,8 +73,8 @@ pub record Pops (vertex : ℕ) (old new : SideSeen) : Type 0 where
   pub here : Gets vertex (account_at place old) (account_at place new)
   pub others : (other : ℕ) → other ≢ place → OnlyLooks (account_at other old) (account_at other new)
 
--- The side holds nothing of the bag at this place, and found it empty in the call: once or, if it was current, perhaps
--- twice.
+-- The side holds nothing of the bag at this place, and found it empty in the call: once, or perhaps twice if it was
+-- current.
 pub record FoundEmptyAt (place : ℕ) (old new : SideSeen) : Type 0 where
   pub bare : get_or new.held place [] ≡ []
   pub count : ℕ
@@ -95,7 +95,7 @@ pub record PopsNone (old new : SideSeen) : Type 0 where
   pub found : (place : ℕ) → place < length new.held → FoundEmptyAt place old new
   pub others : (place : ℕ) → OnlyLooks (account_at place old) (account_at place new)
 
--- ---- what is so of every side between two calls; not part of what a caller is promised
+-- ---- what is so of every side between two calls: no promise to callers
 
 abbrev pub current_of : Option OwnBag → Option ℕ
 current_of None = None
@@ -105,7 +105,7 @@ abbrev pub IsCurrent : List ℕ → ℕ → Option OwnBag → Type 0
 IsCurrent metrics count None = ⊤
 IsCurrent metrics count (Some at) = IsAt metrics count at
 
--- it has no more bags of its own than the mirror has, knows them by rising metric, and one of them is current, if any
+-- it has no more bags than the mirror, knows them by rising metric, and one of them is current, if any
 pub record IsSide (mirror : MirrorSeen) (chunks : List BagChunks) (entries : List OwnBag)
     (current : Option OwnBag) : Type 0 where
   pub own : length chunks ≤ length mirror.accesses

@@ -55,8 +55,8 @@ pub record AreBare (entries : List OwnBag) (old : MirrorSeen) (old_chunks : List
       → OnlyLooks (account_in place old.accesses (all_held old_chunks))
       (account_in place new.accesses (all_held new_chunks))
 
--- the vertex came out of the bag of this entry, each bag before it was found empty, and of each other bag the side only
--- counted empty finds
+-- the vertex came out of the bag of this entry, each bag before it was found empty, and of others the side only counted
+-- empty finds
 pub record Draws (at : OwnBag) (vertex : ℕ) (entries : List OwnBag)
     (old : MirrorSeen) (old_chunks : List BagChunks) (new : MirrorSeen) (new_chunks : List BagChunks) : Type 0 where
   pub rank : ℕ

@@ -39,7 +39,7 @@ relaxed graph state seat v =
 
 -- the state after an event, where it is enabled
 abbrev pub after : Graph → State → Event → Option State
--- the vertex is marked no more; if it was, the seat, which held none, holds it
+-- the mark is taken; if it was set, the seat, which held none, holds the vertex
 after graph state (Take seat u) =
     after_at state seat (λ v. has_no_vertex v.hand && nat_lt u graph.n) (λ v.
     record (with_view state seat (taken (mark_of state.marks u) u v)) {
@@ -58,7 +58,7 @@ after graph state (Relax seat) =
 after graph state (Raise seat) =
     after_at state seat (λ v. owes v.hand && (v.credits == 1)) (λ v.
     record (with_view state seat (raised v)) { total = state.total + 1 })
--- the total gains as many as the seat that owes a mark gains credits, which are 255 at most
+-- the total gains as many as the seat that owes a mark gains credits, at most 255
 after graph state (RaiseBy seat count) =
     after_at state seat (λ v. owes v.hand && nat_le (v.credits + count) 255) (λ v.
     record (with_view state seat (raised_by count v)) { total = state.total + count })
@@ -72,7 +72,7 @@ after graph state (SetMark seat) =
 after graph state (Finish seat) =
     after_at state seat (λ v. is_open v.hand && (place_of v.hand == end_place graph.arcs (vertex_of v.hand))) (λ v.
     record (with_view state seat (finished v)) { total = state.total - v.credits })
--- at the row's end the credits stay with the seat, which has room for one more
+-- at the row's end the credits stay with the seat, with room for one more
 after graph state (Keep seat) =
     after_at state seat (λ v.
     is_open v.hand
@@ -98,7 +98,7 @@ after graph state (Join seat other) =
     with_view (with_view state seat (joined v w)) other (idle_view 0)))
     (live_view state.views seat)
 
--- true and the state after the event, where it is enabled; false and no change elsewhere
+-- true and the state after the event, if it is enabled; else false and no change
 abbrev pub IsDone : Graph → State → Event → Bool → State → Type 0
 IsDone graph old event done new =
     MatchBool done (after graph old event ≡ Some new)

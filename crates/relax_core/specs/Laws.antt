@@ -1,6 +1,6 @@
--- The law of each event: lawful before, lawful after. Each speaks of one seat s, whose view v becomes
--- what the event makes of it, and of labels and marks that are as before but where the event changes
--- them. So a law serves a core, and words that change one at a time.
+-- The law of each event: lawful before, lawful after. Each speaks of one seat s, whose view v becomes what the event
+-- makes of it, and of labels and marks that change only as the event says. So a law serves a core, and words that
+-- change one at a time.
 use Rattle.std.specs.Prelude.{◌≡◌, ◌≢◌, ℕ, ◌+◌, ◌*◌, ◌<◌, ◌≤◌, ◌==◌, nat_lt, min, Bool, true, false}
 use Rattle.std.specs.Prelude.{Some, List, [], ◌∷◌, ◌++◌, slice_set, All}
 use Rattle.route_walks.specs.declared.graph.Seed.{Seed}
@@ -43,8 +43,7 @@ ReadingKeepsCover =
     → Covers graph seeds label mark
     (slice_set views s (opened (label (vertex_of v.hand)) (first_place graph.arcs (vertex_of v.hand)) v))
 
--- Relax: the head's label becomes the lesser of what it was and what is offered, and the seat owes a
--- mark where that is a lowering
+-- Relax: the head's label becomes the lesser of what it was and what is offered, and the seat owes a mark if it fell
 abbrev pub RelaxingKeepsCover : Type 0
 RelaxingKeepsCover =
     (graph : Graph) (seeds : List Seed) (label label' : ℕ → ℕ) (mark : ℕ → Bool) (views : List View) (s : ℕ) (v : View)

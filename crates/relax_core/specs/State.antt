@@ -20,8 +20,7 @@ pub record State : Type 0 where
 abbrev pub mark_of : List Bool → ℕ → Bool
 mark_of marks u = slice_index_or marks u false
 
--- a state is lawful: it has a label and a mark for each vertex, every arc is covered, and the total
--- is the account of marks and credits
+-- a state is lawful: each vertex has a label and a mark, every arc is covered, and the total is the account
 pub record IsLawful (graph : Graph) (seeds : List Seed) (state : State) : Type 0 where
   pub rows : IsInRows graph
   pub labels : length state.labels ≡ graph.n
@@ -33,8 +32,8 @@ pub record IsLawful (graph : Graph) (seeds : List Seed) (state : State) : Type 0
 abbrev pub IsOf : Graph → State → Type 0
 IsOf graph state = (seeds : List Seed) × IsLawful graph seeds state
 
--- labels and marks from which a run begins: each seeded vertex has its least start and is marked, each
--- other has INF and no mark
+-- labels and marks from which a run begins: each seeded vertex has its least start and a mark, each other INF and no
+-- mark
 pub record IsStarted (labels : List ℕ) (marks : List Bool) (seeds : List Seed) : Type 0 where
   pub least : All (λ seed. slice_index labels seed.vertex ≤ seed.start) seeds
   pub starts : (u : ℕ) → u < length labels → mark_of marks u ≡ true
@@ -43,8 +42,8 @@ pub record IsStarted (labels : List ℕ) (marks : List Bool) (seeds : List Seed)
   pub others : (u : ℕ) → u < length labels → mark_of marks u ≡ false → slice_index labels u ≡ INF
   pub capped : (u : ℕ) → u < length labels → slice_index labels u ≤ INF
 
--- the opening of a graph and seeds: the labels and marks that a run begins with, the number of marks as
--- total, and one idle view with all shares
+-- the opening of a graph and seeds: such labels and marks, the number of marks as total, and one idle view with all
+-- shares
 pub record IsOpening (graph : Graph) (seeds : List Seed) (state : State) : Type 0 where
   pub labels : length state.labels ≡ graph.n
   pub marks : length state.marks ≡ graph.n

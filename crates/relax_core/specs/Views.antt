@@ -199,8 +199,8 @@ pub record HasView (views : List View) (s : ℕ) (v : View) : Type 0 where
 
 -- ---- lawful views
 
--- the hand holds the arc at place k: the arc's tail is still to be read, or the arc is still to be
--- relaxed with the present label of its tail, or the tail is still to be marked
+-- the hand holds the arc at place k: its tail is still to be read, or it is still to be relaxed with the tail's present
+-- label, or the tail is still to be marked
 abbrev pub HoldsArc : (ℕ → ℕ) → ℕ → ArcRec → Hand → Type 0
 HoldsArc label k arc Idle = ⊥
 HoldsArc label k arc Kept = ⊥
@@ -211,8 +211,8 @@ HoldsArc label k arc (Owe u d place head) =
     (head ≡ arc.tail)
     ⊎ ((u ≡ arc.tail) × (d ≡ label u) × (place ≤ k))
 
--- a hand in the row of u: what it read of u was attained or INF, the label has not risen since, and
--- its place is in the row or right after it
+-- a hand in the row of u: what it read of u was attained or INF, the label has not risen since, and its place is in the
+-- row or right after
 pub record IsInRow (graph : Graph) (seeds : List Seed) (label : ℕ → ℕ) (u d place : ℕ) : Type 0 where
   pub vertex : u < graph.n
   pub read : label u ≤ d

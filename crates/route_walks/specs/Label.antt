@@ -81,8 +81,8 @@ LeastLabelsFollowTheArcs =
     → AreLeastLabels n one seeds labels
     → AreLeastLabels n other seeds labels
 
--- INF means that no walk exists: where weights are below 2^32 and starts at most 2^60, nothing at all is
--- attained at a vertex whose least label is INF
+-- INF means that no walk exists: if weights are below 2^32 and starts at most 2^60, nothing is attained at a vertex
+-- whose least label is INF
 abbrev pub InfMeansNoWalk : Type 0
 InfMeansNoWalk =
     (n : ℕ) (arcs : List ArcRec) (seeds : List Seed) (labels : List ℕ)
@@ -96,8 +96,7 @@ InfMeansNoWalk =
     → slice_index labels v ≡ INF
     → (c : ℕ) → ¬ (IsAttained arcs seeds v c)
 
--- labels that are sound and meet the seeds serve as seeds themselves: the least labels from them are the
--- least labels from the seeds
+-- labels that are sound and meet the seeds serve as seeds: the least labels from them are those from the seeds
 abbrev pub LabelsServeAsSeeds : Type 0
 LabelsServeAsSeeds =
     (n : ℕ) (arcs : List ArcRec) (seeds : List Seed) (labels least : List ℕ)

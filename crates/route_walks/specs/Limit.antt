@@ -1,5 +1,4 @@
--- Labels that are least up to a limit: what labels are worth before they are settled, or where only those below a limit
--- are.
+-- Labels that are least up to a limit: what labels are worth before they are settled.
 use Rattle.std.specs.Prelude.{◌≡◌, ℕ, ◌+◌, ◌<◌, ◌≤◌, ◌⊎◌, min, List, All, length, slice_index}
 use Rattle.route_walks.specs.declared.graph.ArcRec.{ArcRec}
 use Rattle.route_walks.specs.declared.graph.Seed.{Seed}
@@ -7,8 +6,8 @@ use Rattle.route_walks.specs.declared.graph.TheConstants.{INF}
 use Rattle.route_walks.specs.Walk.{IsAttained, IsWalk, cost}
 use Rattle.route_walks.specs.Label.{IsMet, IsRelaxed, IsSound, AreCapped, IsLeast}
 
--- d is the least label of v up to a limit: at most INF, attained below INF, and each number that is attained
--- at v is at least d, or at least the limit
+-- d is the least label of v up to a limit: at most INF, attained below INF, and each number attained at v is at least d
+-- or the limit
 pub record IsLeastUpTo (limit : ℕ) (arcs : List ArcRec) (seeds : List Seed) (v d : ℕ) : Type 0 where
   pub capped : d ≤ INF
   pub attained : d < INF → IsAttained arcs seeds v d
@@ -24,7 +23,7 @@ pub record AreLeastLabelsUpTo (limit n : ℕ) (arcs : List ArcRec) (seeds : List
   pub count : length labels ≡ n
   pub least : AreLeastUpTo limit n arcs seeds (slice_index labels)
 
--- an arc is relaxed up to a limit: it is relaxed, or what it offers is at least the limit
+-- an arc is relaxed up to a limit: it is relaxed, or offers at least the limit
 abbrev pub IsRelaxedUpTo : ℕ → (ℕ → ℕ) → ArcRec → Type 0
 IsRelaxedUpTo limit label arc = IsRelaxed label arc ⊎ (limit ≤ label arc.tail + arc.weight)
 
@@ -33,8 +32,7 @@ pub record AreSettledUpTo (limit : ℕ) (arcs : List ArcRec) (seeds : List Seed)
   pub met : All (IsMet label) seeds
   pub relaxed : All (IsRelaxedUpTo limit label) arcs
 
--- a label is exact within a bound: one that is within it is least, and where the least label is within it the
--- label is that one
+-- a label is exact within a bound: within it, it is least, and if the least label is within it, it is that one
 pub record IsExactWithin (bound : ℕ) (arcs : List ArcRec) (seeds : List Seed) (v d : ℕ) : Type 0 where
   pub least : d ≤ bound → IsLeast arcs seeds v d
   pub found : (e : ℕ) → IsLeast arcs seeds v e → e ≤ bound → d ≡ e
@@ -79,8 +77,8 @@ WithinIsExact =
     → min (bound + 1) INF ≤ limit
     → IsExactWithin bound arcs seeds v d
 
--- below the limit walks of least cost are tight: where what is attained at u and the cost of a walk make the
--- label of the walk's end v, which is below the limit, u has just that label
+-- below the limit walks of least cost are tight: if what is attained at u and the cost of a walk make the label of its
+-- end, which is below the limit, u has just that label
 abbrev pub WalksBelowAreTight : Type 0
 WalksBelowAreTight =
     (limit n : ℕ) (arcs : List ArcRec) (seeds : List Seed) (label : ℕ → ℕ)

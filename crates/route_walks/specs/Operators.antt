@@ -1,5 +1,4 @@
--- The operators: which arcs and which seeds give distances, hop levels and components. And which seeds
--- a run that goes on has.
+-- The operators: which arcs and seeds give distances, hop levels and components, and the seeds of a run that goes on.
 use Rattle.std.specs.Prelude.{ℕ, nat_lt, List, [], ◌∷◌, length, map, slice_index}
 use Rattle.std.specs.List.{range_with_len, flat_map, filter}
 use Rattle.route_walks.specs.declared.graph.ArcRec.{ArcRec}

@@ -1,5 +1,5 @@
--- Walks, their costs, and the numbers that they attain. (The terms are those of any text on shortest
--- paths, as Ahuja, Magnanti and Orlin, Network Flows, chapters 2 and 4.)
+-- Walks, their costs, and the numbers that they attain (as in Ahuja, Magnanti and Orlin, Network Flows, chapters 2 and
+-- 4).
 use Rattle.std.specs.Prelude.{◌≡◌, ℕ, ◌+◌, ◌<◌, ◌≤◌, ◌↔◌, List, [], ◌∷◌, length, All, Contains}
 use Rattle.route_walks.specs.declared.graph.ArcRec.{ArcRec}
 use Rattle.route_walks.specs.declared.graph.Seed.{Seed}
@@ -20,8 +20,8 @@ HaveSameArcs one other = (arc : ArcRec) → (Contains one arc) ↔ (Contains oth
 abbrev pub AreSeeds : ℕ → List Seed → Type 0
 AreSeeds n seeds = All (λ seed. seed.vertex < n) seeds
 
--- a walk from u to v: arcs of the graph, the first leaving u, each head the next tail, the last
--- entering v; the empty walk stays where it is
+-- a walk from u to v: arcs of the graph, the first leaving u, each head the next tail, the last entering v; or none, if
+-- u is v
 abbrev pub IsWalk : List ArcRec → ℕ → List ArcRec → ℕ → Type 0
 IsWalk arcs u [] v = u ≡ v
 IsWalk arcs u (arc ∷ walk) v =
@@ -34,8 +34,7 @@ abbrev pub cost : List ArcRec → ℕ
 cost [] = 0
 cost (arc ∷ walk) = arc.weight + cost walk
 
--- c is attained at v: some walk from some seed ends at v, and the seed's start and the walk's cost
--- make c
+-- c is attained at v: the start of some seed and the cost of some walk from there to v make c
 pub record IsAttained (arcs : List ArcRec) (seeds : List Seed) (v c : ℕ) : Type 0 where
   pub seed : Seed
   pub walk : List ArcRec

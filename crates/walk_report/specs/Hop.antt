@@ -1,5 +1,5 @@
--- Hops: the fewest arcs of a least walk. Labels and hops are read as functions from the vertex where
--- one is named, and as lists by vertex where they are kept.
+-- Hops: the fewest arcs of a least walk. Labels and hops are functions from the vertex if one is named, and lists if
+-- they are kept.
 use Rattle.std.specs.Prelude.{◌≡◌, ℕ, ◌<◌, ◌≤◌, List, length, slice_index}
 use Rattle.route_walks.specs.declared.graph.ArcRec.{ArcRec}
 use Rattle.route_walks.specs.declared.graph.TheConstants.{INF}
@@ -15,8 +15,7 @@ pub record HasWalk (arcs : List ArcRec) (s v d h : ℕ) : Type 0 where
   pub costs : cost walk ≡ d
   pub count : length walk ≡ h
 
--- h is the hop of v, whose least label is d: some walk from s to v of cost d has h arcs, and none of
--- that cost has fewer
+-- h is the hop of v, whose least label is d: some walk from s to v of cost d has h arcs, and none has fewer
 pub record IsHop (arcs : List ArcRec) (s v d h : ℕ) : Type 0 where
   pub walk : HasWalk arcs s v d h
   pub fewest : (walk : List ArcRec) → IsWalk arcs s walk v → cost walk ≡ d → h ≤ length walk
@@ -29,7 +28,7 @@ pub record AreHops (n : ℕ) (arcs : List ArcRec) (s : ℕ) (labels hops : List 
   pub hop : (v : ℕ) → v < n → slice_index labels v < INF
       → IsHop arcs s v (slice_index labels v) (slice_index hops v)
 
--- a list of the hops from s of those of n vertices whose label is below a limit, with NONE for the others
+-- a list of the hops of those of n vertices whose label is below a limit, with NONE for the others
 pub record AreHopsBelow (limit n : ℕ) (arcs : List ArcRec) (s : ℕ) (labels hops : List ℕ) : Type 0 where
   pub count : length hops ≡ n
   pub none : (v : ℕ) → v < n → limit ≤ slice_index labels v → slice_index hops v ≡ NONE

@@ -1,4 +1,4 @@
--- The lists that are kept from one question to the next. Not part of what a caller is promised.
+-- The lists that are kept from one question to the next. No promise to callers.
 use Rattle.std.specs.Prelude.{◌≡◌, ℕ, ◌<◌, [], All, replicate}
 use Rattle.walk_report.specs.declared.hop.TheConstants.{NONE}
 use Rattle.walk_report.specs.declared.lists.Lists.{Lists}

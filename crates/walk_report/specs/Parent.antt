@@ -7,8 +7,7 @@ use Rattle.route_walks.specs.Operators.{seeds_from}
 use Rattle.walk_report.specs.declared.hop.TheConstants.{NONE}
 use Rattle.walk_report.specs.Hop.{AreHops}
 
--- an arc leads to its head: the tail's label and the weight make the head's label, and the tail is
--- one hop nearer
+-- an arc leads to its head: the tail's label and the weight make the head's label, and the tail is one hop nearer
 pub record IsLeading (label hop : ℕ → ℕ) (arc : ArcRec) : Type 0 where
   pub tight : label arc.tail + arc.weight ≡ label arc.head
   pub nearer : hop arc.tail + 1 ≡ hop arc.head
@@ -24,7 +23,7 @@ pub record IsParent (arcs : List ArcRec) (label hop : ℕ → ℕ) (v u : ℕ) :
   pub leads : Leads arcs label hop u v
   pub least : (other : ℕ) → Leads arcs label hop other v → u ≤ other
 
--- a list of the parents of n vertices, with NONE for the source, whose hop is 0, and where no walk ends
+-- a list of the parents of n vertices, with NONE for the source and if no walk ends there
 pub record AreParents (n : ℕ) (arcs : List ArcRec) (labels hops parents : List ℕ) : Type 0 where
   pub count : length parents ≡ n
   pub source : (v : ℕ) → v < n → slice_index hops v ≡ 0 → slice_index parents v ≡ NONE
@@ -40,8 +39,7 @@ pub record LeadBack (hops parents : List ℕ) : Type 0 where
   pub nearer : (v : ℕ) → v < length hops → 0 < slice_index hops v → slice_index hops v < NONE
       → slice_index hops (slice_index parents v) + 1 ≡ slice_index hops v
 
--- parents after one more tail: it is the new parent where it leads and the old one is higher. Not part of what a caller is
--- promised
+-- parents after one more tail: it is the new parent if it leads and the old one is higher. No promise to callers
 pub record AreLedFrom (arcs : List ArcRec) (label hop : ℕ → ℕ) (tail : ℕ) (old new : List ℕ) : Type 0 where
   pub count : length new ≡ length old
   pub lower : (v : ℕ) → slice_index new v ≤ slice_index old v

@@ -1,5 +1,4 @@
--- The search for hops: what is true of the hops so far and of the queue. Not part of what a caller is
--- promised.
+-- The search for hops: what is true of the hops so far and of the queue. No promise to callers.
 use Rattle.std.specs.Prelude.{◌≡◌, ℕ, ◌+◌, ◌<◌, ◌≤◌, ◌==◌, ◌⊎◌, List, length, slice_index}
 use Rattle.std.specs.Prelude.{count_by, Contains}
 use Rattle.route_walks.specs.declared.graph.ArcRec.{ArcRec}
@@ -20,15 +19,14 @@ IsVisited limit arcs label hop u =
     (arc : ArcRec) → Contains arcs arc → arc.tail ≡ u → IsTightBelow limit label arc
     → IsReached hop (hop u + 1) arc.head
 
--- the vertex v was found as the k-th: a walk from s of its label's cost, below the limit, has h arcs, and h is at most k
+-- the vertex v was found as the k-th: a walk from s of its label's cost, below the limit, has h arcs, at most k
 pub record IsFound (limit n : ℕ) (arcs : List ArcRec) (label : ℕ → ℕ) (s v h k : ℕ) : Type 0 where
   pub vertex : v < n
   pub early : h ≤ k
   pub walk : HasWalk arcs s v (label v) h
   pub low : label v < limit
 
--- breadth-first search below a limit from the first vertex of the queue, where those before the place next are
--- visited
+-- breadth-first search below a limit from the first vertex of the queue, with those before the place next visited
 pub record IsSearch (limit n : ℕ) (arcs : List ArcRec) (label : ℕ → ℕ)
     (hops queue : List ℕ) (next : ℕ) : Type 0 where
   pub vertices : length hops ≡ n

@@ -17,13 +17,12 @@ abbrev pub walk_by : List ℕ → List ℕ → ℕ → List ℕ
 walk_by hops parents v =
     if slice_index hops v == NONE then [] else printed_walk (slice_index parents) (slice_index hops v) v
 
--- by labels, hops and parents d is the label of v, and where it is below INF these are the vertices of its printed walk
+-- by labels, hops and parents d is the label of v, and if it is below INF these are the vertices of its printed walk
 pub record IsToldBy (labels hops parents : List ℕ) (v d : ℕ) (vertices : List ℕ) : Type 0 where
   pub label : slice_index labels v ≡ d
   pub walk : d < INF → vertices ≡ printed_walk (slice_index parents) (slice_index hops v) v
 
--- label and walk are what arcs and source tell of v: its least label, and the vertices of its printed walk, or none where
--- no walk leads to it
+-- label and walk are what arcs and source tell of v: its least label, and the vertices of its printed walk, or none
 pub record IsWalkOf (n : ℕ) (arcs : List ArcRec) (source v label : ℕ) (walk : List ℕ) : Type 0 where
   pub told : (labels hops parents : List ℕ)
       → AreLeastLabels n arcs (seeds_from source) labels
@@ -38,8 +37,7 @@ pub record IsWalkOf (n : ℕ) (arcs : List ArcRec) (source v label : ℕ) (walk 
 abbrev pub walks_in : List (Vec ℕ Global) → List (List ℕ)
 walks_in vectors = map (λ vector. vector.items) vectors
 
--- these are the walks to the targets, in their order, where the label is below the limit or the limit is INF; the others
--- have no vertices
+-- the walks to the targets, in order, if the label is below the limit or the limit is INF; the others have no vertices
 pub record AreWalksTo (limit n : ℕ) (arcs : List ArcRec) (source : ℕ) (labels targets : List ℕ)
     (walks : List (Vec ℕ Global)) : Type 0 where
   pub count : length walks ≡ length targets
