@@ -14,8 +14,8 @@
 //! log.get_at(&rt, &mut mirrors[1], place) // the chunk, unless another worker got it
 //! ```
 //!
-//! The chunks that passes put are those that they got and those in the bag, so `drain` returns what is left. No clause
-//! says that a put succeeds, or which chunk a get finds.
+//! The chunks that passes put are those that they got and those in the bag. No clause says that a put succeeds, or
+//! which chunk a get finds.
 #![tactic(auto)]
 
 mod access;
