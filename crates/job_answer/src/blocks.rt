@@ -43,6 +43,7 @@ use std::thread::Threads;
 use std::time::Clock;
 use walk_report::laws::{hops_and_parents_exist, walks_below_agree};
 
+/// The block of a source, in memory.
 #[derive(Drop)]
 pub struct BlockText {
     pub bytes: Vec<u8>,

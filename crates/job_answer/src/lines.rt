@@ -21,6 +21,7 @@ use std::io::Write;
 /// Lines put between two looks at the buffer's size.
 const LINES: usize = 512;
 
+/// Puts the lines of components.
 pub fn put_components<W: Write>(sink: &mut Sink<'_, W>, labels: &[u64]) -> Result<(), Fault>
     requires vertices { length labels.now ≤ MAX_VERTICES }
     requires finite { All (λ label. label < INF) labels.now }
@@ -39,6 +40,7 @@ pub fn put_components<W: Write>(sink: &mut Sink<'_, W>, labels: &[u64]) -> Resul
     Ok(())
 }
 
+/// Puts the lines of a source.
 pub fn put_labels<W: Write>(
     sink: &mut Sink<'_, W>,
     source: u32,

@@ -5,6 +5,7 @@ ghost use Rattle.dimacs_text.specs.Jobs.{IsPairWithin};
 
 use crate::graphs::Graphs;
 
+/// Pairs, and the networks of their costs.
 #[derive(Drop)]
 pub struct PairQueries<'a> {
     pub graphs: &'a Graphs,
