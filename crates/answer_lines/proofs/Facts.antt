@@ -1,4 +1,4 @@
--- The lemmas that crates above may cite: the lines of vertices, and those of the vertices after them; and so of bytes.
+-- The lemmas that crates above may cite: the lines of vertices and of those after them, and so of bytes.
 use Rattle.std.proofs.Common.{◌≡◌, ℕ, suc, ◌+◌, List, [], ◌∷◌, ◌++◌, length, refl, sym, ap, subst, ◌∙◌, append_assoc}
 use Rattle.std.proofs.Common.{drop_at, arith}
 use Rattle.std.specs.Prelude.{All}

@@ -27,7 +27,7 @@ pub accepted : {T E : Type 0} {P : Type 0} (r : Result T E) → is_err r ≡ fal
 accepted (Ok x) e p = p
 accepted (Err x) e p = absurd (cc)
 
--- a list that goes on as one that begins with old, and is no shorter, is old once cut back to its length
+-- a list that begins with old is old once cut back to its length
 pub cut_back : {now xs old end : List ℕ} {n : ℕ} (ys all : List ℕ)
     → end ≡ take n now → now ≡ xs → xs ++ ys ≡ old ++ all → length old ≤ length xs → n ≡ length old
     → end ≡ old
@@ -50,7 +50,7 @@ front_last n small =
           ]
     ]
 
--- a line is made: its head, the last two digits of its number, a space, a text and a line feed
+-- a line: its head, the last two digits of its number, a space, a text and a line feed
 pub line_put : (letter n : ℕ) (head text end : List ℕ) {made rest : List ℕ}
     → n < 2 ^ 64 → head ≡ letter ∷ 32 ∷ front_digits (n / 100) → made ≡ head ++ (last_digits n ++ rest)
     → rest ≡ 32 ∷ (text ++ (10 ∷ end))
@@ -65,7 +65,7 @@ line_put letter n head text end {made} {rest} small is put left =
     ∙ append_assoc (decimal n ++ 32 ∷ []) text (10 ∷ end)
     ∙ append_assoc (decimal n) (32 ∷ []) (text ++ (10 ∷ end))))
 
--- a head is copied to the place a of some lines: from its start on the head stands there, and then what stood
+-- a head is copied to the place a of some lines, in front of what is there
 pub head_put : (a start : ℕ) (lines head : List ℕ)
     → start ≤ length head → a + length head ≤ length lines
     → drop (a + start) (put_chunk a lines head) ≡ drop start head ++ drop (a + length head) lines

@@ -1,4 +1,4 @@
--- The blocks of some queries and those of others, one after the other: as texts, and as they are put.
+-- The blocks of some queries and then of others: as texts, and as they are put.
 use Rattle.std.proofs.Common.{◌≡◌, ℕ, ◌+◌, ◌<◌, ◌≤◌, List, [], ◌∷◌, ◌++◌, length, get_or, drop, take}
 use Rattle.std.proofs.Common.{Option, refl, sym, subst, ap, ◌∙◌, append_assoc}
 use Rattle.std.proofs.Math.Seq.{take-add}

@@ -81,7 +81,7 @@ abbrev pub IsGrowthWithin : ℕ → Option Growth → Type 0
 IsGrowthWithin n None = Unit {0}
 IsGrowthWithin n (Some growth) = IsGraph n growth.arcs
 
--- where the arcs of each graph have a text, those of a graph and of what it grows to have one
+-- if the arcs of each graph have a text, a graph and what it grows to have one
 pub grown-exists : (n : ℕ) (IsTextOf : List ArcRec → List ℕ → Type 0)
     → ((arcs : List ArcRec) → IsGraph n arcs → (text : List ℕ) × IsTextOf arcs text)
     → (arcs : List ArcRec) (growth : Option Growth) → IsGraph n arcs → IsGrowthWithin n growth

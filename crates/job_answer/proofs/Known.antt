@@ -17,7 +17,7 @@ pub appends-nothing : (before : Option (List ℕ)) → Appends before before []
 appends-nothing None = tt
 appends-nothing (Some xs) = sym (append-nil xs)
 
--- what is a prefix of bytes that wait and more is, after those that went before, one of the whole
+-- a prefix of bytes that wait and more is, after those that went before, one of the whole
 pub prefix-after : (given waiting text more next : List ℕ)
     → text ≡ given ++ waiting → IsPrefix next (waiting ++ more) → IsPrefix (given ++ next) (text ++ more)
 prefix-after given waiting text more next whole prefix = (

@@ -1,4 +1,4 @@
--- A list of the vertices within a bound, each with its label, tells the lines of all labels that are within it.
+-- A list of the vertices within a bound, each with its label, tells the lines of all labels within it.
 use Rattle.std.proofs.Common.{◌≡◌, ◌∙◌, ℕ, ◌+◌, ◌<◌, ◌≤◌, true, false, List, [], ◌∷◌, ◌++◌, drop, length, get_or}
 use Rattle.std.proofs.Common.{zero, suc, refl, subst, sym, ap, arith, inl, inr, nat_le}
 use Rattle.std.specs.Prelude.{Contains, slice_index_or}
@@ -54,7 +54,7 @@ rises-first e found rise (suc k) lt =
 
 -- ---- labels from a vertex on, and the list of those within a bound
 
--- an entry is one of the labels, of which the first is that of the vertex v, and within the bound
+-- an entry is one of the labels from vertex v on, within the bound
 abbrev IsEntry : ℕ → ℕ → List ℕ → ℕ × ℕ → Type 0
 IsEntry bound v labels entry =
     (j : ℕ) × (j < length labels) × (entry.0 ≡ v + j) × (get_or labels j 0 ≡ entry.1) × (entry.1 ≤ bound)
@@ -116,7 +116,7 @@ module _ (bound v label : ℕ) (labels : List ℕ) where
         rise = rises-tail e found are.rise;
       }
 
-  -- the line of a label within the bound is that of the first entry, and the lines after it are those of the others
+  -- the line of a label within the bound is that of the first entry, before those of the others
   text-here : (found : List (ℕ × ℕ)) → AreEntries bound v (label ∷ labels) found → Contains found (v, label)
       → ((rest : List (ℕ × ℕ)) → AreEntries bound (v + 1) labels rest
       → lines_within bound label_text (v + 1) labels ≡ listed_text rest)

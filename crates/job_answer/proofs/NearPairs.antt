@@ -1,4 +1,4 @@
--- The lines of a pair by a walk that was found without workers are those of the one-thread definition.
+-- The lines of a pair by a walk found without workers are those of the one-thread definition.
 use Rattle.std.proofs.Common.{◌≡◌, ◌∙◌, ℕ, ◌<◌, ◌≤◌, List, [], ◌∷◌, ◌++◌, ap, arith, inl, inr, length, refl, slice_index, sym, true, false}
 use Rattle.std.proofs.Common.{◌+◌, None, get_or}
 use Rattle.std.specs.Prelude.{◌==◌, All, slice_index_or}
@@ -65,7 +65,7 @@ found-block exist led n arcs source t label walk few graph within below is =
           rw told.label (ap (λ part. pair_text source t label ++ part) line);
     }
 
--- what was found for the pairs of a solve gives the lines of each, by the label and the walk that are read at its place
+-- what was found for the pairs of a solve gives the lines of each, by the label and walk at its place
 pub found-lines : LeastLabelsExist → HopsAndParentsExist → (graphs : Graphs) (pairs : List (ℕ × ℕ)) (solve : Solve)
     (targets : List ℕ) (found : WalksFound) (k label : ℕ) (vector : Vec ℕ Global) (walk : List ℕ)
     → IsNetwork graphs.network → graphs.grown ≡ None → All (IsPairWithin graphs.network.n) pairs

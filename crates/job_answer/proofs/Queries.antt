@@ -1,4 +1,4 @@
--- Which source and which targets the queries of a solve have, and which costs pairs have after the network grew.
+-- The source and the targets of a solve's queries, and the costs of pairs after the network grew.
 use Rattle.std.proofs.Common.{◌≡◌, ◌∙◌, ℕ, ◌+◌, ◌-◌, ◌<◌, ◌≤◌, List, Option, Some, None, ap, arith, length, slice_index, subst}
 use Rattle.std.specs.List.{All}
 use Rattle.std.proofs.lemmas.List.Elements.{All-from_get_or, All-get_or}

@@ -1,4 +1,4 @@
--- Labels and blocks that are right along the arcs of a network are right along the job's arcs, of which it was made.
+-- Labels and blocks that are right along a network's arcs are right along the job's.
 use Rattle.std.proofs.Common.{◌≡◌, ◌≢◌, ◌↔◌, Bool, true, false, ℕ, List, [], ◌∷◌, ◌++◌, Option, Some, None, refl, sym, ap}
 use Rattle.std.proofs.Common.{◌∙◌}
 use Rattle.route_walks.specs.declared.graph.ArcRec.{ArcRec}

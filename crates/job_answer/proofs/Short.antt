@@ -1,4 +1,4 @@
--- Blocks in short have the least labels of the blocks of lines, since there is one list of them.
+-- Blocks in short have the least labels of the blocks of lines.
 use Rattle.std.proofs.Common.{ap, ◌∙◌}
 use Rattle.route_walks.specs.Label.{LeastLabelsAreUnique}
 use Rattle.route_walks.specs.Operators.{seeds_from}

@@ -190,7 +190,7 @@ module _ {W : Type 0} (contents : W → Option (List ℕ)) where
         put.appended cut.appended;
   }
 
-  -- the first of two texts is put, of which there is only one, and the second is cut short
+  -- the first of two texts, the only one, is put, and the second is cut short
   pub second-cut : (IsFirst IsSecond IsBoth : List ℕ → Type 0) (old between new : Sink W) → IsOneText IsFirst
       → ((text : List ℕ) → IsBoth text
       → (a : List ℕ) × (b : List ℕ) × IsFirst a × IsSecond b × (text ≡ a ++ b))

@@ -1,4 +1,4 @@
--- Costs up to a limit tell the block of a source by any lines: which labels are within its bound, and by which walks.
+-- Costs up to a limit tell the block of a source by any lines.
 use Rattle.std.proofs.Common.{◌≡◌, ◌∙◌, ℕ, ◌+◌, ◌<◌, ◌≤◌, Bool, true, false, List, [], ◌∷◌, ◌++◌, Option, None, Some}
 use Rattle.std.proofs.Common.{drop, length, get_or, slice_index, suc, refl, subst, sym, ap, ap₂, arith, inl, inr, min, nat_le}
 use Rattle.std.specs.Prelude.{◌==◌, if◌then◌else◌, IfSome}
@@ -78,7 +78,7 @@ all-walks hop parent v (label ∷ labels) each =
     ap₂ (λ (line lines : List ℕ). line ++ lines) head
     (all-walks hop parent (v + 1) labels (λ k below. each (suc k) (omega arith)))
 
--- a line within a bound is the same, where one label is within it exactly if the other is, and then both have one text
+-- a line within a bound is the same, if one label is within it exactly if the other is, with one text
 line-alike : (bound w x y : ℕ) (text other : ℕ → ℕ → List ℕ)
     → (x ≤ bound → x ≡ y) → (y ≤ bound → x ≡ y) → (x ≤ bound → text w x ≡ other w y)
     → line_within bound text w x ≡ line_within bound other w y

@@ -1,4 +1,4 @@
--- What walks tell of a pair that were worked out by labels which are least up to a limit.
+-- What walks tell of a pair by labels that are least up to a limit.
 use Rattle.std.proofs.Common.{◌≡◌, ◌∙◌, ℕ, ◌+◌, ◌<◌, ◌≤◌, List, [], ◌++◌, ap, arith, inl, inr, slice_index, sym, true}
 use Rattle.std.specs.Prelude.{◌==◌, if◌then◌else◌, min}
 use Rattle.std.proofs.lemmas.Bool.{cases_lt}

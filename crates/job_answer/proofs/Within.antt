@@ -1,4 +1,4 @@
--- Blocks by lines: there is one of each, along whichever arcs, and within a bound it says what costs no more.
+-- Blocks by lines: there is one of each, and within a bound it says what costs no more.
 use Rattle.std.proofs.Common.{◌≡◌, ◌≢◌, ◌∙◌, Bool, true, false, ℕ, ◌+◌, ◌<◌, ◌≤◌, List, [], ◌∷◌, ◌++◌, Option, None}
 use Rattle.std.proofs.Common.{length, get_or, slice_index, suc, refl, subst, sym, ap, arith, inl, inr, nat_le, if◌then◌else◌}
 use Rattle.std.specs.List.{All}

@@ -18,7 +18,7 @@ use Rattle.job_reader.specs.Request.{HasTaken, SaysOfText, fault_of}
 use Rattle.job_reader.specs.Taken.{TakesAtMost, TakesOneMore, TakesWhole}
 use Rattle.std.proofs.KnownBytes.{Consumes-trans}
 
--- the reader of the job has read all that was taken but the pieces at hand; `left` bytes may still come
+-- the reader of the job has read all that was taken but the pieces; `left` bytes may still come
 pub record IsFed (reader : JobReader) (at_hand : List ℕ) (limit left : ℕ) (before after : Option (List ℕ))
     : Type 0 where
   pub text : List ℕ
@@ -122,7 +122,7 @@ take-filled filled room count buffer part inside few =
 
 -- ---- of a text that was begun before
 
--- the reader of the job has read on all that was taken but the pieces at hand; `left` bytes may still come
+-- the reader of the job has read on all that was taken but the pieces; `left` bytes may still come
 pub record IsFedOn (old new : JobReader) (at_hand : List ℕ) (limit left : ℕ) (before after : Option (List ℕ))
     : Type 0 where
   pub text : List ℕ

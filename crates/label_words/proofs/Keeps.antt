@@ -139,7 +139,7 @@ Allowed me word f then' =
     → Allows (λ (state : TableState (Unit {0}) Known). AreLawful graph seeds state.words state.views) slots id me word f
     then'
 
--- it allows a call that is an event, after which the seat has this view, knows these labels, and P of what it found
+-- it allows a call that is an event: the seat then has this view, knows these labels, and P of what it found
 pub allows : {me : Mine} {word : ℕ} {f : ℕ → ℕ} (P : ℕ → Type 0) (event : ℕ → Event) (view : ℕ → View)
     (labels : ℕ → List (ℕ × ℕ)) → IsReady me.0
     → word < word_count me.0.graph.n → ((x v : ℕ) → word ≡ label_word v → f x ≤ x)

@@ -172,7 +172,7 @@ at_within [] s seat at = absurd (some-ne-none seat (sym at))
 at_within (x ∷ seats) zero seat at = omega arith
 at_within (x ∷ seats) (suc s) seat at = omega (arith, at_within seats s seat at)
 
--- a load leaves the words as they were, so the seat stands in lawful words with the total that it found
+-- a load leaves the words as they were: the seat stands in lawful words with the total it found
 seen_lawful : {graph : Graph} {seeds : List Seed} {words : List ℕ} {seats : List Known} {me : Known} (id : ℕ)
     (w : Known)
     → AreLawful graph seeds words seats → IsReady me → get_elem? seats id ≡ some me

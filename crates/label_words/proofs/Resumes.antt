@@ -1,4 +1,4 @@
--- A run that goes on from a pause: its words are lawful, and it ends as one from the pause's own seeds.
+-- A run that goes on from a pause: its words are lawful, and it ends as from the pause's own seeds.
 use Rattle.std.proofs.Common.{◌≡◌, refl, ap, ℕ, ◌<◌, ◌≤◌, List, [], ◌∷◌, true, false}
 use Rattle.std.proofs.Common.{length, get_or, arith, inl, inr}
 use Rattle.std.specs.Prelude.{slice_index, All}

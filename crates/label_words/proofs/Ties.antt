@@ -1,4 +1,4 @@
--- After a call the seat is tied to what it knows; and what an open seat before its row's end faces.
+-- After a call the seat is tied to what it knows; and what an open seat faces.
 use Rattle.std.proofs.Common.{◌≡◌, ◌≢◌, ◌∙◌, ◌<◌, sym, ap, length, ℕ, arith}
 use Rattle.std.specs.Prelude.{IfSome, slice_get}
 use Rattle.atomic_table.specs.Seated.{TableId}
@@ -23,7 +23,7 @@ tied {words} {words'} {known} {w} {view} {view'} me was same is graph view_is re
   ready = ready;
 }
 
--- the next arc of an open hand that isn't at its row's end, and what it offers its head
+-- the next arc of an open hand, and what it offers its head
 pub record Faces (graph : Graph) (hand : Hand) (head label : ℕ) : Type 0 where
   pub before : HasNextArc graph hand
   pub heads : (next_arc graph hand).head ≡ head

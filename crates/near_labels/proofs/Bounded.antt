@@ -13,7 +13,7 @@ use Rattle.route_walks.specs.Label.{IsLeast}
 use Rattle.near_labels.specs.Noted.{AreExactWithin, AreListed, AreNoted, AreThoseWithin, DoRise}
 use Rattle.near_labels.proofs.Noting.{noted-here}
 
--- the first vertices that are noted are listed; those that are listed are below the next one, which is after one of them
+-- the first noted vertices are listed, below the next one
 pub record IsListing (labels noted : List ℕ) (bound count : ℕ) (found : List (ℕ × ℕ)) (next : ℕ) : Type 0 where
   pub list : AreListed labels noted bound count found
   pub below : All (λ entry. entry.0 < next) found

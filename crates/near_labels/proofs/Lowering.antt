@@ -21,7 +21,7 @@ use Rattle.relax_core.specs.State.{mark_of}
 use Rattle.label_words.specs.Paused.{IsPause}
 use Rattle.near_labels.specs.Noted.{IsBlank, rest_of}
 
--- what holds of each element by its place, and of x at v, holds of each once x stands at v
+-- what holds of each element by its place, and of x at v, holds of each once x is at v
 each-put : {A : Type 0} (P : ℕ → A → Type 0) (none : A) (xs : List A) (v : ℕ) (x : A) → v < length xs
     → ((w : ℕ) → P w (get_or xs w none)) → P v x
     → (w : ℕ) → P w (get_or (set xs v x) w none)
@@ -139,7 +139,7 @@ pause-begin graph labels marks s rows count blank below =
       met = All-cons (IsMet (slice_index (set labels s 0))) (record { vertex = s; start = 0 }) [] (omega (arith, here)) (All-nil _);
     }
 
--- u is visited, as far as the first targets of its row: what it leads to there is relaxed from its label
+-- u is visited as far as the first targets of its row, which are relaxed from its label
 pub record IsVisiting (graph : Graph) (seeds : List Seed) (labels : List ℕ) (marks : List Bool) (u d : ℕ)
     (row : List Target) (count : ℕ) : Type 0 where
   pub pause : IsPause graph seeds (rest_of labels marks)

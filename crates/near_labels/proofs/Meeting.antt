@@ -1,4 +1,4 @@
--- Where a search from the source and one towards the target meet, the least cost is that of the meeting.
+-- If a search from the source and one towards the target meet, the least cost is that of the meeting.
 use Rattle.std.proofs.Common.{◌≡◌, ◌∙◌, sym, refl, ap, ℕ, ◌+◌, ◌<◌, ◌≤◌, List, [], ◌∷◌, ◌++◌, Bool, length, get_or, take}
 use Rattle.std.proofs.Common.{◌⊎◌, inl, inr, Some, subst, arith}
 use Rattle.std.specs.Prelude.{All, Contains, min, slice_index}
@@ -128,7 +128,7 @@ meeting_is_least up graph reversed s t low high c forward backward rows rows' tu
           omega (arith, most, walk.2);
     }
 
--- least is the least that the two labels of some vertices make, or INF where none of them makes less
+-- the least that the two labels of some vertices make, or INF
 pub record IsLeastSeen (n : ℕ) (forward backward : ℕ → ℕ) (seen : List ℕ) (least : ℕ) : Type 0 where
   pub capped : least ≤ INF
   pub low : All (λ v. least ≤ forward v + backward v) seen

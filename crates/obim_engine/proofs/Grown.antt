@@ -1,4 +1,4 @@
--- A pause, with a mark at the tail of each added arc, is a pause of the graph that has these arcs besides.
+-- A pause, with a mark at the tail of each added arc, is a pause of the grown graph.
 use Rattle.std.proofs.Common.{◌≡◌, ◌∙◌, sym, ap, ℕ, ◌⊎◌, List, Bool, true, inl, inr, arith}
 use Rattle.std.specs.Prelude.{◌==◌, ◌||◌, Some, slice_index}
 use Rattle.std.specs.List.{Contains, list_any}

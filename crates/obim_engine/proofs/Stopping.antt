@@ -1,5 +1,5 @@
--- What a run that may stop early gives, from what it leaves: least labels, or a pause in which no vertex is marked whose
--- label is below a limit that serves the goal.
+-- What a run that may stop early gives: least labels, or a pause in which no vertex is marked whose label is below a
+-- limit that serves the goal.
 use Rattle.std.proofs.Common.{ℕ, ◌≤◌, List, arith}
 use Rattle.std.specs.Prelude.{All, slice_index}
 use Rattle.std.specs.declared.vec.Vec.{Vec}

@@ -6,7 +6,7 @@ use Rattle.std.proofs.lemmas.Bool.{cases_eq, cases_lt, lt-ltb, le-ltb}
 use Rattle.std.proofs.lemmas.Nat.{leading_length, le-div, pow-add, pow_pos}
 use Rattle.obim_pool.specs.Scales.{BucketsRise, Widths, bits_after, bucket_among, scale_bucket, widening_bucket}
 
--- a label has no more than eight bits and those after them, and no fewer if there are some
+-- a label has at most eight bits and those after them, and no fewer if there are some
 record Leads (label bits : ℕ) : Type 0 where
   below : label < 2 ^ (bits + 8)
   from : 0 < bits → 2 ^ (bits + 7) ≤ label

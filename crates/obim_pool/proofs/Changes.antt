@@ -23,7 +23,7 @@ size bag = vec_len bag
 abbrev pub HasVertex : Bag → Type 0
 HasVertex bag = 0 < vec_len bag
 
--- one bag came to be w: before, it held had vertices, which is 0 if it was not there
+-- one bag became w: before, it held `had` vertices, 0 if it was not there
 pub record SetsBag (old new : BagMap) (had : ℕ) (w : Bag) : Type 0 where
   pub none_empty : AreNoneEmpty old → 0 < vec_len w → AreNoneEmpty new
   pub count : vertex_count new + had ≡ vertex_count old + vec_len w

@@ -48,7 +48,7 @@ account_else i j accesses p chunks k other =
     ap (λ found. account_of found (get_or (all_held (set chunks i k)) j [])) (at_set_else accesses i j p other)
     ∙ ap (account_of (slice_get accesses j)) held
 
--- The account of this place changed so, and no other; log, metrics and the number of bags are as before.
+-- The account of this place changed so, and no other; log, metrics and the number of bags stay.
 pub record Changed (Changes : Account → Account → Type 0) (place : ℕ)
     (old : MirrorSeen) (old_chunks : List BagChunks) (new : MirrorSeen) (new_chunks : List BagChunks) : Type 0 where
   pub log : new.log ≡ old.log
@@ -140,7 +140,7 @@ one_of_held Changes place m k k' within change =
       change = change p.0;
     }
 
--- what is so of a side's order and its current bag stays so where metrics and the number of bags do
+-- a side's order and current bag stay so if metrics and the number of bags do
 pub order_stays : {Changes : Account → Account
     → Type 0} {place : ℕ} {old new : MirrorSeen} {chunks chunks' : List BagChunks} (order : List OwnBag)
     → Changed Changes place old chunks new chunks' → IsOrder order (length chunks) (metrics_in old.accesses)

@@ -16,8 +16,8 @@ use Rattle.obim_pool.specs.Steps.{AreBare, Draws, FindsEmpty, IsBare, OneBag, On
 use Rattle.obim_bags.proofs.Facts.{some_same}
 use Rattle.obim_pool.proofs.Lifting.{Changed, changed_here, set_same}
 
--- The bags of the order before this rank were found empty, and the account of each from there on is as it was. Of no
--- bag more than the count of empty finds changed.
+-- The bags of the order before this rank were found empty, and the others' accounts are as before. Of no bag more than
+-- the count of empty finds changed.
 pub record Tried (rank : ℕ) (entries : List OwnBag)
     (old : MirrorSeen) (old_chunks : List BagChunks) (new : MirrorSeen) (new_chunks : List BagChunks) : Type 0 where
   pub log : new.log ≡ old.log

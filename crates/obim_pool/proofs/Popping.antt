@@ -116,7 +116,7 @@ finds_all {entries} {m0} {m1} {m2} {k0} {k1} {k2} before searched bare =
       others = λ place. looks_grown place searched (bare.others place);
     }
 
--- what is so of every side is so after a search, where the current bag is one of the order
+-- what is so of every side is so after a search, if the current bag is one of the order
 pub is_side_still : {at : OwnBag} {entries : List OwnBag} {m0 m1 m2 : MirrorSeen} {k0 k1 k2 : List BagChunks} (rank : ℕ)
     → slice_get entries rank ≡ Some at → Searched entries m0 k0 m1 k1 m2 k2 → IsSide m2 k2 entries (Some at)
 is_side_still {at} {entries} {m0} {m1} {m2} {k0} {k1} {k2} rank there searched =
@@ -171,7 +171,7 @@ tried_found {old} {mid} {new} place tries once =
     })
     (tries.finds place)
 
--- where the lowest bag gave a vertex after a try of the current one, each bag below it was found empty
+-- if the lowest bag gave a vertex after a try of the current one, each bag below was found empty
 pub tried_below : {v : ℕ} {old mid new : SideSeen} → TriesCurrent old mid → PopsLowest v mid new
     → HasLookedBelow old new
 tried_below tries lowest current is changed place metric own less =

@@ -49,7 +49,7 @@ holds_kept label label' k arc (Owe u d place head) same (inl owed) = inl owed
 holds_kept label label' k arc (Owe u d place head) same (inr held) =
     inr (held.0, rw (held.0, same) (rw held.0 at held.1), held.2)
 
--- a step of one view: what it has to show of labels, of its hand, and of the arcs that were covered
+-- a step of one view: what it has to show of labels, its hand, and the covered arcs
 pub record IsStep (graph : Graph) (seeds : List Seed) (label label' : ℕ → ℕ) (mark mark' : ℕ → Bool)
     (views : List View) (s : ℕ) (v w : View) : Type 0 where
   pub falls : (x : ℕ) → label' x ≤ label x

@@ -1,4 +1,4 @@
--- Lists of arcs, and other arcs after them: what the operators make of them, and which arcs they have.
+-- Lists of arcs, and other arcs after them: what the operators make of them.
 use Rattle.std.proofs.Common.{◌≡◌, ℕ, List, [], ◌∷◌, ◌++◌, inl, inr}
 use Rattle.std.proofs.lemmas.Grind.{flat_map-append}
 use Rattle.std.proofs.lemmas.List.{map-append}
@@ -59,7 +59,7 @@ pub same_arcs-trans : (one middle other : List ArcRec) → HaveSameArcs one midd
 same_arcs-trans one middle other first second arc =
     (λ within. (second arc).0 ((first arc).0 within), λ within. (first arc).1 ((second arc).1 within))
 
--- a graph grew by added arcs, from one with the same arcs as a list: it has the arcs of the list and the added ones
+-- a graph grown from one with the same arcs as a list has the arcs of the list and the added ones
 pub same_arcs-grown : (grown rows arcs added : List ArcRec) → HaveSameArcs grown (rows ++ added)
     → HaveSameArcs rows arcs → HaveSameArcs grown (arcs ++ added)
 same_arcs-grown grown rows arcs added grows same =

@@ -1,5 +1,4 @@
--- A path is a walk along the arcs both ways, which is free; so what is attained at a vertex are the
--- numbers of the vertices connected with it.
+-- A path is a free walk along the arcs both ways; so what is attained at a vertex are the numbers connected with it.
 use Rattle.std.proofs.Common.{◌≡◌, ℕ, ◌<◌, ◌≤◌, List, [], ◌∷◌, zero, suc, refl, sym, subst, arith, ◌⊎◌, inl, inr}
 use Rattle.std.specs.List.{All, Contains, range_with_len}
 use Rattle.std.proofs.lemmas.List.Elements.{All-contains, All-map, All-nil, All-cons, Contains-append_cases}

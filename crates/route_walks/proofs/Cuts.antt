@@ -1,5 +1,5 @@
--- A walk that meets a vertex twice can leave out what lies between, so some walk of no more cost meets
--- none twice; and at most n vertices are met. So no least cost is as large as INF.
+-- A walk can leave out what lies between two visits of a vertex, so some walk of no more cost meets none twice, and at
+-- most n vertices. So no least cost is as large as INF.
 use Rattle.std.proofs.Common.{◌≡◌, ℕ, ◌+◌, ◌*◌, ◌^◌, ◌<◌, ◌≤◌, List, [], ◌∷◌, length, map, true, false, eqb, refl, sym}
 use Rattle.std.proofs.Common.{subst}
 use Rattle.std.proofs.Common.{◌⊎◌, inl, inr, arith}
@@ -30,7 +30,7 @@ vertices-below n arcs graph u v (arc ∷ walk) below walks =
     All-cons (λ x. x < n) u (vertices arc.head walk) below
     (vertices-below n arcs graph arc.head v walk (All-contains (IsArcBelow n) arcs arc graph walks.0).1 walks.2)
 
--- a walk from u to v that meets no vertex twice, and costs no more than the given number
+-- a walk from u to v that meets no vertex twice, and costs at most this
 record Simple (arcs : List ArcRec) (u v most : ℕ) : Type 0 where
   walk : List ArcRec
   walks : IsWalk arcs u walk v

@@ -9,8 +9,8 @@ pub use Rattle.route_walks.proofs.Cuts.{walks_can_be_cut}
 pub use Rattle.route_walks.proofs.Cuts.{no_walk_at_inf}
 -- labels that are settled and sound are least, and the other way round
 pub use Rattle.route_walks.proofs.Labels.{settled_and_sound_are_least, least_labels_are_settled}
--- labels that are settled up to a limit are least up to it; those of at most the limit are least, and those within a
--- bound exact; and least labels are least up to each limit
+-- labels settled up to a limit are least up to it; those of at most the limit are least, and those within a bound
+-- exact; least labels are least up to each limit
 pub use Rattle.route_walks.proofs.Limits.{settled_up_to_is_least_up_to, least_up_to_is_least, least_is_least_up_to}
 pub use Rattle.route_walks.proofs.Limits.{least_up_to_agrees, within_is_exact, walks_below_are_tight}
 -- where every vertex is a seed, each is
@@ -21,7 +21,6 @@ pub use Rattle.route_walks.proofs.SameArcs.{attained-among}
 pub use Rattle.route_walks.proofs.Added.{unit_weights-append, both_ways-append, both_ways-graph, graph-append}
 pub use Rattle.route_walks.proofs.Added.{same_arcs-append, same_arcs-sym, same_arcs-trans, same_arcs-grown}
 pub use Rattle.route_walks.proofs.Added.{least_labels-grown}
--- labels as seeds: which they are, and that what is attained and least from them is so from the seeds
--- that they meet
+-- labels as seeds: which they are, and that what is attained and least from them is so from the seeds that they meet
 pub use Rattle.route_walks.proofs.Reseeding.{labels-have_seed, labels-meet_their_seeds, labels-are_seeds}
 pub use Rattle.route_walks.proofs.Reseeding.{attained-from_labels, labels_serve_as_seeds}

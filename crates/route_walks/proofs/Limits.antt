@@ -1,5 +1,5 @@
--- Labels that nothing below a limit lowers lie at or below each attained number, or that one is at the limit or past it.
--- So such labels are least up to the limit. And what such labels say of least ones, of a bound and of walks.
+-- Labels that nothing below a limit lowers are at or below each attained number, or that is at least the limit. So they
+-- are least up to the limit. And what they say of least labels, of a bound and of walks.
 use Rattle.std.proofs.Common.{ℕ, ◌+◌, ◌≤◌, ◌⊎◌, List, [], ◌∷◌, sym, subst, arith, inl, inr}
 use Rattle.std.proofs.lemmas.List.Elements.{All-contains}
 use Rattle.std.proofs.lemmas.Bool.{cases_lt}

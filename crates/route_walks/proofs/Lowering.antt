@@ -18,14 +18,14 @@ pub record AreLowered (n : ℕ) (arcs : List ArcRec) (seeds some : List Seed) (l
   pub sound : IsSound n arcs seeds (slice_index labels)
   pub met : All (IsMet (slice_index labels)) some
 
--- a round has gone along the first arcs: fell says whether a label fell, and else those arcs are relaxed
+-- a round has gone along the first arcs: fell says if a label fell, and else they are relaxed
 pub record IsRound (n : ℕ) (arcs : List ArcRec) (seeds : List Seed) (before labels : List ℕ) (count : ℕ) (fell : Bool)
     : Type 0 where
   pub lowered : AreLowered n arcs seeds seeds labels
   pub relaxed : fell ≡ false → All (IsRelaxed (slice_index labels)) (take count arcs)
   pub less : sum labels + cond fell 1 0 ≤ sum before
 
--- what holds of each label, and of a number at v, holds of each when v has that number
+-- what holds of each label, and of a number at v, holds of each with that number at v
 each-set : (P : ℕ → ℕ → Type 0) (labels : List ℕ) (v x : ℕ) → v < length labels
     → ((w : ℕ) → P w (get_or labels w 0)) → P v x
     → (w : ℕ) → P w (get_or (set labels v x) w 0)

@@ -1,5 +1,5 @@
--- Labels that are sound and meet the seeds serve as seeds: what is attained from them is attained from
--- the seeds, and what is attained from the seeds is attained from them, or less is.
+-- Labels that are sound and meet the seeds serve as seeds: what is attained from them is attained from the seeds, and
+-- what is attained from the seeds, or less, from them.
 use Rattle.std.proofs.Common.{◌≡◌, ℕ, zero, suc, ◌+◌, ◌<◌, ◌≤◌, List, [], ◌∷◌, Bool, true, false, cond, nat_lt}
 use Rattle.std.proofs.Common.{length, map, get_or, slice_index, refl, subst, arith, inl, inr}
 use Rattle.std.specs.List.{All, Contains, filter, range_with_len}

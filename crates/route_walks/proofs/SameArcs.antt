@@ -1,5 +1,5 @@
--- A walk goes over arcs of the list, so more arcs leave all walks and attained numbers; and lists with the
--- same arcs have the same walks, attained numbers and least labels.
+-- More arcs leave all walks and attained numbers; lists with the same arcs have the same walks, attained numbers and
+-- least labels.
 use Rattle.std.proofs.Common.{ℕ, List, [], ◌∷◌}
 use Rattle.std.specs.List.{Contains}
 use Rattle.route_walks.specs.declared.graph.ArcRec.{ArcRec}

@@ -1,4 +1,4 @@
--- Labels that are least up to a limit tell of the vertices below it what the least labels tell.
+-- Labels least up to a limit tell of the vertices below it what the least labels tell.
 use Rattle.std.proofs.Common.{◌≡◌, ◌∙◌, ℕ, zero, suc, ◌<◌, ◌≤◌, List, [], ◌∷◌, ◌++◌, slice_index, ap, refl, subst}
 use Rattle.std.proofs.Common.{sym, arith, inl, inr}
 use Rattle.std.proofs.lemmas.List.Elements.{All-contains}

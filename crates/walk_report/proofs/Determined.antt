@@ -1,4 +1,4 @@
--- Arcs and labels determine hops and parents: the order of the arcs doesn't matter, and there is one list of each.
+-- Arcs and labels determine hops and parents, whatever the order of the arcs.
 use Rattle.std.proofs.Common.{◌≡◌, ◌∙◌, ℕ, ◌<◌, ◌⊎◌, List, [], ◌∷◌, slice_index, sym, arith, inl, inr}
 use Rattle.std.proofs.lemmas.Bool.{cases_lt}
 use Rattle.std.proofs.lemmas.Grind.{same_number_lists}

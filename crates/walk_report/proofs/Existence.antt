@@ -1,5 +1,5 @@
--- Hops and parents exist. A hop is a least label too: along the tight arcs, each of which counts 1. A parent
--- is found by asking one vertex after another whether it leads there.
+-- Hops and parents exist. A hop is a least label along the tight arcs, each of which counts 1. A parent is found by
+-- asking one vertex after another.
 use Rattle.std.proofs.Common.{◌≡◌, ◌∙◌, ℕ, zero, suc, ◌+◌, ◌<◌, ◌≤◌, ◌⊎◌, List, [], ◌∷◌, length, get_or, map, min}
 use Rattle.std.proofs.Common.{slice_index}
 use Rattle.std.proofs.Common.{refl, sym, subst, ap, arith, inl, inr}
@@ -108,7 +108,7 @@ cost-units : (walk : List ArcRec) → cost (map unit_weight walk) ≡ length wal
 cost-units [] = refl
 cost-units (arc ∷ walk) = omega (arith, cost-units walk)
 
--- a walk of tight arcs from u to v, which a walk of steps of this cost goes along
+-- a walk of tight arcs from u to v, which a walk of steps goes along
 record GoesAlong (arcs : List ArcRec) (label : ℕ → ℕ) (u v count : ℕ) : Type 0 where
   walk : List ArcRec
   walks : IsWalk arcs u walk v

@@ -1,4 +1,4 @@
--- Least walks below a limit: hops rise by at most one an arc, and the last arc of one of fewest arcs leads to its end.
+-- Least walks below a limit: hops rise by at most one an arc, and the last arc of one of fewest leads to its end.
 use Rattle.std.proofs.Common.{◌≡◌, ℕ, ◌+◌, ◌<◌, ◌≤◌, List, [], ◌∷◌, ◌++◌, length, slice_index, sym, ap, refl, arith}
 use Rattle.std.proofs.Common.{inl, inr}
 use Rattle.std.specs.List.{Contains}
@@ -58,7 +58,7 @@ hops-of-below-inf exact = record {
 
 module _ {limit n : ℕ} {arcs : List ArcRec} {s : ℕ} {labels : List ℕ} (few : limit ≤ INF) (graph : IsGraph n arcs)
     (least : AreLeastLabelsUpTo limit n arcs (seeds_from s) labels) where
-  -- a walk's end is labelled with no more than its start's label and its cost, if that is below the limit
+  -- a walk's end has at most its start's label and its cost, if that is below the limit
   label-over : (u v : ℕ) (walk : List ArcRec) → u < n → v < n → slice_index labels u + cost walk < limit
       → IsWalk arcs u walk v
       → slice_index labels v ≤ slice_index labels u + cost walk
@@ -69,7 +69,7 @@ module _ {limit n : ℕ} {arcs : List ArcRec} {s : ℕ} {labels : List ℕ} (few
         | inr past ↦ absurd (omega (arith, past, low))
       ]
 
-  -- labels from s are at most the cost of a walk from there, if that is below the limit
+  -- labels from s are at most the cost of a walk from there, if below the limit
   pub label-le-cost : (v : ℕ) (walk : List ArcRec) → v < n → cost walk < limit → IsWalk arcs s walk v
       → slice_index labels v ≤ cost walk
   label-le-cost v walk below low walks =
@@ -78,7 +78,7 @@ module _ {limit n : ℕ} {arcs : List ArcRec} {s : ℕ} {labels : List ℕ} (few
         | inr past ↦ absurd (omega (arith, past, low))
       ]
 
-  -- the first arc of a walk along which the labels differ by its cost is tight, and so for the rest
+  -- the first arc of a walk along which labels differ by its cost is tight, and so for the rest
   pub first-step : (u v : ℕ) (arc : ArcRec) (walk : List ArcRec) → u < n → v < n → slice_index labels v < limit
       → slice_index labels u + cost (arc ∷ walk) ≡ slice_index labels v → IsWalk arcs u (arc ∷ walk) v
       → (arc.head < n) × (slice_index labels arc.head < limit)
@@ -91,8 +91,7 @@ module _ {limit n : ℕ} {arcs : List ArcRec} {s : ℕ} {labels : List ℕ} (few
       let rest = label-over arc.head v walk head below' (omega (arith, one, costs, low)) walks.2 in
       (head, near, omega (arith, one, rest), omega (arith, one, rest))
 
-  -- where each tight arc from a vertex with a hop is reached, hops rise along such a walk by no more
-  -- than its arcs
+  -- if each tight arc from a vertex with a hop is reached, hops rise along such a walk by no more than its arcs
   pub hop-over : (hop : ℕ → ℕ)
       → ((arc : ArcRec) → Contains arcs arc → IsTightBelow limit (slice_index labels) arc → hop arc.tail < NONE
       → IsReached hop (hop arc.tail + 1) arc.head)

@@ -15,7 +15,7 @@ use Rattle.walk_report.specs.Hop.{AreFromOneSource}
 use Rattle.walk_report.specs.Parent.{IsLeading, Leads, AreLedFrom, AreParents, LeadBack}
 use Rattle.walk_report.proofs.LeastWalks.{some-leads, hop-lt}
 
--- parents while a tail is passed: it is the new one of some vertices to which it leads, where the old one is higher
+-- parents while a tail is passed: new for some vertices to which it leads, if the old one is higher
 pub record AreLed (n : ℕ) (arcs : List ArcRec) (label hop : ℕ → ℕ) (tail : ℕ) (old new : List ℕ) : Type 0 where
   pub count : length new ≡ length old
   pub vertices : length old ≡ n
@@ -79,7 +79,7 @@ led-past none fits = record {
   reached = λ v leads. absurd (omega (arith, leads.leading.nearer, none, fits v));
 }
 
--- each of n vertices has NONE or a vertex that leads to it, and no tail that is passed and leads to it is lower
+-- each of n vertices has NONE or a vertex that leads to it, and no lower passed tail leads to it
 pub record AreLeastTails (n : ℕ) (arcs : List ArcRec) (label hop : ℕ → ℕ) (IsPassed : ℕ → Type 0) (parents : List ℕ)
     : Type 0 where
   pub count : length parents ≡ n

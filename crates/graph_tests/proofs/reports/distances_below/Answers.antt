@@ -1,4 +1,4 @@
--- Least labels are least up to each limit, and a label past the limit may be any higher one.
+-- Least labels are least up to each limit, and a label past the limit may be higher.
 use Rattle.std.proofs.Common.{◌∙◌, ℕ, ◌<◌, ◌≤◌, List, arith, inl, inr, length, set, slice_index}
 use Rattle.std.proofs.lemmas.Bool.{cases_eq}
 use Rattle.std.proofs.lemmas.List.{get_or_read, get_or-set_same, get_or-set_other, length-set}

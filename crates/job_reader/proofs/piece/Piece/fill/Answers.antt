@@ -1,4 +1,4 @@
--- What was read is at the front of the buffer, which is as long as it was or longer.
+-- What was read is at the front of the buffer, which is no shorter than it was.
 use Rattle.std.proofs.Common.{◌≡◌, ◌++◌, ◌<◌, [], length, take, drop, arith}
 use Rattle.std.proofs.lemmas.Grind.{common_steps}
 use Rattle.job_reader.proofs.piece.Piece.fill.Given.{Over}

@@ -1,5 +1,4 @@
--- A mirror that has the metric stays as it is; in another what it keeps begins the list in the slot, also where it
--- grew.
+-- A mirror that has the metric stays as it is; what another keeps begins the list in the slot.
 use Rattle.std.proofs.Common.{refl}
 use Rattle.obim_bags.proofs.Prefixes.{prefix_trans}
 use Rattle.obim_bags.proofs.Ties.{accesses_begin, gains_none, index_begins}

@@ -1,4 +1,4 @@
--- Two changes at one place, one after the other. One chunk was put and none was got where the bag was found empty.
+-- Two changes at one place. One chunk was put and none was got if the bag was found empty.
 use Rattle.std.proofs.Common.{◌≡◌, ◌∙◌, ap, sym, ℕ, ◌+◌, List, [], Some, arith, set}
 use Rattle.std.specs.Prelude.{slice_get}
 use Rattle.std.proofs.lemmas.List.Sums.{sum_by-cons}

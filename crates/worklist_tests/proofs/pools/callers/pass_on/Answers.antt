@@ -1,4 +1,4 @@
--- In the bag that gave the vertex the chunks put are those got and those left, and nothing but v was put.
+-- In the bag that gave the vertex the chunks put are those got and left, and only v was put.
 use Rattle.std.proofs.Common.{◌≡◌, ◌≢◌, ◌∙◌, ⊎_elim, ap, refl, sym, ℕ, ◌+◌, ◌-◌, ◌<◌, ◌≤◌, List, [], ◌∷◌}
 use Rattle.std.proofs.Common.{◌++◌, length, get_or, Some, None, arith}
 use Rattle.std.specs.Prelude.{Option, slice_get, sum_by}
@@ -71,7 +71,7 @@ has_part first second left settled place metric own =
 module _ (log : TableId) (from to : SideSeen) (metric v x : ℕ) (left : List ChunkSeen)
     (pushed : PushesTo metric v (new_side log) from) (popped : Pops x (new_side log) to)
     (settled : IsLogSettled (from.mirror ∷ to.mirror ∷ []) left) where
-  -- what the first side put into the bag that gave the vertex weighs no more than v, and it got nothing there
+  -- what the first side put into that bag weighs no more than v, and it got nothing there
   put_little : (f : ℕ → ℕ) → sum_by f (vertices_of (account_at popped.place from).put) ≤ f v
   put_little f =
       ⊎_elim
