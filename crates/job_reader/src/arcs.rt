@@ -18,7 +18,7 @@ use std::io::Read;
 use std::thread::Threads;
 use std::time::Clock;
 
-/// The bytes of the shortest line of an arc, `a 1 1 0`.
+/// The bytes of the shortest line of an arc, `a 1 1 0` and a line feed.
 const SHORTEST_ARC: usize = 8;
 
 /// The fewest sure bytes that are worth threads.

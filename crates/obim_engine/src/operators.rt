@@ -65,8 +65,8 @@ pub fn least_labels_until<H: Threads + Wait + Clock + Sync, G: Gate + Sync>(
     reach_alone(rt, alloc, csr, opened, goal, settings, gate)
 }
 
-/// The least labels of the graph and seeds of a pause, of which a run goes on: it visits only what marked vertices
-/// change. After a fault the pause is gone.
+/// The least labels of a pause's graph and seeds: a run goes on from it, and visits only what marked vertices change.
+/// After a fault the pause is gone.
 pub fn least_labels_resumed<H: Threads + Wait + Clock + Sync, G: Gate + Sync>(
     rt: &H,
     alloc: Global,

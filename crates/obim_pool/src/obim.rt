@@ -63,8 +63,8 @@ impl ObimPool {
         Ok((ObimPool { log, alloc }, sides))
     }
 
-    /// Puts `v` into the bag of its metric, which becomes current if it is lower. Returns false, and keeps nothing, if
-    /// memory is refused or this side opened 2^62 chunks.
+    /// Puts `v` into the bag of its metric, which becomes current if it is lower. Returns false, and `v` is not kept,
+    /// if memory is refused or this side opened 2^62 chunks.
     #[inline(always)]
     pub fn push<R: Wait>(&self, rt: &R, side: &mut ObimSide, v: u32, metric: u64) -> bool
         requires { IsSideOf self.now side.old }

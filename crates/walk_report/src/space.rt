@@ -11,8 +11,8 @@ use route_walks::Memory;
 use std::alloc::Global;
 use std::marker::Model;
 
-/// Room for walks in graphs of this many vertices, one question after another, as `DfsSpace` of petgraph. Takes 8 bytes
-/// a vertex, and 4 to 8 for each vertex that a question reaches.
+/// Room for walks in graphs of this many vertices, one question after another. Takes 8 bytes a vertex, and 4 to 8 for
+/// each vertex that a question reaches.
 #[derive(Drop)]
 pub struct WalkSpace {
     lists: Lists,
