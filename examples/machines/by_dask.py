@@ -31,6 +31,9 @@ def make(script, folder, number):
 
 
 def main():
+    if sys.argv[1:2] == ["--help"]:
+        print(__doc__, end="")
+        return
     if len(sys.argv) not in (2, 3):
         sys.exit("usage: by_dask.py FOLDER [SCHEDULER]")
     try:
