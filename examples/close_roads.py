@@ -3,7 +3,7 @@
 
 A line `U V` of CHANGES closes all arcs from vertex U to vertex V, and a line `U V W` gives them the weight W; for the way
 back write another line. Blank lines and lines that begin with c are comments. Without MAP.gr the graph comes on standard
-input. Needs to_gr.py beside it.
+input. Of its comments the unit of weights alone is kept (`c unit metres`). Needs to_gr.py beside it.
 
 A change of an arc that the graph does not have is refused, and so is a line that is not understood, and a graph that has
 more or fewer arcs than it announces. Then the status is 1, and nothing is written.
@@ -42,7 +42,7 @@ def read_changes(name):
 
 
 def change(stream, name, changes, out):
-    """Writes the lines of a graph without its problem line. Gives the vertices, the arcs, and which changes were made."""
+    """Writes the arcs of a graph and the unit of their weights. Gives the vertices, the arcs, and the changes made."""
     problem, found, kept, made = None, 0, 0, set()
     for line, text in enumerate(stream, 1):
         fields = text.split()
@@ -60,6 +60,8 @@ def change(stream, name, changes, out):
             elif fields[:2] == [b"p", b"sp"] and problem is None:
                 problem = [whole(field) for field in fields[2:]]
                 vertices, arcs = problem
+            elif fields[:2] == [b"c", b"unit"]:
+                out.write(text)
             elif fields and not fields[0].startswith(b"c"):
                 raise ValueError
         except ValueError:

@@ -5,7 +5,7 @@ MAP.gr and the files beside it are what osm_to_gr.py writes with --places places
 number of minutes the streets that it adds to those before, each cut off where the time is up, and the place. The last
 number comes first, so that a viewer draws what is near on top. If weights are lengths, the numbers are metres.
 
-    --weight UNIT     what weights are, as osm_to_gr.py was called with (decimetres)
+    --weight UNIT     what weights are if the graph does not say it, as osm_to_gr.py was called with (decimetres)
     --nodes FILE      in place of nodes.txt
     --places FILE     in place of places.txt
     --any             begins at a place, too, that is not joined to the largest part of the map
@@ -15,8 +15,8 @@ Needs the Python package hollowbowl (docs/PYTHON.md), the program, and the scrip
 goes by as the way does. Of a street that is reached from both ends, each piece counts from the end that is reached
 earlier.
 
-A file that is not understood is refused, with its line, and so are files of another map. Then the status is 2, and
-nothing is written.
+A file that is not understood is refused, with its line, and so are files of another map, and a --weight that is not
+that of the graph. Then the status is 2, and nothing is written.
 """
 
 import sys
@@ -110,7 +110,7 @@ def parse():
     parser.add_argument("latitude")
     parser.add_argument("longitude")
     parser.add_argument("limits", nargs="+")
-    options = parser.parse_intermixed_args()
+    options = map_files.parsed(parser)
     numbers = [limit_of(word, options.weight) for word in options.limits]
     if any(one >= other for one, other in zip(numbers, numbers[1:])):
         raise Refused("the command line: the numbers have to rise")

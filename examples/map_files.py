@@ -8,6 +8,7 @@ import os
 import re
 import shutil
 import sys
+import zlib
 from array import array
 from collections import namedtuple
 
@@ -25,12 +26,46 @@ def arguments(text):
     """A parser of the words that both scripts take."""
     parser = Arguments(text)
     parser.add_argument("graph")
-    parser.add_argument("--weight", choices=UNITS, default="decimetres")
+    parser.add_argument("--weight", choices=UNITS)
     parser.add_argument("--nodes", default="nodes.txt")
     parser.add_argument("--places", default="places.txt")
     parser.add_argument("--any", action="store_true")
     parser.add_argument("--picture", type=picture_name)
     return parser
+
+
+def parsed(parser):
+    """The words of the command line, with the unit of weights: that of the graph if it says one."""
+    options = parser.parse_intermixed_args()
+    written = written_unit(options.graph)
+    if written and options.weight not in (None, written):
+        cure = f"leave --weight out, or write the graph anew by osm_to_gr.py --weight {options.weight}"
+        raise Refused(f"{options.graph}: weights are {written}, and not {options.weight}: {cure}")
+    options.weight = written or options.weight or "decimetres"
+    return options
+
+
+def written_unit(name):
+    """The unit that a line of a graph before its arcs says, as `c unit metres`; None if none does."""
+    try:
+        with open(name, "rb") as stream:
+            for line, text in enumerate(unpacked(stream), 1):
+                words = text.split()
+                if words[:1] == [b"a"]:
+                    break
+                if words[:2] == [b"c", b"unit"] and len(words) == 3:
+                    return known_unit(words[2], f"{name}:{line}")
+    except (EOFError, zlib.error, OSError) as fault:
+        if getattr(fault, "errno", None) is not None:
+            raise
+    return None  # what is wrong with a damaged file the program says
+
+
+def known_unit(word, where):
+    unit = word.decode("utf-8", "replace")
+    if unit not in UNITS:
+        raise Refused(f"{where}: the unit {unit!r} is none of {', '.join(UNITS)}: change that line")
+    return unit
 
 
 def number_from(least, most):

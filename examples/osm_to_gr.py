@@ -6,7 +6,8 @@ standard input. The roads of a profile become arcs between their nodes, and node
 is, and its latitude and longitude. Needs to_gr.py, osm_turns.py and osm_parts.py beside it.
 
     --profile car|foot   whose roads (car)
-    --weight UNIT        lengths in metres or decimetres, times in seconds or deciseconds (decimetres)
+    --weight UNIT        lengths in metres or decimetres, times in seconds or deciseconds (decimetres). The first line
+                         of the graph says which, as `c unit metres`
     --nodes FILE         in place of nodes.txt
     --ways FILE          a line for each arc, in the order of the graph: the number of its way, a tab, and the name of
                          the way, or its ref if it has no name
@@ -439,7 +440,7 @@ def convert():
         places = len(graph.vertices) - graph.vertices.count(0)
         say(f"places that are joined to the largest part: {sum(joined)} of {places}")
         beside.append((options.places, graph.place_lines(joined)))
-    write_graph(graph.turns.count, graph.many, graph.lines(options.weight), beside)
+    write_graph(graph.turns.count, graph.many, graph.lines(options.weight), beside, options.weight)
 
 
 if __name__ == "__main__":

@@ -6,7 +6,7 @@ GeoJSON: a line for each street of the route with its name, the numbers of its w
 places. If weights are times a street has seconds, and `after` says how many seconds come before it; if they are
 lengths it says how many metres do. Standard error has the sum.
 
-    --weight UNIT     what weights are, as osm_to_gr.py was called with (decimetres)
+    --weight UNIT     what weights are if the graph does not say it, as osm_to_gr.py was called with (decimetres)
     --nodes FILE      in place of nodes.txt
     --ways FILE       in place of ways.txt
     --places FILE     in place of places.txt
@@ -16,8 +16,8 @@ lengths it says how many metres do. Standard error has the sum.
 Needs the Python package hollowbowl (docs/PYTHON.md), the program, and the scripts beside it. A route begins and ends at
 the nearest nodes of the map.
 
-A file that is not understood is refused, with its line, and so are files of another map, and places between which no
-route leads. Then the status is 2, and nothing is written.
+A file that is not understood is refused, with its line, and so are files of another map, a --weight that is not that
+of the graph, and places between which no route leads. Then the status is 2, and nothing is written.
 """
 
 import sys
@@ -114,7 +114,7 @@ def parse():
     for word in ("latitude", "longitude", "end_latitude", "end_longitude"):
         parser.add_argument(word)
     parser.add_argument("--ways", default="ways.txt")
-    return parser.parse_intermixed_args()
+    return map_files.parsed(parser)
 
 
 def main():

@@ -192,10 +192,11 @@ class Written:
         self.vertices = [None] + [int(line.split(" ")[0]) for line in nodes]
         self.places = [line.split(" ") for line in places]
         self.ways = [line.split("\t") for line in ways]
-        head, *lines = out.getvalue().splitlines()
+        unit, head, *lines = out.getvalue().splitlines()
         self.arcs = [tuple(map(int, line.split(" ")[1:])) for line in lines]
-        if head != f"p sp {len(nodes)} {len(lines)}" or len(ways) != len(lines):
-            raise AssertionError(f"{head!r} of {len(nodes)} nodes, {len(lines)} arcs and {len(ways)} ways")
+        is_right = (unit, head) == ("c unit decimetres", f"p sp {len(nodes)} {len(lines)}")
+        if not is_right or len(ways) != len(lines):
+            raise AssertionError(f"{unit!r} and {head!r} of {len(nodes)} nodes, {len(lines)} arcs and {len(ways)} ways")
 
     def costs(self, source):
         """The least costs of the vertices that walks from one reach."""
