@@ -1,20 +1,24 @@
 //! Callers of a network, and what they know.
 //!
-//! Three functions as a program writes and proves them over `least_costs`. `cost_matrix` asks for the costs from each
+//! Four functions as a program writes and proves them over `least_costs`. `cost_matrix` asks for the costs from each
 //! of many sources to each of many targets. `nearest_depot` asks for the depot from which a vertex is reached at the
-//! least cost, and `changes` for what a new road saves for each of many sources. The program prints what they give for
-//! five crossings, after the example of `docs/LIBRARY.md`.
+//! least cost, and `nearest_two` for each of many customers which is nearest and which one next. `changes` asks what a
+//! new road saves for each of many sources. The program prints what they give for five crossings, after the example of
+//! `docs/LIBRARY.md`.
 #![tactic(auto)]
 
 ghost use Rattle.std.specs.Prelude.{◌≡◌};
 
 mod changes;
+mod choice;
 mod matrix;
 mod nearest;
+mod spare;
 
 use crate::changes::changes;
 use crate::matrix::cost_matrix;
 use crate::nearest::nearest_depot;
+use crate::spare::nearest_two;
 use anyhow::Result;
 use least_costs::{Cost, Network, Plan, Solver};
 use route_walks::{ArcRec, arcs};
@@ -79,11 +83,12 @@ fn print_cost<H: Print>(rt: &H, cost: Option<u64>) -> Result<()> {
     Ok(())
 }
 
-/// Prints what the three functions give for the crossings.
+/// Prints what the four functions give for the crossings.
 fn print_callers<H: Print + Threads + Wait + Clock + Sync>(rt: &H, alloc: Global) -> Result<()> {
     let network = Network::new(rt, alloc, 5, ROADS.to_vec(alloc)?, Cost::Weight, 2)?;
     print_matrix(rt, alloc, &network)?;
     print_nearest(rt, alloc, &network)?;
+    print_spares(rt, alloc, &network)?;
     print_changes(rt, alloc, &network)
 }
 
@@ -110,6 +115,23 @@ fn print_nearest<H: Print + Threads + Wait + Clock + Sync>(
 {
     let depot = nearest_depot(rt, alloc, network, Plan::usual(2), &[3, 4, 2], 0)?;
     println!(rt; "{:?}", depot)?;
+    Ok(())
+}
+
+/// Prints the two nearest depots of three crossings. Only from 4 itself a walk leads to 4.
+fn print_spares<H: Print + Threads + Wait + Clock + Sync>(
+    rt: &H,
+    alloc: Global,
+    network: &Network,
+) -> Result<()>
+    requires { network.now.n ≡ 5 }
+{
+    let found = nearest_two(rt, alloc, network, Plan::usual(2), &[3, 4, 2], &[0, 1, 4])?;
+    for choices in found.iter() {
+        println!(rt; "{:?}", choices)?;
+    }
+    let found = nearest_two(rt, alloc, network, Plan::usual(2), &[3, 2], &[4])?;
+    println!(rt; "{:?}", found)?;
     Ok(())
 }
 

@@ -1,5 +1,5 @@
--- A loop over many sources, one entry more at each.
-use Rattle.std.proofs.Common.{◌≡◌, ◌∙◌, ℕ, ◌<◌, List, [], ◌∷◌, ◌++◌, ap, arith, drop, length, refl, slice_index, subst, sym}
+-- A loop over many sources, one entry more at each, and lists with an entry for each of another.
+use Rattle.std.proofs.Common.{◌≡◌, ◌∙◌, ℕ, ◌<◌, List, [], ◌∷◌, ◌++◌, ap, arith, drop, length, refl, replicate, slice_index, slice_index_or, subst, suc, sym, zero}
 use Rattle.std.proofs.lemmas.List.{append-nil}
 use Rattle.std.proofs.Common.{IfNone, IfSome, None, Option, Some}
 use Rattle.least_costs.specs.declared.start.Start.{Start}
@@ -20,6 +20,28 @@ for-more IsFor [] [] x y are is = (is, tt)
 for-more IsFor [] (first ∷ ys) x y are is = absurd are
 for-more IsFor (first ∷ xs) [] x y are is = absurd are
 for-more IsFor (first ∷ xs) (other ∷ ys) x y are is = (are.0, for-more IsFor xs ys x y are.1 is)
+
+-- there are as many entries
+pub for-length : {A B : Type 0} (IsFor : A → B → Type 0) (xs : List A) (ys : List B)
+    → AreFor IsFor xs ys → length ys ≡ length xs
+for-length IsFor [] [] are = refl
+for-length IsFor [] (y ∷ ys) are = absurd are
+for-length IsFor (x ∷ xs) [] are = absurd are
+for-length IsFor (x ∷ xs) (y ∷ ys) are = omega (arith, for-length IsFor xs ys are.1)
+
+-- the entry at a place; what stands there if the list ends before does not matter
+pub for-at : {B : Type 0} (IsFor : ℕ → B → Type 0) (xs : List ℕ) (ys : List B) (k : ℕ) (other : B)
+    → AreFor IsFor xs ys → k < length xs → IsFor (slice_index xs k) (slice_index_or ys k other)
+for-at IsFor [] ys k other are inside = absurd (omega (arith, inside))
+for-at IsFor (x ∷ xs) [] k other are inside = absurd are
+for-at IsFor (x ∷ xs) (y ∷ ys) zero other are inside = are.0
+for-at IsFor (x ∷ xs) (y ∷ ys) (suc k) other are inside = for-at IsFor xs ys k other are.1 (omega (arith, inside))
+
+-- one entry for all
+pub for-same : {A B : Type 0} (IsFor : A → B → Type 0) (xs : List A) (y : B)
+    → ((x : A) → IsFor x y) → AreFor IsFor xs (replicate (length xs) y)
+for-same IsFor [] y is = tt
+for-same IsFor (x ∷ xs) y is = (is x, for-same IsFor xs y is)
 
 append-shift : (xs : List ℕ) (x : ℕ) (ys : List ℕ) → xs ++ x ∷ ys ≡ (xs ++ x ∷ []) ++ ys
 append-shift [] x ys = refl

@@ -1,13 +1,9 @@
-use Rattle.std.proofs.Common.{ℕ, ◌≤◌, [], ◌∷◌, arith}
+use Rattle.std.proofs.Common.{[], ◌∷◌, arith}
 use Rattle.std.proofs.lemmas.List.Elements.{All-push, All-weaker, Contains-append_left, Contains-push}
 use Rattle.least_costs.specs.declared.start.Start.TheVariants.{At}
 use Rattle.least_costs.specs.Costs.{IsUnreached}
-use Rattle.least_costs.specs.Network.{HasWalk, NetworkSeen}
+use Rattle.cost_examples.specs.Callers.{IsFarther}
 use Rattle.cost_examples.proofs.nearest.nearer.Goals as goal
-
--- no walk from the depot to v costs less
-abbrev IsFarther : NetworkSeen → ℕ → ℕ → ℕ → Type 0
-IsFarther net v least depot = (cost : ℕ) → HasWalk net (At depot) v cost → least ≤ cost
 
 pub returns-in-None-Some : goal.returns-in-None-Some
 returns-in-None-Some c net v depots before now =
