@@ -1,7 +1,7 @@
 //! Runs of arcs that several threads read side by side.
 //!
-//! A run is a hint: it says which arcs come next where it begins, and whoever has no run there reads the
-//! lines one by one. So it may end early, for any reason, and nothing is said of what stands after it.
+//! A run is a hint: it says which arcs come next where it begins. Where there is none, lines are read one by one. So it
+//! may end early, for any reason.
 
 ghost use Rattle.std.specs.Prelude.{◌<◌, ◌≡◌, ◌≤◌, ◌+◌, ◌-◌, ◌*◌, ◌/◌, max, List, [], ℕ, length, take, All, IfSome};
 ghost use Rattle.std.specs.Prelude.{vec_len, vec_capacity};
@@ -17,10 +17,10 @@ use std::alloc::Global;
 use std::sync::atomic::{AtomicUsize, Ordering};
 use std::thread::{Threads, for_each_mut};
 
-/// The shortest line of an arc has this many bytes, its line feed among them.
+/// Bytes of the shortest line of an arc, with its line feed.
 const SHORTEST_ARC: usize = 8;
 
-/// Bytes of a part: few, so that at the end of a piece no thread is waited for long.
+/// Bytes of a part: few, so that no thread is waited for long.
 const PART: usize = 1 << 15;
 
 /// Arcs for which a run has room beyond those that its part can have.
@@ -76,8 +76,8 @@ impl ArcRun {
     }
 }
 
-/// Tells if there is room for this many arcs more, after it made room if there was none. It makes some beyond, since
-/// the next part may be a few bytes longer: a list that grows by a little would take twice the memory, and be copied.
+/// Makes room for this many arcs more, and tells if there is. It makes some beyond, since a list that grows by a little
+/// takes twice the memory.
 fn has_room(arcs: &mut Vec<ArcRec>, count: usize) -> bool
     ensures items { arcs.new.items ≡ arcs.old.items }
     ensures room { OnTrue result (vec_len arcs.new + count ≤ vec_capacity arcs.new) }
@@ -86,16 +86,14 @@ fn has_room(arcs: &mut Vec<ArcRec>, count: usize) -> bool
     count <= arcs.capacity() - arcs.len() || arcs.reserve_exact(count.saturating_add(SPARE)).is_ok()
 }
 
-/// A piece of a text in parts, for threads that read ahead in it: each part goes to the thread that asks first. The
-/// piece is cut behind line feeds.
+/// A piece of a text in parts, cut behind line feeds. Each part goes to the thread that asks first.
 #[derive(Debug, Drop)]
 pub struct Parts<'a> {
     /// The piece.
     pub bytes: &'a [u8],
     vertices: u32,
     count: usize,
-    /// A thread reads at most as many: twice its share. So the memory that runs take is in proportion to the piece,
-    /// whichever threads have read the pieces before.
+    /// A thread reads at most as many, twice its share, so that the memory of runs is in proportion to the piece.
     most: usize,
     next: AtomicUsize,
 }
@@ -124,8 +122,7 @@ impl<'a> Parts<'a> {
     }
 }
 
-/// The runs of arcs that one thread has read ahead in a piece. The memory that they take is kept from piece to
-/// piece.
+/// The runs of arcs that one thread has read ahead in a piece. Their memory is kept from piece to piece.
 #[derive(Debug, Drop)]
 pub struct ArcRuns {
     alloc: Global,
@@ -133,7 +130,7 @@ pub struct ArcRuns {
 }
 
 impl ArcRuns {
-    /// Makes a value of which nothing is read ahead yet, whatever the piece is.
+    /// Makes a value without runs.
     fn new(alloc: Global) -> ArcRuns
         ensures { (bytes : List ℕ) → AreRunsOf bytes result }
     {
@@ -161,8 +158,8 @@ impl ArcRuns {
         place < self.runs.len() || self.runs.push(ArcRun::new(self.alloc)).is_ok()
     }
 
-    /// Reads parts of a piece ahead until all are given out, or twice this thread's share is read. What is no plain
-    /// line of an arc ends what is read of its part, and if memory is refused no more is read.
+    /// Reads parts of a piece ahead until all are given out, or twice this thread's share is read. A line that is no
+    /// plain arc's ends its part, and refused memory ends all.
     pub fn read(&mut self, parts: &Parts)
         ensures runs { AreRunsOf parts.now.bytes.now self.new }
         ensures few { run_count self.new ≤ max (run_count self.old) (most_parts parts.now) }
@@ -208,7 +205,7 @@ fn earlier<'a>(run: &'a ArcRun, other: Option<&'a ArcRun>) -> Option<&'a ArcRun>
 }
 
 /// The arcs that threads have read ahead in a piece of a text: a hint for `JobReader::feed_with`. Each thread has a
-/// list of its own, and those of two threads, which have other work to do first, have names.
+/// list, and those of two threads, which have other work first, have names.
 #[derive(Debug, Drop)]
 pub struct ReadAhead {
     pub one: ArcRuns,
@@ -218,7 +215,7 @@ pub struct ReadAhead {
 }
 
 impl ReadAhead {
-    /// Makes a value of which nothing is read ahead yet, whatever the piece is.
+    /// Makes a value without arcs.
     pub fn new(alloc: Global) -> ReadAhead
         ensures { (bytes : List ℕ) → IsReadAhead bytes result }
     {
@@ -304,8 +301,8 @@ fn clear_all(lists: &mut [ArcRuns])
     }
 }
 
-/// The place where a part of a piece begins: the first after the first line feed, since what stands before that may be
-/// the end of a line. The part after the last would begin where the last line ends.
+/// The place where a part of a piece begins: after its first line feed, since the bytes before may end a line. The part
+/// after the last would begin where the last line ends.
 fn cut_at(bytes: &[u8], part: usize, parts: usize) -> usize
     ensures place { result ≤ length bytes.now }
     ensures ended { EndsWithFeed (take result bytes.now) }

@@ -25,8 +25,7 @@ use std::alloc::{AllocError, Global};
 /// Arcs for which room is made at first.
 const FIRST_ARCS: usize = 1 << 15;
 
-/// The factor by which that room grows once it is full. To move a long list is slow, and room that isn't written takes
-/// no memory.
+/// The factor by which that room grows. To move a long list is slow, and room that isn't written takes no memory.
 const GROWTH: usize = 1 << 10;
 
 /// The content of the lines so far. Vertices count to `vertices`.
@@ -64,8 +63,8 @@ fn ask_at(stage: Stage, sources: Vec<u32>, pairs: Vec<(u32, u32)>) -> Ask
     }
 }
 
-/// Makes room for `count` arcs, and if there wasn't, for more of those that are to come, of which there are
-/// `missing`. If memory is refused there is as much room as before.
+/// Makes room for `count` arcs, and if there wasn't, for more of the `missing` ones. If memory is refused there is as
+/// much room as before.
 fn make_room(arcs: &mut Vec<ArcRec>, count: usize, missing: u32)
     ensures items { arcs.new.items ≡ arcs.old.items }
     ensures missing { vec_capacity arcs.new ≤ max (vec_capacity arcs.old) (vec_len arcs.old + missing) }
@@ -272,8 +271,7 @@ impl Draft {
         })
     }
 
-    /// Makes room for arcs of which `missing` are to come, and gives how many can be added before there has
-    /// to be more room: none if memory is refused.
+    /// Makes room for some of the `missing` arcs, and returns for how many there is: none if memory is refused.
     fn room_for_arcs(&mut self, missing: u32) -> u32
         ensures same { progress_of self.new ≡ progress_of self.old }
         ensures room { vec_len self.new.arcs + result ≤ vec_capacity self.new.arcs }
@@ -283,8 +281,7 @@ impl Draft {
         (missing as usize).min(self.arcs.capacity() - self.arcs.len()) as u32
     }
 
-    /// Reads the arcs that come from a place on, as far as they are plain and fit: how many they are, and
-    /// the place after them.
+    /// Reads the arcs from a place on, as far as they are plain and fit: their number, and the place after them.
     fn read_arcs(&mut self, bytes: &[u8], start: usize) -> (u64, usize)
         requires ended { EndsWithFeed bytes.now }
         requires inside { start ≤ length bytes.now }
@@ -330,8 +327,7 @@ impl Draft {
         true
     }
 
-    /// Reads lines that each end with a line feed. The first has the number that is given, and the number
-    /// of the line after the last is returned.
+    /// Reads lines that each end with a line feed, the first with this number. Returns the number of the next.
     pub fn read_lines(&mut self, bytes: &[u8], first: u64) -> Result<u64, TextFault>
         requires ended { EndsWithFeed bytes.now }
         ensures reads { first + length bytes.now < 2 ^ 64 → IfOk result (λ next.

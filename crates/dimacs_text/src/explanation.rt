@@ -1,7 +1,7 @@
 //! The explanation of a line that is wrong, for a person.
 //!
-//! The number of the line and the kind of its fault are what contracts speak of. An explanation says the rest, in words
-//! that may change: it is made of the one line that is wrong, once that is found, and keeps its first bytes alone.
+//! Contracts speak of the number of the line and the kind of its fault. An explanation says the rest, in words that may
+//! change, and keeps the first bytes of the line.
 
 ghost use Rattle.std.specs.Prelude.{◌≡◌, length, take};
 
@@ -20,8 +20,8 @@ pub const MAX_KEPT: usize = 80;
 /// A bound on the numbers of a form.
 const MOST_NUMBERS: usize = 3;
 
-/// The first bytes of a line. Printed it is one line of plain ASCII: a backslash and each byte that is no
-/// letter, digit, sign or space are escaped.
+/// The first bytes of a line. It prints as plain ASCII: a backslash and each byte that is no letter, digit, sign or
+/// space are escaped.
 #[derive(Clone, Copy, Debug, PartialEq, Eq)]
 pub struct Beginning {
     bytes: [u8; MAX_KEPT],
@@ -197,7 +197,7 @@ pub struct Explanation {
     pub text: Option<Beginning>,
     /// The number of fields of the line.
     pub fields: usize,
-    /// The field that is wrong, counted from 1, if one is. If one is missing, it is the next after the last.
+    /// The field that is wrong, counted from 1, if one is; a missing one comes after the last.
     pub field: Option<usize>,
     /// The text that belongs there, or in place of the line.
     pub expected: Expected,

@@ -1,9 +1,8 @@
 //! A fast way through the lines of arcs.
 //!
-//! Most lines of a text are arcs, `a U V W` with one blank before each number. Such a line is read in one
-//! pass over its bytes, with no search for its end and no test of a bound. The bytes end with a line feed, so any
-//! other byte has one after it. What is odd in any way is left to the reader of all lines: `None` says no more than
-//! that.
+//! Most lines of a text are arcs, `a U V W` with one blank before each number. Such a line is read in one pass over its
+//! bytes, with no search for its end and no test of a bound: the bytes end with a line feed. `None` leaves any other
+//! line to the reader of all lines.
 
 ghost use Rattle.std.specs.Prelude.{◌≡◌, ◌<◌, ◌≤◌, ◌+◌, ◌-◌, ◌∷◌, [], length, drop, vec_len, vec_capacity, IfSome};
 ghost use Rattle.dimacs_text.specs.reader.FastArc.{EndsWithFeed, AreDigits, LeadsSpaced};
@@ -20,8 +19,7 @@ use route_walks::ArcRec;
 /// A number of more digits is left to the reader of all lines: so no number wraps.
 const MANY_DIGITS: usize = 12;
 
-/// The number whose digits begin at a place, and the place after them. Digits past the first `MANY_DIGITS` are left
-/// where they are.
+/// The number whose digits begin at a place, at most `MANY_DIGITS` of them, and the place after them.
 // Apart, since inlined it takes half as many instructions again for each digit.
 #[inline(never)]
 fn digits_at(bytes: &[u8], start: usize) -> (u64, usize)
@@ -113,9 +111,8 @@ pub fn arc_at(bytes: &[u8], start: usize, vertices: u32) -> Option<(ArcRec, usiz
     Some((arc, after))
 }
 
-/// Reads the arcs whose lines come one after the other from a place on, and adds them to those that are there. Returns
-/// how many they are, and the place after them. A run ends at a line that is odd in any way, and if the vector has no
-/// more room.
+/// Adds the arcs whose lines follow from a place on, and returns their number and the place after them. A run ends at
+/// any other line, and when the vector has no more room.
 // Apart, so that its loop has the registers for itself.
 #[inline(never)]
 pub fn read_run(

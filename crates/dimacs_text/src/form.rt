@@ -56,7 +56,7 @@ impl Section {
         }
     }
 
-    /// The place of this section in a text: the first is 0, and a section follows those of lower places.
+    /// The place of this section in a text, from 0. A section follows those of lower places.
     pub fn place(self) -> u8
         ensures { result ≡ place self }
     {
@@ -294,8 +294,7 @@ pub fn read_form(form: Form, args: &[u8], vertices: u32) -> Result<Entry, LineKi
     }
 }
 
-/// Reads a line, if vertices are counted to the number given: nothing, an entry, or the first kind that is wrong with
-/// it.
+/// Reads a line, with vertices up to this number: nothing, an entry, or the first kind that is wrong.
 pub fn read_line(line: &[u8], vertices: u32) -> Result<Option<Entry>, LineKind>
     ensures { said_by result ≡ reading vertices line.now }
 {

@@ -1,8 +1,7 @@
 //! The way from a text to its job.
 //!
-//! A text comes whole, or in pieces of any size. Each whole line is read at once, and its bytes are let go:
-//! only those of the last line are kept until the rest of it comes. A comment says nothing, so its bytes are let go
-//! before its end has come.
+//! A text comes whole, or in pieces of any size. Of a piece only the bytes of an unfinished line are kept, and of a
+//! comment none.
 
 ghost use Rattle.std.specs.Prelude.{◌≡◌, ◌^◌, ◌≤◌, ◌+◌, ◌++◌, ℕ, All, List, [], length, take, ◌<◌, None, IfOk, IfErr};
 ghost use Rattle.std.specs.Prelude.{◌⊎◌, true, false};
@@ -61,8 +60,7 @@ impl LineReader {
         Ok(())
     }
 
-    /// Takes a run of arcs whose lines come next. Returns false if they don't fit, or memory is refused, and then none
-    /// is taken.
+    /// Takes a run of arcs whose lines come next. Returns false, and takes none, if they don't fit or memory is refused.
     fn take_run(&mut self, run: &ArcRun) -> bool
         requires right { self.old.fault ≡ None }
         ensures taken { OnTrue result ((text lines : List ℕ) → HasReadLines self.old text
@@ -88,8 +86,7 @@ impl LineReader {
         self.line = self.line.saturating_add(1);
     }
 
-    /// The job of the lines and of a last line with no line feed: a comment, or these bytes, of which there are none if
-    /// there is no such line.
+    /// The job of the lines and of a last line with no line feed: a comment, or these bytes.
     fn finish(self, in_comment: bool, last: &[u8]) -> Result<Job, ExplainedFault>
         ensures job { (text : List ℕ) → HasReadText self in_comment last.now text
             → IfOk result (λ job. IsJobText text (content_of job)) }
@@ -129,9 +126,9 @@ impl LineReader {
 #[derive(Debug, Drop)]
 pub struct JobReader {
     lines: LineReader,
-    /// The bytes of the last line, whose line feed hasn't come. Those of a comment are let go.
+    /// The bytes of the unfinished last line, unless it is a comment.
     unfinished: Vec<u8>,
-    /// The last line is a comment whose line feed hasn't come.
+    /// The unfinished last line is a comment.
     in_comment: bool,
 }
 
@@ -184,8 +181,7 @@ impl JobReader {
         self.feed(&bytes[at..])
     }
 
-    /// Takes a run of arcs that comes next. Returns false if it begins within a line or doesn't fit, and then it isn't
-    /// taken.
+    /// Takes a run of arcs that comes next. Returns false, and takes none, if it begins within a line or doesn't fit.
     fn take_run(&mut self, run: &ArcRun) -> bool
         ensures taken { OnTrue result ((lines : List ℕ)
             → AreArcLines run.now.vertices lines run.now.arcs.items
@@ -212,7 +208,7 @@ impl JobReader {
         self.lines.read(rest)
     }
 
-    /// Reads the line that was begun, if there is one, of which these bytes are the end.
+    /// Reads the line that was begun, if there is one; these bytes end it.
     fn end_line(&mut self, end: &[u8]) -> Result<(), Memory>
         requires right { self.old.lines.fault ≡ None }
         requires ended { EndsWithFeed (self.old.unfinished.items ++ end.now) }
@@ -288,8 +284,8 @@ impl JobReader {
         self.lines.draft.arcs_so_far()
     }
 
-    /// Reads the next bytes as `feed` does, up to the line with which the graph is whole, or to one that is wrong: how
-    /// many bytes it took. If there are more, the graph is whole or a line is wrong.
+    /// Reads the next bytes as `feed` does, up to the line with which the graph is whole or to a wrong one, and returns
+    /// how many it took.
     pub fn feed_graph(&mut self, bytes: &[u8]) -> Result<usize, Memory>
         ensures place { IfOk result (λ count. count ≤ length bytes.now) }
         ensures reads { IfOk result (λ count. Reads self.old self.new (take count bytes.now)) }
@@ -335,7 +331,7 @@ impl JobReader {
         matches!(self.lines.draft.stage.missing_arcs(), Some(0))
     }
 
-    /// The number of the next bytes that are surely of the graph: each arc that is missing has a line of its own.
+    /// The number of the next bytes that are surely of the graph: each missing arc has a line.
     fn graph_part(&self, bytes: &[u8]) -> usize
         requires some { 0 < length bytes.now }
         ensures some { 0 < result }
@@ -352,9 +348,8 @@ impl JobReader {
         }
     }
 
-    /// The graph of a text without sections, which has been read to its last line feed, and the number of the line that
-    /// comes next. A text that is no such graph's is refused with the number of its first wrong line and what is wrong
-    /// there.
+    /// The graph of a text without sections that was read to a line feed, and the number of the next line. Any other
+    /// text is refused with the number of its first wrong line and what is wrong there.
     pub fn finish_graph(self) -> Result<(Job, u64), TextFault>
         ensures graph { (text : List ℕ) → HasRead self text
             → IfOk result (λ graph. IsGraphText text (content_of graph.0)) }
@@ -381,8 +376,7 @@ impl JobReader {
         }
     }
 
-    /// The job of the text. A text that is no job's is refused with the number of its first wrong line and
-    /// what is wrong there.
+    /// The job of the text, or the number of its first wrong line and what is wrong there.
     pub fn finish(self) -> Result<Job, TextFault>
         ensures job { (text : List ℕ) → HasRead self text
             → IfOk result (λ job. IsJobText text (content_of job)) }
@@ -396,7 +390,7 @@ impl JobReader {
         }
     }
 
-    /// Finishes as `finish` does, and says of a text that is no job's also what a person needs to mend it.
+    /// Finishes as `finish` does, and says of a fault also what a person needs to mend it.
     pub fn finish_explained(self) -> Result<Job, ExplainedFault>
         ensures job { (text : List ℕ) → HasRead self text
             → IfOk result (λ job. IsJobText text (content_of job)) }
@@ -438,9 +432,8 @@ fn after_feeds(bytes: &[u8], count: usize) -> usize
 /// or of pairs (`.p2p`). An added section may come last: the line `p aux sp add K` and K arcs. The formats of the
 /// files are those of the 9th DIMACS Implementation Challenge on shortest paths.
 ///
-/// Any other text is refused with the number of its first wrong line and what is wrong there. `Memory` comes only if
-/// the system refused to let the job grow. The text is read once, and memory grows with the lines that are there,
-/// whatever the heads count.
+/// Any other text is refused with the number of its first wrong line and what is wrong there, and `Memory` comes if
+/// memory is refused. Memory grows with the lines that are there, whatever the heads count.
 pub fn read_job(alloc: Global, bytes: &[u8]) -> Result<Job, TextFault>
     requires { length bytes.now ≤ 2 ^ 36 }
     // It is the job of the text, and keeps the limits.

@@ -52,8 +52,8 @@ impl RequestDraft {
         }
     }
 
-    /// Reads the next line, without its line feed. Its number is given. A line is refused if it is wrong whatever
-    /// comes after it, or if memory is refused.
+    /// Reads the next line, without its line feed, which has this number. It is refused if it is wrong whatever follows,
+    /// or if memory is refused.
     pub fn read(&mut self, text: &[u8], line: u64) -> Result<(), TextFault>
         ensures reads { (n : ℕ) (ls : List (List ℕ)) → HasReadAfter n ls self.old
             → OnOk result (HasReadAfter n (ls ++ text.now ∷ []) self.new) }

@@ -13,9 +13,9 @@ use obim_engine::{Closed, Reached};
 use std::marker::Model;
 use std::snapshot::Snapshot;
 
-/// The labels of a run from a start that went no further than its goal. They are least up to a limit: one of at most
-/// the limit is what its vertex costs, and one above it is what some walk costs, or `INF`. Contracts see in which
-/// network; of that it keeps nothing. It takes 8 bytes a vertex, and 1 more if the run stopped before its end.
+/// The labels of a run from a start, least up to a limit. A label of at most the limit is the least cost of its
+/// vertex; one above it is what some walk costs, or `INF`. Takes 8 bytes a vertex, and 1 more if the run stopped
+/// before its end; keeps nothing of the network.
 #[derive(Drop)]
 pub struct CostsBelow {
     closed: Closed,
@@ -51,8 +51,8 @@ impl CostsBelow {
         }
     }
 
-    /// The label of each vertex: its least cost if it is at most the limit, and else no less than that. `INF` if no
-    /// walk was found.
+    /// The label of each vertex: its least cost if at most the limit, and else no less than that. `INF` if no walk was
+    /// found.
     pub fn labels(&self) -> &[u64]
         ensures labels { result.now ≡ self.now.labels }
         ensures least { AreLeastBelow self.now }
@@ -84,7 +84,7 @@ impl CostsBelow {
         self.closed.into_labels()
     }
 
-    /// Returns by value what the run left, so that another run can go on from it.
+    /// Returns what the run left, for another run to go on from.
     pub(crate) fn into_closed(self) -> Closed
         ensures end { IsEnd (graph_of self.net) (seeds_at self.net.n self.start) result }
     {

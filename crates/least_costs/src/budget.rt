@@ -2,20 +2,19 @@
 
 use crate::network::Network;
 
-/// A search visits at most one vertex for so many of the network. That takes some hundredths of what workers take for a
-/// whole run.
+/// A search visits at most one vertex for so many of the network: some hundredths of the time of a whole run.
 const VERTICES_A_VISIT: u32 = 32;
 
-/// The first search visits at most one vertex for so many of the network.
+/// The first search visits at most one for so many.
 const VERTICES_A_FIRST_VISIT: u32 = 64;
 
 /// A search of so few visits takes next to no time.
 const FEW: u32 = 512;
 
-/// In a network of more vertices a search goes less far after several that found nothing.
+/// A network of more vertices is searched less far after several vain searches.
 const SMALL: u32 = 4096;
 
-/// It visits one vertex for so many of such a network then, if these are fewer than `FEW`.
+/// A search then visits one vertex for so many, and at most `FEW`.
 const VERTICES_A_LAST_VISIT: u32 = 512;
 
 /// The fewest visits that a search is given.
@@ -28,8 +27,7 @@ pub(crate) struct Limit {
     pub(crate) arcs: usize,
 }
 
-/// The number of visits of a search. After one that finds nothing the next goes half as far, and after one that finds
-/// twice as far.
+/// The number of visits of a search: half as many after one that finds nothing, and twice after one that finds.
 #[derive(Clone, Copy, Debug)]
 pub(crate) struct Budget {
     visits: u32,
@@ -47,7 +45,7 @@ impl Budget {
         }
     }
 
-    /// The limit of the next search in a network: twice as many arcs as so many vertices have.
+    /// The limit of the next search: twice as many arcs as so many vertices have.
     pub(crate) fn limit(self, network: &Network) -> Limit {
         let rows = network.rows();
         let each = rows.arc_count() / (rows.n() as usize).max(1);
@@ -71,7 +69,7 @@ impl Budget {
     }
 }
 
-/// The number of visits of a search after several that found nothing.
+/// The fewest visits of a search, after several vain ones.
 fn least_visits(n: u32) -> u32 {
     if n > SMALL {
         (n / VERTICES_A_LAST_VISIT).max(FEWEST).min(FEW)

@@ -1,6 +1,6 @@
 //! The cost of an arc.
 
-/// The cost of an arc of a network.
+/// The cost of each arc.
 #[derive(Clone, Copy, Debug, PartialEq, Eq)]
 pub enum Cost {
     /// Its weight.

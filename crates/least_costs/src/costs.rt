@@ -1,4 +1,4 @@
-//! The least cost to each vertex of a network from a start.
+//! Costs from a start.
 
 ghost use Rattle.std.specs.Prelude.{◌≡◌, ◌<◌, All, IfNone, IfOk, IfSome, length};
 ghost use Rattle.least_costs.specs.Costs.{AreCosts, AreCostsTo, AreLeastAt, AreLeastFrom, IsLeastCost, IsUnreached};
@@ -13,8 +13,7 @@ use std::alloc::Global;
 use std::marker::Model;
 use std::snapshot::Snapshot;
 
-/// The least cost of each vertex from a start. Contracts see in which network; of that it keeps nothing.
-/// It takes 8 bytes a vertex.
+/// The least cost of each vertex from a start. Takes 8 bytes a vertex, and keeps nothing of the network.
 #[derive(Drop)]
 pub struct Costs {
     labels: Vec<u64>,
@@ -92,7 +91,7 @@ impl Costs {
     }
 }
 
-/// The costs of some vertices, of which these are the least labels.
+/// The costs of some vertices, by the labels of all.
 pub(crate) fn costs_at(
     alloc: Global,
     network: &Network,
@@ -117,7 +116,7 @@ pub(crate) fn costs_at(
     Ok(costs)
 }
 
-/// The costs of some vertices, whose least labels stand in their order.
+/// The costs of some vertices, by their labels in order.
 pub(crate) fn costs_in_order(
     alloc: Global,
     network: &Network,
@@ -130,7 +129,6 @@ pub(crate) fn costs_in_order(
     requires least { AreLeastOf network.now.arcs (seeds_at network.now.n start) vertices.now labels.now }
     ensures { IfOk result (λ costs. AreCostsTo network.now start vertices.now costs.items) }
 {
-    // A label of `INF` that is least means that there is no walk.
     least_labels_exist();
     inf_means_no_walk();
     let _ = (network.n(), vertices.len());
@@ -141,7 +139,6 @@ pub(crate) fn costs_in_order(
     Ok(costs)
 }
 
-/// The cost that a least label says.
 fn cost_of(least: u64) -> Option<u64>
     ensures some { IfSome result (λ cost. (cost ≡ least) × (least < INF)) }
     ensures none { IfNone result (least ≡ INF) }

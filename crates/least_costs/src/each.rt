@@ -1,4 +1,4 @@
-//! The costs from one source after another, several of which are worked out at the same time.
+//! The costs from each of many sources.
 
 ghost use Rattle.std.specs.Prelude.{◌≡◌, ◌<◌, [], drop, length, slice_index};
 ghost use Rattle.std.specs.Prelude.{IfNone, IfOk, IfSome, OnSome};
@@ -33,8 +33,8 @@ impl<'a> Tasks<Costs> for Sources<'a> {
     ghost is_part = { IsFromPlace };
 }
 
-/// Hands over the least costs from each of many sources, in their order. They are worked out side by side.
-/// Costs that wait for their turn take 8 bytes a vertex, up to two for each team.
+/// Hands over the least costs from each of many sources, in their order. Costs that wait for their turn take 8 bytes a
+/// vertex, up to two for each team.
 #[derive(Drop)]
 pub struct Each<'a, G> {
     asked: Sources<'a>,
@@ -54,8 +54,8 @@ impl<'a, G> Model for Each<'a, G> {
 }
 
 impl<'a, G: Gate + Sync> Solver<'a, G> {
-    /// The least costs from each of these sources, one after another by `Each::next`. As many sources as the
-    /// plan says are solved at the same time.
+    /// The least costs from each of these sources, one after another by `Each::next`. The plan says how many are
+    /// solved at the same time.
     pub fn each<'b>(&'b self, alloc: Global, sources: &'b [u32]) -> Each<'b, G>
         requires { AreWithin self.now.network.now sources.now }
         ensures { result ≡ record { net = self.now.network.now; left = sources.now } }
@@ -72,8 +72,8 @@ impl<'a, G: Gate + Sync> Solver<'a, G> {
 }
 
 impl<'a, G: Gate + Sync> Each<'a, G> {
-    /// The costs from the source that comes next; `None` after the last one. A source that is refused memory
-    /// side by side is tried once more in its turn, by all workers. After an `Err` the next source comes.
+    /// The costs from the next source; `None` after the last one. If memory is refused to a team, all workers try its
+    /// source again in its turn. After an `Err` the next source comes.
     pub fn next<H: Threads + Wait + Clock + Sync>(
         &mut self,
         rt: &H,
@@ -106,7 +106,7 @@ impl<'a, G: Gate + Sync> Each<'a, G> {
     }
 }
 
-/// The costs from the source at a place, if they were worked out before their turn.
+/// The costs from the source at a place, if made before their turn.
 fn take_ahead<H: Threads + Wait + Clock + Sync, G: Gate + Sync>(
     rt: &H,
     alloc: Global,

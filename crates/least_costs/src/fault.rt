@@ -1,4 +1,4 @@
-//! The reasons for which no network is made.
+//! Faults of networks.
 
 use route_walks::Memory;
 use std::error::Error;

@@ -5,19 +5,18 @@ ghost use Rattle.least_costs.specs.Teams.{TeamsShareWorkers};
 
 use route_walks::laws::{inf_means_no_walk, least_labels_exist};
 
-/// A network that grew by added arcs is the network of the arcs before and the added ones, whatever an arc
-/// costs.
+/// States that a grown network is that of the arcs before and the added ones, whatever an arc costs.
 pub fn networks_grow()
     ensures { NetworksGrow }
 {}
 
-/// Vertices, arcs and what an arc costs decide each cost from a start: neither the plan nor the way to the
-/// network counts. So costs after added arcs are those of a network that is made of all arcs at once.
+/// States that vertices, arcs and what an arc costs decide each cost from a start: neither the plan nor the way to the
+/// network counts. So costs after added arcs are those of a network made of all arcs at once.
 pub fn costs_follow_the_arcs()
     ensures { CostsFollowTheArcs }
 {}
 
-/// The cost to a vertex is its label in the list of all least labels, which there is; `None` is the label `INF`.
+/// The cost to a vertex is its label in the list of all least labels, which there is; `None` is `INF`.
 pub fn costs_are_labels()
     ensures { CostsAreLabels }
 {
@@ -25,8 +24,7 @@ pub fn costs_are_labels()
     inf_means_no_walk();
 }
 
-/// States that each worker is in one team if teams share the workers, and that each team has a worker if there are no
-/// more teams than workers.
+/// States that each worker is in one team, and that each team has a worker if there are no more teams than workers.
 pub fn teams_share_workers()
     ensures { TeamsShareWorkers }
 {}

@@ -5,10 +5,9 @@
 //! components, and after arcs were added. The costs from `each` of many sources are worked out at the same time, and
 //! come in the order of the sources.
 //!
-//! It gives `Costs`, of which contracts know the network and the start. The cost `to` a vertex is the least cost of a
-//! walk, and `None` exactly if there is no walk. `Costs::walks` gives the vertices of least walks with the fewest arcs.
-//! The only fault of a call that solves is that memory is refused. A `Plan` says how many workers there are and how
-//! they share the work; no cost depends on it.
+//! It gives `Costs`. The cost `to` a vertex is the least cost of a walk, and `None` exactly if there is no walk.
+//! `Costs::walks` gives the vertices of least walks with the fewest arcs. A call that solves fails only if memory is
+//! refused. A `Plan` says how many workers there are and how they share the work; no cost depends on it.
 //!
 //! ```text
 //! let network = Network::new(&rt, alloc, 3, arcs, Cost::Weight, 2)?; // 0 to 1 costs 7, 1 to 2 costs 5
@@ -21,13 +20,13 @@
 //! }
 //! ```
 //!
-//! `Each` is made of `Rounds`: tasks of any kind that teams do at the same time, before their turn. A team keeps what
-//! it needs from one task to the next, as `Workers` keep their pool, a `Runner`. Workers are asked for the costs that
-//! serve a goal, and go no further: that gives `CostsBelow`, labels that are least up to a limit.
+//! `Each` is made of `Rounds`: tasks of any kind that teams do at the same time, before their turn. `Workers` keep
+//! their pool, a `Runner`, from one task to the next. Asked for the costs that serve a goal, they go no further, and
+//! give `CostsBelow`: labels that are least up to a limit.
 //!
 //! Stands on `obim_engine`, whose workers give the costs, on its pools in `obim_pool`, and on `near_labels` for near
 //! vertices. Walks come from `walk_report`, rows from `csr_graph`, and pauses from `label_words`; `route_walks` says
-//! what walks cost. It starts threads and waits: a call returns only if its workers do, which no contract promises.
+//! what walks cost. A call starts threads, and returns only if its workers do, which no contract promises.
 #![tactic(auto)]
 
 mod below;

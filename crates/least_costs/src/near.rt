@@ -24,15 +24,15 @@ const SPENT_IN: u64 = 4;
 /// after few visits then, where workers visit much of the network.
 const VAIN_IN: u64 = 8;
 
-/// A frontier is wide if it has one vertex for so many that were visited. On a map it has far fewer, and searches from
-/// both ends gain little there for targets far away.
+/// A frontier is wide if it has one vertex for so many visited. On a map it has far fewer, and searches from both ends
+/// gain little there for far targets.
 const VISITED_A_VERTEX: usize = 2;
 
 /// Visits so few are never worth it.
 const FEW_SPENT: u64 = 4096;
 
-/// Room for searches by the thread that asks. What is near is found in the time of what is visited, without a pass over
-/// all vertices; for what isn't, workers are asked. No cost depends on it.
+/// The room for searches by the thread that asks. They take the time of what they visit, without a pass over all
+/// vertices.
 #[derive(Drop)]
 pub(crate) struct Near {
     forward: Option<SearchSpace>,
@@ -40,12 +40,12 @@ pub(crate) struct Near {
     walks: Option<WalkSpace>,
     one_end: Budget,
     both_ends: Budget,
-    /// The number of vertices that searches from one end, to one target, have visited.
+    /// The visits of searches from one end to one target.
     spent: u64,
 }
 
 impl Near {
-    /// Makes a value whose room the first question makes.
+    /// Makes no room yet.
     pub(crate) fn new() -> Near {
         Near {
             forward: None,
@@ -57,7 +57,7 @@ impl Near {
         }
     }
 
-    /// Tells if searches from both ends are worth the time that reversing the rows takes.
+    /// Tells if the rows are worth reversing.
     pub(crate) fn wants_reversed(&self, network: &Network) -> bool {
         self.spent >= FEW_SPENT.max(u64::from(network.n()) / SPENT_IN)
     }
@@ -67,8 +67,7 @@ impl Near {
         self.spent = 0;
     }
 
-    /// The costs of these targets from a source, if they are near: from both ends if there is one target, and the
-    /// network has reversed rows.
+    /// The costs of these targets, if near: from both ends if there is one target and the rows were reversed.
     pub(crate) fn costs_to(
         &mut self,
         alloc: Global,
@@ -93,7 +92,7 @@ impl Near {
         }
     }
 
-    /// The least labels of these targets from a source, and the walks to them, if they are near.
+    /// The least labels of these targets and the walks to them, if near.
     pub(crate) fn walks_to(
         &mut self,
         alloc: Global,
@@ -114,7 +113,7 @@ impl Near {
         found
     }
 
-    /// The vertices that cost at most a bound from a source, in rising order, each with its cost, if they are near.
+    /// The vertices that cost at most a bound, in rising order, each with its cost, if near.
     pub(crate) fn within(
         &mut self,
         alloc: Global,
@@ -133,7 +132,7 @@ impl Near {
         found
     }
 
-    /// The least labels of these targets from a source, by a search from there.
+    /// The least labels of these targets, by a search from the source.
     fn labels_to(
         &mut self,
         alloc: Global,
@@ -155,7 +154,7 @@ impl Near {
         labels
     }
 
-    /// The least label of one target from a source, by a search from both ends.
+    /// The least label of one target, by a search from both ends.
     fn label_between(
         &mut self,
         alloc: Global,
@@ -200,7 +199,6 @@ impl Near {
     }
 }
 
-/// Tells if the last search left a wide frontier.
 fn has_wide_frontier(space: &SearchSpace) -> bool {
     let visited = space.visits() as usize;
     space.reached().saturating_sub(visited) >= visited / VISITED_A_VERTEX
@@ -217,7 +215,7 @@ fn fit(space: &mut Option<SearchSpace>, alloc: Global, n: u32) -> bool {
     }
 }
 
-/// Makes room for the walks among `n` vertices, unless it has room for as many.
+/// Makes room for walks among `n` vertices, as `fit` does.
 fn fit_walks(space: &mut Option<WalkSpace>, alloc: Global, n: u32) {
     match space {
         Some(space) if space.vertices() == n as usize => {}
@@ -225,7 +223,7 @@ fn fit_walks(space: &mut Option<WalkSpace>, alloc: Global, n: u32) {
     }
 }
 
-/// The least labels of these targets and the walks to them, by a search within the limit.
+/// Does what `walks_to` does, within the limit.
 fn walks_by(
     space: &mut Option<SearchSpace>,
     walks: &mut Option<WalkSpace>,
@@ -249,7 +247,7 @@ fn walks_by(
     }
 }
 
-/// The least labels of these targets, by a search within the limit.
+/// Does what `labels_to` does, within the limit.
 fn labels_by(
     space: &mut Option<SearchSpace>,
     alloc: Global,
@@ -271,7 +269,7 @@ fn labels_by(
     }
 }
 
-/// The vertices that cost at most a bound, by a search within the limit.
+/// Does what `within` does, within the limit.
 fn within_by(
     space: &mut Option<SearchSpace>,
     alloc: Global,
@@ -293,7 +291,7 @@ fn within_by(
     }
 }
 
-/// The least label of a target, by a search from both ends within the limit.
+/// Does what `label_between` does, within the limit.
 fn label_by_both(
     forward: &mut Option<SearchSpace>,
     backward: &mut Option<SearchSpace>,

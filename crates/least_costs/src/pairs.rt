@@ -25,8 +25,7 @@ use std::sync::Wait;
 use std::thread::Threads;
 use std::time::Clock;
 
-/// A network, the one that it grew to if it did, pairs of their vertices, and the sources of these in rising order,
-/// each with the place of its pair.
+/// The pairs asked for. `order` has their sources in rising order, each with the place of its pair.
 #[derive(Drop)]
 pub struct Pairs<'a> {
     pub network: &'a Network,
@@ -53,8 +52,8 @@ impl<'a> Tasks<PairCosts> for Pairs<'a> {
 }
 
 impl<'a, G: Gate + Sync> Solver<'a, G> {
-    /// The least cost from the source of each pair to its target; `None` if there is no walk. Each source is
-    /// solved once, however the pairs stand, and as many sources at the same time as the plan says.
+    /// The least cost from the source of each pair to its target; `None` if there is no walk. Each source is solved
+    /// once, and as many at the same time as the plan says.
     pub fn between<H: Threads + Wait + Clock + Sync>(
         &self,
         rt: &H,
@@ -73,8 +72,8 @@ impl<'a, G: Gate + Sync> Solver<'a, G> {
     /// Does what `between` does, and gives the costs in a network that this one grew to by `with_arcs`, if there is
     /// one. Each source is solved once in each network; in the second only what the added arcs change is visited.
     ///
-    /// What callers keep from one call to the next is taken, and given back if no memory is refused. Targets near
-    /// their source are found without workers, if it has room for that.
+    /// Takes what `kept` has, and gives it back unless memory is refused. Targets near their source are found without
+    /// workers, if it searches.
     pub fn between_grown<H: Threads + Wait + Clock + Sync>(
         &self,
         rt: &H,
@@ -116,7 +115,7 @@ impl<'a, G: Gate + Sync> Solver<'a, G> {
     }
 }
 
-/// Makes room for the costs of pairs in the grown network, if there is one.
+/// Makes room for the costs in the grown network.
 fn room_after(alloc: Global, asked: &Pairs<'_>) -> Result<Vec<Option<u64>>, Memory>
     ensures { IfOk result (λ after.
         IfSome asked.now.grown (λ _. length after.items ≡ length asked.now.pairs.now)) }
@@ -127,7 +126,6 @@ fn room_after(alloc: Global, asked: &Pairs<'_>) -> Result<Vec<Option<u64>>, Memo
     }
 }
 
-/// The source of each pair with the place of the pair, by rising source.
 fn by_source(alloc: Global, pairs: &[(u32, u32)]) -> Result<Vec<(u32, u32)>, Memory>
     requires { length pairs.now < 2 ^ 32 }
     ensures { IfOk result (λ order. AreBySource pairs.now order.items) }
@@ -171,8 +169,8 @@ fn fill_all<H: Threads + Wait + Clock + Sync, G: Gate + Sync>(
     Ok(())
 }
 
-/// The costs of the pairs of the source at a place. They are found by the thread that asks if they are near, else as
-/// they were worked out before their turn, and else by all workers.
+/// The costs of the source at a place: by the thread that asks if near, else as made before their turn, and else by
+/// all workers.
 fn costs_next<H: Threads + Wait + Clock + Sync, G: Gate + Sync>(
     rt: &H,
     alloc: Global,
@@ -197,7 +195,7 @@ fn costs_next<H: Threads + Wait + Clock + Sync, G: Gate + Sync>(
     }
 }
 
-/// The costs of the pairs of the source at a place, if they were worked out before their turn.
+/// The costs of the source at a place, if made before their turn.
 fn take_ahead<H: Threads + Wait + Clock + Sync, G: Gate + Sync>(
     rt: &H,
     alloc: Global,
@@ -223,7 +221,7 @@ fn take_ahead<H: Threads + Wait + Clock + Sync, G: Gate + Sync>(
     )
 }
 
-/// The costs of the pairs of the source at a place: by the thread that asks if they are near, and else by workers.
+/// The costs of the source at a place: by the thread that asks if near, and else by workers.
 fn costs_by<H: Threads + Wait + Clock + Sync, G: Gate + Sync>(
     rt: &H,
     alloc: Global,
@@ -243,7 +241,7 @@ fn costs_by<H: Threads + Wait + Clock + Sync, G: Gate + Sync>(
     }
 }
 
-/// The costs of the pairs of the source at a place, if their targets are near, and no arcs are added.
+/// The costs of the source at a place, if near and no arcs are added.
 fn costs_near(
     alloc: Global,
     asked: &Pairs<'_>,
@@ -272,7 +270,7 @@ fn costs_near(
     Some(PairCosts { costs, after })
 }
 
-/// The costs of the pairs of the source at a place.
+/// The costs of the source at a place, by workers.
 fn costs_of<H: Threads + Wait + Clock + Sync, G: Gate + Sync>(
     rt: &H,
     alloc: Global,
@@ -296,7 +294,7 @@ fn costs_of<H: Threads + Wait + Clock + Sync, G: Gate + Sync>(
     Ok(PairCosts { costs, after })
 }
 
-/// The costs to these targets in the grown network, if there is one, from what the run before it left.
+/// The costs in the grown network, from what the run before it left.
 fn costs_grown<H: Threads + Wait + Clock + Sync, G: Gate + Sync>(
     rt: &H,
     alloc: Global,
@@ -320,7 +318,7 @@ fn costs_grown<H: Threads + Wait + Clock + Sync, G: Gate + Sync>(
     costs_at(alloc, grown, start, targets, after.closed.labels())
 }
 
-/// The targets of the pairs from a place of the order up to another one.
+/// The targets at these places of the order.
 fn targets_of(
     alloc: Global,
     asked: &Pairs<'_>,
@@ -339,7 +337,7 @@ fn targets_of(
     Ok(targets)
 }
 
-/// The place after the entries that have the source of the one at this place.
+/// The place after the last entry of this source.
 fn run_end(order: &[(u32, u32)], first: usize) -> usize
     requires { first < length order.now }
     ensures { IsRun order.now first result }
@@ -352,7 +350,6 @@ fn run_end(order: &[(u32, u32)], first: usize) -> usize
     end
 }
 
-/// The place of the source after the one at this place.
 fn next_source(order: &[(u32, u32)], place: usize) -> usize {
     if place < order.len() {
         run_end(order, place)
@@ -361,7 +358,7 @@ fn next_source(order: &[(u32, u32)], place: usize) -> usize {
     }
 }
 
-/// Fills in the costs of the pairs of the order from a place on. The order has the places of the pairs.
+/// Fills in costs at the places that the order has from one on.
 fn fill(filled: &mut [Option<u64>], order: &[(u32, u32)], first: usize, costs: &[Option<u64>])
     requires places { All (λ entry. entry.1 < length filled.old) order.now }
     requires within { first + length costs.now ≤ length order.now }
@@ -377,7 +374,7 @@ fn fill(filled: &mut [Option<u64>], order: &[(u32, u32)], first: usize, costs: &
     }
 }
 
-/// Fills in those costs in the grown network, if there is one.
+/// Fills in those in the grown network, if there is one.
 fn fill_after(filled: &mut [Option<u64>], asked: &Pairs<'_>, first: usize, found: &PairCosts)
     requires asked { AreAsked asked.now }
     requires found { AreCostsFrom asked.now first found.now }

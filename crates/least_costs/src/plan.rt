@@ -1,4 +1,4 @@
-//! Settings that serve every network, and the number of sources that are solved at the same time.
+//! Settings, and the number of sources at a time.
 
 ghost use Rattle.std.specs.Prelude.{◌≡◌, ◌≤◌, max, min};
 ghost use Rattle.least_costs.specs.Teams.{IsAtMost};
@@ -10,14 +10,14 @@ use crate::network::Network;
 use csr_graph::Csr;
 use obim_engine::{Buckets, MAX_CHUNK, MAX_WORKERS, Settings};
 
-/// The number of vertices of a chunk of two workers: they gain more by sharing seldom.
+/// The vertices of a chunk of two workers, which gain more by sharing seldom.
 const CHUNK_OF_TWO: usize = 128;
 
-/// The number of vertices of a chunk of more workers.
+/// The vertices of a chunk of more workers.
 const SHARED_CHUNK: usize = 64;
 
-/// In a graph with at least so many vertices, and so many arcs a vertex, workers gain more from one source than from a
-/// source each. The labels of several sources don't fit into the processors' caches.
+/// A graph of so many vertices, and so many arcs a vertex, is faster with all workers at one source: the labels of
+/// several don't fit into the processors' caches.
 const MANY_VERTICES: u32 = 1 << 17;
 
 const MANY_ARCS: usize = 8;
@@ -32,7 +32,7 @@ pub enum AtOnce {
 }
 
 impl AtOnce {
-    /// The number of sources that so many workers solve at the same time in the graph with these rows.
+    /// The number of sources that so many workers solve at the same time in this graph.
     pub fn teams(self, rows: &Csr, workers: u32) -> usize
         ensures workers { result ≤ workers }
         ensures most { IsAtMost self result }
@@ -46,7 +46,6 @@ impl AtOnce {
     }
 }
 
-/// Tells if the graph has many vertices, and many arcs a vertex.
 fn is_large(rows: &Csr) -> bool {
     rows.n() >= MANY_VERTICES && rows.arc_count() / MANY_ARCS >= rows.n() as usize
 }
@@ -60,15 +59,15 @@ pub struct Plan {
 }
 
 impl Plan {
-    /// The plan that serves every network that was tried, for this many workers: from 1 to `MAX_WORKERS`, nearest to
-    /// the number given.
+    /// The plan that serves every network that was tried, with `workers` or the nearest number from 1 to
+    /// `MAX_WORKERS`.
     pub fn usual(workers: u32) -> Plan
         ensures workers { result.settings.workers ≡ min (max workers 1) MAX_WORKERS }
         ensures buckets { result.settings.buckets ≡ buckets.Widening }
         ensures teams { result.at_once ≡ at_once.Auto }
     {
         let workers = workers.max(1).min(MAX_WORKERS);
-        // One worker shares nothing, and its chunks take the same room whatever their size is.
+        // One worker shares nothing, and its chunks take the same room at any size.
         let chunk = match workers {
             1 => MAX_CHUNK,
             2 => CHUNK_OF_TWO,

@@ -1,11 +1,11 @@
-//! Progress of a call that works out the costs of many pairs.
+//! Progress of a call.
 
 use std::time::Clock;
 
 /// A watch that sees how far a call is, in the caller's own thread. No cost depends on it.
 pub trait Progress {
-    /// Of all pairs, in the order in which their sources are solved, `done` have their costs. `solves` starts were
-    /// solved since the call before, and at most `teams` sources at the same time.
+    /// Sees that `done` of `all` pairs have their costs, by rising source. `solves` starts were solved since the call
+    /// before, and at most `teams` sources at the same time.
     fn see<C: Clock>(&mut self, clock: &C, done: usize, all: usize, solves: usize, teams: usize);
 }
 

@@ -13,12 +13,13 @@ use std::alloc::Global;
 use std::sync::{Mutex, Wait};
 use std::thread::{Threads, for_each_mut};
 
-/// Tasks of one kind, each at a place from 0 on: the costs from each of many sources, say. `P` is what a task gives.
+/// The tasks of one kind, each at a place from 0 on: the costs from each of many sources, say. `P` is what a task
+/// gives.
 pub trait Tasks<P>: Sync {
-    /// It is what the task at a place gives.
+    /// Holds for what the task at a place gives.
     ghost is_part: { Self → ℕ → P → Type 0 };
 
-    /// The place of the task that comes after the one at a place.
+    /// The place of the task after the one at a place.
     fn after(&self, place: usize) -> usize {
         place.saturating_add(1)
     }
@@ -40,7 +41,6 @@ struct Crew<P> {
     whole: bool,
 }
 
-/// The number of places that were taken.
 #[derive(Drop)]
 struct Cursor {
     taken: usize,
@@ -54,7 +54,7 @@ impl Cursor {
     }
 }
 
-/// Some tasks that are done at the same time, and the workers that teams are made of.
+/// The tasks of a round, and the workers that teams are made of.
 #[derive(Drop)]
 struct Round<'a, T, F, G> {
     tasks: &'a T,
@@ -65,13 +65,13 @@ struct Round<'a, T, F, G> {
     gate: &'a G,
 }
 
-/// Tasks that are done in rounds. In a round teams do one or two tasks each at the same time, and what these
-/// gave waits for its turn. What a team keeps, as its pool of work, it keeps to the end.
+/// The tasks that teams do in rounds: one or two each at the same time. What these give waits for its turn. A team
+/// keeps its pool of work to the end.
 #[derive(Drop)]
 pub struct Rounds<'a, P, G> {
     /// The parts that were made and not taken yet.
     pub made: Vec<Made<P>>,
-    /// All workers, for a task that is done in its turn. Teams are made of as many.
+    /// All workers, for a task in its turn. Teams are made of as many.
     pub workers: Workers<'a, G>,
     settings: Settings,
     crews: Vec<Crew<P>>,
@@ -79,9 +79,8 @@ pub struct Rounds<'a, P, G> {
     end: usize,
     /// The number of places.
     len: usize,
-    /// The number of teams that work at the same time. With fewer than two nothing is made before its turn.
+    /// The teams that work at the same time. With fewer than two nothing is made before its turn.
     teams: usize,
-    /// The most teams that worked at the same time so far.
     most: usize,
     ghost within: { (teams ≤ settings.workers) × (settings.workers ≤ MAX_WORKERS) },
 }
@@ -120,9 +119,9 @@ impl<'a, P: Send + Drop, G: Gate + Sync> Rounds<'a, P, G> {
         place < self.end
     }
 
-    /// Takes what the task at a place gives, if it was made. If the place was not tried yet, teams do that task and some
-    /// after it first. `make` does a task by the workers of a team; `None` if it can't, and then fewer teams work from there
-    /// on. The places are asked for in rising order.
+    /// Takes what the task at a place gave, if it was made; places are asked for in rising order. Teams first do that
+    /// task and some after it, unless it was tried. `make` does a task by a team's workers. If it gives `None`, fewer
+    /// teams work from there on.
     pub fn take<H, T, F>(
         &mut self,
         rt: &H,
@@ -146,7 +145,7 @@ impl<'a, P: Send + Drop, G: Gate + Sync> Rounds<'a, P, G> {
         Some(self.made.swap_remove(at).part)
     }
 
-    /// Does the task at this place, and some after it, if the place was not tried yet.
+    /// Does this task and some after it, unless it was tried.
     fn make_next<H, T, F>(&mut self, rt: &H, alloc: Global, tasks: &T, make: &F, place: usize)
     where
         H: Threads + Wait + Sync,
@@ -193,7 +192,7 @@ impl<'a, P: Send + Drop, G: Gate + Sync> Rounds<'a, P, G> {
     }
 }
 
-/// The number of tasks that the teams do before the first of them is used, of those that are left.
+/// The number of tasks of a round, of those left.
 fn count_ahead(teams: usize, left: usize) -> usize
     requires { teams ≤ left }
     ensures left { result ≤ left }
@@ -216,7 +215,7 @@ fn hire<P: Drop>(alloc: Global, crews: &mut Vec<Crew<P>>, count: usize) {
     }
 }
 
-/// Does a round by these crews, and adds what they made to a list. Returns true if all was made.
+/// Does a round, and adds what was made to a list. Returns true if all was made.
 fn do_round<H, P, T, F, G>(
     rt: &H,
     round: &Round<'_, T, F, G>,
@@ -305,7 +304,7 @@ where
     crew.kept = Some(workers.into_kept());
 }
 
-/// Does tasks of a round as long as there are places to take, of which other crews take some. Ends if one can't be done.
+/// Does tasks of a round while there are places to take. Ends if one can't be done.
 fn make_some<H, P, T, F, G>(
     rt: &H,
     round: &Round<'_, T, F, G>,
@@ -344,7 +343,7 @@ where
     }
 }
 
-/// Moves what the crews made to one list. Returns true if each did all that it took, and all of it is kept.
+/// Moves what the crews made to one list. Returns true if nothing is missing.
 fn gather<P: Send + Drop, T: Tasks<P>>(
     tasks: &T,
     crews: &mut [Crew<P>],
@@ -365,7 +364,7 @@ fn gather<P: Send + Drop, T: Tasks<P>>(
     whole
 }
 
-/// Up to `most` places from one on that are below `len`, and the place after them. `None` if memory is refused.
+/// The places from one on, at most `most` and below `len`, and the place after them. `None` if memory is refused.
 fn places_from<P, T: Tasks<P>>(
     alloc: Global,
     tasks: &T,

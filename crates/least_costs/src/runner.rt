@@ -24,7 +24,7 @@ use std::sync::Wait;
 use std::thread::Threads;
 use std::time::Clock;
 
-/// A pool whose buckets are all as wide, by a shift, and its sides.
+/// A pool whose buckets are all as wide, by a shift.
 #[derive(Drop)]
 struct Even {
     settings: Settings,
@@ -34,7 +34,7 @@ struct Even {
     ghost workers: { length sides.items ≡ settings.workers },
 }
 
-/// A pool whose buckets fit a network, and its sides.
+/// A pool whose buckets fit a network.
 #[derive(Drop)]
 struct Fitted {
     settings: Settings,
@@ -50,15 +50,15 @@ enum Kind {
     Fitted(Fitted),
 }
 
-/// A pool of workers that is kept from one source to the next, so that its bags are made once. What a source
-/// leaves in it the next one draws and ignores. It serves any network, and best the one that it was opened for.
+/// A pool of workers, kept from one source to the next so that its bags are made once. What a source leaves in it the
+/// next one draws and ignores. It serves any network, and best the one it was opened for.
 #[derive(Drop)]
 pub struct Runner {
     kind: Kind,
 }
 
 impl Runner {
-    /// A pool for this network and these settings.
+    /// Opens a pool for this network and these settings.
     pub fn open(alloc: Global, network: &Network, settings: &Settings) -> Result<Runner, Memory> {
         let kind = match settings.buckets {
             Buckets::Widening => Kind::Fitted(open_fitted(alloc, &network.rows, settings)?),
@@ -92,7 +92,7 @@ impl Runner {
         Ok(Costs::new(network, start, reached.closed.into_labels()))
     }
 
-    /// Runs from a start in a network, and no further than the goal wants.
+    /// Runs from a start, no further than the goal wants.
     pub(crate) fn reach<H: Threads + Wait + Clock + Sync, G: Gate + Sync>(
         &mut self,
         rt: &H,
@@ -122,8 +122,8 @@ impl Runner {
         }
     }
 
-    /// Goes on in a network that another one grew to, from a pause of a run from this start. Only what the arcs change
-    /// that leave its marked vertices is visited.
+    /// Goes on in a grown network, from a pause of a run from this start. Visits only what the arcs that leave its
+    /// marked vertices change.
     pub(crate) fn resume<H: Threads + Wait + Clock + Sync, G: Gate + Sync>(
         &mut self,
         rt: &H,
@@ -156,8 +156,7 @@ impl Runner {
     }
 }
 
-/// Makes a pause in the grown network of what a run from this start left in the network before. The tails of the added
-/// arcs are marked there.
+/// Makes a pause in the grown network of what a run left before. It marks the tails of the added arcs.
 pub(crate) fn pause_after(
     alloc: Global,
     network: &Network,
@@ -179,7 +178,6 @@ pub(crate) fn pause_after(
     }
 }
 
-/// The seeds of a start.
 fn seeds_of(alloc: Global, network: &Network, start: Start) -> Result<Vec<Seed>, Memory>
     requires { IsStartWithin network.now.n start }
     ensures exact { IfOk result (λ seeds. seeds.items ≡ seeds_at network.now.n start) }
@@ -191,7 +189,7 @@ fn seeds_of(alloc: Global, network: &Network, start: Start) -> Result<Vec<Seed>,
     }
 }
 
-/// Runs from these seeds, or from a pause of theirs, over the pool.
+/// Runs from these seeds, or from a pause of theirs.
 fn run_over<H: Threads + Wait + Clock + Sync, G: Gate + Sync>(
     rt: &H,
     alloc: Global,
@@ -213,7 +211,6 @@ fn run_over<H: Threads + Wait + Clock + Sync, G: Gate + Sync>(
     }
 }
 
-/// Runs from these seeds, or from a pause of theirs, over a pool.
 fn run_on<H: Threads + Wait + Clock + Sync, P: WorkPool + Sync, G: Gate + Sync>(
     rt: &H,
     alloc: Global,
@@ -325,7 +322,7 @@ fn run_fitted<H: Threads + Wait + Clock + Sync, G: Gate + Sync>(
     Ok(reached)
 }
 
-/// The counts of the sides since then. The buckets are those that there are.
+/// The counts of the sides since then, and all buckets that there are.
 fn worklist_since(before: Worklist, sides: &[ObimSide]) -> Worklist {
     let now = Worklist::of(sides);
     Worklist {

@@ -17,7 +17,7 @@ use std::sync::Wait;
 use std::thread::Threads;
 use std::time::Clock;
 
-/// Asks one network, by a plan. The gate is for who watches workers.
+/// Asks a network by a plan. The gate watches workers.
 #[derive(Drop)]
 pub struct Solver<'a, G = OpenGate> {
     pub network: &'a Network,
@@ -26,7 +26,7 @@ pub struct Solver<'a, G = OpenGate> {
 }
 
 impl<'a> Solver<'a, OpenGate> {
-    /// Asks this network, by a plan.
+    /// Asks this network, unwatched.
     pub fn new(network: &'a Network, plan: Plan) -> Solver<'a, OpenGate>
         ensures network { result.network.now ≡ network.now }
         ensures plan { result.plan ≡ plan }
@@ -71,7 +71,7 @@ impl<'a, G: Gate + Sync> Solver<'a, G> {
         Ok(CostsWithin::new(network, source, bound, reached))
     }
 
-    /// The least costs from a start. From everywhere, if arcs are free both ways, they are components.
+    /// The least costs from a start.
     pub fn costs_from<H: Threads + Wait + Clock + Sync>(
         &self,
         rt: &H,
@@ -86,8 +86,8 @@ impl<'a, G: Gate + Sync> Solver<'a, G> {
         workers.costs_from(rt, alloc, self.network, start)
     }
 
-    /// The least costs in a network that this one grew to by `with_arcs`, from the same start, from the costs
-    /// here. Only what the added arcs change is visited.
+    /// The least costs from the same start in a network that this one grew to by `with_arcs`, from the costs here.
+    /// Visits only what the added arcs change.
     pub fn costs_after<H: Threads + Wait + Clock + Sync>(
         &self,
         rt: &H,

@@ -1,4 +1,4 @@
-//! Teams: the workers of each of several tasks that are done at the same time.
+//! Teams that share workers.
 
 ghost use Rattle.std.specs.Prelude.{◌≡◌, ◌<◌, ◌≤◌};
 ghost use Rattle.obim_engine.specs.declared.settings.TheConstants.{MAX_WORKERS};

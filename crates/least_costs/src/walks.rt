@@ -1,4 +1,4 @@
-//! The walks from a source to vertices at the least cost.
+//! Least walks from a source.
 
 ghost use Rattle.std.specs.Prelude.{◌≡◌, ◌≢◌, ◌<◌, IfNone, IfOk, IfSome};
 ghost use Rattle.least_costs.specs.Costs.{IsUnreached};
@@ -16,8 +16,7 @@ use std::snapshot::Snapshot;
 use walk_report::laws::printed_walks_are_walks;
 use walk_report::{hops, parents, walk_to};
 
-/// The least walks from a source, of the fewest arcs. Contracts see in which network; of that it keeps
-/// nothing. It takes 8 bytes a vertex.
+/// The least walks from a source, of the fewest arcs. Takes 8 bytes a vertex, and keeps nothing of the network.
 #[derive(Drop)]
 pub struct Walks {
     hops: Vec<u32>,
@@ -37,8 +36,7 @@ impl Model for Walks {
 }
 
 impl Costs {
-    /// The walks of these costs, which are of this network and from one source. Takes time in proportion to
-    /// vertices and arcs, and for a while 4 more bytes a vertex.
+    /// The walks of these costs. Takes time in proportion to vertices and arcs, and for a while 4 more bytes a vertex.
     pub fn walks(&self, alloc: Global, network: &Network) -> Result<Walks, Memory>
         requires network { network.now ≡ self.now.net }
         requires source { self.now.start ≢ Everywhere }

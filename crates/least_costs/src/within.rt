@@ -1,4 +1,4 @@
-//! The costs from a source that are at most a bound.
+//! Costs up to a bound.
 
 ghost use Rattle.std.specs.Prelude.{◌≡◌, ◌<◌, IfNone, IfSome};
 ghost use Rattle.obim_engine.specs.Goal.{HasReached};
@@ -13,8 +13,7 @@ use route_walks::INF;
 use std::marker::Model;
 use std::snapshot::Snapshot;
 
-/// The least costs from a source that are at most a bound. Contracts see in which network; of that it keeps
-/// nothing. It takes 8 bytes a vertex.
+/// The least costs from a source that are at most a bound. Takes 8 bytes a vertex, and keeps nothing of the network.
 #[derive(Drop)]
 pub struct CostsWithin {
     labels: Vec<u64>,

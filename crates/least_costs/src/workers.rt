@@ -22,8 +22,7 @@ use std::sync::Wait;
 use std::thread::Threads;
 use std::time::Clock;
 
-/// Workers that solve one start after another, and keep their pool from one to the next. Beside it they keep room for
-/// the searches that the thread that asks makes before it asks them.
+/// The workers that solve one start after another, and keep their pool and room for searches from one to the next.
 #[derive(Drop)]
 pub struct Workers<'a, G> {
     /// The number of workers, and what they share.
@@ -34,7 +33,7 @@ pub struct Workers<'a, G> {
 }
 
 impl<'a, G: Gate + Sync> Workers<'a, G> {
-    /// Workers by these settings. They take what others kept, and of that the pool if it is for as many workers.
+    /// Takes what others kept, and of that the pool if it is for as many workers.
     pub fn new(settings: Settings, gate: &'a G, kept: Option<Workspace>) -> Workers<'a, G>
         ensures settings { result.settings ≡ settings }
         ensures gate { result.gate.now ≡ gate.now }
@@ -73,8 +72,7 @@ impl<'a, G: Gate + Sync> Workers<'a, G> {
         Ok(costs)
     }
 
-    /// The least costs in a network that another one grew to by `with_arcs`, from the same start, from the costs
-    /// there. Only what the added arcs change is visited.
+    /// Does what `Solver::costs_after` does.
     pub(crate) fn costs_after<H: Threads + Wait + Clock + Sync>(
         &mut self,
         rt: &H,
@@ -95,8 +93,7 @@ impl<'a, G: Gate + Sync> Workers<'a, G> {
         Ok(Costs::new(grown, start, reached.closed.into_labels()))
     }
 
-    /// The costs of a network from a start that serve a goal. Workers go no further than that wants, so labels past its
-    /// limit may be too high.
+    /// The costs from a start that serve a goal. Workers go no further, so labels past the limit may be too high.
     pub fn costs_for<H: Threads + Wait + Clock + Sync>(
         &mut self,
         rt: &H,
@@ -140,8 +137,8 @@ impl<'a, G: Gate + Sync> Workers<'a, G> {
         Ok(CostsBelow::new(grown, start, reached))
     }
 
-    /// Returns the least labels of these targets from a source and the walks to them, if the thread that asks finds
-    /// them by itself. `None` if it doesn't search, or they aren't near, or memory is refused.
+    /// Returns the least labels of these targets from a source and the walks to them, found by the thread that asks.
+    /// `None` if it doesn't search, they aren't near, or memory is refused.
     pub fn near_walks(
         &mut self,
         alloc: Global,
@@ -160,8 +157,8 @@ impl<'a, G: Gate + Sync> Workers<'a, G> {
         }
     }
 
-    /// Returns the vertices that cost at most a bound from a source, in rising order, each with its cost, if the
-    /// thread that asks finds them by itself. `None` if it doesn't search, or they aren't near, or memory is refused.
+    /// Returns the vertices that cost at most a bound from a source, in rising order, each with its cost. `None` as
+    /// for `near_walks`.
     pub fn near_within(
         &mut self,
         alloc: Global,
@@ -180,7 +177,7 @@ impl<'a, G: Gate + Sync> Workers<'a, G> {
         }
     }
 
-    /// Runs from a start in a network, and no further than the goal wants.
+    /// Runs from a start, no further than the goal wants.
     pub(crate) fn reach<H: Threads + Wait + Clock + Sync>(
         &mut self,
         rt: &H,
@@ -199,7 +196,7 @@ impl<'a, G: Gate + Sync> Workers<'a, G> {
         Ok(reached)
     }
 
-    /// Goes on in a network that another one grew to by `with_arcs`, from what a run from this start left there.
+    /// Goes on in a grown network, from what a run left before.
     pub(crate) fn reach_after<H: Threads + Wait + Clock + Sync>(
         &mut self,
         rt: &H,

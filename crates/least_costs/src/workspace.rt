@@ -1,4 +1,4 @@
-//! The room that is kept from one question to the next.
+//! Room that is kept between questions.
 
 ghost use Rattle.std.specs.Prelude.{◌≡◌};
 
@@ -8,9 +8,9 @@ use crate::runner::Runner;
 use std::alloc::Global;
 
 /// The workers' pool, and room for searches by the thread that asks, kept from one question to the next. Both are made
-/// when they are first used. No cost depends on it.
+/// when first used. No cost depends on it.
 ///
-/// The searches take 9 bytes a vertex, and 9 more for those from both ends, and 8 for walks.
+/// Searches take 9 bytes a vertex, 9 more from both ends, and 8 more for walks.
 #[derive(Drop)]
 pub struct Workspace {
     pub(crate) pool: Option<Runner>,
@@ -19,7 +19,7 @@ pub struct Workspace {
 }
 
 impl Workspace {
-    /// Keeps nothing yet. The thread that asks searches by itself before it asks workers.
+    /// Keeps nothing yet. The thread that asks searches before it asks workers.
     pub fn new() -> Workspace {
         Workspace {
             pool: None,
@@ -28,7 +28,7 @@ impl Workspace {
         }
     }
 
-    /// Sets if the thread that asks searches by itself, or asks workers at once.
+    /// Sets if the thread that asks searches, or asks workers at once.
     pub fn searching(self, searches: bool) -> Workspace {
         Workspace {
             pool: self.pool,
@@ -37,13 +37,12 @@ impl Workspace {
         }
     }
 
-    /// Tells if the thread that asks searches by itself before it asks workers.
+    /// Tells if the thread that asks searches before it asks workers.
     pub fn searches(&self) -> bool {
         self.searches
     }
 
-    /// Reverses the rows of a network before a question, if searches have visited so much of it that those from both
-    /// ends gain more than that takes.
+    /// Reverses the rows of a network before a question, if searches have visited so much of it that this saves time.
     pub fn prepare(&mut self, alloc: Global, network: &mut Network)
         ensures { network.new ≡ network.old }
     {
