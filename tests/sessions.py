@@ -2,10 +2,8 @@
 """Requests after a graph, each answered at once: tests/sessions.py PROGRAM COUNT.
 
 Worked rows, each written whole, byte by byte, and in random pieces, and each with the input left open until its last
-reply has come. Graphs that several threads read, in the same ways, and with wrong lines. Then COUNT random sessions, of
-distances, levels and components, by 1 and 3 workers, with stray lines and wrong ones: the reply to each request is
-compared with what the program writes for the job of the graph so far and this request, and each refusal with the fault
-of that job. Clients that go away, that write 2^20 pairs before they read, and a session of 10,000 requests, whose memory
+reply has come. Graphs that several threads read, in the same ways, and with wrong lines. COUNT random sessions beside
+jobs (tests/session_jobs.py). Clients that go away, that write 2^20 pairs before they read, and a session of 10,000 requests, whose memory
 does not grow. It prints what is wrong first, and the status is 1 then.
 """
 
@@ -13,6 +11,9 @@ import os
 import random
 import subprocess
 import sys
+
+import session_jobs
+from session_jobs import run, wrong
 
 GRAPH = "p sp 2 0\n"
 SIX = open("examples/six.gr", encoding="ascii").read()
@@ -85,9 +86,9 @@ ROWS = [
     ("junk before a section", GRAPH + "junk\np aux sp p2p 1\nq 1 1\n", READY + "e 2 unknown line\n", "", 0),
     ("a section that there isn't", GRAPH + "p aux sp p2q 1\nq 1 1\n", READY + "e 2 unknown line\n", "", 0),
     (
-        "a request after a section that there isn't",
+        "requests after a section that there isn't",
         GRAPH + "p aux sp p2q 1\nq 1 1\np aux sp p2p 1\nq 1 1\np aux sp ss 0\n",
-        READY + "e 2 unknown line\n" + READY,
+        READY + "e 2 unknown line\nq 1 1 0\n" + READY + READY,
         "",
         0,
     ),
@@ -157,18 +158,6 @@ OPTION_ROWS = [
 ]
 
 
-def wrong(text):
-    """Says what is wrong, and ends."""
-    print(text, file=sys.stderr)
-    sys.exit(1)
-
-
-def run(program, options, text):
-    """What the program writes for a whole input: output, a character a byte, error, status."""
-    done = subprocess.run([program, *options], input=text.encode("ascii"), capture_output=True, check=False)
-    return done.stdout.decode("latin-1"), done.stderr.decode("ascii"), done.returncode
-
-
 def begin(program, *options):
     """A session with its three pipes."""
     pipe = subprocess.PIPE
@@ -180,7 +169,7 @@ def read_exactly(process, count):
     found = b""
     while len(found) < count and (piece := process.stdout.read(count - len(found))):
         found += piece
-    return found.decode("ascii")
+    return found.decode("latin-1")
 
 
 def in_pieces(program, options, text, output, sizes):
@@ -200,15 +189,26 @@ def in_pieces(program, options, text, output, sizes):
         process.stdin.close()
     except BrokenPipeError:
         pass
-    rest = process.stdout.read().decode("ascii")
+    rest = process.stdout.read().decode("latin-1")
     error = process.stderr.read().decode("ascii")
     return open_output + rest, error, process.wait()
+
+
+def head_rows():
+    """The rows of tests/heads.tsv."""
+    with open("tests/heads.tsv", encoding="ascii") as file:
+        table = [line.rstrip("\n").split("\t") for line in file if not line.startswith("#")]
+    as_text = lambda cell: cell.replace(" . ", "\n").encode("ascii").decode("unicode_escape")
+    for name, options, sent, written in table:
+        greeting = ("k 1 1\nk 2 1\nk 3 1\nk 4 4\n" if "components" in options else "") + "r 4 4\n"
+        text = f"p sp 4 4\na 1 2 7\na 2 3 6\na 1 3 20\na 1 3 30\n{as_text(sent)}\n"
+        yield options.split(), name, text, f"{greeting}{as_text(written)}\n", "", 0
 
 
 def check_rows(program):
     """Each row whole, byte by byte and in random pieces."""
     draw = random.Random(7)
-    rows = [([], *row) for row in ROWS] + OPTION_ROWS
+    rows = [([], *row) for row in ROWS] + OPTION_ROWS + list(head_rows())
     for workers in ("1", "3"):
         for more, name, text, output, fault, status in rows:
             options = ["--workers", workers, *more]
@@ -281,104 +281,6 @@ def check_large_faults(program, options, lines):
             wrong(f"large graph up to line {place + 1}, {options}: {found}")
 
 
-# ---- random sessions beside jobs
-
-
-def records(letter, rows):
-    """Lines of a letter and numbers."""
-    return "".join(f"{letter} {' '.join(map(str, row))}\n" for row in rows)
-
-
-def draw_request(draw, n):
-    """What follows `p aux sp` up to the count of a section, and its records."""
-    kind = draw.choice(["ss", "within", "p2p", "walk", "add"])
-    vertex = lambda: draw.randrange(1, n + 1)
-    count = draw.randrange(4)
-    rows = {
-        "ss": lambda: ("s", [(vertex(),) for _ in range(count)]),
-        "within": lambda: ("s", [(vertex(),) for _ in range(count)]),
-        "p2p": lambda: ("q", [(vertex(), vertex()) for _ in range(count)]),
-        "walk": lambda: ("q", [(vertex(), vertex()) for _ in range(count)]),
-        "add": lambda: ("a", [(vertex(), vertex(), draw.randrange(9)) for _ in range(count)]),
-    }[kind]()
-    return f"within {draw.randrange(20)}" if kind == "within" else kind, *rows
-
-
-# The lines that a session may have, but for those of components.
-FORMS = [[], ["--labels=raw"], ["--totals"], ["--walks"], ["--within=6"], ["--walks", "--within=6"]]
-
-
-def job_options(options, head):
-    """The options of the job that is answered as a request of this head is."""
-    plain = [word for word in options if word not in ("--labels=raw", "--totals", "--walks", "--within=6")]
-    if "components" in options or head == "ss":
-        return options
-    if head == "p2p":
-        # Pairs have no bound.
-        return [word for word in options if word != "--within=6"]
-    if head == "walk":
-        # Walks of pairs have one form.
-        return [*plain, "--walks"]
-    # The request's bound counts, and lines have walks if those of the session do.
-    bound = head.split()[1]
-    return [*plain, *(word for word in options if word == "--walks"), f"--within={bound}"]
-
-
-def job_reply(program, options, n, arcs, request):
-    """What a session replies to a whole request, by jobs alone; and the arcs from then on."""
-    kind, letter, rows = request
-    graph = lambda of: f"p sp {n} {len(of)}\n" + records("a", of)
-    if kind == "add":
-        arcs = arcs + rows
-        body = run(program, options, graph(arcs))[0] if "components" in options else ""
-        return f"g {len(rows)}\n{body}r {n} {len(arcs)}\n", arcs
-    section = {"walk": "p2p", "within": "ss"}.get(kind.split()[0], kind)
-    text = graph(arcs) + f"p aux sp {section} {len(rows)}\n" + records(letter, rows)
-    output, error, status = run(program, job_options(options, kind), text)
-    if status:
-        wrong(f"job ended with {status}: {error}")
-    return f"{output}r {n} {len(arcs)}\n", arcs
-
-
-def check_random(program, count):
-    """Random sessions: each reply is that of a job."""
-    for seed in range(count):
-        draw = random.Random(seed)
-        n = draw.randrange(1, 9)
-        arcs = [(draw.randrange(1, n + 1), draw.randrange(1, n + 1), draw.randrange(9)) for _ in range(draw.randrange(12))]
-        answer = draw.choice(["distances", "levels", "components"])
-        options = ["--workers", draw.choice("13"), "--answer", answer]
-        options += [] if answer == "components" else draw.choice(FORMS)
-        text = f"p sp {n} {len(arcs)}\n" + records("a", arcs)
-        blocks = run(program, options, text)[0] if answer == "components" else ""
-        wanted = f"{blocks}r {n} {len(arcs)}\n"
-        for _ in range(draw.randrange(6)):
-            request = draw_request(draw, n)
-            kind, letter, rows = request
-            section = f"p aux sp {kind} {len(rows)}\n" + records(letter, rows)
-            line = text.count("\n") + 1
-            fault = draw.randrange(8)
-            if fault == 0:
-                text += f"p aux sp {kind} {len(rows) + 1}\n" + records(letter, rows) + records(letter, [(n + 1,) * len(letter_fields(letter))])
-                wanted += f"e {line + len(rows) + 1} out of range\n"
-                continue
-            if fault == 1:
-                text += f"p aux sp {kind} {len(rows)} 1\n"
-                wanted += f"e {line} wrong number of fields\n"
-                continue
-            text += section
-            reply, arcs = job_reply(program, options, n, arcs, request)
-            wanted += reply
-        found = run(program, ["--session", *options], text)
-        if found != (wanted, "", 0):
-            wrong(f"seed {seed}: {found} and not {wanted!r} for {text!r} by {options}")
-
-
-def letter_fields(letter):
-    """Fields after a letter."""
-    return {"s": "v", "q": "vv", "a": "vvw"}[letter]
-
-
 # ---- clients
 
 
@@ -438,7 +340,7 @@ def main():
     program = sys.argv[1]
     check_rows(program)
     check_large(program)
-    check_random(program, int(sys.argv[2]))
+    session_jobs.check_random(program, int(sys.argv[2]))
     check_many_pairs(program)
     check_gone(program)
     check_memory(program)

@@ -1,102 +1,60 @@
 -- What one line says after a graph, by its leading fields.
-use Rattle.std.proofs.Common.{◌≡◌, ℕ, Bool, true, false, cond, eqb, ◌||◌, List, [], ◌∷◌, ◌++◌, drop, length, get_or, refl, sym}
-use Rattle.std.proofs.Common.{ap, subst, ◌∙◌, Bor, Option, Some, None, Result, Ok, Err, MatchOption}
-use Rattle.std.proofs.lemmas.Bool.{eqb-true}
+use Rattle.std.proofs.Common.{◌≡◌, ◌⊎◌, inl, inr, ℕ, Bool, true, false, cond, eqb, List, [], ◌∷◌, ◌++◌, drop, length, get_or}
+use Rattle.std.proofs.Common.{codes, refl, sym, ap, ap₂, subst, ◌∙◌, Bor, Option, Some, None, Result, Ok, Err, MatchOption, bytes_eq, find}
+use Rattle.std.proofs.lemmas.Bool.{and_parts}
+use Rattle.std.proofs.lemmas.Slice.Eq.{bytes_eq-Decides}
 use Rattle.dimacs_text.specs.declared.fault.LineKind.{LineKind}
+use Rattle.dimacs_text.specs.declared.fault.LineKind.TheVariants.{Unknown}
 use Rattle.dimacs_text.specs.declared.form.Form.{Form}
-use Rattle.dimacs_text.specs.declared.form.Form.TheVariants.{Head}
-use Rattle.dimacs_text.specs.declared.form.Section.TheVariants.{Pairs}
+use Rattle.dimacs_text.specs.declared.form.Form.TheVariants.{Head, Counted}
+use Rattle.dimacs_text.specs.declared.form.Section.TheVariants.{Problem, Sources, Pairs, Added}
+use Rattle.dimacs_text.specs.declared.head.HeadForm.{HeadForm}
+use Rattle.dimacs_text.specs.declared.head.HeadForm.TheVariants as head_form
+use Rattle.dimacs_text.specs.declared.head.SectionHead.{SectionHead}
 use Rattle.dimacs_text.specs.Lines.{fields, without_cr}
-use Rattle.dimacs_text.specs.Forms.{Record, Reading, begins_with, fields_reading, form_of, in_form, leading, limits, numbers_within}
-use Rattle.dimacs_text.specs.Forms.{reading, record_reading}
+use Rattle.dimacs_text.specs.Forms.{Record, Reading, begins_with, fields_reading, form_of, forms, in_form, leading, limits}
+use Rattle.dimacs_text.specs.Forms.{numbers_within, reading, record_reading}
+use Rattle.dimacs_text.specs.Heads.{after_front, begins_section, front, head_in}
 use Rattle.dimacs_text.specs.Jobs.{sources_record}
-use Rattle.dimacs_text.specs.AfterGraph.{begins_section, begins_walks, begins_within, extent_by, extent_of, is_later, plain}
-use Rattle.dimacs_text.specs.AfterGraph.{reading_after, sources_reading, walks_if, within_limits, within_numbers}
+use Rattle.dimacs_text.specs.AfterGraph.{head_of, head_reading, is_later, reading_after, section_reading, sources_reading}
+use Rattle.dimacs_text.specs.AfterGraph.{with_bound, within_limits}
 use Rattle.dimacs_text.specs.reader.Entries.{FollowsLeading}
 
--- the head of a section within a bound is a section line
-pub within_begin : (line : List ℕ) → begins_within line ≡ true → begins_section line ≡ true
-unfolding begins_section
-within_begin line is_one = ap (λ b. b || is_later (form_of (plain (fields (without_cr line))))) is_one
+-- ---- by whether it is a section line
 
--- so is that of a section of walks
-pub walks_begin : (line : List ℕ)
-    → begins_within line ≡ false → begins_walks line ≡ true
-    → begins_section line ≡ true
-unfolding begins_section begins_walks
-walks_begin line is_none is_one =
-    ap (λ b. b || is_later (form_of (plain (fields (without_cr line))))) is_none
-    ∙ ap
-    (λ b.
-    is_later
-    (form_of (cond b (leading (Head Pairs) ++ drop 4 (fields (without_cr line))) (fields (without_cr line)))))
-    is_one
+abbrev pub reading_by : ℕ → List ℕ → Bool → Reading
+reading_by n line b =
+    cond b (section_reading n (head_in (after_front line))) (fields_reading n (fields (without_cr line)))
 
--- any other line is one if its form is
-pub others_begin : (line : List ℕ)
-    → begins_within line ≡ false → begins_walks line ≡ false
-    → begins_section line ≡ is_later (form_of (fields (without_cr line)))
-unfolding begins_section begins_walks
-others_begin line is_none is_plain =
-    ap (λ b. b || is_later (form_of (plain (fields (without_cr line))))) is_none
-    ∙ ap
-    (λ b.
-    is_later
-    (form_of (cond b (leading (Head Pairs) ++ drop 4 (fields (without_cr line))) (fields (without_cr line)))))
-    is_plain
-
-abbrev by_bound : ℕ → List ℕ → Bool → Reading
-by_bound n line b =
-    cond b (sources_reading (within_numbers line)) (fields_reading n (plain (fields (without_cr line))))
-
--- it says what it says in a job
-pub others_say : (n : ℕ) (line : List ℕ)
-    → begins_within line ≡ false → begins_walks line ≡ false
-    → reading_after n line ≡ reading n line
-unfolding reading_after begins_walks reading
-others_say n line is_none is_plain =
-    ap (λ b. by_bound n line b) is_none
-    ∙ ap
-    (λ b.
-    fields_reading n (cond b (leading (Head Pairs) ++ drop 4 (fields (without_cr line))) (fields (without_cr line))))
-    is_plain
-
--- and the head of a section of walks what the head of a section of pairs says
-pub walks_say : (n : ℕ) (line : List ℕ) (rest : List (List ℕ))
-    → begins_within line ≡ false → begins_walks line ≡ true → rest ≡ drop 4 (fields (without_cr line))
-    → in_form (Head Pairs) (numbers_within (limits n (Head Pairs)) rest) ≡ reading_after n line
-unfolding reading_after begins_walks fields_reading
-walks_say n line rest is_none is_one is =
-    ap (λ fs. in_form (Head Pairs) (numbers_within (limits n (Head Pairs)) fs)) is
-    ∙ sym
-    (ap
-    (λ b.
-    fields_reading n (cond b (leading (Head Pairs) ++ drop 4 (fields (without_cr line))) (fields (without_cr line))))
-    is_one)
-    ∙ sym (ap (λ b. by_bound n line b) is_none)
-
--- that of a section within a bound says what its numbers do
-pub within_says : (n : ℕ) (line : List ℕ) (rest : List (List ℕ))
-    → begins_within line ≡ true → rest ≡ drop 4 (fields (without_cr line))
-    → sources_reading (numbers_within within_limits rest) ≡ reading_after n line
+-- a section line says what its head does
+pub section_says_head : (n : ℕ) (line : List ℕ) (fs : List (List ℕ)) (head : Option (SectionHead × List (List ℕ)))
+    → begins_section line ≡ true → fs ≡ after_front line → head_in fs ≡ head
+    → reading_after n line ≡ section_reading n head
 unfolding reading_after
-within_says n line rest is_one is =
-    ap (λ fs. sources_reading (numbers_within within_limits fs)) is ∙ sym (ap (λ b. by_bound n line b) is_one)
+section_says_head n line fs head is after found =
+    ap (λ b. reading_by n line b) is
+    ∙ ap (λ l. section_reading n (head_in l)) (sym after)
+    ∙ ap (λ h. section_reading n h) found
 
--- and asks for as much
-pub within_asks : (line : List ℕ) (rest : List (List ℕ))
-    → begins_within line ≡ true → rest ≡ drop 4 (fields (without_cr line))
-    → extent_by (numbers_within within_limits rest) ≡ extent_of line
-unfolding extent_of
-within_asks line rest is_one is =
-    ap (λ fs. extent_by (numbers_within within_limits fs)) is
-    ∙ sym (ap (λ b. cond b (extent_by (within_numbers line)) (walks_if (begins_walks line))) is_one)
+-- any other line says what it says in a job
+pub others_say : (n : ℕ) (line : List ℕ) → begins_section line ≡ false → reading_after n line ≡ reading n line
+unfolding reading_after reading
+others_say n line is = ap (λ b. reading_by n line b) is
 
--- any other line asks for walks or for nothing more
-pub others_ask : (line : List ℕ) → begins_within line ≡ false → walks_if (begins_walks line) ≡ extent_of line
-unfolding extent_of
-others_ask line is_none =
-    sym (ap (λ b. cond b (extent_by (within_numbers line)) (walks_if (begins_walks line))) is_none)
+-- a section line is its head,
+pub section_head : (line : List ℕ) (fs : List (List ℕ)) (head : Option (SectionHead × List (List ℕ)))
+    → begins_section line ≡ true → fs ≡ after_front line → head_in fs ≡ head
+    → head_of line ≡ with_bound head
+unfolding head_of
+section_head line fs head is after found =
+    ap (λ b. cond b (with_bound (head_in (after_front line))) None) is
+    ∙ ap (λ l. with_bound (head_in l)) (sym after)
+    ∙ ap (λ h. with_bound h) found
+
+-- and no other line is one
+pub others_no_head : (line : List ℕ) → begins_section line ≡ false → head_of line ≡ None
+unfolding head_of
+others_no_head line is = ap (λ b. cond b (with_bound (head_in (after_front line))) None) is
 
 -- what follows the leading fields of a line
 pub stripped : (own lead fs gs : List (List ℕ)) (result : Option (Bor (List ℕ)))
@@ -114,45 +72,101 @@ stripped own lead fs gs result is same found =
     MatchOption result (begins_with lead l ≡ false)
     (λ rest. (begins_with lead l ≡ true) × (fields rest.now ≡ drop (length lead) l))) same found)
 
--- no form begins as a comment does
-pub comment_form : (f : List ℕ) (fs : List (List ℕ)) → get_or f 0 0 ≡ 99 → form_of (f ∷ fs) ≡ None
-comment_form [] fs e = absurd (cc)
-comment_form (b ∷ bs) fs e =
-    let same : b ≡ 99 = e in
-    subst (λ x. form_of ((x ∷ bs) ∷ fs) ≡ None) (sym same) refl
+-- the fields that lead are those that a line begins with
+pub begins_known : (lead fs : List (List ℕ))
+    → begins_with lead fs ≡ true
+    → (rest : List (List ℕ)) × (fs ≡ lead ++ rest)
+begins_known [] fs e = (fs, refl)
+begins_known (w ∷ lead) [] e = absurd (cc)
+begins_known (w ∷ lead) (f ∷ fs) e =
+    let both = and_parts (bytes_eq f w) (begins_with lead fs) e in
+    let later = begins_known lead fs both.1 in
+    (later.0, ap₂ (λ x l. x ∷ l) ((bytes_eq-Decides f w).0 both.0) later.1)
 
-silent_record : (n : ℕ) (o : Option Form) (fs : List (List ℕ)) → record_reading n o fs ≡ Ok None → is_later o ≡ false
-silent_record n None fs e = refl
-silent_record n (Some form) fs e = absurd (by_numbers (numbers_within (limits n form) (drop (length (leading form)) fs)) e)
+-- ---- a section line says a head of a later section, or is wrong
+
+abbrev pub SaysSection : Reading → Type 0
+SaysSection r =
+    ((kind : LineKind) × (r ≡ Err kind))
+    ⊎ ((head : Record) × (r ≡ Ok (Some head)) × (is_later (Some head.form) ≡ true))
+
+in_form_says : (form : Form) (r : Result (List ℕ) LineKind) → is_later (Some form) ≡ true → SaysSection (in_form form r)
+in_form_says form (Ok vs) later = inr (record { form = form; numbers = vs }, refl, later)
+in_form_says form (Err kind) later = inl (kind, refl)
+
+within_says : (r : Result (List ℕ) LineKind) → SaysSection (sources_reading r)
+within_says (Ok vs) = inr (sources_record (get_or vs 1 0), refl, refl)
+within_says (Err kind) = inl (kind, refl)
+
+head_says : (n : ℕ) (form : HeadForm) (fs : List (List ℕ)) → SaysSection (head_reading n form fs)
+head_says n head_form.Within fs = within_says (numbers_within within_limits fs)
+head_says n head_form.Sources fs = in_form_says (Head Sources) (numbers_within (limits n (Head Sources)) fs) refl
+head_says n head_form.Pairs fs = in_form_says (Head Pairs) (numbers_within (limits n (Head Pairs)) fs) refl
+head_says n head_form.Walk fs = in_form_says (Head Pairs) (numbers_within (limits n (Head Pairs)) fs) refl
+head_says n head_form.Added fs = in_form_says (Head Added) (numbers_within (limits n (Head Added)) fs) refl
+
+pub section_says : (n : ℕ) (line : List ℕ) → begins_section line ≡ true → SaysSection (reading_after n line)
+section_says n line is =
+    subst SaysSection (sym (section_says_head n line (after_front line) (head_in (after_front line)) is refl refl))
+    (by_head (head_in (after_front line)))
   where
-    by_numbers : (r : Result (List ℕ) LineKind) → in_form form r ≡ Ok None → ⊥
-    by_numbers (Ok vs) is = cc
-    by_numbers (Err kind) is = cc
-
-silent_field : (n : ℕ) (f : List ℕ) (fs : List (List ℕ)) (comment : Bool)
-    → eqb (get_or f 0 0) 99 ≡ comment
-    → cond comment (Ok None) (record_reading n (form_of (f ∷ fs)) (f ∷ fs)) ≡ Ok None
-    → is_later (form_of (f ∷ fs)) ≡ false
-silent_field n f fs true c e = ap is_later (comment_form f fs (eqb-true (get_or f 0 0) 99 c))
-silent_field n f fs false c e = silent_record n (form_of (f ∷ fs)) (f ∷ fs) e
-
-silent_fields : (n : ℕ) (fs : List (List ℕ)) → fields_reading n fs ≡ Ok None → is_later (form_of fs) ≡ false
-unfolding fields_reading
-silent_fields n [] e = refl
-silent_fields n (f ∷ fs) e = silent_field n f fs (eqb (get_or f 0 0) 99) refl e
+    by_head : (head : Option (SectionHead × List (List ℕ))) → SaysSection (section_reading n head)
+    by_head None = inl (Unknown, refl)
+    by_head (Some head) = head_says n head.0.form head.1
 
 -- a line that says nothing begins no section
 pub silent_begins : (n : ℕ) (line : List ℕ) → reading_after n line ≡ Ok None → begins_section line ≡ false
-unfolding reading_after begins_section
-silent_begins n line e = by_line (begins_within line) e
+silent_begins n line e = by_line (begins_section line) refl
   where
-    by_numbers : (r : Result (List ℕ) LineKind) → sources_reading r ≡ Ok None → ⊥
-    by_numbers (Ok vs) is = cc
-    by_numbers (Err kind) is = cc
+    by_reading : SaysSection (reading_after n line) → ⊥
+    by_reading (inl (kind, wrong)) = cc
+    by_reading (inr (head, said, later)) = cc
 
-    by_line : (b : Bool) → by_bound n line b ≡ Ok None → (b || is_later (form_of (plain (fields (without_cr line))))) ≡ false
-    by_line true is = absurd (by_numbers (within_numbers line) is)
-    by_line false is = silent_fields n (plain (fields (without_cr line))) is
+    by_line : (b : Bool) → begins_section line ≡ b → begins_section line ≡ false
+    by_line false is = is
+    by_line true is = absurd (by_reading (section_says n line is))
+
+-- ---- any other line says no such head
+
+-- a line that has the form of a later section begins as a section line does
+front_known : (fs : List (List ℕ)) (word : List ℕ)
+    → begins_with (front ++ word ∷ []) fs ≡ true
+    → begins_with front fs ≡ true
+front_known fs word e =
+    let known = begins_known (front ++ word ∷ []) fs e in
+    subst (λ l. begins_with front l ≡ true) (sym known.1) refl
+
+front_by : (fs : List (List ℕ)) (form : Form)
+    → is_later (Some form) ≡ true → begins_with (leading form) fs ≡ true
+    → begins_with front fs ≡ true
+front_by fs (Counted item) later e = absurd (cc)
+front_by fs (Head Problem) later e = absurd (cc)
+front_by fs (Head Sources) later e = front_known fs (codes "ss") e
+front_by fs (Head Pairs) later e = front_known fs (codes "p2p") e
+front_by fs (Head Added) later e = front_known fs (codes "add") e
+
+later_found : (test : Form → Bool) (all : List Form)
+    → is_later (find test all) ≡ true
+    → (form : Form) × (is_later (Some form) ≡ true) × (test form ≡ true)
+later_found test [] e = absurd (cc)
+later_found test (form ∷ all) e = by_test (test form) refl e (λ later. later_found test all later)
+  where
+    by_test : (b : Bool) → test form ≡ b → is_later (cond b (Some form) (find test all)) ≡ true
+        → (is_later (find test all) ≡ true → (form : Form) × (is_later (Some form) ≡ true) × (test form ≡ true))
+        → (form : Form) × (is_later (Some form) ≡ true) × (test form ≡ true)
+    by_test true is later among = (form, later, is)
+    by_test false is later among = among later
+
+-- the form of a line that is no section line is none of those
+pub others_form : (fs : List (List ℕ)) → begins_with front fs ≡ false → is_later (form_of fs) ≡ false
+others_form fs none = by_form (is_later (form_of fs)) refl
+  where
+    by_form : (b : Bool) → is_later (form_of fs) ≡ b → is_later (form_of fs) ≡ false
+    by_form false is = is
+    by_form true is =
+        let found = later_found (λ form. begins_with (leading form) fs) forms is in
+        let one = front_by fs found.0 found.1 found.2 in
+        absurd (cc)
 
 -- what a line has the form of is known from its record
 later_record : (n : ℕ) (o : Option Form) (fs : List (List ℕ)) (r : Record)
@@ -182,20 +196,25 @@ unfolding fields_reading
 later_fields n [] r e = absurd (cc)
 later_fields n (f ∷ fs) r e = later_field n f fs r (eqb (get_or f 0 0) 99) e
 
+others_later : (n : ℕ) (line : List ℕ) (r : Record)
+    → begins_section line ≡ false → reading n line ≡ Ok (Some r)
+    → is_later (Some r.form) ≡ false
+unfolding begins_section reading
+others_later n line r is e =
+    sym (later_fields n (fields (without_cr line)) r e) ∙ others_form (fields (without_cr line)) is
+
 -- a line that says a record begins a section if the record does
 pub record_begins : (n : ℕ) (line : List ℕ) (r : Record)
     → reading_after n line ≡ Ok (Some r)
     → begins_section line ≡ is_later (Some r.form)
-unfolding reading_after begins_section
-record_begins n line r e = by_line (begins_within line) e
+record_begins n line r e = by_line (begins_section line) refl
   where
-    by_numbers : (res : Result (List ℕ) LineKind) → sources_reading res ≡ Ok (Some r) → true ≡ is_later (Some r.form)
-    by_numbers (Ok vs) is =
-        let same : sources_record (get_or vs 1 0) ≡ r = cc in
-        ap (λ (x : Record). is_later (Some x.form)) same
-    by_numbers (Err kind) is = absurd (cc)
+    by_reading : SaysSection (reading_after n line) → is_later (Some r.form) ≡ true
+    by_reading (inl (kind, wrong)) = absurd (cc)
+    by_reading (inr (head, said, later)) =
+        let same : head ≡ r = cc in
+        subst (λ (x : Record). is_later (Some x.form) ≡ true) same later
 
-    by_line : (b : Bool) → by_bound n line b ≡ Ok (Some r)
-        → (b || is_later (form_of (plain (fields (without_cr line))))) ≡ is_later (Some r.form)
-    by_line true is = by_numbers (within_numbers line) is
-    by_line false is = later_fields n (plain (fields (without_cr line))) r is
+    by_line : (b : Bool) → begins_section line ≡ b → begins_section line ≡ is_later (Some r.form)
+    by_line true is = is ∙ sym (by_reading (section_says n line is))
+    by_line false is = is ∙ sym (others_later n line r is (sym (others_say n line is) ∙ e))

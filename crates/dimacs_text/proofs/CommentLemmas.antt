@@ -4,15 +4,13 @@ use Rattle.std.proofs.Common.{length, take, get_or, refl, sym, ap, subst, ◌∙
 use Rattle.std.specs.List.{onto_first, slice_split}
 use Rattle.std.proofs.lemmas.Bool.{eqb-true}
 use Rattle.std.proofs.lemmas.List.Splits.{slice_split-cons_no}
-use Rattle.dimacs_text.specs.declared.after_graph.Extent.TheVariants.{Plain}
 use Rattle.dimacs_text.specs.Lines.{begins_comment, fields, is_blank, is_empty, without_cr}
-use Rattle.dimacs_text.specs.Forms.{begins_with, fields_reading, form_of, reading}
-use Rattle.dimacs_text.specs.AfterGraph.{begins_section, begins_walks, begins_within, extent_of, is_later, reading_after}
-use Rattle.dimacs_text.specs.AfterGraph.{walks_leading, within_leading}
+use Rattle.dimacs_text.specs.Forms.{begins_with, fields_reading, reading}
+use Rattle.dimacs_text.specs.Heads.{begins_section, front}
+use Rattle.dimacs_text.specs.AfterGraph.{reading_after}
 use Rattle.dimacs_text.specs.reader.Pieces.{AreBlank, SkipsBlanks}
 use Rattle.dimacs_text.proofs.LineLemmas.{fields_after_blank}
-use Rattle.dimacs_text.proofs.AfterGraphLemmas.{comment_form, others_begin, others_say}
-use Rattle.dimacs_text.proofs.ExtentLemmas.{plain_unless_begins}
+use Rattle.dimacs_text.proofs.AfterGraphLemmas.{others_say}
 
 -- what begins a comment still does with more bytes after it,
 pub comment-more : (bs more : List ℕ) → begins_comment bs ≡ true → begins_comment (bs ++ more) ≡ true
@@ -109,26 +107,11 @@ pub comment_reading : (vertices : ℕ) (line : List ℕ) → begins_comment line
 unfolding reading fields_reading
 comment_reading vertices line is = ap (λ fs. fields_reading vertices fs) (comment_fields line is).2
 
-comment_unbound : (line : List ℕ) → begins_comment line ≡ true → begins_within line ≡ false
-unfolding begins_within
-comment_unbound line is = ap (λ fs. begins_with within_leading fs) (comment_fields line is).2
-
-comment_no_walks : (line : List ℕ) → begins_comment line ≡ true → begins_walks line ≡ false
-unfolding begins_walks
-comment_no_walks line is = ap (λ fs. begins_with walks_leading fs) (comment_fields line is).2
-
--- nor after a graph,
-pub comment_after : (n : ℕ) (line : List ℕ) → begins_comment line ≡ true → reading_after n line ≡ Ok None
-comment_after n line is =
-    others_say n line (comment_unbound line is) (comment_no_walks line is) ∙ comment_reading n line is
-
--- where it begins no section and asks for nothing more
+-- where it begins no section,
 pub comment_begins_none : (line : List ℕ) → begins_comment line ≡ true → begins_section line ≡ false
-comment_begins_none line is =
-    let first = comment_fields line is in
-    others_begin line (comment_unbound line is) (comment_no_walks line is)
-    ∙ ap (λ fs. is_later (form_of fs)) first.2
-    ∙ ap is_later (comment_form (99 ∷ first.0) first.1 refl)
+unfolding begins_section
+comment_begins_none line is = ap (λ fs. begins_with front fs) (comment_fields line is).2
 
-pub comment_is_plain : (line : List ℕ) → begins_comment line ≡ true → extent_of line ≡ Plain
-comment_is_plain line is = plain_unless_begins line (comment_begins_none line is)
+-- nor after a graph
+pub comment_after : (n : ℕ) (line : List ℕ) → begins_comment line ≡ true → reading_after n line ≡ Ok None
+comment_after n line is = others_say n line (comment_begins_none line is) ∙ comment_reading n line is

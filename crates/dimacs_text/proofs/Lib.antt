@@ -11,7 +11,8 @@ pub mod Existence
 pub mod Limits
 pub mod GraphTextLemmas
 pub mod AfterGraphLemmas
-pub mod ExtentLemmas
+pub mod WithinLemmas
+pub mod HeadLemmas
 pub mod RequestLemmas
 pub mod RequestLimits
 pub mod Facts

@@ -1,75 +1,116 @@
 -- The lines of a job after its graph are one request, where no arcs are added.
-use Rattle.std.proofs.Common.{◌≡◌, ℕ, Bool, true, false, List, [], ◌∷◌, ◌++◌, length, map}
-use Rattle.std.proofs.Common.{Option, Some, None, Ok, Err, get_or, bytes_eq, cond, refl, sym, ap, ap₂, subst, ◌∙◌, append_assoc, append-nil}
+use Rattle.std.proofs.Common.{◌≡◌, ◌&&◌, ℕ, Bool, true, false, List, [], ◌∷◌, ◌++◌, codes, drop, length, map, IfSome}
+use Rattle.std.proofs.Common.{Option, Some, None, Ok, get_or, bytes_eq, cond, refl, sym, ap, ap₂, subst, ◌∙◌, append_assoc, append-nil}
 use Rattle.std.specs.List.{AllByRecursion}
-use Rattle.std.proofs.lemmas.Bool.{and_parts}
+use Rattle.std.specs.Option.{option_or}
 use Rattle.std.proofs.lemmas.Slice.Eq.{bytes_eq-Decides}
 use Rattle.std.proofs.lemmas.List.{map-append}
 use Rattle.std.proofs.lemmas.List.Elements.{filter_map-append}
 use Rattle.route_walks.specs.declared.graph.ArcRec.{ArcRec}
 use Rattle.route_walks.specs.declared.graph.TheConstants.{MAX_VERTICES}
-use Rattle.dimacs_text.specs.declared.after_graph.Extent.TheVariants.{Plain}
 use Rattle.dimacs_text.specs.declared.fault.LineKind.{LineKind}
-use Rattle.dimacs_text.specs.declared.fault.LineKind.TheVariants.{Misplaced, TooMany, Unknown}
+use Rattle.dimacs_text.specs.declared.fault.LineKind.TheVariants.{Misplaced, TooMany}
 use Rattle.dimacs_text.specs.declared.form.Form.{Form}
-use Rattle.dimacs_text.specs.declared.form.Form.TheVariants.{Counted}
+use Rattle.dimacs_text.specs.declared.form.Form.TheVariants.{Head, Counted}
 use Rattle.dimacs_text.specs.declared.form.Item.{Item}
 use Rattle.dimacs_text.specs.declared.form.Section.{Section}
+use Rattle.dimacs_text.specs.declared.form.Section.TheVariants.{Sources, Pairs, Added}
+use Rattle.dimacs_text.specs.declared.head.SectionHead.{SectionHead}
 use Rattle.dimacs_text.specs.declared.stage.Stage.TheVariants.{Start, Within}
 use Rattle.dimacs_text.specs.Lines.{fields, lines, without_cr}
-use Rattle.dimacs_text.specs.Forms.{Record, begins_with, fields_reading, reading, readings, vertices_after, vertices_next}
+use Rattle.dimacs_text.specs.Forms.{Record, begins_with, fields_reading, reading, readings, record_reading, vertices_after}
+use Rattle.dimacs_text.specs.Forms.{vertices_next}
 use Rattle.dimacs_text.specs.Grammar.{Token, adds, IsLegal, item_of}
 use Rattle.dimacs_text.specs.Jobs.{Content, Question, absent, from_sources, of_pairs, arc_record, pair_record, problem_record}
 use Rattle.dimacs_text.specs.Jobs.{source_record, records_among, records_of, records_of_added, records_of_question, IsJobText}
-use Rattle.dimacs_text.specs.AfterGraph.{asks, asked_of, begins_walks, begins_within, extent_among, first_extent, graph_of}
-use Rattle.dimacs_text.specs.AfterGraph.{has_question, reading_after, walks_leading, within_leading}
-use Rattle.dimacs_text.specs.AfterGraph.{AreSilent, IsJobAmong, IsWhole}
+use Rattle.dimacs_text.specs.Heads.{after_front, begins_section, front, head_in}
+use Rattle.dimacs_text.specs.AfterGraph.{asks, asked_of, graph_of, has_question, head_among, head_of, reading_after}
+use Rattle.dimacs_text.specs.AfterGraph.{section_reading, with_bound, AreSilent, IsJobAmong, IsPlain, IsWhole}
 use Rattle.dimacs_text.specs.reader.Machine.{run, misfit_at, same_item, unless_wrong}
 use Rattle.dimacs_text.specs.reader.Drafts.{token_in}
-use Rattle.dimacs_text.proofs.AfterGraphLemmas.{others_say}
-use Rattle.dimacs_text.proofs.ExtentLemmas.{plain_front, plain_line}
+use Rattle.dimacs_text.proofs.AfterGraphLemmas.{begins_known, others_no_head, others_say, section_head, section_says_head}
 use Rattle.dimacs_text.proofs.Machine.{legal_runs, run-append}
 use Rattle.dimacs_text.proofs.ReaderLemmas.{records-push}
 use Rattle.dimacs_text.proofs.RequestLemmas.{all_silent, rest_filled, said_back, said_by_reading}
 use Rattle.dimacs_text.proofs.TextLaws.{graph_first, legal_by, rest_of}
 
--- the fields that lead are those that a line begins with
-begins_known : (lead fs : List (List ℕ))
-    → begins_with lead fs ≡ true
-    → (rest : List (List ℕ)) × (fs ≡ lead ++ rest)
-begins_known [] fs e = (fs, refl)
-begins_known (w ∷ lead) [] e = absurd (cc)
-begins_known (w ∷ lead) (f ∷ fs) e =
-    let both = and_parts (bytes_eq f w) (begins_with lead fs) e in
-    let later = begins_known lead fs both.1 in
-    (later.0, ap₂ (λ x l. x ∷ l) ((bytes_eq-Decides f w).0 both.0) later.1)
+-- ---- a line of a job says the same after a graph, and its head has no words
 
--- in a job the head of a section of walks is unknown
-walks_unknown : (n : ℕ) (line : List ℕ) → begins_walks line ≡ true → reading n line ≡ Err Unknown
-unfolding reading begins_walks fields_reading
-walks_unknown n line e =
-    let known = begins_known walks_leading (fields (without_cr line)) e in
-    ap (λ fs. fields_reading n fs) known.1
+-- what a section line of a job says is by the word after the first three fields
+by_word : (n : ℕ) (x : List ℕ) (rest : List (List ℕ)) (said : Option Record) (s p a : Bool)
+    → bytes_eq x (codes "ss") ≡ s → bytes_eq x (codes "p2p") ≡ p → bytes_eq x (codes "add") ≡ a
+    → record_reading n
+    (cond (s && true) (Some (Head Sources)) (cond (p && true) (Some (Head Pairs)) (cond (a && true) (Some (Head Added)) None)))
+    (front ++ x ∷ rest)
+    ≡ Ok said
+    → (section_reading n (head_in (x ∷ rest)) ≡ Ok said) × IfSome (with_bound (head_in (x ∷ rest))) IsPlain
+unfolding head_in
+by_word n x rest said true p a is other third e =
+    subst
+    (λ w. (section_reading n (head_in (w ∷ rest)) ≡ Ok said) × IfSome (with_bound (head_in (w ∷ rest))) IsPlain)
+    (sym ((bytes_eq-Decides x (codes "ss")).0 is)) (e, (refl, refl, refl))
+by_word n x rest said false true a other is third e =
+    subst
+    (λ w. (section_reading n (head_in (w ∷ rest)) ≡ Ok said) × IfSome (with_bound (head_in (w ∷ rest))) IsPlain)
+    (sym ((bytes_eq-Decides x (codes "p2p")).0 is)) (e, (refl, refl, refl))
+by_word n x rest said false false true other third is e =
+    subst
+    (λ w. (section_reading n (head_in (w ∷ rest)) ≡ Ok said) × IfSome (with_bound (head_in (w ∷ rest))) IsPlain)
+    (sym ((bytes_eq-Decides x (codes "add")).0 is)) (e, (refl, refl, refl))
+by_word n x rest said false false false first second third e = absurd (cc)
 
--- and so is that of a section within a bound
-within_unknown : (n : ℕ) (line : List ℕ) → begins_within line ≡ true → reading n line ≡ Err Unknown
-unfolding reading begins_within fields_reading
-within_unknown n line e =
-    let known = begins_known within_leading (fields (without_cr line)) e in
-    ap (λ fs. fields_reading n fs) known.1
+by_rest : (n : ℕ) (rest : List (List ℕ)) (said : Option Record)
+    → fields_reading n (front ++ rest) ≡ Ok said
+    → (section_reading n (head_in rest) ≡ Ok said) × IfSome (with_bound (head_in rest)) IsPlain
+unfolding fields_reading
+by_rest n [] said e = absurd (cc)
+by_rest n (x ∷ rest) said e =
+    by_word n x rest said (bytes_eq x (codes "ss")) (bytes_eq x (codes "p2p")) (bytes_eq x (codes "add")) refl refl refl e
 
-right_plain : (n : ℕ) (line : List ℕ) (said : Option Record)
+by_fields : (n : ℕ) (fs : List (List ℕ)) (said : Option Record)
+    → begins_with front fs ≡ true → fields_reading n fs ≡ Ok said
+    → (section_reading n (head_in (drop 3 fs)) ≡ Ok said) × IfSome (with_bound (head_in (drop 3 fs))) IsPlain
+by_fields n fs said is e =
+    let known = begins_known front fs is in
+    subst
+    (λ l. (section_reading n (head_in (drop 3 l)) ≡ Ok said) × IfSome (with_bound (head_in (drop 3 l))) IsPlain)
+    (sym known.1) (by_rest n known.0 said (ap (λ l. fields_reading n l) (sym known.1) ∙ e))
+
+section_right : (n : ℕ) (line : List ℕ) (said : Option Record)
+    → begins_section line ≡ true → reading n line ≡ Ok said
+    → (section_reading n (head_in (after_front line)) ≡ Ok said) × IfSome (with_bound (head_in (after_front line))) IsPlain
+unfolding begins_section reading
+section_right n line said is e = by_fields n (fields (without_cr line)) said is e
+
+right_after : (n : ℕ) (line : List ℕ) (said : Option Record)
     → reading n line ≡ Ok said
-    → (begins_within line ≡ false) × (begins_walks line ≡ false)
-right_plain n line said right = (no_bound (begins_within line) refl, no_walks (begins_walks line) refl)
+    → (reading_after n line ≡ Ok said) × IfSome (head_of line) IsPlain
+right_after n line said e = by_line (begins_section line) refl
   where
-    no_bound : (b : Bool) → begins_within line ≡ b → begins_within line ≡ false
-    no_bound false e = e
-    no_bound true e = absurd (let wrong = within_unknown n line e in cc)
+    by_line : (b : Bool) → begins_section line ≡ b → (reading_after n line ≡ Ok said) × IfSome (head_of line) IsPlain
+    by_line false is =
+        (others_say n line is ∙ e, subst (λ h. IfSome h IsPlain) (sym (others_no_head line is)) tt)
+    by_line true is =
+        let right = section_right n line said is e in (
+          section_says_head n line (after_front line) (head_in (after_front line)) is refl refl ∙ right.0,
+          subst (λ h. IfSome h IsPlain)
+              (sym (section_head line (after_front line) (head_in (after_front line)) is refl refl)) right.1,
+        )
 
-    no_walks : (b : Bool) → begins_walks line ≡ b → begins_walks line ≡ false
-    no_walks false e = e
-    no_walks true e = absurd (let wrong = walks_unknown n line e in cc)
+first_plain : (a b : Option SectionHead) → IfSome a IsPlain → IfSome b IsPlain → IfSome (option_or a b) IsPlain
+first_plain None b plain other = other
+first_plain (Some head) b plain other = plain
+
+-- the front of lines with such heads has them too
+plain_front : (us vs : List (List ℕ)) → IfSome (head_among (us ++ vs)) IsPlain → IfSome (head_among us) IsPlain
+plain_front [] vs plain = tt
+plain_front (u ∷ us) vs plain = by_head (head_of u) plain (λ later. plain_front us vs later)
+  where
+    by_head : (head : Option SectionHead) → IfSome (option_or head (head_among (us ++ vs))) IsPlain
+        → (IfSome (head_among (us ++ vs)) IsPlain → IfSome (head_among us) IsPlain)
+        → IfSome (option_or head (head_among us)) IsPlain
+    by_head None is later = later is
+    by_head (Some head) is later = is
 
 -- what lines say, and their records, part alike
 pub split_said : (said : List (Option Record)) (us vs : List Record)
@@ -157,9 +198,9 @@ question_steady (of_pairs ps) = (λ v. refl, items_steady pair_record ps (λ x v
 lines_after : (n : ℕ) (ls : List (List ℕ)) (t : List (Option Record))
     → AllByRecursion IsSteady (records_among t) → readings n ls ≡ map (λ x. Ok x) t
     → (map (λ l. reading_after n l) ls ≡ map (λ x. Ok x) t)
-    × (extent_among ls ≡ Plain)
+    × IfSome (head_among ls) IsPlain
 unfolding readings
-lines_after n [] [] steady e = (refl, refl)
+lines_after n [] [] steady e = (refl, tt)
 lines_after n [] (x ∷ t) steady e = absurd (cc)
 lines_after n (l ∷ ls) [] steady e = absurd (cc)
 lines_after n (l ∷ ls) (None ∷ t) steady e =
@@ -167,9 +208,9 @@ lines_after n (l ∷ ls) (None ∷ t) steady e =
     let rest : readings (vertices_after n (reading n l)) ls ≡ map (λ x. Ok x) t = cc in
     let later =
     lines_after n ls t steady (subst (λ r. readings (vertices_after n r) ls ≡ map (λ x. Ok x) t) first rest) in
-    let plain = right_plain n l None first in (
-      ap₂ (λ r rs. r ∷ rs) (others_say n l plain.0 plain.1 ∙ first) later.0,
-      ap₂ (λ a b. first_extent a b) (plain_line l plain.0 plain.1) later.1,
+    let right = right_after n l None first in (
+      ap₂ (λ r rs. r ∷ rs) right.0 later.0,
+      first_plain (head_of l) (head_among ls) right.1 later.1,
     )
 lines_after n (l ∷ ls) (Some r ∷ t) steady e =
     let first : reading n l ≡ Ok (Some r) = cc in
@@ -178,9 +219,9 @@ lines_after n (l ∷ ls) (Some r ∷ t) steady e =
     lines_after n ls t steady.1
     (subst (λ v. readings v ls ≡ map (λ x. Ok x) t) (steady.0 n)
     (subst (λ r. readings (vertices_after n r) ls ≡ map (λ x. Ok x) t) first rest)) in
-    let plain = right_plain n l (Some r) first in (
-      ap₂ (λ r rs. r ∷ rs) (others_say n l plain.0 plain.1 ∙ first) later.0,
-      ap₂ (λ a b. first_extent a b) (plain_line l plain.0 plain.1) later.1,
+    let right = right_after n l (Some r) first in (
+      ap₂ (λ r rs. r ∷ rs) right.0 later.0,
+      first_plain (head_of l) (head_among ls) right.1 later.1,
     )
 
 -- the last record, and what says nothing after it
@@ -319,12 +360,12 @@ first_of : (vs : List Record) (x : Record) → (z : Record) × (zs : List Record
 first_of [] x = (x, [], refl)
 first_of (v ∷ vs) x = (v, vs ++ x ∷ [], refl)
 
-head_of : (q : Question)
+head_record : (q : Question)
     → has_question q ≡ true
     → (r : Record) × (rs : List Record) × (records_of_question q ≡ r ∷ rs)
-head_of absent e = absurd (cc)
-head_of (from_sources vs) e = (_, _, refl)
-head_of (of_pairs ps) e = (_, _, refl)
+head_record absent e = absurd (cc)
+head_record (from_sources vs) e = (_, _, refl)
+head_record (of_pairs ps) e = (_, _, refl)
 
 -- no front of the lines of a question is a whole request
 no_front : (n : ℕ) (q : Question) (body : List (List ℕ)) (said : List (Option Record)) (x : Record)
@@ -356,7 +397,7 @@ pub record IsOneRequest (n : ℕ) (ls : List (List ℕ)) (job : Content) : Type 
   pub parts : ls ≡ body ++ last ∷ silent
   pub is_whole : IsWhole n (body ++ last ∷ []) job
   pub first : (part rest : List (List ℕ)) (other : Content) → body ≡ part ++ rest → IsWhole n part other → ⊥
-  pub extent : extent_among (body ++ last ∷ []) ≡ Plain
+  pub head : IfSome (head_among (body ++ last ∷ [])) IsPlain
   pub says_nothing : AreSilent n silent
 
 whole_by : (job : Content) (body : List (List ℕ)) (line : List ℕ) (said : List (Option Record)) (x : Record)
@@ -377,11 +418,11 @@ whole_by job body line said x reads last all asked = record {
 }
 
 one_by : (job : Content) (ls : List (List ℕ)) (t : List (Option Record))
-    → map (λ l. reading_after job.n l) ls ≡ map (λ x. Ok x) t → extent_among ls ≡ Plain
+    → map (λ l. reading_after job.n l) ls ≡ map (λ x. Ok x) t → IfSome (head_among ls) IsPlain
     → records_among t ≡ records_of_question job.question → has_question job.question ≡ true
     → IsOneRequest job.n ls (asked_of job)
 one_by job ls t reads plain records asked =
-    let hd = head_of job.question asked in
+    let hd = head_record job.question asked in
     let l = last_said t hd.0 hd.1 (records ∙ hd.2) in
     let m =
     split_map job.n ls l.0 (Some l.1 ∷ l.2) (reads ∙ ap (λ s. map (λ x. Ok x) s) l.3) in
@@ -406,9 +447,9 @@ one_by job ls t reads plain records asked =
           parts = parts;
           is_whole = whole_by job body line s x front last all asked;
           first = no_front job.n job.question body s x front all;
-          extent =
+          head =
               plain_front (body ++ line ∷ []) silent
-              (ap (λ l. extent_among l) (append_assoc body (line ∷ []) silent ∙ sym parts) ∙ plain);
+              (subst (λ l. IfSome (head_among l) IsPlain) (parts ∙ sym (append_assoc body (line ∷ []) silent)) plain);
           says_nothing = all_silent job.n silent u after none;
         }
 

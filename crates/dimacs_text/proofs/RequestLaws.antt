@@ -1,7 +1,7 @@
 -- What lines after a graph can be: their faults where more lines follow, and lines that say nothing.
-use Rattle.std.proofs.Common.{◌≡◌, ◌⊎◌, inl, inr, ℕ, zero, suc, ◌+◌, Bool, true, false, cond, eqb, ◌||◌, List, [], ◌∷◌, ◌++◌, length, map}
-use Rattle.std.proofs.Common.{Option, Some, None, Result, Ok, Err, get_or, drop, refl, ap, ◌∙◌, append_assoc, arith, length-append, ◌≤◌}
-use Rattle.std.proofs.lemmas.Bool.{eqb-true, ne_eqb}
+use Rattle.std.proofs.Common.{◌≡◌, ◌⊎◌, inl, inr, ℕ, zero, suc, ◌+◌, Bool, true, false, cond, List, [], ◌∷◌, ◌++◌, length, map}
+use Rattle.std.proofs.Common.{Option, Some, None, Ok, Err, refl, ap, ◌∙◌, append_assoc, arith, length-append, ◌≤◌}
+use Rattle.std.proofs.lemmas.Bool.{ne_eqb}
 use Rattle.std.proofs.lemmas.List.{length-map, map-append}
 use Rattle.dimacs_text.specs.declared.fault.LineKind.{LineKind}
 use Rattle.dimacs_text.specs.declared.fault.LineKind.TheVariants.{Misplaced, TooFew}
@@ -10,14 +10,12 @@ use Rattle.dimacs_text.specs.declared.form.Form.TheVariants.{Head, Counted}
 use Rattle.dimacs_text.specs.declared.form.Section.TheVariants.{Problem, Sources, Pairs, Added}
 use Rattle.dimacs_text.specs.declared.stage.Stage.{Stage}
 use Rattle.dimacs_text.specs.declared.stage.Stage.TheVariants.{Start, Within}
-use Rattle.dimacs_text.specs.Lines.{fields, without_cr}
-use Rattle.dimacs_text.specs.Forms.{Record, Reading, fields_reading, form_of, in_form, leading, limits, numbers_within}
-use Rattle.dimacs_text.specs.Forms.{record_reading}
+use Rattle.dimacs_text.specs.Forms.{Record, Reading}
 use Rattle.dimacs_text.specs.Grammar.{BeginsLegal, IsLegal, may_follow}
 use Rattle.dimacs_text.specs.Faults.{tokens_among, unread, misfit, unfinished, IsFirstAmong}
-use Rattle.dimacs_text.specs.Jobs.{Content, absent, problem_record, records_among, sources_record}
-use Rattle.dimacs_text.specs.AfterGraph.{after_graph, asks, begins_section, begins_within, is_later, plain, reading_after}
-use Rattle.dimacs_text.specs.AfterGraph.{sources_reading, within_numbers}
+use Rattle.dimacs_text.specs.Jobs.{Content, absent, problem_record, records_among}
+use Rattle.dimacs_text.specs.AfterGraph.{after_graph, asks, is_later, reading_after}
+use Rattle.dimacs_text.specs.Heads.{begins_section}
 use Rattle.dimacs_text.specs.AfterGraph.{AreSilent, IsJobAmong, IsWhole}
 use Rattle.dimacs_text.specs.reader.Machine.{run, misfit_at}
 use Rattle.dimacs_text.specs.reader.Drafts.{token_in}
@@ -25,49 +23,7 @@ use Rattle.dimacs_text.specs.reader.Requests.{is_complete_at}
 use Rattle.dimacs_text.proofs.Machine.{complete, machine_misfit}
 use Rattle.dimacs_text.proofs.ReaderLemmas.{form-token}
 use Rattle.dimacs_text.proofs.TextLaws.{led, no_fault_among, one_job_among}
-use Rattle.dimacs_text.proofs.AfterGraphLemmas.{comment_form}
-
--- a section line says a head of a later section, or is wrong
-abbrev SaysSection : Reading → Type 0
-SaysSection r =
-    ((kind : LineKind) × (r ≡ Err kind))
-    ⊎ ((head : Record) × (r ≡ Ok (Some head)) × (is_later (Some head.form) ≡ true))
-
-section_record : (n : ℕ) (o : Option Form) (fs : List (List ℕ)) → is_later o ≡ true → SaysSection (record_reading n o fs)
-section_record n None fs is = absurd (cc)
-section_record n (Some form) fs is = by_numbers (numbers_within (limits n form) (drop (length (leading form)) fs))
-  where
-    by_numbers : (r : Result (List ℕ) LineKind) → SaysSection (in_form form r)
-    by_numbers (Ok vs) = inr (record { form = form; numbers = vs }, refl, is)
-    by_numbers (Err kind) = inl (kind, refl)
-
-section_field : (n : ℕ) (f : List ℕ) (fs : List (List ℕ)) (comment : Bool)
-    → eqb (get_or f 0 0) 99 ≡ comment → is_later (form_of (f ∷ fs)) ≡ true
-    → SaysSection (cond comment (Ok None) (record_reading n (form_of (f ∷ fs)) (f ∷ fs)))
-section_field n f fs true c is =
-    absurd
-    (let none : is_later (form_of (f ∷ fs)) ≡ false = ap is_later (comment_form f fs (eqb-true (get_or f 0 0) 99 c)) in
-    cc)
-section_field n f fs false c is = section_record n (form_of (f ∷ fs)) (f ∷ fs) is
-
-section_fields : (n : ℕ) (fs : List (List ℕ)) → is_later (form_of fs) ≡ true → SaysSection (fields_reading n fs)
-unfolding fields_reading
-section_fields n [] is = absurd (cc)
-section_fields n (f ∷ fs) is = section_field n f fs (eqb (get_or f 0 0) 99) refl is
-
-section_says : (n : ℕ) (line : List ℕ) → begins_section line ≡ true → SaysSection (reading_after n line)
-unfolding reading_after begins_section
-section_says n line is = by_line (begins_within line) is
-  where
-    by_numbers : (r : Result (List ℕ) LineKind) → SaysSection (sources_reading r)
-    by_numbers (Ok vs) = inr (sources_record (get_or vs 1 0), refl, refl)
-    by_numbers (Err kind) = inl (kind, refl)
-
-    by_line : (b : Bool) → (b || is_later (form_of (plain (fields (without_cr line))))) ≡ true
-        → SaysSection
-        (cond b (sources_reading (within_numbers line)) (fields_reading n (plain (fields (without_cr line)))))
-    by_line true any = by_numbers (within_numbers line)
-    by_line false one = section_fields n (plain (fields (without_cr line))) one
+use Rattle.dimacs_text.proofs.AfterGraphLemmas.{section_says, SaysSection}
 
 -- no head of a later section fits where records are missing
 either : (may : Bool) → (kind : LineKind) × (cond may (Some TooFew) (Some Misplaced) ≡ Some kind)

@@ -1,20 +1,27 @@
 -- The records of a whole request are within their limits, and so is its job.
-use Rattle.std.proofs.Common.{◌≡◌, ◌≤◌, ℕ, ◌-◌, Bool, true, false, ◌&&◌, leb, cond, List, [], ◌∷◌, ◌++◌, length, map, drop, get_or}
+use Rattle.std.proofs.Common.{◌≡◌, ◌≤◌, ℕ, ◌-◌, Bool, true, false, ◌&&◌, leb, cond, List, [], ◌∷◌, ◌++◌, length, map, get_or}
 use Rattle.std.proofs.Common.{Option, Some, None, Result, Ok, Err, All, refl, sym, ap, subst, append-nil, ◌∙◌, arith}
 use Rattle.std.proofs.lemmas.Bool.{and_parts}
 use Rattle.std.proofs.lemmas.List.Elements.{All-nil}
 use Rattle.route_walks.specs.declared.graph.ArcRec.{ArcRec}
 use Rattle.route_walks.specs.declared.graph.TheConstants.{INF, MAX_VERTICES}
 use Rattle.dimacs_text.specs.declared.fault.LineKind.{LineKind}
+use Rattle.dimacs_text.specs.declared.form.Form.{Form}
+use Rattle.dimacs_text.specs.declared.form.Form.TheVariants.{Head}
+use Rattle.dimacs_text.specs.declared.form.Section.TheVariants.{Sources, Pairs, Added}
 use Rattle.dimacs_text.specs.declared.form.TheConstants.{MAX_QUERIES, MAX_TEXT_ARCS}
+use Rattle.dimacs_text.specs.declared.head.HeadForm.{HeadForm}
+use Rattle.dimacs_text.specs.declared.head.HeadForm.TheVariants as head_form
+use Rattle.dimacs_text.specs.declared.head.SectionHead.{SectionHead}
 use Rattle.dimacs_text.specs.Lines.{fields, without_cr}
-use Rattle.dimacs_text.specs.Forms.{Record, fields_reading, in_limits, numbers_within, up_to, vertices_next}
+use Rattle.dimacs_text.specs.Forms.{Record, fields_reading, in_form, in_limits, limits, numbers_within, up_to, vertices_next}
 use Rattle.dimacs_text.specs.Jobs.{Content, Question, absent, from_sources, of_pairs, arc_record, source_record}
 use Rattle.dimacs_text.specs.Jobs.{pair_record, problem_record, records_of, records_of_question, records_of_added}
 use Rattle.dimacs_text.specs.Jobs.{records_among, sources_record, IsAddedWithin, IsArcWithin, IsQuestionWithin}
 use Rattle.dimacs_text.specs.Jobs.{IsWithinLimits}
-use Rattle.dimacs_text.specs.AfterGraph.{after_graph, begins_within, plain, reading_after, sources_reading, within_limits}
-use Rattle.dimacs_text.specs.AfterGraph.{within_numbers, IsWhole}
+use Rattle.dimacs_text.specs.Heads.{after_front, begins_section, head_in}
+use Rattle.dimacs_text.specs.AfterGraph.{after_graph, head_reading, reading_after, section_reading, sources_reading}
+use Rattle.dimacs_text.specs.AfterGraph.{within_limits, IsWhole}
 use Rattle.dimacs_text.proofs.FormLemmas.{said_within}
 use Rattle.dimacs_text.proofs.Limits.{IsWithin, AreWithin, fields_within, question_within, added_within}
 use Rattle.dimacs_text.proofs.TextLaws.{graph_first, rest_of}
@@ -44,11 +51,33 @@ head_within n fs (Ok vs) r is e =
     subst (λ x. IsWithin n x) same (count_within vs (said_within within_limits fs vs is))
 head_within n fs (Err kind) r is e = absurd (cc)
 
-line_within : (n : ℕ) (l : List ℕ) (r : Record) (b : Bool)
-    → cond b (sources_reading (within_numbers l)) (fields_reading n (plain (fields (without_cr l)))) ≡ Ok (Some r)
+form_within : (n : ℕ) (form : Form) (fs : List (List ℕ)) (res : Result (List ℕ) LineKind) (r : Record)
+    → numbers_within (limits n form) fs ≡ res → in_form form res ≡ Ok (Some r)
     → IsWithin n r
-line_within n l r true e = head_within n (drop 4 (fields (without_cr l))) (within_numbers l) r refl e
-line_within n l r false e = fields_within n (plain (fields (without_cr l))) r e
+form_within n form fs (Ok vs) r is e =
+    let same : record { form = form; numbers = vs } ≡ r = cc in
+    subst (λ x. IsWithin n x) same (said_within (limits n form) fs vs is)
+form_within n form fs (Err kind) r is e = absurd (cc)
+
+numbered_within : (n : ℕ) (form : HeadForm) (fs : List (List ℕ)) (r : Record)
+    → head_reading n form fs ≡ Ok (Some r)
+    → IsWithin n r
+numbered_within n head_form.Within fs r e = head_within n fs (numbers_within within_limits fs) r refl e
+numbered_within n head_form.Sources fs r e =
+    form_within n (Head Sources) fs (numbers_within (limits n (Head Sources)) fs) r refl e
+numbered_within n head_form.Pairs fs r e =
+    form_within n (Head Pairs) fs (numbers_within (limits n (Head Pairs)) fs) r refl e
+numbered_within n head_form.Walk fs r e =
+    form_within n (Head Pairs) fs (numbers_within (limits n (Head Pairs)) fs) r refl e
+numbered_within n head_form.Added fs r e =
+    form_within n (Head Added) fs (numbers_within (limits n (Head Added)) fs) r refl e
+
+line_within : (n : ℕ) (l : List ℕ) (r : Record) (b : Bool) (head : Option (SectionHead × List (List ℕ)))
+    → cond b (section_reading n head) (fields_reading n (fields (without_cr l))) ≡ Ok (Some r)
+    → IsWithin n r
+line_within n l r true None e = absurd (cc)
+line_within n l r true (Some head) e = numbered_within n head.0.form head.1 r e
+line_within n l r false head e = fields_within n (fields (without_cr l)) r e
 
 pub lines_within : (n : ℕ) (ls : List (List ℕ)) (said : List (Option Record))
     → map (λ l. reading_after n l) ls ≡ map (λ s. Ok s) said
@@ -63,7 +92,7 @@ lines_within n (l ∷ ls) (None ∷ said) e =
 lines_within n (l ∷ ls) (Some r ∷ said) e =
     let first : reading_after n l ≡ Ok (Some r) = cc in
     let rest : map (λ l. reading_after n l) ls ≡ map (λ s. Ok s) said = cc in
-    (line_within n l r (begins_within l) first, lines_within n ls said rest)
+    (line_within n l r (begins_section l) (head_in (after_front l)) first, lines_within n ls said rest)
 
 -- so they are, one after the other, where none is a problem line
 items_within : {X : Type 0} (n : ℕ) (rec : X → Record) (xs : List X) (rest : List Record)

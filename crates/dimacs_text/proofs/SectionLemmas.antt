@@ -6,7 +6,8 @@ use Rattle.route_walks.specs.declared.graph.ArcRec.{ArcRec}
 use Rattle.dimacs_text.specs.Forms.{Record}
 use Rattle.dimacs_text.specs.Jobs.{Content, Question, absent, from_sources, of_pairs, added_record, arc_record, pair_record}
 use Rattle.dimacs_text.specs.Jobs.{problem_record, source_record, records_among, records_of, records_of_added, records_of_question}
-use Rattle.dimacs_text.specs.AfterGraph.{after_graph, asks, begins_section, is_later, reading_after, IsWhole}
+use Rattle.dimacs_text.specs.Heads.{begins_section}
+use Rattle.dimacs_text.specs.AfterGraph.{after_graph, asks, is_later, reading_after, IsWhole}
 use Rattle.dimacs_text.proofs.AfterGraphLemmas.{record_begins, silent_begins}
 use Rattle.dimacs_text.proofs.OneRequest.{split_map, split_said}
 use Rattle.dimacs_text.proofs.TextLaws.{graph_first, rest_of}

@@ -17,7 +17,8 @@ use Rattle.dimacs_text.specs.Grammar.{AreInTurn, AreOfAJob, BeginsLegal, IsLegal
 use Rattle.dimacs_text.specs.Faults.{tokens_among, unread, misfit, unfinished, IsFirstAmong}
 use Rattle.dimacs_text.specs.Jobs.{Content, Question, absent, from_sources, of_pairs, problem_record, records_among, records_of}
 use Rattle.dimacs_text.specs.Jobs.{records_of_added, records_of_question}
-use Rattle.dimacs_text.specs.AfterGraph.{after_graph, asks, begins_section, is_later, reading_after}
+use Rattle.dimacs_text.specs.Heads.{begins_section}
+use Rattle.dimacs_text.specs.AfterGraph.{after_graph, asks, is_later, reading_after}
 use Rattle.dimacs_text.specs.reader.Drafts.{token_in}
 use Rattle.dimacs_text.specs.reader.Machine.{run, same_item, unless_wrong}
 use Rattle.dimacs_text.proofs.Existence.{question_in}

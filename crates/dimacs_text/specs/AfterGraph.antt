@@ -1,62 +1,28 @@
 -- The lines that follow a graph: what each says, and when they are a whole request.
-use Rattle.std.specs.Prelude.{◌≡◌, ◌<◌, ℕ, ◌+◌, ◌-◌, Bool, true, false, ◌||◌, List, [], ◌∷◌, ◌++◌, length, map, drop}
-use Rattle.std.specs.Prelude.{Option, Some, None, Result, Ok, Err, codes, if◌then◌else◌, slice_index}
+use Rattle.std.specs.Prelude.{◌≡◌, ◌<◌, ℕ, ◌+◌, ◌-◌, Bool, true, false, List, [], ◌∷◌, ◌++◌, length, map}
+use Rattle.std.specs.Prelude.{Option, Some, None, Result, Ok, Err, if◌then◌else◌, slice_index, IfSome}
 use Rattle.std.specs.List.{AllByRecursion}
+use Rattle.std.specs.Option.{option_or}
 use Rattle.route_walks.specs.declared.graph.ArcRec.{ArcRec}
 use Rattle.route_walks.specs.declared.graph.TheConstants.{INF}
-use Rattle.dimacs_text.specs.declared.after_graph.Extent.{Extent}
-use Rattle.dimacs_text.specs.declared.after_graph.Extent.TheVariants as extent
 use Rattle.dimacs_text.specs.declared.form.Form.{Form}
 use Rattle.dimacs_text.specs.declared.form.Form.TheVariants.{Head, Counted}
 use Rattle.dimacs_text.specs.declared.form.Section.TheVariants.{Problem, Sources, Pairs, Added}
 use Rattle.dimacs_text.specs.declared.form.Limit.{Limit}
 use Rattle.dimacs_text.specs.declared.form.TheConstants.{MAX_QUERIES}
 use Rattle.dimacs_text.specs.declared.fault.LineKind.{LineKind}
+use Rattle.dimacs_text.specs.declared.fault.LineKind.TheVariants.{Unknown}
 use Rattle.dimacs_text.specs.declared.fault.TextFault.{TextFault}
 use Rattle.dimacs_text.specs.declared.fault.TextFault.TheVariants.{Memory, Line}
+use Rattle.dimacs_text.specs.declared.head.HeadForm.{HeadForm}
+use Rattle.dimacs_text.specs.declared.head.HeadForm.TheVariants as form
+use Rattle.dimacs_text.specs.declared.head.SectionHead.{SectionHead}
 use Rattle.dimacs_text.specs.Lines.{fields, without_cr}
-use Rattle.dimacs_text.specs.Forms.{Record, Reading, begins_with, fields_reading, form_of, leading, numbers_within}
-use Rattle.dimacs_text.specs.Forms.{up_to}
+use Rattle.dimacs_text.specs.Forms.{Record, Reading, fields_reading, in_form, limits, numbers_within, up_to}
+use Rattle.dimacs_text.specs.Heads.{after_front, begins_section, head_in}
 use Rattle.dimacs_text.specs.Faults.{IsFirstAmong}
 use Rattle.dimacs_text.specs.Jobs.{Content, Question, absent, from_sources, of_pairs, problem_record}
 use Rattle.dimacs_text.specs.Jobs.{records_of, records_among, sources_record}
-
--- the fields by which the head of a section of walks is known: pairs whose walks are wanted. No job has one
-abbrev pub walks_leading : List (List ℕ)
-walks_leading = codes "p" ∷ codes "aux" ∷ codes "sp" ∷ codes "walk" ∷ []
-
--- it is read as the head of a section of pairs
-abbrev pub plain : List (List ℕ) → List (List ℕ)
-plain fs =
-    if begins_with walks_leading fs
-    then leading (Head Pairs) ++ drop (length walks_leading) fs
-    else fs
-
--- the head of a section of walks, whatever else stands in it
-unfoldable pub begins_walks : List ℕ → Bool
-begins_walks line = begins_with walks_leading (fields (without_cr line))
-
--- the fields by which the head of a section within a bound is known: sources of which the vertices are wanted that cost
--- at most so much. No job has one
-abbrev pub within_leading : List (List ℕ)
-within_leading = codes "p" ∷ codes "aux" ∷ codes "sp" ∷ codes "within" ∷ []
-
--- the head of a section within a bound, whatever else stands in it
-unfoldable pub begins_within : List ℕ → Bool
-begins_within line = begins_with within_leading (fields (without_cr line))
-
--- its two numbers: a bound, which is a cost, and how many sources there are
-abbrev pub within_limits : List Limit
-within_limits = up_to (INF - 1) ∷ up_to MAX_QUERIES ∷ []
-
--- the numbers of such a head, or what is wrong with them
-abbrev pub within_numbers : List ℕ → Result (List ℕ) LineKind
-within_numbers line = numbers_within within_limits (drop (length within_leading) (fields (without_cr line)))
-
--- it is read as the head of a section of sources
-abbrev pub sources_reading : Result (List ℕ) LineKind → Reading
-sources_reading (Ok vs) = Ok (Some (sources_record (slice_index vs 1)))
-sources_reading (Err kind) = Err kind
 
 -- the forms of a section that can come after a graph
 abbrev pub is_later : Option Form → Bool
@@ -67,47 +33,76 @@ is_later (Some (Head Pairs)) = true
 is_later (Some (Head Added)) = true
 is_later (Some (Counted item)) = false
 
--- the head of a section that can come after a graph, whatever else stands in it
-unfoldable pub begins_section : List ℕ → Bool
-begins_section line = begins_within line || is_later (form_of (plain (fields (without_cr line))))
+-- ---- what a line says
 
--- what a line says after a graph of n vertices
+-- the numbers of a section within a bound: a cost, and how many sources there are
+abbrev pub within_limits : List Limit
+within_limits = up_to (INF - 1) ∷ up_to MAX_QUERIES ∷ []
+
+-- it is read as the head of a section of sources
+abbrev pub sources_reading : Result (List ℕ) LineKind → Reading
+sources_reading (Ok vs) = Ok (Some (sources_record (slice_index vs 1)))
+sources_reading (Err kind) = Err kind
+
+-- what the fields after a form say: what those of its section do
+abbrev pub head_reading : ℕ → HeadForm → List (List ℕ) → Reading
+head_reading n form.Within fs = sources_reading (numbers_within within_limits fs)
+head_reading n form.Sources fs = in_form (Head Sources) (numbers_within (limits n (Head Sources)) fs)
+head_reading n form.Pairs fs = in_form (Head Pairs) (numbers_within (limits n (Head Pairs)) fs)
+head_reading n form.Walk fs = in_form (Head Pairs) (numbers_within (limits n (Head Pairs)) fs)
+head_reading n form.Added fs = in_form (Head Added) (numbers_within (limits n (Head Added)) fs)
+
+-- what a section line says. One that has no head is unknown
+abbrev pub section_reading : ℕ → Option (SectionHead × List (List ℕ)) → Reading
+section_reading n None = Err Unknown
+section_reading n (Some head) = head_reading n head.0.form head.1
+
+-- what a line says after a graph of n vertices. One that is no section line says what it says in a job
 unfoldable pub reading_after : ℕ → List ℕ → Reading
 reading_after n line =
-    if begins_within line
-    then sources_reading (within_numbers line)
-    else fields_reading n (plain (fields (without_cr line)))
+    if begins_section line
+    then section_reading n (head_in (after_front line))
+    else fields_reading n (fields (without_cr line))
 
--- ---- how much is asked for
+-- ---- how it asks
 
-abbrev pub extent_by : Result (List ℕ) LineKind → Extent
-extent_by (Ok vs) = extent.Within (slice_index vs 0)
-extent_by (Err kind) = extent.Plain
+abbrev pub first_number : Result (List ℕ) LineKind → Option ℕ
+first_number (Ok vs) = Some (slice_index vs 0)
+first_number (Err kind) = None
 
-abbrev pub walks_if : Bool → Extent
-walks_if true = extent.Walks
-walks_if false = extent.Plain
+-- the bound of a section within one
+abbrev pub bound_of : HeadForm → List (List ℕ) → Option ℕ
+bound_of form.Within fs = first_number (numbers_within within_limits fs)
+bound_of form.Sources fs = None
+bound_of form.Pairs fs = None
+bound_of form.Walk fs = None
+bound_of form.Added fs = None
 
--- how much a line after a graph asks for
-unfoldable pub extent_of : List ℕ → Extent
-extent_of line = if begins_within line then extent_by (within_numbers line) else walks_if (begins_walks line)
+abbrev pub with_bound : Option (SectionHead × List (List ℕ)) → Option SectionHead
+with_bound None = None
+with_bound (Some head) = Some (record head.0 { bound = bound_of head.0.form head.1 })
 
--- the first of two that isn't plain
-abbrev pub first_extent : Extent → Extent → Extent
-first_extent extent.Plain other = other
-first_extent extent.Walks other = extent.Walks
-first_extent (extent.Within bound) other = extent.Within bound
+-- the head that a line is
+unfoldable pub head_of : List ℕ → Option SectionHead
+head_of line = if begins_section line then with_bound (head_in (after_front line)) else None
 
--- how much lines ask for. A request has one section line, and no other line says it
-abbrev pub extent_among : List (List ℕ) → Extent
-extent_among [] = extent.Plain
-extent_among (l ∷ ls) = first_extent (extent_of l) (extent_among ls)
+-- the first of those that lines are
+abbrev pub head_among : List (List ℕ) → Option SectionHead
+head_among [] = None
+head_among (l ∷ ls) = option_or (head_of l) (head_among ls)
+
+-- the head of a request, which has one
+abbrev pub head_or_plain : Option SectionHead → SectionHead
+head_or_plain None = record { kind = None; lines = None; form = form.Sources; bound = None }
+head_or_plain (Some head) = head
+
+-- it has no words and no bound
+abbrev pub IsPlain : SectionHead → Type 0
+IsPlain head = (head.kind ≡ None) × (head.lines ≡ None) × (head.bound ≡ None)
 
 -- a bound is a cost
-abbrev pub IsExtentWithin : Extent → Type 0
-IsExtentWithin extent.Plain = Unit {0}
-IsExtentWithin extent.Walks = Unit {0}
-IsExtentWithin (extent.Within bound) = bound < INF
+abbrev pub IsHeadWithin : SectionHead → Type 0
+IsHeadWithin head = IfSome head.bound (λ bound. bound < INF)
 
 -- ---- lines
 

@@ -1,5 +1,6 @@
 pub mod Lines
 pub mod Forms
+pub mod Heads
 pub mod Grammar
 pub mod Jobs
 pub mod Explaining

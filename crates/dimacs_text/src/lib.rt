@@ -18,6 +18,7 @@ mod explanation;
 mod fast_arc;
 mod fault;
 mod form;
+mod head;
 mod job;
 pub mod laws;
 mod line;
@@ -25,7 +26,6 @@ mod reader;
 mod request_draft;
 mod stage;
 
-pub use after_graph::{Extent, begins_section};
 pub use answer_lines::{
     put_components, put_distances, put_grown, put_label, put_labels, put_pair, put_source, put_walk,
 };
@@ -33,6 +33,7 @@ pub use arc_runs::{ArcRuns, Parts, ReadAhead, read_side_by_side};
 pub use explanation::{Beginning, Expected, ExplainedFault, Explanation, MAX_KEPT, Place};
 pub use fault::{LineKind, TextFault};
 pub use form::{Form, Item, Limit, MAX_ADDED, MAX_QUERIES, MAX_TEXT_ARCS, Section};
+pub use head::{HeadForm, HeadKind, HeadLines, SectionHead, begins_section};
 pub use job::{Ask, Job};
 pub use line::begins_comment;
 pub use reader::{JobReader, read_job};

@@ -1,5 +1,5 @@
 -- What each task of an answer gives: it is done by itself, before its turn or in it.
-use Rattle.std.specs.Prelude.{ℕ, ◌+◌, ◌<◌, ◌≤◌, true, List, All}
+use Rattle.std.specs.Prelude.{ℕ, ◌+◌, ◌≤◌, true, List}
 use Rattle.std.specs.Prelude.{drop, length, slice_index, take}
 use Rattle.job_answer.specs.declared.blocks.BlockText.{BlockText}
 use Rattle.job_answer.specs.declared.source_tasks.SourceTasks.{SourceTasks}

@@ -158,6 +158,21 @@ impl Asked {
         })
     }
 
+    /// Returns this for another kind of labels and other lines. Components have no walks, and a bound is a cost.
+    pub fn with_answer(self, answer: Answer, lines: Lines) -> Asked
+        requires within { IsAsked answer lines self.limit }
+        ensures answer { result.answer ≡ answer }
+        ensures lines { result.lines ≡ lines }
+        ensures settings { result.settings ≡ self.settings }
+        ensures limit { result.limit ≡ self.limit }
+        ensures at_once { result.at_once ≡ self.at_once }
+    {
+        let mut asked = self;
+        asked.answer = answer;
+        asked.lines = lines;
+        asked
+    }
+
     /// Returns this with another number of sources at once.
     pub fn with_at_once(self, at_once: AtOnce) -> Asked
         ensures answer { result.answer ≡ self.answer }

@@ -1,12 +1,13 @@
 //! The networks of an answer: of a job's arcs, and with the added ones.
 
-ghost use Rattle.std.specs.Prelude.{◌≡◌, ◌≤◌, ◌^◌, None, length, IfOk, IfSome};
+ghost use Rattle.std.specs.Prelude.{◌≡◌, ◌≤◌, ◌^◌, List, None, length, IfOk, IfSome, ℕ};
 ghost use Rattle.least_costs.specs.Network.{IsNetworkOf};
+ghost use Rattle.least_costs.specs.declared.cost.Cost.TheVariants.{Weight};
 ghost use Rattle.route_walks.specs.declared.graph.ArcRec.{ArcRec};
 ghost use Rattle.route_walks.specs.declared.graph.TheConstants.{MAX_VERTICES};
 ghost use Rattle.dimacs_text.specs.Jobs.{added_of};
 ghost use Rattle.job_answer.specs.AnswerText.{arcs_for, growth_from};
-ghost use Rattle.job_answer.specs.Graphs.{AreGraphsFor, cost_for};
+ghost use Rattle.job_answer.specs.Graphs.{AreGraphs, AreGraphsFor, cost_for};
 
 use crate::asked::{Answer, Asked};
 use least_costs::laws::networks_grow;
@@ -75,6 +76,34 @@ pub fn graphs_for<H: Threads + Sync>(
         network: grown,
     });
     Ok(Graphs { network, grown })
+}
+
+/// The network of an answer kind for the arcs of a network of weights, whose rows are made by up to `threads` threads.
+/// Needs a list of all arcs for a while.
+///
+/// # Errors
+///
+/// Memory was refused, or there are more arcs than a network takes.
+pub fn graphs_by<H: Threads + Sync>(
+    rt: &H,
+    alloc: Global,
+    answer: Answer,
+    weights: &Network,
+    threads: usize,
+) -> Result<Graphs, Memory>
+    ensures network { (n : ℕ) (arcs : List ArcRec) → IsNetworkOf n Weight arcs weights.now
+        → IfOk result (λ graphs. IsNetworkOf n (cost_for answer) arcs graphs.network) }
+    ensures vertices { IfOk result (λ graphs. graphs.network.n ≡ weights.now.n) }
+    ensures are { IfOk result AreGraphs }
+    ensures grown { IfOk result (λ graphs. graphs.grown ≡ None) }
+{
+    let network = weights.by_cost(rt, alloc, cost_for(answer), threads)?;
+    // Whatever network it is, its ends are vertices.
+    let _ = network.n();
+    Ok(Graphs {
+        network,
+        grown: None,
+    })
 }
 
 /// The plan by which costs are solved.

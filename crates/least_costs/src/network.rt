@@ -1,7 +1,9 @@
 //! The arcs along which costs are least.
 
 ghost use Rattle.std.specs.Prelude.{◌≡◌, ◌+◌, ◌≤◌, ◌<◌, ◌^◌, ◌↔◌, ◌++◌, length, All};
-ghost use Rattle.std.specs.Prelude.{IfErr, IfNone, IfOk, IfSome, IsTrue};
+ghost use Rattle.std.specs.Prelude.{IfErr, IfNone, IfOk, IfSome, IsTrue, List, ℕ};
+ghost use Rattle.route_walks.specs.declared.graph.ArcRec.{ArcRec};
+ghost use Rattle.least_costs.specs.declared.cost.Cost.TheVariants.{Weight};
 ghost use Rattle.csr_graph.specs.Graph.{IsInRows};
 ghost use Rattle.near_labels.specs.Meeting.{IsReversed};
 ghost use Rattle.route_walks.specs.Operators.{unit_weights};
@@ -20,12 +22,11 @@ use std::thread::Threads;
 /// A network is made of at most this many arcs: 2^30.
 pub const MOST_ARCS: usize = 1 << 30;
 
-/// A directed graph along whose arcs costs are least: made once, and asked as often as one likes. It keeps
-/// 8 bytes a vertex and 8 an arc, 16 if arcs are free both ways; and as much again once its rows are reversed.
+/// A directed graph along whose arcs costs are least. It keeps 8 bytes a vertex and 8 an arc, 16 if arcs are free both
+/// ways, and as much again once its rows are reversed.
 #[derive(Debug, Drop)]
 pub struct Network {
     pub(crate) rows: Csr,
-    // The rows of the reversed arcs, if they were made.
     reversed: Option<Csr>,
     cost: Cost,
     // Of the rows' arcs those that `with_arcs` added last.
@@ -44,8 +45,8 @@ impl Model for Network {
 }
 
 impl Network {
-    /// The network of these arcs among `n` vertices, each of which costs what `cost` says. The list is given
-    /// back on the way. Up to `threads` threads make the rows.
+    /// The network of these arcs among `n` vertices, each of which costs what `cost` says. The list is given back on
+    /// the way. Up to `threads` threads make the rows.
     pub fn new<H: Threads + Sync>(
         rt: &H,
         alloc: Global,
@@ -76,8 +77,8 @@ impl Network {
         })
     }
 
-    /// The network with more arcs, each of which costs the same. Nothing of this one changes, and nothing is
-    /// shared. Needs a list of all arcs for a while, and keeps that of the added ones.
+    /// The network with more arcs, by the same cost. Shares nothing with this one. Needs a list of all arcs for a
+    /// while, and keeps that of the added ones.
     pub fn with_arcs<H: Threads + Sync>(
         &self,
         rt: &H,
@@ -108,6 +109,30 @@ impl Network {
         })
     }
 
+    /// Makes the network of the same arcs, each of which costs what `cost` says: for a network in which each costs its
+    /// weight. Shares nothing with this one, and needs a list of all arcs for a while.
+    ///
+    /// # Errors
+    ///
+    /// Memory was refused, or there are more arcs than a network takes.
+    pub fn by_cost<H: Threads + Sync>(
+        &self,
+        rt: &H,
+        alloc: Global,
+        cost: Cost,
+        threads: usize,
+    ) -> Result<Network, Memory>
+        ensures network { (n : ℕ) (arcs : List ArcRec) → IsNetworkOf n Weight arcs self.now
+            → IfOk result (IsNetworkOf n cost arcs) }
+        ensures vertices { IfOk result (λ net. net.n ≡ self.now.n) }
+    {
+        let arcs = self.rows.arcs(alloc)?;
+        match Network::new(rt, alloc, self.rows.n(), arcs, cost, threads) {
+            Ok(network) => Ok(network),
+            Err(_) => Err(Memory),
+        }
+    }
+
     /// The number of vertices.
     pub fn n(&self) -> u32
         ensures vertices { result ≡ self.now.n }
@@ -123,9 +148,9 @@ impl Network {
         &self.rows
     }
 
-    /// Makes the rows of the reversed arcs, so that pairs are searched from both ends. Takes the time and the memory of
-    /// the rows, and 12 bytes an arc for a while. Without them, for example after a refusal of memory, the network
-    /// serves as well.
+    /// Makes the rows of the reversed arcs, so that pairs are searched from both ends. Takes the time and memory of
+    /// the rows, and 12 bytes an arc for a while. Without them, as after a refusal of memory, the network serves as
+    /// well.
     pub fn reverse(&mut self, alloc: Global)
         ensures { self.new ≡ self.old }
     {
@@ -150,7 +175,6 @@ impl Network {
     }
 }
 
-/// The place of the first arc that has an end outside of `n` vertices.
 fn first_outside(n: u32, arcs: &[ArcRec]) -> Option<usize>
     ensures none { IfNone result (IsGraph n arcs.now) }
     ensures light { IfNone result (AreLight arcs.now) }
@@ -164,7 +188,6 @@ fn first_outside(n: u32, arcs: &[ArcRec]) -> Option<usize>
     None
 }
 
-/// Tells if the ends of an arc are among `n` vertices.
 fn is_within(n: u32, arc: ArcRec) -> bool
     ensures within { IsTrue result ↔ IsArcBelow n arc }
     ensures light { arc.weight < 2 ^ 32 }
@@ -172,7 +195,7 @@ fn is_within(n: u32, arc: ArcRec) -> bool
     arc.tail < n && arc.head < n
 }
 
-/// The rows of the arcs along which costs are least. The list of arcs is given back.
+/// The rows of these arcs by this cost. The list is given back.
 fn rows_of<H: Threads + Sync>(
     rt: &H,
     alloc: Global,

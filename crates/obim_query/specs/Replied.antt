@@ -7,6 +7,7 @@ use Rattle.job_answer.specs.declared.asked.Asked.{Asked}
 use Rattle.job_answer.specs.declared.fault.Fault.{Fault}
 use Rattle.job_answer.specs.Choices.{status_of}
 use Rattle.job_answer.specs.Outcome.{IsAnsweredBy, IsBegunBy, IsReply}
+use Rattle.session_answer.specs.Terms.{terms_of}
 use Rattle.session_answer.specs.Conversations.{IsAnsweredSession}
 use Rattle.session_answer.specs.Cuts.{EndsBy, IsCutSession}
 use Rattle.command_line.specs.declared.options.Options.{Options}
@@ -64,9 +65,9 @@ pub record HasServed (asked : Asked) (taken_from taken_to given_from given_to : 
   pub result : Result (Unit {0}) Fault
   -- all was taken, it is a graph and then requests, and exactly their replies were written
   pub replied : OnOk result
-      (IsAnsweredSession asked.limit asked.answer asked.lines taken_from taken_to given_from given_to)
+      (IsAnsweredSession asked.limit (terms_of asked) taken_from taken_to given_from given_to)
   -- at a fault a prefix of the replies was written
-  pub cut : OnErr result (IsCutSession asked.answer asked.lines taken_from taken_to given_from given_to)
+  pub cut : OnErr result (IsCutSession (terms_of asked) taken_from taken_to given_from given_to)
   -- which is the text's, or the system's
   pub says : IfErr result (EndsBy asked.limit taken_from taken_to)
   pub status_is : status ≡ status_after result

@@ -5,7 +5,8 @@ use Rattle.std.specs.List.{AllByRecursion}
 use Rattle.dimacs_text.specs.declared.fault.LineKind.{LineKind}
 use Rattle.dimacs_text.specs.declared.fault.LineKind.TheVariants.{TooFew}
 use Rattle.dimacs_text.specs.Faults.{IsFirstAmong}
-use Rattle.dimacs_text.specs.AfterGraph.{after_graph, begins_section, AreSilent}
+use Rattle.dimacs_text.specs.AfterGraph.{after_graph, AreSilent}
+use Rattle.dimacs_text.specs.Heads.{begins_section}
 use Rattle.dimacs_text.proofs.Facts.{fault_or_end, fault_inside, one_fault_among}
 use Rattle.request_reader.specs.declared.request_reader.RequestReader.{RequestReader}
 use Rattle.request_reader.specs.Requests.{Outcome, whole, wrong, no_memory, AreRequestsTo}
@@ -33,7 +34,7 @@ silent_spent n end silent first ls rest a parts heard one =
 short_spent : (n : ℕ) (end : List (List ℕ))
     → IsUnanswered n end → IsFirstAmong (after_graph n end) (length end + 2) TooFew
     → NoneFollow n end
-short_spent n end none short first ls rest (whole job extent) parts heard one = none ls rest job parts one.is_whole
+short_spent n end none short first ls rest (whole job head) parts heard one = none ls rest job parts one.is_whole
 short_spent n end none short first ls rest (no_memory line) parts heard one = heard
 short_spent n end none short first ls rest (wrong line kind) parts heard one =
     by_fault (fault_or_end n ls one.before kind one.fault) one.inside

@@ -5,7 +5,8 @@ use Rattle.std.proofs.lemmas.List.Sums.{sum_by-append}
 use Rattle.dimacs_text.specs.declared.fault.LineKind.{LineKind}
 use Rattle.dimacs_text.specs.Faults.{IsFirstAmong}
 use Rattle.dimacs_text.specs.Jobs.{Content}
-use Rattle.dimacs_text.specs.AfterGraph.{after_graph, begins_section, AreSilent, IsWhole}
+use Rattle.dimacs_text.specs.AfterGraph.{after_graph, AreSilent, IsWhole}
+use Rattle.dimacs_text.specs.Heads.{begins_section}
 use Rattle.dimacs_text.proofs.Facts.{empty_unasked, no_fault_among, silent_begins}
 use Rattle.request_reader.specs.Requests.{IsUnanswered}
 use Rattle.request_reader.specs.Reading.{section_count}

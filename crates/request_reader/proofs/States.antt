@@ -1,18 +1,17 @@
 -- The states of a reader of requests.
-use Rattle.std.proofs.Common.{◌≡◌, ℕ, Bool, true, false, List, [], ◌∷◌, ◌++◌, sym, subst}
-use Rattle.dimacs_text.specs.declared.after_graph.Extent.TheVariants.{Plain}
+use Rattle.std.proofs.Common.{◌≡◌, ℕ, Bool, true, false, List, [], ◌∷◌, ◌++◌, None, sym, subst}
 use Rattle.request_reader.specs.declared.request_reader.RequestReader.{RequestReader}
 use Rattle.request_reader.specs.Requests.{Outcome, no_memory}
 use Rattle.request_reader.specs.Reading.{HasReadBefore, IsAmong, IsPassing, IsReading, IsRefusedLast}
 
 pub as_reading : (b : Bool) (reader : RequestReader) (first : ℕ) (all next : List (List ℕ)) (outcomes : List Outcome)
     → b ≡ false → IsAmong b reader first all next outcomes
-    → IsReading reader.vertices reader.draft reader.has_section reader.extent reader.line first all next outcomes
+    → IsReading reader.vertices reader.draft reader.has_section reader.head reader.line first all next outcomes
 as_reading b reader first all next outcomes is h = subst (λ x. IsAmong x reader first all next outcomes) is h
 
 pub from_reading : (b : Bool) (reader : RequestReader) (first : ℕ) (all next : List (List ℕ)) (outcomes : List Outcome)
     → b ≡ false
-    → IsReading reader.vertices reader.draft reader.has_section reader.extent reader.line first all next outcomes
+    → IsReading reader.vertices reader.draft reader.has_section reader.head reader.line first all next outcomes
     → IsAmong b reader first all next outcomes
 from_reading b reader first all next outcomes is h = subst (λ x. IsAmong x reader first all next outcomes) (sym is) h
 
@@ -28,15 +27,15 @@ from_passing b reader first all next outcomes is h = subst (λ x. IsAmong x read
 
 -- a reader that begins a request
 pub from_fresh : (reader : RequestReader) (n number first : ℕ) (all next : List (List ℕ)) (outcomes : List Outcome)
-    → reader.is_refused ≡ false → reader.has_section ≡ false → reader.extent ≡ Plain → reader.vertices ≡ n
-    → reader.line ≡ number → IsReading n reader.draft false Plain number first all next outcomes
+    → reader.is_refused ≡ false → reader.has_section ≡ false → reader.head ≡ None → reader.vertices ≡ n
+    → reader.line ≡ number → IsReading n reader.draft false None number first all next outcomes
     → HasReadBefore reader first all next outcomes
-from_fresh reader n number first all next outcomes refused section extent vertices line h =
+from_fresh reader n number first all next outcomes refused section head vertices line h =
     from_reading reader.is_refused reader first all next outcomes refused
-    (subst (λ b. IsReading reader.vertices reader.draft b reader.extent reader.line first all next outcomes) (sym section)
-    (subst (λ x. IsReading reader.vertices reader.draft false x reader.line first all next outcomes) (sym extent)
-    (subst (λ v. IsReading v reader.draft false Plain reader.line first all next outcomes) (sym vertices)
-    (subst (λ k. IsReading n reader.draft false Plain k first all next outcomes) (sym line) h))))
+    (subst (λ b. IsReading reader.vertices reader.draft b reader.head reader.line first all next outcomes) (sym section)
+    (subst (λ x. IsReading reader.vertices reader.draft false x reader.line first all next outcomes) (sym head)
+    (subst (λ v. IsReading v reader.draft false None reader.line first all next outcomes) (sym vertices)
+    (subst (λ k. IsReading n reader.draft false None k first all next outcomes) (sym line) h))))
 
 -- a reader whose last request, which was whole, can be refused
 pub refused_last : (reader : RequestReader) (n number last first : ℕ) (section : Bool) (all : List (List ℕ))

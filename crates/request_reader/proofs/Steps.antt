@@ -1,16 +1,17 @@
 -- What one step of a reader of requests does.
 use Rattle.std.proofs.Common.{◌≡◌, ◌≤◌, inl, inr, ℕ, ◌+◌, Bool, true, false, ◌&&◌, ◌||◌, List, [], ◌∷◌, ◌++◌, length}
-use Rattle.std.proofs.Common.{refl, sym, ap, subst, ◌∙◌, append-nil, append_assoc, length-append, arith, count_by}
-use Rattle.dimacs_text.specs.declared.after_graph.Extent.{Extent}
-use Rattle.dimacs_text.specs.declared.after_graph.Extent.TheVariants.{Plain}
+use Rattle.std.proofs.Common.{Option, None, refl, sym, ap, subst, ◌∙◌, append-nil, append_assoc, length-append, arith, count_by}
+use Rattle.dimacs_text.specs.declared.head.SectionHead.{SectionHead}
 use Rattle.dimacs_text.specs.declared.fault.LineKind.{LineKind}
 use Rattle.dimacs_text.specs.declared.fault.LineKind.TheVariants.{TooFew}
 use Rattle.dimacs_text.specs.declared.request_draft.RequestDraft.{RequestDraft}
 use Rattle.dimacs_text.specs.Faults.{IsFirstAmong}
 use Rattle.dimacs_text.specs.Jobs.{Content}
-use Rattle.dimacs_text.specs.AfterGraph.{after_graph, begins_section, first_extent, extent_of, AreSilent, IsWhole}
+use Rattle.dimacs_text.specs.AfterGraph.{after_graph, head_of, head_or_plain, AreSilent, IsWhole}
+use Rattle.dimacs_text.specs.Heads.{begins_section}
+use Rattle.std.specs.Option.{option_or}
 use Rattle.dimacs_text.specs.RequestDrafts.{HasReadAfter, is_whole}
-use Rattle.dimacs_text.proofs.Facts.{extent-more}
+use Rattle.dimacs_text.proofs.Facts.{head_more}
 use Rattle.request_reader.specs.Requests.{Outcome, whole, wrong, no_memory, told, IsCut, IsRequest}
 use Rattle.request_reader.specs.Requests.{AreRequests, AreRequestsTo, AreShort}
 use Rattle.request_reader.specs.Reading.{section_count, IsPassing, IsReading}
@@ -59,13 +60,13 @@ number-more first all line old new e is =
     ∙ ap (λ k. told k) (omega (arith, length-append all (line ∷ [])))
 
 -- nothing came of the line
-pub goes_on : (n : ℕ) (old new : RequestDraft) (b c : Bool) (v w : Extent) (number next first : ℕ) (all : List (List ℕ)) (line : List ℕ)
+pub goes_on : (n : ℕ) (old new : RequestDraft) (b c : Bool) (v w : Option SectionHead) (number next first : ℕ) (all : List (List ℕ)) (line : List ℕ)
     (outcomes : List Outcome)
     → IsReading n old b v number first all (line ∷ []) outcomes
     → ((ls : List (List ℕ)) → HasReadAfter n ls old → HasReadAfter n (ls ++ line ∷ []) new)
     → is_whole new ≡ false
     → ((ls : List (List ℕ)) (job : Content) → HasReadAfter n ls new → IsWhole n ls job → ⊥)
-    → (b && begins_section line) ≡ false → c ≡ (b || begins_section line) → w ≡ first_extent v (extent_of line)
+    → (b && begins_section line) ≡ false → c ≡ (b || begins_section line) → w ≡ option_or v (head_of line)
     → next ≡ told (number + 1)
     → IsReading n new c w next first (all ++ line ∷ []) [] outcomes
 goes_on n old new b c v w number next first all line outcomes p reads lacks never few section asks is = record {
@@ -77,7 +78,7 @@ goes_on n old new b c v w number next first all line outcomes p reads lacks neve
   lacking = lacks;
   unanswered = unanswered_more n p.ls line p.unanswered (λ job w. never (p.ls ++ line ∷ []) job (reads p.ls p.read) w);
   sections = count-more p.ls line b c p.sections few section;
-  extent_is = extent-more p.ls line v w p.extent_is asks;
+  head_is = head_more p.ls line v w p.head_is asks;
   number = number-more first all line number next p.number is;
 }
 
@@ -103,7 +104,7 @@ passes_by n b c number next first all line outcomes p few section is = record {
 }
 
 -- a request is refused at the line, by whatever makes it this outcome
-stops : (n : ℕ) (draft : RequestDraft) (b c : Bool) (v : Extent) (number next first : ℕ) (all : List (List ℕ)) (line : List ℕ)
+stops : (n : ℕ) (draft : RequestDraft) (b c : Bool) (v : Option SectionHead) (number next first : ℕ) (all : List (List ℕ)) (line : List ℕ)
     (outcomes : List Outcome) (outcome : Outcome)
     → (p : IsReading n draft b v number first all (line ∷ []) outcomes)
     → ((more rest : List (List ℕ)) → IsCut (p.ls ++ line ∷ more) rest
@@ -127,7 +128,7 @@ stops n draft b c v number next first all line outcomes outcome p refused few se
 }
 
 -- the line is wrong
-pub turns_wrong : (n : ℕ) (draft : RequestDraft) (b c : Bool) (v : Extent) (number next first : ℕ) (all : List (List ℕ)) (line : List ℕ)
+pub turns_wrong : (n : ℕ) (draft : RequestDraft) (b c : Bool) (v : Option SectionHead) (number next first : ℕ) (all : List (List ℕ)) (line : List ℕ)
     (outcomes : List Outcome) (at : ℕ) (kind : LineKind)
     → IsReading n draft b v number first all (line ∷ []) outcomes
     → ((ls : List (List ℕ)) → HasReadAfter n ls draft
@@ -150,7 +151,7 @@ turns_wrong n draft b c v number next first all line outcomes at kind p fault fe
     }) few section is
 
 -- memory was refused at the line
-pub starves : (n : ℕ) (draft : RequestDraft) (b c : Bool) (v : Extent) (number next first : ℕ) (all : List (List ℕ)) (line : List ℕ)
+pub starves : (n : ℕ) (draft : RequestDraft) (b c : Bool) (v : Option SectionHead) (number next first : ℕ) (all : List (List ℕ)) (line : List ℕ)
     (outcomes : List Outcome)
     → IsReading n draft b v number first all (line ∷ []) outcomes
     → (b && begins_section line) ≡ false → c ≡ (b || begins_section line)
@@ -173,7 +174,7 @@ starves n draft b c v number next first all line outcomes p few section is =
 begins_at : (n : ℕ) (draft : RequestDraft) (number first : ℕ) (all next : List (List ℕ)) (outcomes : List Outcome)
     → ((more : List (List ℕ)) → AreRequestsTo n (first + length all) (next ++ more) first (all ++ (next ++ more)) outcomes)
     → HasReadAfter n [] draft → is_whole draft ≡ false → number ≡ told (first + length all)
-    → IsReading n draft false Plain number first all next outcomes
+    → IsReading n draft false None number first all next outcomes
 begins_at n draft number first all next outcomes requests read lacks is = record {
   done = all;
   ls = [];
@@ -183,31 +184,31 @@ begins_at n draft number first all next outcomes requests read lacks is = record
   lacking = lacks;
   unanswered = none_unanswered n;
   sections = refl;
-  extent_is = refl;
+  head_is = refl;
   number = is;
 }
 
 -- before the first line of all
 pub begins_all : (n : ℕ) (draft : RequestDraft) (number first : ℕ)
     → HasReadAfter n [] draft → is_whole draft ≡ false → number ≡ told (first + 0)
-    → IsReading n draft false Plain number first [] [] []
+    → IsReading n draft false None number first [] [] []
 begins_all n draft number first read lacks is =
     begins_at n draft number first [] [] [] (λ more. (omega arith, refl)) read lacks is
 
 -- the request is whole with the line
-pub completes : (n : ℕ) (old new fresh : RequestDraft) (b : Bool) (v w : Extent) (number next first : ℕ) (all : List (List ℕ))
+pub completes : (n : ℕ) (old new fresh : RequestDraft) (b : Bool) (v w : Option SectionHead) (number next first : ℕ) (all : List (List ℕ))
     (line : List ℕ) (outcomes : List Outcome) (job : Content)
     → IsReading n old b v number first all (line ∷ []) outcomes
     → ((ls : List (List ℕ)) → HasReadAfter n ls old → HasReadAfter n (ls ++ line ∷ []) new)
     → ((ls : List (List ℕ)) → HasReadAfter n ls new → IsWhole n ls job)
-    → w ≡ first_extent v (extent_of line) → next ≡ told (number + 1)
+    → w ≡ option_or v (head_of line) → next ≡ told (number + 1)
     → HasReadAfter n [] fresh → is_whole fresh ≡ false
-    → IsReading n fresh false Plain next first (all ++ line ∷ []) [] (outcomes ++ whole job w ∷ [])
+    → IsReading n fresh false None next first (all ++ line ∷ []) [] (outcomes ++ whole job (head_or_plain w) ∷ [])
 completes n old new fresh b v w number next first all line outcomes job p reads ends asks is read lacks =
-    begins_at n fresh next first (all ++ line ∷ []) [] (outcomes ++ whole job w ∷ [])
+    begins_at n fresh next first (all ++ line ∷ []) [] (outcomes ++ whole job (head_or_plain w) ∷ [])
     (λ more.
     then_one n (first + length p.done) (p.ls ++ line ∷ []) more (first + length (all ++ line ∷ [])) first
-    ((all ++ line ∷ []) ++ more) outcomes (whole job w)
+    ((all ++ line ∷ []) ++ more) outcomes (whole job (head_or_plain w))
     (shift n (first + length p.done) first p.ls all line more outcomes (p.requests more))
     (record {
       front = p.ls;
@@ -215,7 +216,7 @@ completes n old new fresh b v w number next first all line outcomes job p reads 
       parts = refl;
       unanswered = p.unanswered;
       is_whole = ends (p.ls ++ line ∷ []) (reads p.ls p.read);
-      extent_is = extent-more p.ls line v w p.extent_is asks;
+      head_is = ap head_or_plain (head_more p.ls line v w p.head_is asks);
     })
     (omega (
       arith,
@@ -227,7 +228,7 @@ completes n old new fresh b v w number next first all line outcomes job p reads 
     read lacks (number-more first all line number next p.number is)
 
 -- a second section line is known to come
-pub waits : (n : ℕ) (draft : RequestDraft) (b : Bool) (v : Extent) (number first : ℕ) (all : List (List ℕ)) (line : List ℕ)
+pub waits : (n : ℕ) (draft : RequestDraft) (b : Bool) (v : Option SectionHead) (number first : ℕ) (all : List (List ℕ)) (line : List ℕ)
     (outcomes : List Outcome)
     → IsReading n draft b v number first all [] outcomes
     → IsReading n draft b v number first all (line ∷ []) outcomes
@@ -240,7 +241,7 @@ waits n draft b v number first all line outcomes p = record {
   lacking = p.lacking;
   unanswered = p.unanswered;
   sections = p.sections;
-  extent_is = p.extent_is;
+  head_is = p.head_is;
   number = p.number;
 }
 
@@ -269,7 +270,7 @@ pub ends_refused : (n : ℕ) (fresh : RequestDraft) (number first : ℕ) (all : 
     (outcomes : List Outcome)
     → IsPassing n true number first all [] outcomes → begins_section line ≡ true
     → HasReadAfter n [] fresh → is_whole fresh ≡ false
-    → IsReading n fresh false Plain number first all (line ∷ []) outcomes
+    → IsReading n fresh false None number first all (line ∷ []) outcomes
 ends_refused n fresh number first all line outcomes p begins read lacks =
     begins_at n fresh number first all (line ∷ []) outcomes
     (λ more.
@@ -283,12 +284,12 @@ ends_refused n fresh number first all line outcomes p begins read lacks =
     read lacks p.number
 
 -- one that lacks lines is refused at its second section line
-pub ends_short : (n : ℕ) (draft fresh : RequestDraft) (v : Extent) (number first : ℕ) (all : List (List ℕ)) (line : List ℕ)
+pub ends_short : (n : ℕ) (draft fresh : RequestDraft) (v : Option SectionHead) (number first : ℕ) (all : List (List ℕ)) (line : List ℕ)
     (outcomes : List Outcome)
     → IsReading n draft true v number first all [] outcomes → begins_section line ≡ true
     → ((ls : List (List ℕ)) → HasReadAfter n ls draft → IsFirstAmong (after_graph n ls) (length ls + 2) TooFew)
     → HasReadAfter n [] fresh → is_whole fresh ≡ false
-    → IsReading n fresh false Plain number first all (line ∷ []) (outcomes ++ wrong number TooFew ∷ [])
+    → IsReading n fresh false None number first all (line ∷ []) (outcomes ++ wrong number TooFew ∷ [])
 ends_short n draft fresh v number first all line outcomes p begins short read lacks =
     begins_at n fresh number first all (line ∷ []) (outcomes ++ wrong number TooFew ∷ [])
     (λ more.
@@ -306,7 +307,7 @@ ends_short n draft fresh v number first all line outcomes p begins short read la
     read lacks p.number
 
 -- after a section line a request lacks lines
-pub never_silent : (n : ℕ) (draft : RequestDraft) (v : Extent) (number first : ℕ) (all next : List (List ℕ))
+pub never_silent : (n : ℕ) (draft : RequestDraft) (v : Option SectionHead) (number first : ℕ) (all next : List (List ℕ))
     (outcomes : List Outcome)
     → IsReading n draft true v number first all next outcomes
     → ((ls : List (List ℕ)) → HasReadAfter n ls draft → AreSilent n ls)
@@ -317,7 +318,7 @@ never_silent n draft v number first all next outcomes p silent =
     omega (arith, none, one)
 
 -- at the end of all lines
-pub all_told : (n : ℕ) (draft : RequestDraft) (b : Bool) (v : Extent) (number first : ℕ) (all : List (List ℕ)) (outcomes : List Outcome)
+pub all_told : (n : ℕ) (draft : RequestDraft) (b : Bool) (v : Option SectionHead) (number first : ℕ) (all : List (List ℕ)) (outcomes : List Outcome)
     → IsReading n draft b v number first all [] outcomes
     → ((ls : List (List ℕ)) → HasReadAfter n ls draft → AreSilent n ls)
     → AreRequests n first all outcomes
@@ -330,7 +331,7 @@ all_told n draft b v number first all outcomes p silent = record {
   silent = silent p.ls p.read;
 }
 
-pub last_short : (n : ℕ) (draft : RequestDraft) (b : Bool) (v : Extent) (number first : ℕ) (all : List (List ℕ)) (outcomes : List Outcome)
+pub last_short : (n : ℕ) (draft : RequestDraft) (b : Bool) (v : Option SectionHead) (number first : ℕ) (all : List (List ℕ)) (outcomes : List Outcome)
     → IsReading n draft b v number first all [] outcomes
     → ((ls : List (List ℕ)) → HasReadAfter n ls draft → IsFirstAmong (after_graph n ls) (length ls + 2) TooFew)
     → AreShort n first all outcomes number

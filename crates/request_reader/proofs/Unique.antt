@@ -3,11 +3,12 @@ use Rattle.std.proofs.Common.{◌≡◌, ◌≤◌, ◌<◌, ◌⊎◌, inl, inr
 use Rattle.std.proofs.Common.{refl, sym, ap, ap₂, subst, ◌∙◌, append-nil, arith}
 use Rattle.std.specs.List.{AllByRecursion}
 use Rattle.std.proofs.lemmas.List.Sums.{sum_by-append}
-use Rattle.dimacs_text.specs.declared.after_graph.Extent.{Extent}
+use Rattle.dimacs_text.specs.declared.head.SectionHead.{SectionHead}
 use Rattle.dimacs_text.specs.declared.fault.LineKind.{LineKind}
 use Rattle.dimacs_text.specs.Faults.{IsFirstAmong}
 use Rattle.dimacs_text.specs.Jobs.{Content}
-use Rattle.dimacs_text.specs.AfterGraph.{after_graph, begins_section, extent_among, AreSilent, IsWhole}
+use Rattle.dimacs_text.specs.AfterGraph.{after_graph, head_among, head_or_plain, AreSilent, IsWhole}
+use Rattle.dimacs_text.specs.Heads.{begins_section}
 use Rattle.dimacs_text.proofs.Facts.{fault_or_end, no_fault_among, one_fault_among, one_job_among, silent_right, silent_unasked}
 use Rattle.request_reader.specs.Requests.{Outcome, whole, wrong, no_memory, told, AreRequests, AreRequestsTo, BeginsSection}
 use Rattle.request_reader.specs.Requests.{IsAnswered, IsCut, IsRefused, IsRequest}
@@ -15,7 +16,7 @@ use Rattle.request_reader.specs.Laws.{IsHeard}
 use Rattle.request_reader.proofs.Splits.{parted}
 
 -- no longer lines are whole first
-longest : (n : ℕ) (ls us : List (List ℕ)) (i j : Content) (v : Extent)
+longest : (n : ℕ) (ls us : List (List ℕ)) (i j : Content) (v : SectionHead)
     → IsAnswered n ls i v → IsWhole n us j
     → (ws : List (List ℕ))
     → ls ≡ us ++ ws
@@ -77,10 +78,10 @@ longest_cut ls rest us others first (inl (one, begins)) (l ∷ ws) is more =
     omega (arith, few, all, one))
 
 -- no lines are a whole request and one that is refused
-clash : (n first : ℕ) (ls rest us others : List (List ℕ)) (job : Content) (extent : Extent) (line : ℕ) (kind : LineKind)
-    → ls ++ rest ≡ us ++ others → IsAnswered n ls job extent → IsRefused n first us others line kind
+clash : (n first : ℕ) (ls rest us others : List (List ℕ)) (job : Content) (head : SectionHead) (line : ℕ) (kind : LineKind)
+    → ls ++ rest ≡ us ++ others → IsAnswered n ls job head → IsRefused n first us others line kind
     → ⊥
-clash n first ls rest us others job extent line kind e one other = by_parts (parted ls rest us others e)
+clash n first ls rest us others job head line kind e one other = by_parts (parted ls rest us others e)
   where
     after_cut : (ws : List (List ℕ)) → ls ≡ us ++ ws → others ≡ ws ++ rest
         → ((l : List ℕ) (more : List (List ℕ)) → begins_section l ≡ true
@@ -125,9 +126,9 @@ same_request n first ls rest us others (whole i v) (whole j w) e heard_a heard_b
     (λ ws is more. longest n us ls j i w other one.is_whole ws is) in (
       same.0,
       same.1,
-      ap₂ (λ job extent. whole job extent)
+      ap₂ (λ job head. whole job head)
           (one_job_among (after_graph n us) i j (subst (λ l. IsWhole n l i) same.0 one.is_whole).is_job other.is_whole.is_job)
-          (one.extent_is ∙ ap (λ l. extent_among l) same.0 ∙ sym other.extent_is),
+          (one.head_is ∙ ap (λ l. head_or_plain (head_among l)) same.0 ∙ sym other.head_is),
     )
 same_request n first ls rest us others (whole i v) (wrong k kind) e heard_a heard_b one other =
     absurd (clash n first ls rest us others i v k kind e one other)
@@ -157,7 +158,7 @@ silent_front n (l ∷ ls) rest silent = (silent.0, silent_front n ls rest silent
 pub none_asked : (n first : ℕ) (ls rest : List (List ℕ)) (a : Outcome)
     → IsHeard a → AreSilent n ls → IsRequest n first ls rest a
     → ⊥
-none_asked n first ls rest (whole job extent) heard silent one = silent_unasked n ls job silent one.is_whole
+none_asked n first ls rest (whole job head) heard silent one = silent_unasked n ls job silent one.is_whole
 none_asked n first ls rest (wrong line kind) heard silent one = silent_right n ls (one.before + 2) kind silent one.fault
 none_asked n first ls rest (no_memory line) heard silent one = heard
 

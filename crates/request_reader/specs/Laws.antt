@@ -2,18 +2,19 @@
 use Rattle.std.specs.Prelude.{◌≡◌, ◌⊎◌, ◌+◌, ℕ, List, [], ◌∷◌, ◌++◌, length, count_by, None, true}
 use Rattle.std.specs.List.{AllByRecursion}
 use Rattle.route_walks.specs.declared.graph.TheConstants.{MAX_VERTICES}
-use Rattle.dimacs_text.specs.declared.after_graph.Extent.TheVariants.{Plain}
+use Rattle.dimacs_text.specs.declared.head.SectionHead.{SectionHead}
 use Rattle.dimacs_text.specs.Lines.{lines}
 use Rattle.dimacs_text.specs.Forms.{readings}
 use Rattle.dimacs_text.specs.Jobs.{Content, IsJobText}
-use Rattle.dimacs_text.specs.AfterGraph.{asked_of, begins_section, graph_of, has_question, IsJobAmong}
+use Rattle.dimacs_text.specs.AfterGraph.{asked_of, graph_of, has_question, IsJobAmong, IsPlain}
+use Rattle.dimacs_text.specs.Heads.{begins_section}
 use Rattle.request_reader.specs.declared.request_reader.RequestReader.{RequestReader}
 use Rattle.request_reader.specs.Requests.{Outcome, whole, wrong, no_memory, AreRequests, AreShort}
 use Rattle.request_reader.specs.Reading.{vertices_of, HasRequests}
 
 -- memory was not refused there
 abbrev pub IsHeard : Outcome → Type 0
-IsHeard (whole job extent) = Unit {0}
+IsHeard (whole job head) = Unit {0}
 IsHeard (wrong line kind) = Unit {0}
 IsHeard (no_memory line) = ⊥
 
@@ -44,7 +45,7 @@ WhatWasSaidStays =
     → AllByRecursion IsHeard outcomes
     → (later : List Outcome) × (outcomes ≡ said ++ later)
 
--- a job without added arcs that asks something is its graph, and then lines that are one request
+-- a job without added arcs that asks something is its graph, and then lines that are one request, whose head has no words
 abbrev pub AJobIsOneRequest : Type 0
 AJobIsOneRequest =
     (text : List ℕ) (job : Content)
@@ -55,7 +56,8 @@ AJobIsOneRequest =
     × (ls : List (List ℕ))
     × (lines text ≡ graph ++ ls)
     × IsJobAmong (readings MAX_VERTICES graph) (graph_of job)
-    × ((first : ℕ) → AreRequests job.n first ls (whole (asked_of job) Plain ∷ []))
+    × ((first : ℕ)
+    → (head : SectionHead) × IsPlain head × AreRequests job.n first ls (whole (asked_of job) head ∷ []))
 
 -- Each request has one section line, and so has one that lacks lines at the end. Only one that the lines end in may have
 -- none, and then it is refused.

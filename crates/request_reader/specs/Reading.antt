@@ -1,9 +1,10 @@
 -- What a reader of requests has read, and what came of it.
 use Rattle.std.specs.Prelude.{◌≡◌, ◌+◌, ℕ, Bool, true, false, List, [], ◌∷◌, ◌++◌, length, count_by, Option, Some, None}
-use Rattle.dimacs_text.specs.declared.after_graph.Extent.{Extent}
+use Rattle.dimacs_text.specs.declared.head.SectionHead.{SectionHead}
 use Rattle.dimacs_text.specs.declared.request_draft.RequestDraft.{RequestDraft}
 use Rattle.dimacs_text.specs.Jobs.{content_of, IsWithinLimits}
-use Rattle.dimacs_text.specs.AfterGraph.{begins_section, extent_among, IsExtentWithin}
+use Rattle.dimacs_text.specs.AfterGraph.{head_among, IsHeadWithin}
+use Rattle.dimacs_text.specs.Heads.{begins_section}
 use Rattle.dimacs_text.specs.RequestDrafts.{HasReadAfter, is_whole}
 use Rattle.request_reader.specs.declared.request.Came.{Came}
 use Rattle.request_reader.specs.declared.request.Request.{Request}
@@ -13,7 +14,7 @@ use Rattle.request_reader.specs.Requests.{Outcome, whole, wrong, no_memory, told
 use Rattle.request_reader.specs.Requests.{AreRequestsTo}
 
 abbrev pub outcome_of : Request → Outcome
-outcome_of (Asked job extent) = whole (content_of job) extent
+outcome_of (Asked job head) = whole (content_of job) head
 outcome_of (Wrong line kind) = wrong line kind
 outcome_of (NoMemory line) = no_memory line
 
@@ -31,11 +32,11 @@ vertices_of reader = reader.vertices
 
 -- a job that a request asks keeps the limits of jobs, has the vertices of the graph, and no arcs; a bound is a cost
 abbrev pub IsAskedWithin : ℕ → Request → Type 0
-IsAskedWithin n (Asked job extent) =
+IsAskedWithin n (Asked job head) =
     IsWithinLimits (content_of job)
     × (job.n ≡ n)
     × (job.arcs.items ≡ [])
-    × IsExtentWithin extent
+    × IsHeadWithin head
 IsAskedWithin n (Wrong line kind) = Unit {0}
 IsAskedWithin n (NoMemory line) = Unit {0}
 
@@ -46,7 +47,7 @@ section_count false = 0
 
 -- Of all lines the last are those of the request that the reader is in, which is neither whole nor refused. The
 -- lines before are requests, whatever comes after the next lines.
-pub record IsReading (n : ℕ) (draft : RequestDraft) (has_section : Bool) (extent : Extent) (line first : ℕ)
+pub record IsReading (n : ℕ) (draft : RequestDraft) (has_section : Bool) (head : Option SectionHead) (line first : ℕ)
     (all next : List (List ℕ)) (outcomes : List Outcome) : Type 0 where
   pub done : List (List ℕ)
   pub ls : List (List ℕ)
@@ -57,7 +58,7 @@ pub record IsReading (n : ℕ) (draft : RequestDraft) (has_section : Bool) (exte
   pub lacking : is_whole draft ≡ false
   pub unanswered : IsUnanswered n ls
   pub sections : count_by begins_section ls ≡ section_count has_section
-  pub extent_is : extent ≡ extent_among ls
+  pub head_is : head ≡ head_among ls
   pub number : line ≡ told (first + length all)
 
 -- Of all lines the last are those of a request that was refused, wherever it ends.
@@ -79,7 +80,7 @@ pub record IsPassing (n : ℕ) (has_section : Bool) (line first : ℕ) (all next
 
 abbrev pub IsAmong : Bool → RequestReader → ℕ → List (List ℕ) → List (List ℕ) → List Outcome → Type 0
 IsAmong false reader first all next outcomes =
-    IsReading reader.vertices reader.draft reader.has_section reader.extent reader.line first all next outcomes
+    IsReading reader.vertices reader.draft reader.has_section reader.head reader.line first all next outcomes
 IsAmong true reader first all next outcomes =
     IsPassing reader.vertices reader.has_section reader.line first all next outcomes
 
@@ -103,6 +104,6 @@ IsRefusedLast reader first all outcomes =
 
 -- if the request is whole, it can be refused in place of that
 abbrev pub IsRefusable : RequestReader → ℕ → List (List ℕ) → List Outcome → Request → Type 0
-IsRefusable reader first all outcomes (Asked job extent) = IsRefusedLast reader first all outcomes
+IsRefusable reader first all outcomes (Asked job head) = IsRefusedLast reader first all outcomes
 IsRefusable reader first all outcomes (Wrong line kind) = Unit {0}
 IsRefusable reader first all outcomes (NoMemory line) = Unit {0}

@@ -1,16 +1,17 @@
 -- The requests that follow a graph: which lines are one, and what becomes of it.
 use Rattle.std.specs.Prelude.{◌≡◌, ◌⊎◌, ◌≤◌, ◌<◌, ◌+◌, ◌-◌, ◌^◌, ℕ, true, List, [], ◌∷◌, ◌++◌, length, min, count_by}
-use Rattle.dimacs_text.specs.declared.after_graph.Extent.{Extent}
+use Rattle.dimacs_text.specs.declared.head.SectionHead.{SectionHead}
 use Rattle.dimacs_text.specs.declared.fault.LineKind.{LineKind}
 use Rattle.dimacs_text.specs.declared.fault.LineKind.TheVariants.{TooFew}
 use Rattle.dimacs_text.specs.Faults.{IsFirstAmong}
 use Rattle.dimacs_text.specs.Jobs.{Content}
-use Rattle.dimacs_text.specs.AfterGraph.{after_graph, begins_section, extent_among, AreSilent, IsWhole}
+use Rattle.dimacs_text.specs.AfterGraph.{after_graph, head_among, head_or_plain, AreSilent, IsWhole}
+use Rattle.dimacs_text.specs.Heads.{begins_section}
 
 -- what becomes of a request
 pub data Outcome : Type 0 where
-  -- it is whole: what it asks, as a job whose graph has no arcs, and how much of that
-  whole : Content → Extent → Outcome
+  -- it is whole: its items, as a job whose graph has no arcs, and its head
+  whole : Content → SectionHead → Outcome
   -- the line of this number is wrong
   wrong : ℕ → LineKind → Outcome
   -- memory was refused at the line of this number
@@ -40,13 +41,13 @@ IsCut ls rest =
     ⊎ ((count_by begins_section ls ≤ 1) × (rest ≡ []))
 
 -- The lines, of which the first has the number given, are a whole request, and no shorter front of them is one.
-pub record IsAnswered (n : ℕ) (ls : List (List ℕ)) (job : Content) (extent : Extent) : Type 0 where
+pub record IsAnswered (n : ℕ) (ls : List (List ℕ)) (job : Content) (head : SectionHead) : Type 0 where
   pub front : List (List ℕ)
   pub last : List ℕ
   pub parts : ls ≡ front ++ last ∷ []
   pub unanswered : IsUnanswered n front
   pub is_whole : IsWhole n ls job
-  pub extent_is : extent ≡ extent_among ls
+  pub head_is : head ≡ head_or_plain (head_among ls)
 
 -- They are refused at their first wrong line, which comes after this many of them. It is one of them, or the
 -- section line that cuts them off.
@@ -70,7 +71,7 @@ pub record IsStarved (n first : ℕ) (ls rest : List (List ℕ)) (line : ℕ) : 
 
 -- the lines, of which the first has the number given, are a request that comes to this, and the rest follows
 abbrev pub IsRequest : ℕ → ℕ → List (List ℕ) → List (List ℕ) → Outcome → Type 0
-IsRequest n first ls rest (whole job extent) = IsAnswered n ls job extent
+IsRequest n first ls rest (whole job head) = IsAnswered n ls job head
 IsRequest n first ls rest (wrong line kind) = IsRefused n first ls rest line kind
 IsRequest n first ls rest (no_memory line) = IsStarved n first ls rest line
 

@@ -1,15 +1,14 @@
 //! The requests after a graph, or the wrong line of one.
 //!
-//! A request follows a graph. It is a section of sources (`p aux sp ss K` and K lines), of sources within a bound
-//! (`within COST K`), or of pairs (`p2p`). It is one of pairs whose walks are wanted (`walk`), or of arcs that are to
-//! be added (`add`).
+//! A request is a section after a graph: of sources (`p aux sp ss K` and K lines), of sources within a bound (`within
+//! COST K`), of pairs (`p2p`), of pairs with walks (`walk`), or of added arcs (`add`). Words before the form name the kind
+//! of labels and the lines of the answer.
 //!
-//! `RequestReader` takes the lines after the graph one by one. For each it returns the outcome: a request that is whole
-//! with it, or one that is refused at it.
+//! `RequestReader` takes the lines one by one. For each it returns the outcome: a request that is whole with it, or one
+//! that is refused at it.
 //!
-//! A request is the lines after the one before, up to its own last record. One that is refused is the lines up to the
-//! second section line in it, or to the end. So each section line belongs to one request, and each request of a client
-//! who writes whole sections has one reply.
+//! A request ends at its own last record. One that is refused ends before the second section line in it, or at the end.
+//! So each section line belongs to one request.
 //!
 //! For example after a graph of two vertices, whose last line is line 1:
 //!

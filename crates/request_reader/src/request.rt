@@ -1,13 +1,12 @@
 //! The outcomes of the lines after a graph.
 
-use dimacs_text::{Extent, Job, LineKind};
+use dimacs_text::{Job, LineKind, SectionHead};
 
 /// A request, or the reason for which it is refused.
 #[derive(Debug, Drop)]
 pub enum Request {
-    /// The sources, the pairs or the arcs that are to be added, as a job whose graph has no arcs; and how much is asked
-    /// of them.
-    Asked { job: Job, extent: Extent },
+    /// The sources, the pairs or the arcs that are to be added, as a job whose graph has no arcs; and the head.
+    Asked { job: Job, head: SectionHead },
     /// The first line that is wrong, by its number, and what is wrong with it.
     Wrong { line: u64, kind: LineKind },
     /// The number of the line at which memory was refused.

@@ -2,16 +2,16 @@
 
 ghost use Rattle.std.specs.Prelude.{◌≡◌, ◌≤◌, ◌&&◌, ◌++◌, ◌∷◌, [], ℕ, List, true, false, IfNone, IfSome};
 ghost use Rattle.route_walks.specs.declared.graph.TheConstants.{MAX_VERTICES};
-ghost use Rattle.dimacs_text.specs.AfterGraph.{begins_section, extent_of};
+ghost use Rattle.dimacs_text.specs.AfterGraph.{head_of};
+ghost use Rattle.dimacs_text.specs.Heads.{begins_section};
 ghost use Rattle.dimacs_text.specs.Lines.{begins_comment};
-ghost use Rattle.dimacs_text.specs.declared.after_graph.Extent.TheVariants.{Plain};
 ghost use Rattle.dimacs_text.specs.RequestDrafts.{HasReadAfter, is_whole};
 ghost use Rattle.request_reader.specs.Requests.{AreRequests, AreShort, Outcome, no_memory};
 ghost use Rattle.request_reader.specs.Reading.{outcomes_in, outcomes_of, vertices_of, HasReadBefore, HasRequests};
 ghost use Rattle.request_reader.specs.Reading.{last_of, IsAskedWithin, IsRefusable, IsRefusedLast};
 
 use crate::request::{Came, Request};
-use dimacs_text::{Extent, LineKind, RequestDraft, TextFault, begins_section};
+use dimacs_text::{LineKind, RequestDraft, SectionHead, TextFault, begins_section};
 use std::alloc::Global;
 use std::mem::replace;
 
@@ -25,8 +25,8 @@ pub struct RequestReader {
     line: u64,
     /// True if the section line of the request has come.
     has_section: bool,
-    /// The extent of what it asks for.
-    extent: Extent,
+    /// The head that it is.
+    head: Option<SectionHead>,
     /// True if the request was refused. Then its other lines are skipped.
     is_refused: bool,
     /// The number of the last line with which a request was whole.
@@ -36,16 +36,12 @@ pub struct RequestReader {
     alloc: Global,
 }
 
-/// The extent that a line asks for. One that is no section line asks for no more.
-fn extent_by(line: &[u8], begins: bool) -> Extent
+/// The head that a line is, or `None` if it is no section line.
+fn head_by(line: &[u8], begins: bool) -> Option<SectionHead>
     requires begins { begins ≡ begins_section line.now }
-    ensures { result ≡ extent_of line.now }
+    ensures { result ≡ head_of line.now }
 {
-    if begins {
-        Extent::of(line)
-    } else {
-        Extent::Plain
-    }
+    if begins { SectionHead::of(line) } else { None }
 }
 
 impl RequestReader {
@@ -59,7 +55,7 @@ impl RequestReader {
             vertices,
             line,
             has_section: false,
-            extent: Extent::Plain,
+            head: None,
             is_refused: false,
             last: line,
             had_section: false,
@@ -128,7 +124,7 @@ impl RequestReader {
         ensures draft { HasReadAfter self.old.vertices [] self.new.draft }
         ensures lacking { is_whole self.new.draft ≡ false }
         ensures section { self.new.has_section ≡ false }
-        ensures extent { self.new.extent ≡ Plain }
+        ensures head { self.new.head ≡ None }
         ensures refused { self.new.is_refused ≡ false }
         ensures vertices { self.new.vertices ≡ self.old.vertices }
         ensures line { self.new.line ≡ self.old.line }
@@ -136,7 +132,7 @@ impl RequestReader {
         ensures had_section { self.new.had_section ≡ self.old.had_section }
     {
         self.has_section = false;
-        self.extent = Extent::Plain;
+        self.head = None;
         self.is_refused = false;
         let next = RequestDraft::new(self.alloc, self.vertices);
         replace(&mut self.draft, next)
@@ -160,7 +156,7 @@ impl RequestReader {
         let number = self.line;
         self.line = number.saturating_add(1);
         self.has_section |= begins;
-        self.extent = self.extent.or(extent_by(line, begins));
+        self.head = self.head.or(head_by(line, begins));
         if self.is_refused {
             return None;
         }
@@ -174,13 +170,13 @@ impl RequestReader {
                 Some(Request::Wrong { line, kind })
             }
             Ok(()) if self.draft.is_whole() => {
-                let extent = self.extent;
+                let head = SectionHead::or_plain(self.head);
                 self.last = number;
                 self.had_section = self.has_section;
                 let draft = self.begin();
                 Some(Request::Asked {
                     job: draft.finish(),
-                    extent,
+                    head,
                 })
             }
             Ok(()) => None,

@@ -16,12 +16,11 @@ use Rattle.job_answer.specs.AnswerText.{IsOneText}
 use Rattle.job_answer.specs.Bytes.{GivesPrefix, IsPrefix, WritesPrefix}
 use Rattle.job_answer.specs.Outcome.{is_unasked}
 use Rattle.job_answer.specs.Within.{AnswerTextsByLinesAreUnique}
-use Rattle.job_answer.specs.declared.asked.Answer.{Answer}
-use Rattle.job_answer.specs.declared.asked.Lines.{Lines}
 use Rattle.session_answer.specs.Conversations.{HasHeard, HasRepliedTo, Replies, graph_of}
 use Rattle.session_answer.specs.Cuts.{AreCutAfterBytes, AreCutAfterLines, AreRepliesCut}
+use Rattle.session_answer.specs.Terms.{Terms, lines_for, terms_by}
 use Rattle.session_answer.specs.Replies.{AreReplies, IsAnswerIn, IsBodyIf, IsBodyIn, IsReplyFor, IsReplyTo}
-use Rattle.session_answer.specs.Replies.{added_line, graph_after, grown_by, job_of, lines_by, lines_for, out_of_memory}
+use Rattle.session_answer.specs.Replies.{added_line, graph_after, grown_by, job_of, out_of_memory}
 use Rattle.session_answer.specs.declared.conversation.Conversation.{Conversation}
 use Rattle.session_answer.specs.declared.session.Session.{Session}
 use Rattle.session_answer.proofs.ReplyLemmas.{no_bytes}
@@ -59,11 +58,11 @@ text_cut IsText unique bytes before after is_bytes cut = record {
 }
 
 -- where nothing was given, a prefix of any text was
-pub nothing_cut : (IsText : List ℕ → Type 0) (kind : Answer) (by : Lines) (graph : Content)
+pub nothing_cut : (IsText : List ℕ → Type 0) (terms : Terms) (graph : Content)
     (session : Session) (before after : Option (List ℕ))
-    → Replies kind by graph [] session before after
+    → Replies terms graph [] session before after
     → WritesPrefix IsText before after
-nothing_cut IsText kind by graph session before after is = record {
+nothing_cut IsText terms graph session before after is = record {
   given = [];
   is_prefix = λ text one. (text, refl);
   appended = subst (λ (text : List ℕ). Appends before after text) is.replied is.written;
@@ -109,41 +108,42 @@ second_cut IsSecond IsWhole first before middle after split one cut = record {
 
 -- ---- there is one text of each reply
 
-module _ (law : AnswerTextsByLinesAreUnique) (kind : Answer) where
-  one_body : (by : Lines) (graph : Content) (question : Question)
-      → IsOneText (IsBodyIn kind by graph question)
-  one_body by graph question = by_asked (is_unasked kind question)
+module _ (law : AnswerTextsByLinesAreUnique) (terms : Terms) where
+  one_body : (graph : Content) (question : Question)
+      → IsOneText (IsBodyIn terms graph question)
+  one_body graph question = by_asked (is_unasked terms.kind question)
     where
-      by_asked : (unasked : Bool) → IsOneText (IsBodyIf unasked kind (lines_for by question) (job_of graph question))
+      by_asked : (unasked : Bool)
+          → IsOneText (IsBodyIf unasked terms.kind (lines_for terms.lines question) (job_of graph question))
       by_asked true first second one two = one ∙ sym two
       by_asked false first second one two =
-          law kind (lines_for by question) (job_of graph question) first second one two
+          law terms.kind (lines_for terms.lines question) (job_of graph question) first second one two
 
-  pub one_answer : (by : Lines) (graph : Content) (question : Question)
-      → IsOneText (IsAnswerIn kind by graph question)
-  one_answer by graph question first second one two =
+  pub one_answer : (graph : Content) (question : Question)
+      → IsOneText (IsAnswerIn terms graph question)
+  one_answer graph question first second one two =
       one.written
       ∙ ap (λ (body : List ℕ). body ++ ready_text graph.n (length graph.arcs))
-      (one_body by graph question one.body two.body one.is_body two.is_body)
+      (one_body graph question one.body two.body one.is_body two.is_body)
       ∙ sym two.written
 
-  one_reply : (by : Lines) (graph asked : Content) → IsOneText (IsReplyTo kind by graph asked)
-  one_reply by graph asked first second one two =
+  one_reply : (graph asked : Content) → IsOneText (IsReplyTo terms graph asked)
+  one_reply graph asked first second one two =
       one.written
       ∙ ap (λ (answer : List ℕ). added_line asked.added ++ answer)
-      (one_answer by (grown_by graph asked.added) asked.question one.answer two.answer one.is_answer two.is_answer)
+      (one_answer (grown_by graph asked.added) asked.question one.answer two.answer one.is_answer two.is_answer)
       ∙ sym two.written
 
-module _ (law : AnswerTextsByLinesAreUnique) (kind : Answer) (by : Lines) where
+module _ (law : AnswerTextsByLinesAreUnique) (terms : Terms) where
   one_reply_for : (graph : Content) (outcome : Outcome)
-      → IsOneText (IsReplyFor kind by graph outcome)
-  one_reply_for graph (whole job extent) first second one two =
-      one_reply law kind (lines_by extent by) graph job first second one two
+      → IsOneText (IsReplyFor terms graph outcome)
+  one_reply_for graph (whole job head) first second one two =
+      one_reply law (terms_by head terms) graph job first second one two
   one_reply_for graph (wrong line what) first second one two = one ∙ sym two
   one_reply_for graph (no_memory line) first second one two = one ∙ sym two
 
   one_of_all : (graph : Content) (outcomes : List Outcome)
-      → IsOneText (AreReplies kind by graph outcomes)
+      → IsOneText (AreReplies terms graph outcomes)
   one_of_all graph [] first second one two = one ∙ sym two
   one_of_all graph (outcome ∷ outcomes) first second one two =
       one.2
@@ -158,30 +158,30 @@ module _ (law : AnswerTextsByLinesAreUnique) (kind : Answer) (by : Lines) where
   -- the answer was given whole, and then a prefix of how large the graph is
   pub ready_cut : (graph : Content) (question : Question) (body : List ℕ)
       (before middle after : Option (List ℕ))
-      → IsBodyIn kind by graph question body
+      → IsBodyIn terms graph question body
       → Appends before middle body
       → WritesPrefix (λ text. text ≡ ready_text graph.n (length graph.arcs)) middle after
-      → WritesPrefix (IsAnswerIn kind by graph question) before after
+      → WritesPrefix (IsAnswerIn terms graph question) before after
   ready_cut graph question body before middle after is_body one cut =
-      second_cut (λ text. text ≡ ready_text graph.n (length graph.arcs)) (IsAnswerIn kind by graph question) body
+      second_cut (λ text. text ≡ ready_text graph.n (length graph.arcs)) (IsAnswerIn terms graph question) body
       before middle after
       (λ text is. (
         ready_text graph.n (length graph.arcs),
         refl,
         is.written
             ∙ ap (λ (some : List ℕ). some ++ ready_text graph.n (length graph.arcs))
-            (one_body law kind by graph question is.body body is.is_body is_body),
+            (one_body law terms graph question is.body body is.is_body is_body),
       ))
       one cut
 
   -- ---- replies
 
   split_replies : (graph : Content) (some more : List Outcome) (text : List ℕ)
-      → AreReplies kind by graph (some ++ more) text
+      → AreReplies terms graph (some ++ more) text
       → (first : List ℕ)
       × (rest : List ℕ)
-      × AreReplies kind by graph some first
-      × AreReplies kind by (graph_of graph some) more rest
+      × AreReplies terms graph some first
+      × AreReplies terms (graph_of graph some) more rest
       × (text ≡ first ++ rest)
   split_replies graph [] more text is = ([], text, refl, is, refl)
   split_replies graph (outcome ∷ some) more text is =
@@ -198,19 +198,19 @@ module _ (law : AnswerTextsByLinesAreUnique) (kind : Answer) (by : Lines) where
   -- a prefix of the line that refuses a request
   pub refusal_cut : (graph : Content) (line : ℕ) (before after : Option (List ℕ))
       → GivesPrefix before after (refusal_text line out_of_memory)
-      → WritesPrefix (AreReplies kind by graph (no_memory line ∷ [])) before after
+      → WritesPrefix (AreReplies terms graph (no_memory line ∷ [])) before after
   refusal_cut graph line before after cut =
       first_cut (λ text. text ≡ refusal_text line out_of_memory)
-      (AreReplies kind by graph (no_memory line ∷ [])) before after
+      (AreReplies terms graph (no_memory line ∷ [])) before after
       (λ text is. (is.0, is.1, is.3, is.2))
       (only_cut (refusal_text line out_of_memory) (refusal_text line out_of_memory) before after refl cut)
 
   -- a prefix of the first replies is one of all
   pub front_cut : (graph : Content) (some more : List Outcome) (before after : Option (List ℕ))
-      → WritesPrefix (AreReplies kind by graph some) before after
-      → WritesPrefix (AreReplies kind by graph (some ++ more)) before after
+      → WritesPrefix (AreReplies terms graph some) before after
+      → WritesPrefix (AreReplies terms graph (some ++ more)) before after
   front_cut graph some more before after cut =
-      first_cut (AreReplies kind by graph some) (AreReplies kind by graph (some ++ more)) before after
+      first_cut (AreReplies terms graph some) (AreReplies terms graph (some ++ more)) before after
       (λ text is.
       let parts = split_replies graph some more text is in
       (parts.0, parts.1, parts.2, parts.4))
@@ -219,12 +219,12 @@ module _ (law : AnswerTextsByLinesAreUnique) (kind : Answer) (by : Lines) where
   -- the first replies were given whole, and then a prefix of the next ones
   pub after_cut : (graph : Content) (some more : List Outcome) (session : Session)
       (before middle after : Option (List ℕ))
-      → Replies kind by graph some session before middle
-      → WritesPrefix (AreReplies kind by (graph_of graph some) more) middle after
-      → WritesPrefix (AreReplies kind by graph (some ++ more)) before after
+      → Replies terms graph some session before middle
+      → WritesPrefix (AreReplies terms (graph_of graph some) more) middle after
+      → WritesPrefix (AreReplies terms graph (some ++ more)) before after
   after_cut graph some more session before middle after one cut =
-      second_cut (AreReplies kind by (graph_of graph some) more)
-      (AreReplies kind by graph (some ++ more)) one.text before middle after
+      second_cut (AreReplies terms (graph_of graph some) more)
+      (AreReplies terms graph (some ++ more)) one.text before middle after
       (λ text is.
       let parts = split_replies graph some more text is in (
         parts.1,
@@ -238,8 +238,8 @@ module _ (law : AnswerTextsByLinesAreUnique) (kind : Answer) (by : Lines) where
   -- whole replies are a prefix of themselves
   whole_cut : (graph : Content) (outcomes : List Outcome) (session : Session)
       (before after : Option (List ℕ))
-      → Replies kind by graph outcomes session before after
-      → WritesPrefix (AreReplies kind by graph outcomes) before after
+      → Replies terms graph outcomes session before after
+      → WritesPrefix (AreReplies terms graph outcomes) before after
   whole_cut graph outcomes session before after is = record {
     given = is.text;
     is_prefix = λ text other.
@@ -254,8 +254,8 @@ module _ (law : AnswerTextsByLinesAreUnique) (kind : Answer) (by : Lines) where
       (outcomes : List Outcome) (before after : Option (List ℕ))
       → HasRequests reader first ls outcomes
       → vertices_of reader ≡ graph.n
-      → WritesPrefix (AreReplies kind by graph outcomes) before after
-      → AreCutAfterLines kind by graph first ls before after
+      → WritesPrefix (AreReplies terms graph outcomes) before after
+      → AreCutAfterLines terms graph first ls before after
   cut_after_lines graph first reader ls outcomes before after requests vertices cut more =
       let begins = begins_with reader first ls outcomes requests more in
       record {
@@ -269,19 +269,19 @@ module _ (law : AnswerTextsByLinesAreUnique) (kind : Answer) (by : Lines) where
 
   pub replied_cut : (graph : Content) (first : ℕ) (conversation : Conversation) (ls : List (List ℕ))
       (before after : Option (List ℕ))
-      → HasRepliedTo kind by graph first conversation ls before after
-      → AreCutAfterLines kind by graph first ls before after
+      → HasRepliedTo terms graph first conversation ls before after
+      → AreCutAfterLines terms graph first ls before after
   replied_cut graph first conversation ls before after is =
       cut_after_lines graph first conversation.requests ls is.outcomes before after is.requests is.vertices
       (whole_cut graph is.outcomes conversation.session before after is.replied)
 
   pub heard_cut : (graph : Content) (first : ℕ) (conversation : Conversation) (heard : List ℕ)
       (before after : Option (List ℕ))
-      → HasHeard kind by graph first conversation heard before after
-      → AreCutAfterBytes kind by graph first heard before after
+      → HasHeard terms graph first conversation heard before after
+      → AreCutAfterBytes terms graph first heard before after
   heard_cut graph first conversation heard before after is more =
       let kept = is.begun in
-      subst (λ (ls : List (List ℕ)). AreRepliesCut kind by graph first ls before after)
+      subst (λ (ls : List (List ℕ)). AreRepliesCut terms graph first ls before after)
       (sym
       (ap (λ (bytes : List ℕ). lines (bytes ++ more)) is.parts
       ∙ ap (λ (bytes : List ℕ). lines bytes) (append_assoc is.whole kept more)
@@ -291,31 +291,31 @@ module _ (law : AnswerTextsByLinesAreUnique) (kind : Answer) (by : Lines) where
 -- ---- more lines and bytes
 
 -- no line follows
-pub cut_here : (kind : Answer) (by : Lines) (graph : Content) (first : ℕ) (ls all : List (List ℕ))
+pub cut_here : (terms : Terms) (graph : Content) (first : ℕ) (ls all : List (List ℕ))
     (before after : Option (List ℕ))
     → ls ≡ all
-    → AreCutAfterLines kind by graph first ls before after
-    → AreRepliesCut kind by graph first all before after
-cut_here kind by graph first ls all before after same cut =
-    subst (λ (some : List (List ℕ)). AreRepliesCut kind by graph first some before after)
+    → AreCutAfterLines terms graph first ls before after
+    → AreRepliesCut terms graph first all before after
+cut_here terms graph first ls all before after same cut =
+    subst (λ (some : List (List ℕ)). AreRepliesCut terms graph first some before after)
     (append-nil ls ∙ same) (cut [])
 
 -- more bytes came
-pub cut_longer : (kind : Answer) (by : Lines) (graph : Content) (first : ℕ) (bytes next : List ℕ)
+pub cut_longer : (terms : Terms) (graph : Content) (first : ℕ) (bytes next : List ℕ)
     (before after : Option (List ℕ))
-    → AreCutAfterBytes kind by graph first bytes before after
-    → AreCutAfterBytes kind by graph first (bytes ++ next) before after
-cut_longer kind by graph first bytes next before after cut more =
-    subst (λ (all : List ℕ). AreRepliesCut kind by graph first (lines all) before after)
+    → AreCutAfterBytes terms graph first bytes before after
+    → AreCutAfterBytes terms graph first (bytes ++ next) before after
+cut_longer terms graph first bytes next before after cut more =
+    subst (λ (all : List ℕ). AreRepliesCut terms graph first (lines all) before after)
     (sym (append_assoc bytes next more)) (cut (next ++ more))
 
 -- more of the bytes that came last
-pub cut_in_all : (kind : Answer) (by : Lines) (graph : Content) (first : ℕ) (heard bytes : List ℕ)
+pub cut_in_all : (terms : Terms) (graph : Content) (first : ℕ) (heard bytes : List ℕ)
     (count : ℕ) (before after : Option (List ℕ))
-    → AreCutAfterBytes kind by graph first (heard ++ take count bytes) before after
-    → AreCutAfterBytes kind by graph first (heard ++ bytes) before after
-cut_in_all kind by graph first heard bytes count before after cut =
-    subst (λ (all : List ℕ). AreCutAfterBytes kind by graph first all before after)
+    → AreCutAfterBytes terms graph first (heard ++ take count bytes) before after
+    → AreCutAfterBytes terms graph first (heard ++ bytes) before after
+cut_in_all terms graph first heard bytes count before after cut =
+    subst (λ (all : List ℕ). AreCutAfterBytes terms graph first all before after)
     (append_assoc heard (take count bytes) (drop count bytes)
     ∙ ap (λ (all : List ℕ). heard ++ all) (take-append-drop count bytes))
-    (cut_longer kind by graph first (heard ++ take count bytes) (drop count bytes) before after cut)
+    (cut_longer terms graph first (heard ++ take count bytes) (drop count bytes) before after cut)

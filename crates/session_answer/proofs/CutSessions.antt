@@ -10,11 +10,10 @@ use Rattle.dimacs_text.specs.Lines.{lines}
 use Rattle.request_reader.specs.Requests.{AreRequestsTo}
 use Rattle.job_answer.specs.Bytes.{Writes, WritesPrefix}
 use Rattle.job_answer.specs.Within.{AnswerTextsByLinesAreUnique}
-use Rattle.job_answer.specs.declared.asked.Answer.{Answer}
-use Rattle.job_answer.specs.declared.asked.Lines.{Lines}
 use Rattle.session_answer.specs.Conversations.{HasFront}
 use Rattle.session_answer.specs.Cuts.{AreAllReplies, AreCutAfterBytes, AreRepliesCut, IsCutConversation, IsCutSession}
 use Rattle.session_answer.specs.Cuts.{MayFollow, TakesSome}
+use Rattle.session_answer.specs.Terms.{Terms}
 use Rattle.session_answer.specs.Replies.{AreReplies, IsAnswerIn}
 use Rattle.session_answer.specs.declared.conversation.Conversation.{Conversation}
 use Rattle.session_answer.specs.declared.graph_front.Front.{Front}
@@ -46,33 +45,33 @@ fed_then job limit left before between then after next more fed takes last =
 
 -- a read failed, or no more are made
 pub read_cut : AnswerTextsByLinesAreUnique
-    → (kind : Answer) (by : Lines) (graph : Content) (first : ℕ) (conversation : Conversation)
+    → (terms : Terms) (graph : Content) (first : ℕ) (conversation : Conversation)
     (heard : List ℕ) (taken_from between taken_to before after : Option (List ℕ))
-    → HasTaken kind by graph first conversation heard taken_from between before after
+    → HasTaken terms graph first conversation heard taken_from between before after
     → Keeps between taken_to
-    → IsCutConversation kind by graph first heard taken_from taken_to before after
-read_cut law kind by graph first conversation heard taken_from between taken_to before after is keeps = record {
+    → IsCutConversation terms graph first heard taken_from taken_to before after
+read_cut law terms graph first conversation heard taken_from between taken_to before after is keeps = record {
   more = is.so_far;
   taken = Consumes-kept taken_from between taken_to is.so_far is.taken keeps;
   cut = λ later may.
-      subst (λ (bytes : List ℕ). AreRepliesCut kind by graph first (lines bytes) before after)
+      subst (λ (bytes : List ℕ). AreRepliesCut terms graph first (lines bytes) before after)
       (append_assoc heard is.so_far later)
-      (heard_cut law kind by graph first conversation (heard ++ is.so_far) before after is.all later);
+      (heard_cut law terms graph first conversation (heard ++ is.so_far) before after is.all later);
 }
 
 -- the bytes that came last were not all used
-pub last_cut : (kind : Answer) (by : Lines) (graph : Content) (first : ℕ)
+pub last_cut : (terms : Terms) (graph : Content) (first : ℕ)
     (conversation : Conversation) (heard next : List ℕ) (taken_from between taken_to before middle after : Option (List ℕ))
-    → (is : HasTaken kind by graph first conversation heard taken_from between before middle)
+    → (is : HasTaken terms graph first conversation heard taken_from between before middle)
     → Consumes between taken_to next
-    → AreCutAfterBytes kind by graph first ((heard ++ is.so_far) ++ next) before after
-    → IsCutConversation kind by graph first heard taken_from taken_to before after
-last_cut kind by graph first conversation heard next taken_from between taken_to before middle after is takes cut =
+    → AreCutAfterBytes terms graph first ((heard ++ is.so_far) ++ next) before after
+    → IsCutConversation terms graph first heard taken_from taken_to before after
+last_cut terms graph first conversation heard next taken_from between taken_to before middle after is takes cut =
     record {
       more = is.so_far ++ next;
       taken = Consumes-trans taken_from between taken_to is.so_far next is.taken takes;
       cut = λ later may.
-          subst (λ (bytes : List ℕ). AreRepliesCut kind by graph first (lines bytes) before after)
+          subst (λ (bytes : List ℕ). AreRepliesCut terms graph first (lines bytes) before after)
           (append_assoc (heard ++ is.so_far) next later
           ∙ append_assoc heard is.so_far (next ++ later)
           ∙ ap (λ (bytes : List ℕ). heard ++ bytes) (sym (append_assoc is.so_far next later)))
@@ -80,14 +79,14 @@ last_cut kind by graph first conversation heard next taken_from between taken_to
     }
 
 -- the end was reached
-pub end_cut : (kind : Answer) (by : Lines) (graph : Content) (first : ℕ)
+pub end_cut : (terms : Terms) (graph : Content) (first : ℕ)
     (conversation : Conversation) (heard buffer : List ℕ) (count : ℕ)
     (taken_from between taken_to before middle after : Option (List ℕ))
-    → (is : HasTaken kind by graph first conversation heard taken_from between before middle)
+    → (is : HasTaken terms graph first conversation heard taken_from between before middle)
     → Consumes between taken_to (take count buffer) → count ≡ 0 → IsAtEnd taken_to
-    → AreRepliesCut kind by graph first (lines (heard ++ is.so_far)) before after
-    → IsCutConversation kind by graph first heard taken_from taken_to before after
-end_cut kind by graph first conversation heard buffer count taken_from between taken_to before middle after is
+    → AreRepliesCut terms graph first (lines (heard ++ is.so_far)) before after
+    → IsCutConversation terms graph first heard taken_from taken_to before after
+end_cut terms graph first conversation heard buffer count taken_from between taken_to before middle after is
     takes none ended cut = record {
       more = is.so_far;
       taken =
@@ -96,24 +95,24 @@ end_cut kind by graph first conversation heard buffer count taken_from between t
           (Consumes-trans taken_from between taken_to is.so_far (take count buffer) is.taken takes);
       cut = λ later may.
           subst
-          (λ (bytes : List ℕ). AreRepliesCut kind by graph first (lines (heard ++ bytes)) before after)
+          (λ (bytes : List ℕ). AreRepliesCut terms graph first (lines (heard ++ bytes)) before after)
           (sym (ap (λ (bytes : List ℕ). is.so_far ++ bytes) (may ended) ∙ append-nil is.so_far)) cut;
     }
 
 -- nothing more was taken
-pub first_heard_cut : (kind : Answer) (by : Lines) (graph : Content) (first : ℕ) (heard : List ℕ)
+pub first_heard_cut : (terms : Terms) (graph : Content) (first : ℕ) (heard : List ℕ)
     (same before after : Option (List ℕ))
-    → AreCutAfterBytes kind by graph first heard before after
-    → IsCutConversation kind by graph first heard same same before after
-first_heard_cut kind by graph first heard same before after cut =
+    → AreCutAfterBytes terms graph first heard before after
+    → IsCutConversation terms graph first heard same same before after
+first_heard_cut terms graph first heard same before after cut =
     record { more = []; taken = Consumes-nil same; cut = λ later may. cut later }
 
 -- ---- the whole session
 
 -- nothing was given
-pub nothing_cut : (kind : Answer) (by : Lines) (taken_from taken_to same : Option (List ℕ))
-    → TakesSome taken_from taken_to → IsCutSession kind by taken_from taken_to same same
-nothing_cut kind by taken_from taken_to same some =
+pub nothing_cut : (terms : Terms) (taken_from taken_to same : Option (List ℕ))
+    → TakesSome taken_from taken_to → IsCutSession terms taken_from taken_to same same
+nothing_cut terms taken_from taken_to same some =
     record { text = some.bytes; taken = some.taken; given = inl (Keeps-refl same) }
 
 -- the lines of a graph, and those that follow
@@ -146,12 +145,12 @@ front_parts limit front buffer taken_from taken_to is more may = by_end front.ha
         )
 
 -- the reply to the graph was cut short
-pub greeting_cut : (limit : ℕ) (kind : Answer) (by : Lines) (front : Front) (buffer : List ℕ)
+pub greeting_cut : (limit : ℕ) (terms : Terms) (front : Front) (buffer : List ℕ)
     (taken_from taken_to given_from given_to : Option (List ℕ))
     → HasFront limit front buffer taken_from taken_to
-    → WritesPrefix (IsAnswerIn kind by (content_of front.graph) absent) given_from given_to
-    → IsCutSession kind by taken_from taken_to given_from given_to
-greeting_cut limit kind by front buffer taken_from taken_to given_from given_to has cut = record {
+    → WritesPrefix (IsAnswerIn terms (content_of front.graph) absent) given_from given_to
+    → IsCutSession terms taken_from taken_to given_from given_to
+greeting_cut limit terms front buffer taken_from taken_to given_from given_to has cut = record {
   text = has.text ++ take (front.end - front.at) (drop front.at buffer);
   taken = has.taken;
   given = inr
@@ -168,22 +167,22 @@ greeting_cut limit kind by front buffer taken_from taken_to given_from given_to 
         end = parts.0;
         requests = (refl, refl);
         replied =
-            first_cut (IsAnswerIn kind by (content_of front.graph) absent)
-            (AreAllReplies kind by (content_of front.graph) []) given_from given_to
+            first_cut (IsAnswerIn terms (content_of front.graph) absent)
+            (AreAllReplies terms (content_of front.graph) []) given_from given_to
             (λ text is. (is.greeting, is.later, is.greets, is.written)) cut;
       });
 }
 
 -- the replies to requests were cut short
 pub session_cut : AnswerTextsByLinesAreUnique
-    → (limit : ℕ) (kind : Answer) (by : Lines) (front : Front) (buffer : List ℕ)
+    → (limit : ℕ) (terms : Terms) (front : Front) (buffer : List ℕ)
     (taken_from between taken_to given_from middle given_to : Option (List ℕ))
     → HasFront limit front buffer taken_from between → front.has_ended ≡ false
-    → Writes (IsAnswerIn kind by (content_of front.graph) absent) given_from middle
-    → IsCutConversation kind by (content_of front.graph) front.line
+    → Writes (IsAnswerIn terms (content_of front.graph) absent) given_from middle
+    → IsCutConversation terms (content_of front.graph) front.line
     (take (front.end - front.at) (drop front.at buffer)) between taken_to middle given_to
-    → IsCutSession kind by taken_from taken_to given_from given_to
-session_cut law limit kind by front buffer taken_from between taken_to given_from middle given_to has goes_on writes
+    → IsCutSession terms taken_from taken_to given_from given_to
+session_cut law limit terms front buffer taken_from between taken_to given_from middle given_to has goes_on writes
     conversed =
     let heard = take (front.end - front.at) (drop front.at buffer) in
     let graph = content_of front.graph in
@@ -214,14 +213,14 @@ session_cut law limit kind by front buffer taken_from between taken_to given_fro
                 (λ first. AreRequestsTo graph.n cut.next cut.end first (lines (heard ++ (more ++ later))) cut.outcomes)
                 (has.number goes_on) cut.requests;
             replied =
-                second_cut (AreReplies kind by graph cut.outcomes)
-                (AreAllReplies kind by graph cut.outcomes) writes.text given_from middle given_to
+                second_cut (AreReplies terms graph cut.outcomes)
+                (AreAllReplies terms graph cut.outcomes) writes.text given_from middle given_to
                 (λ text is. (
                   is.later,
                   is.replied,
                   is.written
                       ∙ ap (λ (greeting : List ℕ). greeting ++ is.later)
-                      (one_answer law kind by graph absent is.greeting writes.text is.greets writes.is_text),
+                      (one_answer law terms graph absent is.greeting writes.text is.greets writes.is_text),
                 ))
                 writes.appended cut.replied;
           });

@@ -2,17 +2,14 @@
 use Rattle.std.proofs.Common.{◌≡◌, ◌∙◌, ℕ, zero, suc, ◌<◌, ◌≤◌, Bool, true, false, List, [], ◌∷◌, ◌++◌, Option, None, length}
 use Rattle.std.proofs.Common.{◌+◌, ◌-◌, take, drop, refl, sym, ap, subst, arith, append_assoc, get_or-drop, length-drop}
 use Rattle.std.specs.Prelude.{slice_index}
-use Rattle.std.proofs.lemmas.Bool.{ne_eqb}
 use Rattle.std.proofs.lemmas.List.{append-nil}
-use Rattle.std.specs.List.{onto_first}
 use Rattle.dimacs_text.specs.Jobs.{Content}
 use Rattle.dimacs_text.specs.Lines.{begins_comment, lines}
 use Rattle.dimacs_text.specs.reader.FastArc.{HasNoFeed}
 use Rattle.dimacs_text.proofs.Facts.{drop_next, keeps_more, line_first, lines_whole}
 use Rattle.request_reader.specs.Reading.{HasRequests, vertices_of}
-use Rattle.job_answer.specs.declared.asked.Answer.{Answer}
-use Rattle.job_answer.specs.declared.asked.Lines.{Lines}
 use Rattle.request_reader.specs.Requests.{Outcome}
+use Rattle.session_answer.specs.Terms.{Terms}
 use Rattle.session_answer.specs.Conversations.{HasHeard, HasRepliedTo, IsKeptOf, Replies}
 use Rattle.session_answer.specs.Cuts.{AreCutAfterBytes, AreCutAfterLines, AreRepliesCut}
 use Rattle.session_answer.specs.declared.conversation.Conversation.{Conversation}
@@ -77,28 +74,28 @@ no_feed_after bytes at free k from to feed =
 -- ---- what a session has heard
 
 -- the bytes of an unfinished line count for nothing yet
-pub same_replied : (kind : Answer) (by : Lines) (graph : Content) (first : ℕ)
+pub same_replied : (terms : Terms) (graph : Content) (first : ℕ)
     (old new : Conversation) (ls : List (List ℕ)) (before after : Option (List ℕ))
     → new.requests ≡ old.requests → new.session ≡ old.session
-    → HasRepliedTo kind by graph first old ls before after
-    → HasRepliedTo kind by graph first new ls before after
-same_replied kind by graph first old new ls before after requests session is = record {
+    → HasRepliedTo terms graph first old ls before after
+    → HasRepliedTo terms graph first new ls before after
+same_replied terms graph first old new ls before after requests session is = record {
   outcomes = is.outcomes;
   requests = subst (λ reader. HasRequests reader first ls is.outcomes) (sym requests) is.requests;
   vertices = ap (λ reader. vertices_of reader) requests ∙ is.vertices;
-  replied = subst (λ kept. Replies kind by graph is.outcomes kept before after) (sym session) is.replied;
+  replied = subst (λ kept. Replies terms graph is.outcomes kept before after) (sym session) is.replied;
 }
 
 -- bytes without a line feed
-pub heard_rest : (kind : Answer) (by : Lines) (graph : Content) (first : ℕ)
+pub heard_rest : (terms : Terms) (graph : Content) (first : ℕ)
     (old new : Conversation) (heard rest : List ℕ) (before after : Option (List ℕ))
-    → HasHeard kind by graph first old heard before after
+    → HasHeard terms graph first old heard before after
     → HasNoFeed rest 0 (length rest)
     → ((begun : List ℕ) → IsKeptOf old.in_comment old.unfinished.items begun
     → IsKeptOf new.in_comment new.unfinished.items (begun ++ rest))
     → new.requests ≡ old.requests → new.session ≡ old.session
-    → HasHeard kind by graph first new (heard ++ rest) before after
-heard_rest kind by graph first old new heard rest before after is free kept requests session =
+    → HasHeard terms graph first new (heard ++ rest) before after
+heard_rest terms graph first old new heard rest before after is free kept requests session =
     let keeps = keeps_more None is.whole is.begun heard rest refl free (is.parts, is.no_feed) in
     record {
       whole = is.whole;
@@ -108,22 +105,22 @@ heard_rest kind by graph first old new heard rest before after is free kept requ
       no_feed = keeps.1;
       kept = kept is.begun is.kept;
       replied =
-          same_replied kind by graph first old new (lines is.whole) before after requests session is.replied;
+          same_replied terms graph first old new (lines is.whole) before after requests session is.replied;
     }
 
 -- a comment is passed by
-pub passed_replied : (kind : Answer) (by : Lines) (graph : Content) (first : ℕ)
+pub passed_replied : (terms : Terms) (graph : Content) (first : ℕ)
     (old new : Conversation) (ls : List (List ℕ)) (line : List ℕ) (before after : Option (List ℕ))
     → ((outcomes : List Outcome) → HasRequests old.requests first ls outcomes
     → HasRequests new.requests first (ls ++ line ∷ []) outcomes)
     → vertices_of new.requests ≡ vertices_of old.requests → new.session ≡ old.session
-    → HasRepliedTo kind by graph first old ls before after
-    → HasRepliedTo kind by graph first new (ls ++ line ∷ []) before after
-passed_replied kind by graph first old new ls line before after requests vertices session is = record {
+    → HasRepliedTo terms graph first old ls before after
+    → HasRepliedTo terms graph first new (ls ++ line ∷ []) before after
+passed_replied terms graph first old new ls line before after requests vertices session is = record {
   outcomes = is.outcomes;
   requests = requests is.outcomes is.requests;
   vertices = vertices ∙ is.vertices;
-  replied = subst (λ kept. Replies kind by graph is.outcomes kept before after) (sym session) is.replied;
+  replied = subst (λ kept. Replies terms graph is.outcomes kept before after) (sym session) is.replied;
 }
 
 -- what is kept of a line that is no comment is what has come of it
@@ -136,14 +133,14 @@ pub comment_begun : (in_comment : Bool) (kept begun : List ℕ) → in_comment �
 comment_begun in_comment kept begun inside is = subst (λ test. IsKeptOf test kept begun) inside is
 
 -- the rest of a line, and its line feed
-pub heard_line : (kind : Answer) (by : Lines) (graph : Content) (first : ℕ)
+pub heard_line : (terms : Terms) (graph : Content) (first : ℕ)
     (old new : Conversation) (heard rest : List ℕ) (before between after : Option (List ℕ))
-    → (is : HasHeard kind by graph first old heard before between)
+    → (is : HasHeard terms graph first old heard before between)
     → HasNoFeed rest 0 (length rest)
     → new.in_comment ≡ false → new.unfinished.items ≡ []
-    → HasRepliedTo kind by graph first new (lines is.whole ++ (is.begun ++ rest) ∷ []) before after
-    → HasHeard kind by graph first new (heard ++ rest ++ 10 ∷ []) before after
-heard_line kind by graph first old new heard rest before between after is free outside none replied =
+    → HasRepliedTo terms graph first new (lines is.whole ++ (is.begun ++ rest) ∷ []) before after
+    → HasHeard terms graph first new (heard ++ rest ++ 10 ∷ []) before after
+heard_line terms graph first old new heard rest before between after is free outside none replied =
     let keeps = keeps_more None is.whole is.begun heard rest refl free (is.parts, is.no_feed) in
     let line = is.begun ++ rest in
     let so_far = lines_so_far is.whole line is.ended keeps.1 in
@@ -160,21 +157,21 @@ heard_line kind by graph first old new heard rest before between after is free o
       no_feed = λ k from to. absurd (omega arith);
       kept = subst (λ inside. IsKeptOf inside new.unfinished.items []) (sym outside) none;
       replied =
-          subst (λ (ls : List (List ℕ)). HasRepliedTo kind by graph first new ls before after) (sym so_far)
+          subst (λ (ls : List (List ℕ)). HasRepliedTo terms graph first new ls before after) (sym so_far)
           replied;
     }
 
 -- a fault came at the line
-pub cut_at_line : (kind : Answer) (by : Lines) (graph : Content) (first : ℕ)
+pub cut_at_line : (terms : Terms) (graph : Content) (first : ℕ)
     (old : Conversation) (heard rest : List ℕ) (before between after : Option (List ℕ))
-    → (is : HasHeard kind by graph first old heard before between)
+    → (is : HasHeard terms graph first old heard before between)
     → HasNoFeed rest 0 (length rest)
-    → AreCutAfterLines kind by graph first (lines is.whole ++ (is.begun ++ rest) ∷ []) before after
-    → AreCutAfterBytes kind by graph first (heard ++ rest ++ 10 ∷ []) before after
-cut_at_line kind by graph first old heard rest before between after is free cut more =
+    → AreCutAfterLines terms graph first (lines is.whole ++ (is.begun ++ rest) ∷ []) before after
+    → AreCutAfterBytes terms graph first (heard ++ rest ++ 10 ∷ []) before after
+cut_at_line terms graph first old heard rest before between after is free cut more =
     let keeps = keeps_more None is.whole is.begun heard rest refl free (is.parts, is.no_feed) in
     let line = is.begun ++ rest in
-    subst (λ (ls : List (List ℕ)). AreRepliesCut kind by graph first ls before after)
+    subst (λ (ls : List (List ℕ)). AreRepliesCut terms graph first ls before after)
     (sym
     (ap (λ (bytes : List ℕ). lines (bytes ++ more))
     (ap (λ (bytes : List ℕ). bytes ++ 10 ∷ []) keeps.0 ∙ append_assoc is.whole line (10 ∷ []))
@@ -184,22 +181,22 @@ cut_at_line kind by graph first old heard rest before between after is free cut 
 -- ---- at the end
 
 -- no line is unfinished
-pub lines_heard : (kind : Answer) (by : Lines) (graph : Content) (first : ℕ)
+pub lines_heard : (terms : Terms) (graph : Content) (first : ℕ)
     (conversation : Conversation) (heard : List ℕ) (before after : Option (List ℕ))
-    → (is : HasHeard kind by graph first conversation heard before after)
+    → (is : HasHeard terms graph first conversation heard before after)
     → is.begun ≡ []
     → lines heard ≡ lines is.whole
-lines_heard kind by graph first conversation heard before after is none =
+lines_heard terms graph first conversation heard before after is none =
     ap (λ (bytes : List ℕ). lines bytes)
     (is.parts ∙ ap (λ (kept : List ℕ). is.whole ++ kept) none ∙ append-nil is.whole)
 
 -- the last line lacks its line feed
-pub lines_at_end : (kind : Answer) (by : Lines) (graph : Content) (first : ℕ)
+pub lines_at_end : (terms : Terms) (graph : Content) (first : ℕ)
     (conversation : Conversation) (heard : List ℕ) (before after : Option (List ℕ))
-    → (is : HasHeard kind by graph first conversation heard before after)
+    → (is : HasHeard terms graph first conversation heard before after)
     → 0 < length is.begun
     → lines heard ≡ lines is.whole ++ is.begun ∷ []
-lines_at_end kind by graph first conversation heard before after is some =
+lines_at_end terms graph first conversation heard before after is some =
     ap (λ (bytes : List ℕ). lines bytes) is.parts
     ∙ is.ended is.begun
     ∙ ap (λ (ls : List (List ℕ)). lines is.whole ++ ls)

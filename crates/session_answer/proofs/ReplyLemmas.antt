@@ -1,11 +1,11 @@
 -- Replies one after another, and the graph that they leave.
-use Rattle.std.proofs.Common.{◌≡◌, ◌∙◌, ℕ, Bool, List, [], ◌∷◌, ◌++◌, Option, Some, None, refl, sym, ap, subst, append_assoc}
+use Rattle.std.proofs.Common.{◌≡◌, ◌∙◌, ℕ, List, [], ◌∷◌, ◌++◌, Option, Some, None, refl, sym, ap, subst, append_assoc}
 use Rattle.std.proofs.lemmas.List.{append-nil}
 use Rattle.std.specs.Io.KnownBytes.{Appends}
 use Rattle.std.specs.Prelude.{IfOk, IfSome, Result, Ok, Err}
 use Rattle.route_walks.specs.declared.graph.ArcRec.{ArcRec}
 use Rattle.answer_lines.specs.Lines.{refusal_text}
-use Rattle.dimacs_text.specs.Jobs.{Content, Question, content_of, IsAddedWithin, IsQuestionWithin}
+use Rattle.dimacs_text.specs.Jobs.{Content, content_of, IsAddedWithin, IsQuestionWithin}
 use Rattle.least_costs.specs.Network.{IsNetwork}
 use Rattle.request_reader.specs.Reading.{IsAskedWithin, IsRefusable, IsRefusedLast}
 use Rattle.request_reader.specs.Requests.{Outcome, no_memory}
@@ -13,17 +13,18 @@ use Rattle.request_reader.specs.declared.request_reader.RequestReader.{RequestRe
 use Rattle.request_reader.specs.declared.request.Request.{Request}
 use Rattle.request_reader.specs.declared.request.Request.TheVariants.{Asked, Wrong, NoMemory}
 use Rattle.job_answer.specs.declared.asked.Answer.{Answer}
-use Rattle.job_answer.specs.declared.asked.Lines.{Lines}
 use Rattle.job_answer.specs.Graphs.{AreGraphsFor, GrowAlike, GrowsInto, growth_of}
 use Rattle.job_answer.specs.Bytes.{Writes}
 use Rattle.job_answer.proofs.Facts.{along-kind, appends-then}
 use Rattle.session_answer.specs.Conversations.{Replies, graph_of}
-use Rattle.session_answer.specs.Replies.{AreReplies, HoldsGraph, IsAnswerIn, IsAskedIn, IsGrownReply, IsReplyFor, IsReplyTo}
+use Rattle.session_answer.specs.Terms.{Terms}
+use Rattle.session_answer.specs.Replies.{AreReplies, HoldsGraph, HoldsKind, IsAnswerIn, IsAskedIn, IsGrownReply, IsReplyFor, IsReplyTo}
 use Rattle.session_answer.specs.Replies.{IsRequestWithin, IsTold, added_line, graph_after, grown_by}
 use Rattle.session_answer.specs.Replies.{out_of_memory}
+use Rattle.session_answer.specs.declared.kind_graph.KindGraph.{KindGraph}
 use Rattle.session_answer.specs.declared.session.Session.{Session}
-use Rattle.session_answer.specs.declared.session.Told.{Told}
-use Rattle.session_answer.specs.declared.session.Told.TheVariants as told
+use Rattle.session_answer.specs.declared.kind_graph.Told.{Told}
+use Rattle.session_answer.specs.declared.kind_graph.Told.TheVariants as told
 
 -- no bytes are given
 pub no_bytes : (bytes : Option (List ℕ)) → Appends bytes bytes []
@@ -31,15 +32,15 @@ no_bytes None = tt
 no_bytes (Some bytes) = sym (append-nil bytes)
 
 -- the network answers for the graph
-pub graph_rows : (kind : Answer) (graph : Content) (session : Session) → IsNetwork session.graphs.network
-    → HoldsGraph kind graph session → AreGraphsFor kind graph.n graph.arcs None session.graphs
-graph_rows kind graph session is holds = record {
+pub graph_rows : (kind : Answer) (graph : Content) (kept : KindGraph) → IsNetwork kept.graphs.network
+    → HoldsKind kind graph kept → AreGraphsFor kind graph.n graph.arcs None kept.graphs
+graph_rows kind graph kept is holds = record {
   are = record {
     is = is;
-    grows = subst (GrowsInto session.graphs.network) (sym holds.alone) tt;
+    grows = subst (GrowsInto kept.graphs.network) (sym holds.alone) tt;
   };
   vertices = holds.network.vertices;
-  along = along-kind kind graph.n graph.arcs session.graphs.network holds.network;
+  along = along-kind kind graph.n graph.arcs kept.graphs.network holds.network;
   alike = subst (λ grown. GrowAlike (growth_of grown) None) (sym holds.alone) tt;
 }
 
@@ -52,30 +53,30 @@ graph_both graph (outcome ∷ some) more = graph_both (graph_after graph outcome
 
 -- ---- replies to some requests, and then to more
 
-pub replies_both : (kind : Answer) (by : Lines) (graph : Content) (some more : List Outcome)
+pub replies_both : (terms : Terms) (graph : Content) (some more : List Outcome)
     (text next : List ℕ)
-    → AreReplies kind by graph some text → AreReplies kind by (graph_of graph some) more next
-    → AreReplies kind by graph (some ++ more) (text ++ next)
-replies_both kind by graph [] more text next none replied =
-    subst (λ (front : List ℕ). AreReplies kind by graph more (front ++ next)) (sym none) replied
-replies_both kind by graph (outcome ∷ some) more text next (first, rest, parts, reply, later) replied = (
+    → AreReplies terms graph some text → AreReplies terms (graph_of graph some) more next
+    → AreReplies terms graph (some ++ more) (text ++ next)
+replies_both terms graph [] more text next none replied =
+    subst (λ (front : List ℕ). AreReplies terms graph more (front ++ next)) (sym none) replied
+replies_both terms graph (outcome ∷ some) more text next (first, rest, parts, reply, later) replied = (
   first,
   rest ++ next,
   ap (λ (front : List ℕ). front ++ next) parts ∙ append_assoc first rest next,
   reply,
-  replies_both kind by (graph_after graph outcome) some more rest next later replied,
+  replies_both terms (graph_after graph outcome) some more rest next later replied,
 )
 
-pub replies_then : (kind : Answer) (by : Lines) (graph : Content) (some more : List Outcome)
+pub replies_then : (terms : Terms) (graph : Content) (some more : List Outcome)
     (between session : Session) (first second third : Option (List ℕ))
-    → Replies kind by graph some between first second
-    → Replies kind by (graph_of graph some) more session second third
-    → Replies kind by graph (some ++ more) session first third
-replies_then kind by graph some more between session first second third one two = record {
+    → Replies terms graph some between first second
+    → Replies terms (graph_of graph some) more session second third
+    → Replies terms graph (some ++ more) session first third
+replies_then terms graph some more between session first second third one two = record {
   text = one.text ++ two.text;
-  replied = replies_both kind by graph some more one.text two.text one.replied two.replied;
+  replied = replies_both terms graph some more one.text two.text one.replied two.replied;
   written = appends-then first second third one.text two.text one.written two.written;
-  holds = subst (λ left. HoldsGraph kind left session) (sym (graph_both graph some more)) two.holds;
+  holds = subst (λ left. HoldsGraph left session) (sym (graph_both graph some more)) two.holds;
 }
 
 -- ---- whether a reply was given
@@ -95,50 +96,50 @@ if_ok P Q (Ok x) weaker is = weaker x is
 if_ok P Q (Err fault) weaker is = tt
 
 -- what a request comes to: its reply was given, or nothing
-pub reply_told : {E : Type 0} (kind : Answer) (by : Lines) (graph : Content) (outcome : Outcome)
+pub reply_told : {E : Type 0} (terms : Terms) (graph : Content) (outcome : Outcome)
     (session : Session) (before after : Option (List ℕ)) (result : Result Told E)
     → IfOk result
-    (λ t. IsTold t (Writes (IsReplyFor kind by graph outcome) before after) (Appends before after []))
-    → IfOk result (λ t. IsTold t (HoldsGraph kind (graph_after graph outcome) session) (HoldsGraph kind graph session))
+    (λ t. IsTold t (Writes (IsReplyFor terms graph outcome) before after) (Appends before after []))
+    → IfOk result (λ t. IsTold t (HoldsGraph (graph_after graph outcome) session) (HoldsGraph graph session))
     → IfOk result
     (λ t.
-    IsTold t (Replies kind by graph (outcome ∷ []) session before after)
-    (Replies kind by graph [] session before after))
-reply_told kind by graph outcome session before after (Ok told.Whole) written holds = record {
+    IsTold t (Replies terms graph (outcome ∷ []) session before after)
+    (Replies terms graph [] session before after))
+reply_told terms graph outcome session before after (Ok told.Whole) written holds = record {
   text = written.text;
   replied = (written.text, [], sym (append-nil written.text), written.is_text, refl);
   written = written.appended;
   holds = holds;
 }
-reply_told kind by graph outcome session before after (Ok told.Nothing) none holds = record {
+reply_told terms graph outcome session before after (Ok told.Nothing) none holds = record {
   text = [];
   replied = refl;
   written = none;
   holds = holds;
 }
-reply_told kind by graph outcome session before after (Err fault) written holds = tt
+reply_told terms graph outcome session before after (Err fault) written holds = tt
 
 -- the reply to a question
-pub plain_reply : (kind : Answer) (lines : Lines) (graph asked : Content) (text : List ℕ)
-    → asked.added ≡ None → IsAnswerIn kind lines graph asked.question text
-    → IsReplyTo kind lines graph asked text
-plain_reply kind lines graph asked text none is =
-    let here : IsAnswerIn kind lines (grown_by graph None) asked.question text =
+pub plain_reply : (terms : Terms) (graph asked : Content) (text : List ℕ)
+    → asked.added ≡ None → IsAnswerIn terms graph asked.question text
+    → IsReplyTo terms graph asked text
+plain_reply terms graph asked text none is =
+    let here : IsAnswerIn terms (grown_by graph None) asked.question text =
     record { body = is.body; is_body = is.is_body; written = is.written } in
     record {
       answer = text;
-      is_answer = subst (λ added. IsAnswerIn kind lines (grown_by graph added) asked.question text) (sym none) here;
+      is_answer = subst (λ added. IsAnswerIn terms (grown_by graph added) asked.question text) (sym none) here;
       written = ap (λ added. added_line added ++ text) (sym none);
     }
 
 -- the reply to added arcs
-pub grown_reply : (kind : Answer) (lines : Lines) (graph asked : Content) (arcs : List ArcRec)
+pub grown_reply : (terms : Terms) (graph asked : Content) (arcs : List ArcRec)
     (text : List ℕ)
-    → asked.added ≡ Some arcs → IsGrownReply kind lines graph arcs asked.question text
-    → IsReplyTo kind lines graph asked text
-grown_reply kind lines graph asked arcs text some is = record {
+    → asked.added ≡ Some arcs → IsGrownReply terms graph arcs asked.question text
+    → IsReplyTo terms graph asked text
+grown_reply terms graph asked arcs text some is = record {
   answer = is.0;
-  is_answer = subst (λ added. IsAnswerIn kind lines (grown_by graph added) asked.question is.0) (sym some) is.1;
+  is_answer = subst (λ added. IsAnswerIn terms (grown_by graph added) asked.question is.0) (sym some) is.1;
   written = is.2 ∙ ap (λ added. added_line added ++ is.0) (sym some);
 }
 
@@ -148,16 +149,16 @@ pub refusable_last : (request : Option Request) (reader : RequestReader) (first 
     → IsAskedIn request → IfSome request (IsRefusable reader first all outcomes)
     → IsRefusedLast reader first all outcomes
 refusable_last None reader first all outcomes asked is = absurd asked
-refusable_last (Some (Asked job extent)) reader first all outcomes asked is = is
+refusable_last (Some (Asked job head)) reader first all outcomes asked is = is
 refusable_last (Some (Wrong line kind)) reader first all outcomes asked is = absurd asked
 refusable_last (Some (NoMemory line)) reader first all outcomes asked is = absurd asked
 
 -- the reply that refuses it
-pub refused_reply : (kind : Answer) (by : Lines) (graph : Content) (line : ℕ) (session : Session)
+pub refused_reply : (terms : Terms) (graph : Content) (line : ℕ) (session : Session)
     (before after : Option (List ℕ))
-    → HoldsGraph kind graph session → Appends before after (refusal_text line out_of_memory)
-    → Replies kind by graph (no_memory line ∷ []) session before after
-refused_reply kind by graph line session before after holds told = record {
+    → HoldsGraph graph session → Appends before after (refusal_text line out_of_memory)
+    → Replies terms graph (no_memory line ∷ []) session before after
+refused_reply terms graph line session before after holds told = record {
   text = refusal_text line out_of_memory;
   replied = (refusal_text line out_of_memory, [], sym (append-nil (refusal_text line out_of_memory)), refl, refl);
   written = told;
@@ -165,7 +166,7 @@ refused_reply kind by graph line session before after holds told = record {
 }
 
 within_of : (n : ℕ) (request : Request) → IsAskedWithin n request → IsRequestWithin n request
-within_of n (Asked job extent) (limits, vertices, none, bound) = (
+within_of n (Asked job head) (limits, vertices, none, bound) = (
   subst (λ k. IsQuestionWithin k (content_of job).question) vertices limits.question,
   subst (λ k. IsAddedWithin k (content_of job).added) vertices limits.added,
   bound,

@@ -1,61 +1,58 @@
 -- What a session takes from its reader, up to the end.
-use Rattle.std.proofs.Common.{◌≡◌, ◌∙◌, ◌+◌, ◌-◌, ℕ, Bool, true, false, List, [], ◌++◌, Option, Result, Ok, Err, OnOk}
+use Rattle.std.proofs.Common.{◌≡◌, ◌∙◌, ◌+◌, ◌-◌, ℕ, true, false, List, [], ◌++◌, Option, Result, Ok, Err, OnOk}
 use Rattle.std.proofs.Common.{length, take, drop, arith, refl, subst, sym, ap, append_assoc}
 use Rattle.std.proofs.lemmas.List.{append-nil}
 use Rattle.std.proofs.KnownBytes.{Consumes-trans}
 use Rattle.std.specs.Io.KnownBytes.{Consumes, IsAtEnd}
 use Rattle.dimacs_text.specs.Jobs.{Content, absent, content_of}
 use Rattle.dimacs_text.specs.Lines.{lines}
-use Rattle.dimacs_text.specs.reader.FastArc.{HasNoFeed}
 use Rattle.request_reader.specs.Reading.{HasRequests, vertices_of}
 use Rattle.request_reader.specs.Requests.{AreRequests}
-use Rattle.job_answer.specs.Graphs.{AreGraphs}
 use Rattle.job_answer.specs.Bytes.{Writes}
-use Rattle.job_answer.specs.declared.asked.Answer.{Answer}
-use Rattle.job_answer.specs.declared.asked.Lines.{Lines}
 use Rattle.job_answer.specs.declared.fault.Fault.{Fault}
 use Rattle.job_answer.proofs.Facts.{appends-then}
 use Rattle.session_answer.specs.declared.conversation.Conversation.{Conversation}
 use Rattle.session_answer.specs.declared.graph_front.Front.{Front}
-use Rattle.session_answer.specs.Conversations.{AreAnswered, HasConversed, HasFront, HasHeard, IsAnsweredSession, IsKept, IsKeptOf}
+use Rattle.session_answer.specs.Conversations.{AreAnswered, HasConversed, HasFront, HasHeard, IsAnsweredSession, IsKeptOf}
+use Rattle.session_answer.specs.Terms.{Terms}
 use Rattle.session_answer.specs.Replies.{HoldsGraph, IsAnswerIn}
 use Rattle.session_answer.proofs.ReplyLemmas.{no_bytes}
 
 -- these bytes came, then more were taken, and all of them were heard
-pub record HasTaken (kind : Answer) (by : Lines) (graph : Content) (first : ℕ)
+pub record HasTaken (terms : Terms) (graph : Content) (first : ℕ)
     (conversation : Conversation) (heard : List ℕ) (taken_from taken_to before after : Option (List ℕ)) : Type 0 where
   pub so_far : List ℕ
   pub taken : Consumes taken_from taken_to so_far
-  pub all : HasHeard kind by graph first conversation (heard ++ so_far) before after
+  pub all : HasHeard terms graph first conversation (heard ++ so_far) before after
 
-pub more_taken : (kind : Answer) (by : Lines) (graph : Content) (first : ℕ)
+pub more_taken : (terms : Terms) (graph : Content) (first : ℕ)
     (old new : Conversation) (heard next : List ℕ) (taken_from between taken_to before middle after : Option (List ℕ))
-    → HasTaken kind by graph first old heard taken_from between before middle
+    → HasTaken terms graph first old heard taken_from between before middle
     → Consumes between taken_to next
-    → ((bytes : List ℕ) → HasHeard kind by graph first old bytes before middle
-    → HasHeard kind by graph first new (bytes ++ next) before after)
-    → HasTaken kind by graph first new heard taken_from taken_to before after
-more_taken kind by graph first old new heard next taken_from between taken_to before middle after is takes
+    → ((bytes : List ℕ) → HasHeard terms graph first old bytes before middle
+    → HasHeard terms graph first new (bytes ++ next) before after)
+    → HasTaken terms graph first new heard taken_from taken_to before after
+more_taken terms graph first old new heard next taken_from between taken_to before middle after is takes
     hears = record {
       so_far = is.so_far ++ next;
       taken = Consumes-trans taken_from between taken_to is.so_far next is.taken takes;
       all =
-          subst (λ bytes. HasHeard kind by graph first new bytes before after) (append_assoc heard is.so_far next)
+          subst (λ bytes. HasHeard terms graph first new bytes before after) (append_assoc heard is.so_far next)
           (hears (heard ++ is.so_far) is.all);
     }
 
 -- at the end of what the reader gives
-pub all_taken : {T : Type 0} (kind : Answer) (by : Lines) (graph : Content) (first : ℕ)
+pub all_taken : {T : Type 0} (terms : Terms) (graph : Content) (first : ℕ)
     (conversation : Conversation) (heard buffer : List ℕ) (count : ℕ)
     (taken_from between taken_to before middle after : Option (List ℕ)) (result : Result T Fault)
-    → HasTaken kind by graph first conversation heard taken_from between before middle
+    → HasTaken terms graph first conversation heard taken_from between before middle
     → Consumes between taken_to (take count buffer) → count ≡ 0 → IsAtEnd taken_to
-    → ((bytes : List ℕ) → HasHeard kind by graph first conversation bytes before middle
-    → OnOk result (AreAnswered kind by graph first bytes before after))
-    → OnOk result (HasConversed kind by graph first heard taken_from taken_to before after)
-all_taken kind by graph first conversation heard buffer count taken_from between taken_to before middle after
+    → ((bytes : List ℕ) → HasHeard terms graph first conversation bytes before middle
+    → OnOk result (AreAnswered terms graph first bytes before after))
+    → OnOk result (HasConversed terms graph first heard taken_from taken_to before after)
+all_taken terms graph first conversation heard buffer count taken_from between taken_to before middle after
     (Err fault) is takes none ended answers = tt
-all_taken kind by graph first conversation heard buffer count taken_from between taken_to before middle after
+all_taken terms graph first conversation heard buffer count taken_from between taken_to before middle after
     (Ok done) is takes none ended answers = record {
       more = is.so_far;
       whole = record {
@@ -69,13 +66,13 @@ all_taken kind by graph first conversation heard buffer count taken_from between
     }
 
 -- before the first byte after the graph
-pub begins_heard : (kind : Answer) (by : Lines) (graph : Content) (first : ℕ)
+pub begins_heard : (terms : Terms) (graph : Content) (first : ℕ)
     (conversation : Conversation) (written : Option (List ℕ))
     → conversation.in_comment ≡ false → conversation.unfinished.items ≡ []
     → HasRequests conversation.requests first [] []
-    → vertices_of conversation.requests ≡ graph.n → HoldsGraph kind graph conversation.session
-    → HasHeard kind by graph first conversation [] written written
-begins_heard kind by graph first conversation written outside none requests vertices holds = record {
+    → vertices_of conversation.requests ≡ graph.n → HoldsGraph graph conversation.session
+    → HasHeard terms graph first conversation [] written written
+begins_heard terms graph first conversation written outside none requests vertices holds = record {
   whole = [];
   begun = [];
   parts = refl;
@@ -91,12 +88,12 @@ begins_heard kind by graph first conversation written outside none requests vert
 }
 
 -- the input ends with the graph
-pub session_ended : (limit : ℕ) (kind : Answer) (by : Lines) (front : Front) (buffer : List ℕ)
+pub session_ended : (limit : ℕ) (terms : Terms) (front : Front) (buffer : List ℕ)
     (taken_from taken_to given_from given_to : Option (List ℕ))
     → HasFront limit front buffer taken_from taken_to → front.has_ended ≡ true
-    → Writes (IsAnswerIn kind by (content_of front.graph) absent) given_from given_to
-    → IsAnsweredSession limit kind by taken_from taken_to given_from given_to
-session_ended limit kind by front buffer taken_from taken_to given_from given_to has ended writes =
+    → Writes (IsAnswerIn terms (content_of front.graph) absent) given_from given_to
+    → IsAnsweredSession limit terms taken_from taken_to given_from given_to
+session_ended limit terms front buffer taken_from taken_to given_from given_to has ended writes =
     let last = has.ended ended in
     let nothing : front.end - front.at ≡ 0 = omega (arith, last.1) in
     record {
@@ -127,17 +124,17 @@ session_ended limit kind by front buffer taken_from taken_to given_from given_to
     }
 
 -- requests come after it
-pub session_whole : {T : Type 0} (limit : ℕ) (kind : Answer) (by : Lines) (front : Front) (buffer : List ℕ)
+pub session_whole : {T : Type 0} (limit : ℕ) (terms : Terms) (front : Front) (buffer : List ℕ)
     (taken_from between taken_to given_from middle given_to : Option (List ℕ)) (result : Result T Fault)
     → HasFront limit front buffer taken_from between → front.has_ended ≡ false
-    → Writes (IsAnswerIn kind by (content_of front.graph) absent) given_from middle
+    → Writes (IsAnswerIn terms (content_of front.graph) absent) given_from middle
     → OnOk result
-    (HasConversed kind by (content_of front.graph) front.line
+    (HasConversed terms (content_of front.graph) front.line
     (take (front.end - front.at) (drop front.at buffer)) between taken_to middle given_to)
-    → OnOk result (IsAnsweredSession limit kind by taken_from taken_to given_from given_to)
-session_whole limit kind by front buffer taken_from between taken_to given_from middle given_to (Err fault) has goes_on
+    → OnOk result (IsAnsweredSession limit terms taken_from taken_to given_from given_to)
+session_whole limit terms front buffer taken_from between taken_to given_from middle given_to (Err fault) has goes_on
     writes conversed = tt
-session_whole limit kind by front buffer taken_from between taken_to given_from middle given_to (Ok done) has goes_on
+session_whole limit terms front buffer taken_from between taken_to given_from middle given_to (Ok done) has goes_on
     writes conversed =
     let heard = take (front.end - front.at) (drop front.at buffer) in
     let more = conversed.more in
@@ -172,17 +169,3 @@ session_whole limit kind by front buffer taken_from between taken_to given_from 
           appends-then given_from middle given_to writes.text conversed.answered.replies writes.appended
           conversed.answered.written;
     }
-
--- a graph is kept, and no line was read after it
-pub begins_kept : (kind : Answer) (graph : Content) (conversation : Conversation) (first : ℕ)
-    → HoldsGraph kind graph conversation.session → AreGraphs conversation.session.graphs
-    → HasRequests conversation.requests first [] [] → vertices_of conversation.requests ≡ graph.n
-    → IsKept conversation
-begins_kept kind graph conversation first holds graphs requests vertices = record {
-  graphs = graphs;
-  first = first;
-  ls = [];
-  outcomes = [];
-  requests = requests;
-  vertices = vertices ∙ sym holds.network.vertices;
-}

@@ -1,5 +1,5 @@
 -- What a session that ends with a fault has given: a prefix of its replies.
-use Rattle.std.specs.Prelude.{◌≡◌, ◌⊎◌, ◌+◌, ◌-◌, ◌^◌, ◌<◌, ℕ, Bool, false, List, [], ◌++◌, length, Option, ⊤}
+use Rattle.std.specs.Prelude.{◌≡◌, ◌⊎◌, ◌+◌, ◌-◌, ◌^◌, ◌<◌, ℕ, List, [], ◌++◌, length, Option, ⊤}
 use Rattle.std.specs.Io.KnownBytes.{Consumes, IsAtEnd, Keeps}
 use Rattle.dimacs_text.specs.declared.fault.LineKind.{LineKind}
 use Rattle.dimacs_text.specs.declared.fault.LineKind.TheVariants.{TooFew}
@@ -10,8 +10,7 @@ use Rattle.dimacs_text.specs.Lines.{lines}
 use Rattle.job_reader.specs.Taken.{TakesWhole}
 use Rattle.request_reader.specs.Requests.{Outcome, AreRequestsTo, AreShort}
 use Rattle.job_answer.specs.Bytes.{WritesPrefix}
-use Rattle.job_answer.specs.declared.asked.Answer.{Answer}
-use Rattle.job_answer.specs.declared.asked.Lines.{Lines}
+use Rattle.session_answer.specs.Terms.{Terms}
 use Rattle.job_answer.specs.declared.fault.Fault.{Fault}
 use Rattle.job_answer.specs.declared.fault.Fault.TheVariants as fault
 use Rattle.job_answer.specs.Outcome.{IsWritingFault}
@@ -26,26 +25,26 @@ pub record TakesSome (before after : Option (List ℕ)) : Type 0 where
 
 -- The lines, of which the first has the number given, begin with some requests, and a prefix of the replies to these was
 -- given and nothing else.
-pub record AreRepliesCut (kind : Answer) (by : Lines) (graph : Content) (first : ℕ)
+pub record AreRepliesCut (terms : Terms) (graph : Content) (first : ℕ)
     (all : List (List ℕ)) (before after : Option (List ℕ)) : Type 0 where
   pub outcomes : List Outcome
   pub next : ℕ
   pub end : List (List ℕ)
   pub requests : AreRequestsTo graph.n next end first all outcomes
-  pub replied : WritesPrefix (AreReplies kind by graph outcomes) before after
+  pub replied : WritesPrefix (AreReplies terms graph outcomes) before after
 
 -- so it is whichever lines follow these
-abbrev pub AreCutAfterLines : Answer → Lines → Content → ℕ → List (List ℕ) → Option (List ℕ) → Option (List ℕ)
+abbrev pub AreCutAfterLines : Terms → Content → ℕ → List (List ℕ) → Option (List ℕ) → Option (List ℕ)
     → Type 0
-AreCutAfterLines kind by graph first ls before after =
+AreCutAfterLines terms graph first ls before after =
     (more : List (List ℕ))
-    → AreRepliesCut kind by graph first (ls ++ more) before after
+    → AreRepliesCut terms graph first (ls ++ more) before after
 
 -- so it is whichever bytes follow these
-abbrev pub AreCutAfterBytes : Answer → Lines → Content → ℕ → List ℕ → Option (List ℕ) → Option (List ℕ) → Type 0
-AreCutAfterBytes kind by graph first bytes before after =
+abbrev pub AreCutAfterBytes : Terms → Content → ℕ → List ℕ → Option (List ℕ) → Option (List ℕ) → Type 0
+AreCutAfterBytes terms graph first bytes before after =
     (more : List ℕ)
-    → AreRepliesCut kind by graph first (lines (bytes ++ more)) before after
+    → AreRepliesCut terms graph first (lines (bytes ++ more)) before after
 
 -- what may come after all that was taken: nothing, where the end was reached
 abbrev pub MayFollow : Option (List ℕ) → List ℕ → Type 0
@@ -53,28 +52,28 @@ MayFollow taken_to later = IsAtEnd taken_to → later ≡ []
 
 -- These bytes came after the graph, and then more were taken. Whatever follows, all of it begins with some requests, and
 -- a prefix of the replies to these was given.
-pub record IsCutConversation (kind : Answer) (by : Lines) (graph : Content) (first : ℕ)
+pub record IsCutConversation (terms : Terms) (graph : Content) (first : ℕ)
     (heard : List ℕ) (taken_from taken_to before after : Option (List ℕ)) : Type 0 where
   pub more : List ℕ
   pub taken : Consumes taken_from taken_to more
   pub cut : (later : List ℕ)
       → MayFollow taken_to later
-      → AreRepliesCut kind by graph first (lines (heard ++ (more ++ later))) before after
+      → AreRepliesCut terms graph first (lines (heard ++ (more ++ later))) before after
 
 -- ---- a session
 
 -- the reply to a graph, and then those to the requests after it
-pub record AreAllReplies (kind : Answer) (by : Lines) (graph : Content) (outcomes : List Outcome)
+pub record AreAllReplies (terms : Terms) (graph : Content) (outcomes : List Outcome)
     (text : List ℕ) : Type 0 where
   pub greeting : List ℕ
-  pub greets : IsAnswerIn kind by graph absent greeting
+  pub greets : IsAnswerIn terms graph absent greeting
   pub later : List ℕ
-  pub replied : AreReplies kind by graph outcomes later
+  pub replied : AreReplies terms graph outcomes later
   pub written : text ≡ greeting ++ later
 
 -- The text begins with that of a graph, and its other lines begin with some requests. A prefix of the replies to the
 -- graph and to these requests was given, and nothing else.
-pub record IsSessionBegun (kind : Answer) (by : Lines) (text : List ℕ)
+pub record IsSessionBegun (terms : Terms) (text : List ℕ)
     (before after : Option (List ℕ)) : Type 0 where
   pub front : List ℕ
   pub graph : Content
@@ -85,17 +84,17 @@ pub record IsSessionBegun (kind : Answer) (by : Lines) (text : List ℕ)
   pub next : ℕ
   pub end : List (List ℕ)
   pub requests : AreRequestsTo graph.n next end (length (lines front) + 1) rest outcomes
-  pub replied : WritesPrefix (AreAllReplies kind by graph outcomes) before after
+  pub replied : WritesPrefix (AreAllReplies terms graph outcomes) before after
 
 -- This text was taken. Nothing was given; or whatever follows, all of it begins with a graph and some requests, and a
 -- prefix of the replies to these was given.
-pub record IsCutSession (kind : Answer) (by : Lines) (taken_from taken_to given_from given_to : Option (List ℕ)) : Type 0 where
+pub record IsCutSession (terms : Terms) (taken_from taken_to given_from given_to : Option (List ℕ)) : Type 0 where
   pub text : List ℕ
   pub taken : Consumes taken_from taken_to text
   pub given : Keeps given_from given_to
       ⊎ ((more : List ℕ)
       → MayFollow taken_to more
-      → IsSessionBegun kind by (text ++ more) given_from given_to)
+      → IsSessionBegun terms (text ++ more) given_from given_to)
 
 -- ---- which fault ends a session
 

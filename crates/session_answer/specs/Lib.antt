@@ -1,3 +1,4 @@
+pub mod Terms
 pub mod Replies
 pub mod Conversations
 pub mod Cuts

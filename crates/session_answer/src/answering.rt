@@ -4,18 +4,18 @@ ghost use Rattle.std.specs.Prelude.{◌<◌, ◌≤◌, ◌^◌, ℕ, List, [], 
 ghost use Rattle.dimacs_text.specs.Jobs.{content_of, Content, IsWithinLimits};
 ghost use Rattle.session_answer.specs.Conversations.{HasConversed, HasHeard, IsAnsweredSession, IsKept};
 ghost use Rattle.session_answer.specs.Cuts.{EndsAfterGraph, EndsBy, IsCutConversation, IsCutSession};
-ghost use Rattle.session_answer.specs.Replies.{HoldsGraph};
+ghost use Rattle.session_answer.specs.Replies.{AreKept, HoldsGraph, vertices_in};
+ghost use Rattle.session_answer.specs.Terms.{Terms, terms_of};
 
 use crate::conversation::Conversation;
 use crate::graph_front::{Front, read_front, read_some};
 use crate::session::Session;
 use dimacs_text::Ask;
 use job_answer::laws::answer_texts_by_lines_are_unique;
-use job_answer::{Asked, Context, Fault, Lines};
+use job_answer::{Asked, Context, Fault};
 use least_costs::Workspace;
 use obim_engine::Gate;
 use request_reader::RequestReader;
-use route_walks::Memory;
 use std::alloc::Global;
 use std::io::{Read, Write};
 use std::sync::Wait;
@@ -37,11 +37,11 @@ pub fn answer_session<H: Threads + Wait + Clock + Sync, R: Read, W: Write, G: Ga
     asked: &Asked,
     gate: &G,
 ) -> Result<(), Fault>
-    ensures answered { OnOk result (IsAnsweredSession asked.now.limit asked.now.answer asked.now.lines
+    ensures answered { OnOk result (IsAnsweredSession asked.now.limit (terms_of asked.now)
         (R.remaining reader.old) (R.remaining reader.new)
         (W.contents writer.old) (W.contents writer.new)) }
     // At each fault a prefix of the replies was written.
-    ensures cut { OnErr result (IsCutSession asked.now.answer asked.now.lines
+    ensures cut { OnErr result (IsCutSession (terms_of asked.now)
         (R.remaining reader.old) (R.remaining reader.new)
         (W.contents writer.old) (W.contents writer.new)) }
     // The fault is that of the text, or the system's.
@@ -68,10 +68,9 @@ fn answer_by<H: Threads + Wait + Clock + Sync, R: Read, W: Write, G: Gate + Sync
 ) -> Result<(), Fault>
     requires room { 0 < length buffer.old }
     requires limit { context.now.asked.now.limit ≤ 2 ^ 36 }
-    ensures answered { OnOk result (IsAnsweredSession context.now.asked.now.limit context.now.asked.now.answer
-        context.now.asked.now.lines (R.remaining reader.old) (R.remaining reader.new)
+    ensures answered { OnOk result (IsAnsweredSession context.now.asked.now.limit (terms_of context.now.asked.now) (R.remaining reader.old) (R.remaining reader.new)
         (W.contents writer.old) (W.contents writer.new)) }
-    ensures cut { OnErr result (IsCutSession context.now.asked.now.answer context.now.asked.now.lines
+    ensures cut { OnErr result (IsCutSession (terms_of context.now.asked.now)
         (R.remaining reader.old) (R.remaining reader.new)
         (W.contents writer.old) (W.contents writer.new)) }
     ensures says { IfErr result (EndsBy context.now.asked.now.limit (R.remaining reader.old) (R.remaining reader.new)) }
@@ -80,40 +79,32 @@ fn answer_by<H: Threads + Wait + Clock + Sync, R: Read, W: Write, G: Gate + Sync
     let threads = context.asked.settings.workers as usize;
     let (rt, alloc) = (context.rt, context.alloc);
     let front = read_front(rt, alloc, reader, buffer, context.asked.limit, threads)?;
-    let (at, end, has_ended) = (front.at, front.end, front.has_ended);
-    let mut conversation = open_conversation(rt, alloc, front, context.asked)?;
-    let session = &conversation.session;
-    let lines = context.asked.lines;
-    session.answer(context, writer, &Ask::Absent, lines, &mut None)?;
+    let (at, end, has_ended, line) = (front.at, front.end, front.has_ended, front.line);
+    let mut session = Session::open(rt, alloc, front.graph, threads)?;
+    session.answer(context, writer, &Ask::Absent, &mut None)?;
     if has_ended {
         return Ok(());
     }
+    let mut conversation = open_conversation(alloc, session, line);
     conversation.take(context, writer, &buffer[at..end])?;
     converse(context, reader, writer, buffer, &mut conversation)
 }
 
-/// Keeps a graph, for the requests after it.
-fn open_conversation<H: Threads + Sync>(
-    rt: &H,
-    alloc: Global,
-    front: Front,
-    asked: &Asked,
-) -> Result<Conversation, Memory>
-    requires limits { IsWithinLimits (content_of front.graph) }
-    ensures holds { IfOk result (λ conversation.
-        HoldsGraph asked.now.answer (content_of front.graph) conversation.session) }
-    ensures kept { IfOk result IsKept }
-    ensures heard { (by : Lines) (written : Option (List ℕ)) → IfOk result (λ conversation.
-        HasHeard asked.now.answer by (content_of front.graph) front.line conversation [] written written) }
+/// Begins the conversation about a graph. The next line has this number.
+fn open_conversation(alloc: Global, session: Session, line: u64) -> Conversation
+    requires kept { AreKept session }
+    ensures kept { IsKept result }
+    ensures heard { (terms : Terms) (graph : Content) (written : Option (List ℕ)) → HoldsGraph graph session
+        → HasHeard terms graph line result [] written written }
 {
-    let (line, n) = (front.line, front.graph.n);
-    Ok(Conversation {
-        session: Session::open(rt, alloc, front.graph, asked)?,
+    let n = session.weights.graphs.network.n();
+    Conversation {
+        session,
         requests: RequestReader::new(alloc, n, line),
         unfinished: Vec::new(alloc),
         in_comment: false,
         kept: Some(Workspace::new()),
-    })
+    }
 }
 
 /// Takes what the reader gives, up to its end, and replies.
@@ -127,17 +118,17 @@ fn converse<H: Threads + Wait + Clock + Sync, R: Read, W: Write, G: Gate + Sync>
     requires kept { IsKept conversation.old }
     requires room { 0 < length buffer.old }
     ensures conversed { (graph : Content) (first : ℕ) (heard : List ℕ) (before : Option (List ℕ))
-        → HasHeard context.now.asked.now.answer context.now.asked.now.lines graph first conversation.old
+        → HasHeard (terms_of context.now.asked.now) graph first conversation.old
         heard before (W.contents writer.old)
-        → OnOk result (HasConversed context.now.asked.now.answer context.now.asked.now.lines graph first
+        → OnOk result (HasConversed (terms_of context.now.asked.now) graph first
         heard (R.remaining reader.old) (R.remaining reader.new) before (W.contents writer.new)) }
     ensures cut { (graph : Content) (first : ℕ) (heard : List ℕ) (before : Option (List ℕ))
-        → HasHeard context.now.asked.now.answer context.now.asked.now.lines graph first conversation.old
+        → HasHeard (terms_of context.now.asked.now) graph first conversation.old
         heard before (W.contents writer.old)
-        → OnErr result (IsCutConversation context.now.asked.now.answer context.now.asked.now.lines graph
+        → OnErr result (IsCutConversation (terms_of context.now.asked.now) graph
         first heard (R.remaining reader.old) (R.remaining reader.new) before (W.contents writer.new)) }
     ensures says { (graph : Content) (first : ℕ) (heard : List ℕ) (before : Option (List ℕ))
-        → HasHeard context.now.asked.now.answer context.now.asked.now.lines graph first conversation.old
+        → HasHeard (terms_of context.now.asked.now) graph first conversation.old
         heard before (W.contents writer.old)
         → IfErr result (EndsAfterGraph graph.n first heard (R.remaining reader.old) (R.remaining reader.new)) }
 {

@@ -6,7 +6,6 @@ ghost use Rattle.dimacs_text.specs.Jobs.{Content, content_of, IsWithinLimits};
 ghost use Rattle.dimacs_text.specs.Lines.{begins_comment, lines};
 ghost use Rattle.dimacs_text.specs.reader.FastArc.{HasNoFeed};
 ghost use Rattle.job_answer.specs.Bytes.{GivesPrefix, WritesPrefix};
-ghost use Rattle.job_answer.specs.Graphs.{AreGraphs};
 ghost use Rattle.job_answer.specs.Outcome.{IsWritingFault};
 ghost use Rattle.answer_lines.specs.Lines.{refusal_text};
 ghost use Rattle.request_reader.specs.Reading.{outcomes_in, last_of, vertices_of, HasRequests, IsRefusedLast};
@@ -14,9 +13,12 @@ ghost use Rattle.request_reader.specs.Requests.{Outcome, no_memory};
 ghost use Rattle.std.specs.Io.KnownBytes.{Appends};
 ghost use Rattle.session_answer.specs.Conversations.{AreAnswered, HasHeard, HasRepliedTo, IsKept, IsKeptOf, Replies};
 ghost use Rattle.session_answer.specs.Cuts.{AreCutAfterBytes, AreCutAfterLines, AreRepliesCut, EndsShort};
-ghost use Rattle.session_answer.specs.Replies.{AreReplies, HoldsGraph, IsAskedIn, IsRequestWithin, IsTold, out_of_memory};
+ghost use Rattle.session_answer.specs.Replies.{AreKept, AreReplies, HoldsGraph, IsAskedIn, IsRequestWithin, IsTold};
+ghost use Rattle.session_answer.specs.Replies.{out_of_memory, vertices_in};
+ghost use Rattle.session_answer.specs.Terms.{terms_of};
 
-use crate::session::{NO_MEMORY, Session, Told, refuse};
+use crate::kind_graph::Told;
+use crate::session::{NO_MEMORY, Session, refuse};
 use dimacs_text::{LineKind, begins_comment};
 use job_answer::laws::answer_texts_by_lines_are_unique;
 use job_answer::{Context, Fault};
@@ -53,14 +55,14 @@ impl Conversation {
     ) -> Result<(), Fault>
         requires kept { IsKept self.old }
         ensures heard { (graph : Content) (first : ℕ) (heard : List ℕ) (before : Option (List ℕ))
-            → HasHeard context.now.asked.now.answer context.now.asked.now.lines graph first self.old heard
+            → HasHeard (terms_of context.now.asked.now) graph first self.old heard
             before (W.contents writer.old)
-            → OnOk result (HasHeard context.now.asked.now.answer context.now.asked.now.lines graph first
+            → OnOk result (HasHeard (terms_of context.now.asked.now) graph first
             self.new (heard ++ bytes.now) before (W.contents writer.new)) }
         ensures cut { (graph : Content) (first : ℕ) (heard : List ℕ) (before : Option (List ℕ))
-            → HasHeard context.now.asked.now.answer context.now.asked.now.lines graph first self.old heard
+            → HasHeard (terms_of context.now.asked.now) graph first self.old heard
             before (W.contents writer.old)
-            → OnErr result (AreCutAfterBytes context.now.asked.now.answer context.now.asked.now.lines graph
+            → OnErr result (AreCutAfterBytes (terms_of context.now.asked.now) graph
             first (heard ++ bytes.now) before (W.contents writer.new)) }
         ensures kept { OnOk result (IsKept self.new) }
         ensures kinds { IfErr result IsWritingFault }
@@ -104,14 +106,14 @@ impl Conversation {
         requires kept { IsKept self.old }
         requires no_feed { HasNoFeed rest.now 0 (length rest.now) }
         ensures heard { (graph : Content) (first : ℕ) (heard : List ℕ) (before : Option (List ℕ))
-            → HasHeard context.now.asked.now.answer context.now.asked.now.lines graph first self.old heard
+            → HasHeard (terms_of context.now.asked.now) graph first self.old heard
             before (W.contents writer.old)
-            → OnOk result (HasHeard context.now.asked.now.answer context.now.asked.now.lines graph first
+            → OnOk result (HasHeard (terms_of context.now.asked.now) graph first
             self.new (heard ++ rest.now ++ 10 ∷ []) before (W.contents writer.new)) }
         ensures cut { (graph : Content) (first : ℕ) (heard : List ℕ) (before : Option (List ℕ))
-            → HasHeard context.now.asked.now.answer context.now.asked.now.lines graph first self.old heard
+            → HasHeard (terms_of context.now.asked.now) graph first self.old heard
             before (W.contents writer.old)
-            → OnErr result (AreCutAfterBytes context.now.asked.now.answer context.now.asked.now.lines graph
+            → OnErr result (AreCutAfterBytes (terms_of context.now.asked.now) graph
             first (heard ++ rest.now ++ 10 ∷ []) before (W.contents writer.new)) }
         ensures kept { OnOk result (IsKept self.new) }
         ensures kinds { IfErr result IsWritingFault }
@@ -152,14 +154,14 @@ impl Conversation {
         requires outside { self.old.in_comment ≡ false }
         requires no_feed { HasNoFeed rest.now 0 (length rest.now) }
         ensures heard { (graph : Content) (first : ℕ) (heard : List ℕ) (before : Option (List ℕ))
-            → HasHeard context.now.asked.now.answer context.now.asked.now.lines graph first self.old heard
+            → HasHeard (terms_of context.now.asked.now) graph first self.old heard
             before (W.contents writer.old)
-            → OnOk result (HasHeard context.now.asked.now.answer context.now.asked.now.lines graph first
+            → OnOk result (HasHeard (terms_of context.now.asked.now) graph first
             self.new (heard ++ rest.now ++ 10 ∷ []) before (W.contents writer.new)) }
         ensures cut { (graph : Content) (first : ℕ) (heard : List ℕ) (before : Option (List ℕ))
-            → HasHeard context.now.asked.now.answer context.now.asked.now.lines graph first self.old heard
+            → HasHeard (terms_of context.now.asked.now) graph first self.old heard
             before (W.contents writer.old)
-            → OnErr result (AreCutAfterBytes context.now.asked.now.answer context.now.asked.now.lines graph
+            → OnErr result (AreCutAfterBytes (terms_of context.now.asked.now) graph
             first (heard ++ rest.now ++ 10 ∷ []) before (W.contents writer.new)) }
         ensures kept { OnOk result (IsKept self.new) }
         ensures kinds { IfErr result IsWritingFault }
@@ -179,14 +181,14 @@ impl Conversation {
     ) -> Result<(), Fault>
         requires kept { IsKept self.old }
         ensures replied { (graph : Content) (first : ℕ) (ls : List (List ℕ)) (before : Option (List ℕ))
-            → HasRepliedTo context.now.asked.now.answer context.now.asked.now.lines graph first self.old ls
+            → HasRepliedTo (terms_of context.now.asked.now) graph first self.old ls
             before (W.contents writer.old)
-            → OnOk result (HasRepliedTo context.now.asked.now.answer context.now.asked.now.lines graph first
+            → OnOk result (HasRepliedTo (terms_of context.now.asked.now) graph first
             self.new (ls ++ line.now ∷ []) before (W.contents writer.new)) }
         ensures cut { (graph : Content) (first : ℕ) (ls : List (List ℕ)) (before : Option (List ℕ))
-            → HasRepliedTo context.now.asked.now.answer context.now.asked.now.lines graph first self.old ls
+            → HasRepliedTo (terms_of context.now.asked.now) graph first self.old ls
             before (W.contents writer.old)
-            → OnErr result (AreCutAfterLines context.now.asked.now.answer context.now.asked.now.lines graph
+            → OnErr result (AreCutAfterLines (terms_of context.now.asked.now) graph
             first (ls ++ line.now ∷ []) before (W.contents writer.new)) }
         ensures kept { OnOk result (IsKept self.new) }
         ensures unfinished { self.new.unfinished ≡ self.old.unfinished }
@@ -231,21 +233,21 @@ impl Conversation {
         writer: &mut W,
         request: Option<Request>,
     ) -> Result<Told, Fault>
-        requires graphs { AreGraphs self.old.session.graphs }
-        requires within { IfSome request (IsRequestWithin self.old.session.graphs.network.n) }
-        ensures replied { (graph : Content) → HoldsGraph context.now.asked.now.answer graph self.old.session
+        requires kept { AreKept self.old.session }
+        requires within { IfSome request (IsRequestWithin (vertices_in self.old.session)) }
+        ensures replied { (graph : Content) → HoldsGraph graph self.old.session
             → IfOk result (λ told. IsTold told
-            (Replies context.now.asked.now.answer context.now.asked.now.lines graph (outcomes_in request)
+            (Replies (terms_of context.now.asked.now) graph (outcomes_in request)
             self.new.session (W.contents writer.old) (W.contents writer.new))
-            (Replies context.now.asked.now.answer context.now.asked.now.lines graph [] self.new.session
+            (Replies (terms_of context.now.asked.now) graph [] self.new.session
             (W.contents writer.old) (W.contents writer.new))) }
         ensures asked { IfOk result (λ told. IsTold told ⊤ (IsAskedIn request)) }
-        ensures cut { (graph : Content) → HoldsGraph context.now.asked.now.answer graph self.old.session
-            → OnErr result (WritesPrefix (AreReplies context.now.asked.now.answer context.now.asked.now.lines
+        ensures cut { (graph : Content) → HoldsGraph graph self.old.session
+            → OnErr result (WritesPrefix (AreReplies (terms_of context.now.asked.now)
             graph (outcomes_in request)) (W.contents writer.old) (W.contents writer.new)) }
-        ensures graphs { OnOk result (AreGraphs self.new.session.graphs) }
+        ensures kept { OnOk result (AreKept self.new.session) }
         ensures vertices { OnOk result
-            (self.new.session.graphs.network.n ≡ self.old.session.graphs.network.n) }
+            (vertices_in self.new.session ≡ vertices_in self.old.session) }
         ensures requests { self.new.requests ≡ self.old.requests }
         ensures unfinished { self.new.unfinished ≡ self.old.unfinished }
         ensures in_comment { self.new.in_comment ≡ self.old.in_comment }
@@ -265,14 +267,14 @@ impl Conversation {
     ) -> Result<(), Fault>
         requires kept { IsKept self.old }
         ensures replied { (graph : Content) (first : ℕ) (heard : List ℕ) (before : Option (List ℕ))
-            → HasHeard context.now.asked.now.answer context.now.asked.now.lines graph first self.old heard
+            → HasHeard (terms_of context.now.asked.now) graph first self.old heard
             before (W.contents writer.old)
-            → OnOk result (HasRepliedTo context.now.asked.now.answer context.now.asked.now.lines graph first
+            → OnOk result (HasRepliedTo (terms_of context.now.asked.now) graph first
             self.new (lines heard) before (W.contents writer.new)) }
         ensures cut { (graph : Content) (first : ℕ) (heard : List ℕ) (before : Option (List ℕ))
-            → HasHeard context.now.asked.now.answer context.now.asked.now.lines graph first self.old heard
+            → HasHeard (terms_of context.now.asked.now) graph first self.old heard
             before (W.contents writer.old)
-            → OnErr result (AreRepliesCut context.now.asked.now.answer context.now.asked.now.lines graph
+            → OnErr result (AreRepliesCut (terms_of context.now.asked.now) graph
             first (lines heard) before (W.contents writer.new)) }
         ensures kinds { IfErr result IsWritingFault }
     {
@@ -295,17 +297,17 @@ impl Conversation {
     ) -> Result<(), Fault>
         requires kept { IsKept self.old }
         ensures answered { (graph : Content) (first : ℕ) (heard : List ℕ) (before : Option (List ℕ))
-            → HasHeard context.now.asked.now.answer context.now.asked.now.lines graph first self.old heard
+            → HasHeard (terms_of context.now.asked.now) graph first self.old heard
             before (W.contents writer.old)
-            → OnOk result (AreAnswered context.now.asked.now.answer context.now.asked.now.lines graph first
+            → OnOk result (AreAnswered (terms_of context.now.asked.now) graph first
             heard before (W.contents writer.new)) }
         ensures cut { (graph : Content) (first : ℕ) (heard : List ℕ) (before : Option (List ℕ))
-            → HasHeard context.now.asked.now.answer context.now.asked.now.lines graph first self.old heard
+            → HasHeard (terms_of context.now.asked.now) graph first self.old heard
             before (W.contents writer.old)
-            → OnErr result (AreRepliesCut context.now.asked.now.answer context.now.asked.now.lines graph
+            → OnErr result (AreRepliesCut (terms_of context.now.asked.now) graph
             first (lines heard) before (W.contents writer.new)) }
         ensures says { (graph : Content) (first : ℕ) (heard : List ℕ) (before : Option (List ℕ))
-            → HasHeard context.now.asked.now.answer context.now.asked.now.lines graph first self.old heard
+            → HasHeard (terms_of context.now.asked.now) graph first self.old heard
             before (W.contents writer.old)
             → IfErr result (EndsShort graph.n first (lines heard)) }
     {

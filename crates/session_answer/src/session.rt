@@ -1,29 +1,24 @@
 //! The graph of a session, and the reply to one request.
 
-ghost use Rattle.std.specs.Prelude.{◌≡◌, ◌≤◌, ◌<◌, ◌++◌, true, false, [], Some, ⊤, IfErr, IfOk, OnErr, OnOk, length};
+ghost use Rattle.std.specs.Prelude.{◌≡◌, [], Some, ⊤, length, IfErr, IfOk, IfSome, OnErr, OnOk};
 ghost use Rattle.std.specs.Io.KnownBytes.{Appends};
 ghost use Rattle.answer_lines.specs.Lines.{grown_text, refusal_text};
-ghost use Rattle.dimacs_text.specs.Jobs.{Content, added_of, content_of, question_of};
-ghost use Rattle.dimacs_text.specs.Jobs.{IsAddedWithin, IsQuestionWithin, IsWithinLimits};
+ghost use Rattle.dimacs_text.specs.Jobs.{Content, content_of, question_of, IsAddedWithin, IsQuestionWithin, IsWithinLimits};
 ghost use Rattle.job_answer.specs.Bytes.{GivesPrefix, Writes, WritesPrefix};
-ghost use Rattle.job_answer.specs.Choices.{IsLinesAsked};
-ghost use Rattle.job_answer.specs.Graphs.{AreGraphs};
 ghost use Rattle.job_answer.specs.Outcome.{IsWritingFault};
+ghost use Rattle.job_answer.specs.declared.asked.Answer.{Answer};
 ghost use Rattle.request_reader.specs.Reading.{outcome_of};
-ghost use Rattle.session_answer.specs.Replies.{HoldsGraph, IsAnswerIn, IsAsked, IsBodyIn, IsGrownReply, IsReplyFor};
-ghost use Rattle.session_answer.specs.Replies.{IsRequestWithin, IsTold};
-ghost use Rattle.session_answer.specs.Replies.{graph_after, grown_by, lines_by, lines_for};
+ghost use Rattle.session_answer.specs.Replies.{AreKept, HoldsGraph, HoldsKind, IsAnswerIn, IsAsked, IsBeside, IsGrownReply};
+ghost use Rattle.session_answer.specs.Replies.{IsReplyFor, IsRequestWithin, IsTold, graph_after, grown_by, vertices_in};
+ghost use Rattle.session_answer.specs.Terms.{terms_of};
 
-use crate::request_lines::{lines_by, lines_for};
-use answer_lines::{put_grown, put_ready, put_refusal};
+use crate::kind_graph::{KindGraph, Told};
+use crate::terms::asked_by;
+use answer_lines::{put_grown, put_refusal};
 use dimacs_text::{Ask, Job};
 use job_answer::laws::answer_texts_by_lines_are_unique;
-use job_answer::{
-    Answer, Asked, Context, Fault, Graphs, Lines, NoWatch, Question, answer_question, graphs_for,
-    is_unasked, write_whole,
-};
+use job_answer::{Answer, Context, Fault, graphs_for, write_whole};
 use least_costs::Workspace;
-use least_costs::laws::networks_grow;
 use obim_engine::Gate;
 use request_reader::Request;
 use route_walks::{ArcRec, Memory};
@@ -36,46 +31,36 @@ use std::time::Clock;
 /// The words of a refusal for want of memory.
 pub(crate) const NO_MEMORY: &str = "out of memory";
 
-/// The most lines, or vertices on walks, of a reply that is made in memory before its first byte is given: some
-/// megabytes. No reply depends on it.
-const FEW_WORDS: usize = 1 << 16;
-
-/// The outcome of a request.
-#[derive(Clone, Copy, Debug, PartialEq, Eq)]
-pub(crate) enum Told {
-    /// Its reply was given whole.
-    Whole,
-    /// Memory was refused before the first byte of its reply: nothing was given, and nothing is done.
-    Nothing,
-}
-
-/// A graph that is kept: the network in which costs are least, grown by all arcs that were added.
+/// A graph that is kept: its network of weights, and those of the other kinds as soon as one is asked for.
 #[derive(Drop)]
 pub(crate) struct Session {
-    pub(crate) graphs: Graphs,
-    /// The number of arcs that were read, those that were added among them.
-    pub(crate) arcs: usize,
+    pub(crate) weights: KindGraph,
+    pub(crate) levels: Option<KindGraph>,
+    pub(crate) components: Option<KindGraph>,
 }
 
 impl Session {
-    /// Makes the network of a graph, whose list of arcs is given back.
+    /// Makes the network of a graph, whose list of arcs is given back, by up to `threads` threads.
     pub(crate) fn open<H: Threads + Sync>(
         rt: &H,
         alloc: Global,
         graph: Job,
-        asked: &Asked,
+        threads: usize,
     ) -> Result<Session, Memory>
         requires limits { IsWithinLimits (content_of graph) }
-        ensures holds { IfOk result (HoldsGraph asked.now.answer (content_of graph)) }
-        ensures graphs { IfOk result (λ session. AreGraphs session.graphs) }
+        ensures holds { IfOk result (HoldsGraph (content_of graph)) }
+        ensures kept { IfOk result AreKept }
     {
         let Job { n, arcs, .. } = graph;
         let count = arcs.len();
-        let threads = asked.settings.workers as usize;
-        let graphs = graphs_for(rt, alloc, asked.answer, n, arcs, None, threads)?;
+        let graphs = graphs_for(rt, alloc, Answer::Distances, n, arcs, None, threads)?;
         Ok(Session {
-            graphs,
-            arcs: count,
+            weights: KindGraph {
+                graphs,
+                arcs: count,
+            },
+            levels: None,
+            components: None,
         })
     }
 
@@ -88,22 +73,22 @@ impl Session {
         request: Request,
         kept: &mut Option<Workspace>,
     ) -> Result<Told, Fault>
-        requires graphs { AreGraphs self.old.graphs }
-        requires within { IsRequestWithin self.old.graphs.network.n request }
-        ensures reply { (graph : Content) → HoldsGraph context.now.asked.now.answer graph self.old
-            → IfOk result (λ told. IsTold told (Writes (IsReplyFor context.now.asked.now.answer context.now.asked.now.lines graph (outcome_of request)) (W.contents writer.old) (W.contents writer.new))
+        requires kept { AreKept self.old }
+        requires within { IsRequestWithin (vertices_in self.old) request }
+        ensures reply { (graph : Content) → HoldsGraph graph self.old
+            → IfOk result (λ told. IsTold told (Writes (IsReplyFor (terms_of context.now.asked.now) graph
+            (outcome_of request)) (W.contents writer.old) (W.contents writer.new))
             (Appends (W.contents writer.old) (W.contents writer.new) [])) }
         ensures asked { IfOk result (λ told. IsTold told ⊤ (IsAsked request)) }
-        ensures cut { (graph : Content) → HoldsGraph context.now.asked.now.answer graph self.old
-            → OnErr result (WritesPrefix (IsReplyFor context.now.asked.now.answer context.now.asked.now.lines
-            graph (outcome_of request)) (W.contents writer.old) (W.contents writer.new)) }
+        ensures cut { (graph : Content) → HoldsGraph graph self.old
+            → OnErr result (WritesPrefix (IsReplyFor (terms_of context.now.asked.now) graph
+            (outcome_of request)) (W.contents writer.old) (W.contents writer.new)) }
         // The graph has the arcs that were added from then on.
-        ensures graph { (graph : Content) → HoldsGraph context.now.asked.now.answer graph self.old
-            → IfOk result (λ told. IsTold told
-            (HoldsGraph context.now.asked.now.answer (graph_after graph (outcome_of request)) self.new)
-            (HoldsGraph context.now.asked.now.answer graph self.new)) }
-        ensures graphs { OnOk result (AreGraphs self.new.graphs) }
-        ensures vertices { OnOk result (self.new.graphs.network.n ≡ self.old.graphs.network.n) }
+        ensures graph { (graph : Content) → HoldsGraph graph self.old
+            → IfOk result (λ told. IsTold told (HoldsGraph (graph_after graph (outcome_of request)) self.new)
+            (HoldsGraph graph self.new)) }
+        ensures kept { OnOk result (AreKept self.new) }
+        ensures vertices { OnOk result (vertices_in self.new ≡ vertices_in self.old) }
         ensures kinds { IfErr result IsWritingFault }
     {
         match request {
@@ -115,93 +100,140 @@ impl Session {
                 refuse(context.alloc, writer, line, NO_MEMORY)?;
                 Ok(Told::Whole)
             }
-            Request::Asked { job, extent } => {
+            Request::Asked { job, head } => {
                 let Job { ask, added, .. } = job;
-                let lines = lines_by(extent, context.asked.lines);
-                self.prepare(context.alloc, kept);
+                let asked = asked_by(head, context.asked);
+                let context = Context {
+                    rt: context.rt,
+                    alloc: context.alloc,
+                    asked: &asked,
+                    gate: context.gate,
+                };
                 match added {
-                    None => self.reply_asked(context, writer, &ask, lines, kept),
-                    Some(arcs) => self.reply_grown(context, writer, &arcs, &ask, lines, kept),
+                    None => self.reply_asked(&context, writer, &ask, kept),
+                    Some(arcs) => self.reply_grown(&context, writer, &arcs, &ask, kept),
                 }
             }
         }
     }
 
-    /// Reverses the rows of the network, if searches from both ends gain more than that takes.
-    fn prepare(&mut self, alloc: Global, kept: &mut Option<Workspace>)
-        ensures { self.new ≡ self.old }
-    {
-        if let Some(kept) = kept {
-            kept.prepare(alloc, &mut self.graphs.network);
-        }
-    }
-
-    /// Replies to what is asked. A short reply is made in memory first, so that nothing was given if memory is refused.
+    /// Replies to what is asked, by the network of its kind. If memory is refused for that network, nothing is done.
     fn reply_asked<H: Threads + Wait + Clock + Sync, W: Write, G: Gate + Sync>(
-        &self,
+        &mut self,
         context: &Context<'_, H, G>,
         writer: &mut W,
         ask: &Ask,
-        lines: Lines,
         kept: &mut Option<Workspace>,
     ) -> Result<Told, Fault>
-        requires graphs { AreGraphs self.now.graphs }
-        requires bound { IsLinesAsked lines }
-        requires within { IsQuestionWithin self.now.graphs.network.n (question_of ask.now) }
-        ensures answered { (graph : Content) → HoldsGraph context.now.asked.now.answer graph self.now
-            → IfOk result (λ told. IsTold told (Writes (IsAnswerIn context.now.asked.now.answer lines graph
+        requires kept { AreKept self.old }
+        requires within { IsQuestionWithin (vertices_in self.old) (question_of ask.now) }
+        ensures answered { (graph : Content) → HoldsGraph graph self.old
+            → IfOk result (λ told. IsTold told (Writes (IsAnswerIn (terms_of context.now.asked.now) graph
             (question_of ask.now)) (W.contents writer.old) (W.contents writer.new))
             (Appends (W.contents writer.old) (W.contents writer.new) [])) }
-        ensures cut { (graph : Content) → HoldsGraph context.now.asked.now.answer graph self.now
-            → OnErr result (WritesPrefix (IsAnswerIn context.now.asked.now.answer lines graph
+        ensures cut { (graph : Content) → HoldsGraph graph self.old
+            → OnErr result (WritesPrefix (IsAnswerIn (terms_of context.now.asked.now) graph
             (question_of ask.now)) (W.contents writer.old) (W.contents writer.new)) }
+        ensures graph { (graph : Content) → HoldsGraph graph self.old → HoldsGraph graph self.new }
+        ensures kept { AreKept self.new }
+        ensures vertices { vertices_in self.new ≡ vertices_in self.old }
+        ensures kinds { IfErr result IsWritingFault }
+    {
+        let answer = context.asked.answer;
+        if matches!(answer, Answer::Distances) {
+            self.weights.prepare(context.alloc, answer, kept);
+            return self.weights.reply_asked(context, writer, ask, kept);
+        }
+        let Ok(mut graph) = self.taken(context) else {
+            return Ok(Told::Nothing);
+        };
+        graph.prepare(context.alloc, answer, kept);
+        let told = graph.reply_asked(context, writer, ask, kept);
+        self.put(answer, graph);
+        told
+    }
+
+    /// Writes what is asked, and how large the graph is, by the network of the kind that is asked for.
+    pub(crate) fn answer<H: Threads + Wait + Clock + Sync, W: Write, G: Gate + Sync>(
+        &mut self,
+        context: &Context<'_, H, G>,
+        writer: &mut W,
+        ask: &Ask,
+        kept: &mut Option<Workspace>,
+    ) -> Result<(), Fault>
+        requires kept { AreKept self.old }
+        requires within { IsQuestionWithin (vertices_in self.old) (question_of ask.now) }
+        ensures answered { (graph : Content) → HoldsGraph graph self.old
+            → OnOk result (Writes (IsAnswerIn (terms_of context.now.asked.now) graph
+            (question_of ask.now)) (W.contents writer.old) (W.contents writer.new)) }
+        ensures cut { (graph : Content) → HoldsGraph graph self.old
+            → OnErr result (WritesPrefix (IsAnswerIn (terms_of context.now.asked.now) graph
+            (question_of ask.now)) (W.contents writer.old) (W.contents writer.new)) }
+        ensures graph { (graph : Content) → HoldsGraph graph self.old → HoldsGraph graph self.new }
+        ensures kept { AreKept self.new }
+        ensures vertices { vertices_in self.new ≡ vertices_in self.old }
         ensures kinds { IfErr result IsWritingFault }
     {
         answer_texts_by_lines_are_unique();
-        if !self.is_short(context.asked.answer, ask, lines) {
-            self.answer(context, writer, ask, lines, kept)?;
-            return Ok(Told::Whole);
+        let answer = context.asked.answer;
+        if matches!(answer, Answer::Distances) {
+            return self.weights.answer(context, writer, ask, kept);
         }
-        let text = match self.answer_text(context, ask, lines, kept) {
-            Ok(text) => text,
-            Err(Fault::Spawn) => return Err(Fault::Spawn),
-            Err(_) => return Ok(Told::Nothing),
-        };
-        write_whole(writer, &text)?;
-        Ok(Told::Whole)
+        let graph = self.taken(context)?;
+        let answered = graph.answer(context, writer, ask, kept);
+        self.put(answer, graph);
+        answered
     }
 
-    /// Makes the text of an answer and of how large the graph is.
-    fn answer_text<H: Threads + Wait + Clock + Sync, G: Gate + Sync>(
-        &self,
+    /// Takes the network of the kind that is asked for, which isn't that of weights, or makes it.
+    fn taken<H: Threads + Sync, G>(
+        &mut self,
         context: &Context<'_, H, G>,
-        ask: &Ask,
-        lines: Lines,
-        kept: &mut Option<Workspace>,
-    ) -> Result<Vec<u8>, Fault>
-        requires graphs { AreGraphs self.now.graphs }
-        requires bound { IsLinesAsked lines }
-        requires within { IsQuestionWithin self.now.graphs.network.n (question_of ask.now) }
-        ensures text { (graph : Content) → HoldsGraph context.now.asked.now.answer graph self.now
-            → IfOk result (λ text. IsAnswerIn context.now.asked.now.answer lines graph
-            (question_of ask.now) text.items) }
-        ensures kinds { IfErr result IsWritingFault }
+    ) -> Result<KindGraph, Memory>
+        requires kept { AreKept self.old }
+        ensures holds { (graph : Content) → HoldsGraph graph self.old
+            → IfOk result (HoldsKind context.now.asked.now.answer graph) }
+        ensures graph { (graph : Content) → HoldsGraph graph self.old → HoldsGraph graph self.new }
+        ensures beside { IfOk result (IsBeside self.new.weights) }
+        ensures weights { self.new.weights ≡ self.old.weights }
+        ensures kept { AreKept self.new }
     {
-        let mut text = Vec::new(context.alloc);
-        self.answer(context, &mut text, ask, lines, kept)?;
-        Ok(text)
+        let answer = context.asked.answer;
+        match self.take(answer) {
+            Some(graph) => Ok(graph),
+            None => self.weights.derived(context),
+        }
     }
 
-    /// Tells if a reply is so short that it may be made in memory. No reply depends on it.
-    fn is_short(&self, answer: Answer, ask: &Ask, lines: Lines) -> bool {
-        let n = self.graphs.network.n() as usize;
-        let (count, has_walks) = match (answer, ask) {
-            (Answer::Components, _) | (_, Ask::Absent) => (n, false),
-            (_, Ask::Sources(sources)) => (sources.len().saturating_mul(n), lines.has_walks()),
-            (_, Ask::Pairs(pairs)) => (pairs.len(), lines.has_walks()),
-        };
-        let words = if has_walks { n } else { 1 };
-        count.saturating_mul(words) <= FEW_WORDS
+    /// Takes the network of a kind, if there is one beside that of weights.
+    fn take(&mut self, answer: Answer) -> Option<KindGraph>
+        requires kept { AreKept self.old }
+        ensures holds { (graph : Content) → HoldsGraph graph self.old → IfSome result (HoldsKind answer graph) }
+        ensures graph { (graph : Content) → HoldsGraph graph self.old → HoldsGraph graph self.new }
+        ensures beside { IfSome result (IsBeside self.new.weights) }
+        ensures weights { self.new.weights ≡ self.old.weights }
+        ensures kept { AreKept self.new }
+    {
+        match answer {
+            Answer::Distances => None,
+            Answer::Levels => self.levels.take(),
+            Answer::Components => self.components.take(),
+        }
+    }
+
+    /// Keeps the network of a kind beside that of weights.
+    fn put(&mut self, answer: Answer, graph: KindGraph)
+        requires kept { AreKept self.old }
+        requires beside { IsBeside self.old.weights graph }
+        ensures graph { (all : Content) → HoldsGraph all self.old → HoldsKind answer all graph → HoldsGraph all self.new }
+        ensures weights { self.new.weights ≡ self.old.weights }
+        ensures kept { AreKept self.new }
+    {
+        match answer {
+            Answer::Distances => {}
+            Answer::Levels => self.levels = Some(graph),
+            Answer::Components => self.components = Some(graph),
+        }
     }
 
     /// Adds arcs to the graph, and replies how many they are and to what is asked.
@@ -211,91 +243,30 @@ impl Session {
         writer: &mut W,
         arcs: &[ArcRec],
         ask: &Ask,
-        lines: Lines,
         kept: &mut Option<Workspace>,
     ) -> Result<Told, Fault>
-        requires graphs { AreGraphs self.old.graphs }
-        requires bound { IsLinesAsked lines }
-        requires within { IsQuestionWithin self.old.graphs.network.n (question_of ask.now) }
-        requires added { IsAddedWithin self.old.graphs.network.n (Some arcs.now) }
-        ensures reply { (graph : Content) → HoldsGraph context.now.asked.now.answer graph self.old
-            → IfOk result (λ told. IsTold told (Writes (IsGrownReply context.now.asked.now.answer lines graph
+        requires kept { AreKept self.old }
+        requires within { IsQuestionWithin (vertices_in self.old) (question_of ask.now) }
+        requires added { IsAddedWithin (vertices_in self.old) (Some arcs.now) }
+        ensures reply { (graph : Content) → HoldsGraph graph self.old
+            → IfOk result (λ told. IsTold told (Writes (IsGrownReply (terms_of context.now.asked.now) graph
             arcs.now (question_of ask.now)) (W.contents writer.old) (W.contents writer.new))
             (Appends (W.contents writer.old) (W.contents writer.new) [])) }
-        ensures cut { (graph : Content) → HoldsGraph context.now.asked.now.answer graph self.old
-            → OnErr result (WritesPrefix (IsGrownReply context.now.asked.now.answer lines graph arcs.now
+        ensures cut { (graph : Content) → HoldsGraph graph self.old
+            → OnErr result (WritesPrefix (IsGrownReply (terms_of context.now.asked.now) graph arcs.now
             (question_of ask.now)) (W.contents writer.old) (W.contents writer.new)) }
-        ensures graph { (graph : Content) → HoldsGraph context.now.asked.now.answer graph self.old
-            → IfOk result (λ told. IsTold told
-            (HoldsGraph context.now.asked.now.answer (grown_by graph (Some arcs.now)) self.new)
-            (HoldsGraph context.now.asked.now.answer graph self.new)) }
-        ensures graphs { OnOk result (AreGraphs self.new.graphs) }
-        ensures vertices { OnOk result (self.new.graphs.network.n ≡ self.old.graphs.network.n) }
+        ensures graph { (graph : Content) → HoldsGraph graph self.old
+            → IfOk result (λ told. IsTold told (HoldsGraph (grown_by graph (Some arcs.now)) self.new)
+            (HoldsGraph graph self.new)) }
+        ensures kept { OnOk result (AreKept self.new) }
+        ensures vertices { OnOk result (vertices_in self.new ≡ vertices_in self.old) }
         ensures kinds { IfErr result IsWritingFault }
     {
         let Told::Whole = self.grow(context, writer, arcs)? else {
             return Ok(Told::Nothing);
         };
-        self.answer(context, writer, ask, lines, kept)?;
+        self.answer(context, writer, ask, kept)?;
         Ok(Told::Whole)
-    }
-
-    /// Writes what is asked, and how large the graph is.
-    pub(crate) fn answer<H: Threads + Wait + Clock + Sync, W: Write, G: Gate + Sync>(
-        &self,
-        context: &Context<'_, H, G>,
-        writer: &mut W,
-        ask: &Ask,
-        lines: Lines,
-        kept: &mut Option<Workspace>,
-    ) -> Result<(), Fault>
-        requires graphs { AreGraphs self.now.graphs }
-        requires bound { IsLinesAsked lines }
-        requires within { IsQuestionWithin self.now.graphs.network.n (question_of ask.now) }
-        ensures answered { (graph : Content) → HoldsGraph context.now.asked.now.answer graph self.now
-            → OnOk result (Writes (IsAnswerIn context.now.asked.now.answer lines graph
-            (question_of ask.now)) (W.contents writer.old) (W.contents writer.new)) }
-        ensures cut { (graph : Content) → HoldsGraph context.now.asked.now.answer graph self.now
-            → OnErr result (WritesPrefix (IsAnswerIn context.now.asked.now.answer lines graph
-            (question_of ask.now)) (W.contents writer.old) (W.contents writer.new)) }
-        ensures kinds { IfErr result IsWritingFault }
-    {
-        answer_texts_by_lines_are_unique();
-        self.write_body(context, writer, ask, lines, kept)?;
-        let mut ready = Vec::new(context.alloc);
-        put_ready(&mut ready, self.graphs.network.n(), self.arcs as u64)?;
-        write_whole(writer, &ready)
-    }
-
-    /// Writes what is asked, if something is.
-    fn write_body<H: Threads + Wait + Clock + Sync, W: Write, G: Gate + Sync>(
-        &self,
-        context: &Context<'_, H, G>,
-        writer: &mut W,
-        ask: &Ask,
-        lines: Lines,
-        kept: &mut Option<Workspace>,
-    ) -> Result<(), Fault>
-        requires graphs { AreGraphs self.now.graphs }
-        requires bound { IsLinesAsked lines }
-        requires within { IsQuestionWithin self.now.graphs.network.n (question_of ask.now) }
-        ensures body { (graph : Content) → HoldsGraph context.now.asked.now.answer graph self.now
-            → OnOk result (Writes (IsBodyIn context.now.asked.now.answer lines graph (question_of ask.now))
-            (W.contents writer.old) (W.contents writer.new)) }
-        ensures cut { (graph : Content) → HoldsGraph context.now.asked.now.answer graph self.now
-            → OnErr result (WritesPrefix (IsBodyIn context.now.asked.now.answer lines graph
-            (question_of ask.now)) (W.contents writer.old) (W.contents writer.new)) }
-        ensures kinds { IfErr result IsWritingFault }
-    {
-        if is_unasked(context.asked.answer, ask) {
-            return Ok(());
-        }
-        let question = Question {
-            graphs: &self.graphs,
-            ask,
-            lines: lines_for(lines, ask),
-        };
-        answer_question(context, writer, &question, kept, &mut NoWatch)
     }
 
     /// Adds arcs to the graph, and writes how many they are. If memory is refused, nothing is done.
@@ -305,14 +276,13 @@ impl Session {
         writer: &mut W,
         arcs: &[ArcRec],
     ) -> Result<Told, Fault>
-        requires graphs { AreGraphs self.old.graphs }
-        requires within { IsAddedWithin self.old.graphs.network.n (Some arcs.now) }
-        ensures graph { (graph : Content) → HoldsGraph context.now.asked.now.answer graph self.old
-            → IfOk result (λ told. IsTold told
-            (HoldsGraph context.now.asked.now.answer (grown_by graph (Some arcs.now)) self.new)
-            (HoldsGraph context.now.asked.now.answer graph self.new)) }
-        ensures graphs { OnOk result (AreGraphs self.new.graphs) }
-        ensures vertices { OnOk result (self.new.graphs.network.n ≡ self.old.graphs.network.n) }
+        requires kept { AreKept self.old }
+        requires within { IsAddedWithin (vertices_in self.old) (Some arcs.now) }
+        ensures graph { (graph : Content) → HoldsGraph graph self.old
+            → IfOk result (λ told. IsTold told (HoldsGraph (grown_by graph (Some arcs.now)) self.new)
+            (HoldsGraph graph self.new)) }
+        ensures kept { AreKept self.new }
+        ensures vertices { vertices_in self.new ≡ vertices_in self.old }
         ensures told { IfOk result (λ told. IsTold told
             (Appends (W.contents writer.old) (W.contents writer.new) (grown_text (length arcs.now)))
             (Appends (W.contents writer.old) (W.contents writer.new) [])) }
@@ -320,27 +290,46 @@ impl Session {
             (grown_text (length arcs.now))) }
         ensures kinds { IfErr result IsWritingFault }
     {
-        networks_grow();
         // The line is made first: once the graph has grown no memory is asked for up to the first byte.
         let mut line = Vec::new(context.alloc);
         let Ok(()) = put_grown(&mut line, arcs.len() as u32) else {
             return Ok(Told::Nothing);
         };
-        let Some(count) = self.arcs.checked_add(arcs.len()) else {
+        // The networks of the other kinds are made again when they are asked for, so there is room for the new one.
+        self.levels = None;
+        self.components = None;
+        let Ok(grown) = self.grown(context, arcs) else {
             return Ok(Told::Nothing);
         };
-        let threads = context.asked.settings.workers as usize;
-        let (rt, alloc) = (context.rt, context.alloc);
-        let Ok(network) = self.graphs.network.with_arcs(rt, alloc, arcs, threads) else {
-            return Ok(Told::Nothing);
-        };
-        self.graphs = Graphs {
-            network,
-            grown: None,
-        };
-        self.arcs = count;
+        *self = grown;
         write_whole(writer, &line)?;
         Ok(Told::Whole)
+    }
+
+    /// Makes the network with more arcs, and that of the kind that is asked for.
+    fn grown<H: Threads + Sync, G>(
+        &self,
+        context: &Context<'_, H, G>,
+        arcs: &[ArcRec],
+    ) -> Result<Session, Memory>
+        requires within { IsAddedWithin (vertices_in self.now) (Some arcs.now) }
+        ensures holds { (graph : Content) → HoldsGraph graph self.now
+            → IfOk result (HoldsGraph (grown_by graph (Some arcs.now))) }
+        ensures kept { IfOk result AreKept }
+        ensures vertices { IfOk result (λ session. vertices_in session ≡ vertices_in self.now) }
+    {
+        let answer = context.asked.answer;
+        let mut session = Session {
+            weights: self.weights.grown(context, arcs)?,
+            levels: None,
+            components: None,
+        };
+        if matches!(answer, Answer::Distances) {
+            return Ok(session);
+        }
+        let graph = session.weights.derived(context)?;
+        session.put(answer, graph);
+        Ok(session)
     }
 }
 

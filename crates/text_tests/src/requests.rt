@@ -1,5 +1,6 @@
 //! Lines after a graph of 2 vertices, and their requests.
 
+use dimacs_text::SectionHead;
 use request_reader::{Request, RequestReader};
 use std::alloc::{AllocError, Global};
 use std::process::Abort;
@@ -8,108 +9,172 @@ use std::test::Fail;
 /// Lines from line 2 on, the outcome of each request, and the line past the last if the last request lacks lines.
 type Row = (&'static [&'static str], &'static str, Option<u64>);
 
-const ROWS: [Row; 38] = [
+const ROWS: [Row; 46] = [
     // Sections of each kind, and the empty one.
     (
         &["p aux sp ss 2", "s 1", "s 2"],
-        "Sources([0, 1]) None Plain\n",
+        "Sources([0, 1]) None Sources\n",
         None,
     ),
     (
         &["p aux sp p2p 1", "q 1 2"],
-        "Pairs([(0, 1)]) None Plain\n",
+        "Pairs([(0, 1)]) None Pairs\n",
         None,
     ),
     (
         &["p aux sp walk 1", "q 1 2"],
-        "Pairs([(0, 1)]) None Walks\n",
+        "Pairs([(0, 1)]) None Walk\n",
         None,
     ),
     (
         &["p aux sp add 1", "a 1 2 4"],
-        "Absent Some(1) Plain\n",
+        "Absent Some(1) Added\n",
         None,
     ),
-    (&["p aux sp p2p 0"], "Pairs([]) None Plain\n", None),
+    (&["p aux sp p2p 0"], "Pairs([]) None Pairs\n", None),
     // Blanks, a carriage return, comments and blank lines.
     (
         &[" p\taux  sp walk 1\r", "c x", "", "q 1 2"],
-        "Pairs([(0, 1)]) None Walks\n",
+        "Pairs([(0, 1)]) None Walk\n",
         None,
     ),
     // Sources within a bound, from the least to the greatest.
     (
         &["p aux sp within 7 2", "s 2", "s 1"],
-        "Sources([1, 0]) None Within { bound: 7 }\n",
+        "Sources([1, 0]) None Within 7\n",
         None,
     ),
     (
         &[" p\taux  sp within 0 1\r", "c x", "", "s 2"],
-        "Sources([1]) None Within { bound: 0 }\n",
+        "Sources([1]) None Within 0\n",
         None,
     ),
     (
         &["p aux sp within 18446744073709551614 0"],
-        "Sources([]) None Within { bound: 18446744073709551614 }\n",
+        "Sources([]) None Within 18446744073709551614\n",
         None,
     ),
     // A bound is of one request.
     (
         &["p aux sp within 3 1", "s 1", "p aux sp ss 1", "s 1"],
-        "Sources([0]) None Within { bound: 3 }\nSources([0]) None Plain\n",
+        "Sources([0]) None Within 3\nSources([0]) None Sources\n",
         None,
     ),
     (
         &["p aux sp within 3 2", "s 1", "p aux sp within 4 0"],
-        "e 4 too few lines\nSources([]) None Within { bound: 4 }\n",
+        "e 4 too few lines\nSources([]) None Within 4\n",
         None,
     ),
     (
         &["p aux sp within 3 1", "q 1 1", "p aux sp ss 0"],
-        "e 3 misplaced line\nSources([]) None Plain\n",
+        "e 3 misplaced line\nSources([]) None Sources\n",
         None,
     ),
     // A wrong head: the number of fields, no number, out of range.
     (
         &["p aux sp within 7", "p aux sp ss 0"],
-        "e 2 wrong number of fields\nSources([]) None Plain\n",
+        "e 2 wrong number of fields\nSources([]) None Sources\n",
         None,
     ),
     (
         &["p aux sp within x 1 1", "p aux sp ss 0"],
-        "e 2 wrong number of fields\nSources([]) None Plain\n",
+        "e 2 wrong number of fields\nSources([]) None Sources\n",
         None,
     ),
     (
         &["p aux sp within -1 1", "p aux sp ss 0"],
-        "e 2 not a number\nSources([]) None Plain\n",
+        "e 2 not a number\nSources([]) None Sources\n",
         None,
     ),
     (
         &["p aux sp within 18446744073709551615 x", "p aux sp ss 0"],
-        "e 2 not a number\nSources([]) None Plain\n",
+        "e 2 not a number\nSources([]) None Sources\n",
         None,
     ),
     (
         &["p aux sp within 18446744073709551615 1", "p aux sp ss 0"],
-        "e 2 out of range\nSources([]) None Plain\n",
+        "e 2 out of range\nSources([]) None Sources\n",
         None,
     ),
     (
         &["p aux sp within 18446744073709551616 1", "p aux sp ss 0"],
-        "e 2 out of range\nSources([]) None Plain\n",
+        "e 2 out of range\nSources([]) None Sources\n",
         None,
     ),
     (
         &["p aux sp within 7 1048577", "p aux sp ss 0"],
-        "e 2 out of range\nSources([]) None Plain\n",
+        "e 2 out of range\nSources([]) None Sources\n",
         None,
     ),
     (&["p aux sp withins 7 0"], "e 2 unknown line\n", None),
+    // Words of the kind and of lines, each of which can be left out.
+    (
+        &["p aux sp levels raw ss 1", "s 2", "p aux sp ss 0"],
+        "Sources([1]) None Levels Raw Sources\nSources([]) None Sources\n",
+        None,
+    ),
+    (
+        &["p aux sp distances each within 4 1", "s 1"],
+        "Sources([0]) None Distances Each Within 4\n",
+        None,
+    ),
+    (
+        &[
+            "p aux sp components p2p 0",
+            "p aux sp totals ss 0",
+            "p aux sp levels walk 0",
+        ],
+        "Pairs([]) None Components Pairs\nSources([]) None Totals Sources\nPairs([]) None Levels Walk\n",
+        None,
+    ),
+    (
+        &[" p aux\tsp  walks p2p 1\r", "q 2 1"],
+        "Pairs([(1, 0)]) None Walks Pairs\n",
+        None,
+    ),
+    // Words in another order, one that doesn't go with the form, and no form.
+    (
+        &[
+            "p aux sp raw levels ss 0",
+            "p aux sp levels levels ss 0",
+            "p aux sp totals within 1 0",
+        ],
+        "e 2 unknown line\ne 3 unknown line\ne 4 unknown line\n",
+        None,
+    ),
+    (
+        &[
+            "p aux sp raw p2p 0",
+            "p aux sp each walk 0",
+            "p aux sp levels add 0",
+            "p aux sp raw add 0",
+        ],
+        "e 2 unknown line\ne 3 unknown line\ne 4 unknown line\ne 5 unknown line\n",
+        None,
+    ),
+    (
+        &[
+            "p aux sp components each ss 0",
+            "p aux sp components walk 0",
+            "p aux sp components within 1 0",
+        ],
+        "e 2 unknown line\ne 3 unknown line\ne 4 unknown line\n",
+        None,
+    ),
+    (
+        &[
+            "p aux sp",
+            "p aux sp levels",
+            "p aux sp each 1",
+            "p aux sp levels ss",
+        ],
+        "e 2 unknown line\ne 3 unknown line\ne 4 unknown line\ne 5 wrong number of fields\n",
+        None,
+    ),
     // Walks are of one request.
     (
         &["p aux sp walk 1", "q 1 2", "p aux sp p2p 1", "q 2 1"],
-        "Pairs([(0, 1)]) None Walks\nPairs([(1, 0)]) None Plain\n",
+        "Pairs([(0, 1)]) None Walk\nPairs([(1, 0)]) None Pairs\n",
         None,
     ),
     // Nothing more comes, or nothing that says something.
@@ -124,19 +189,19 @@ const ROWS: [Row; 38] = [
             "p aux sp p2p 1",
             "q 1 2",
         ],
-        "Pairs([(0, 0)]) None Plain\ne 4 misplaced line\n",
+        "Pairs([(0, 0)]) None Pairs\ne 4 misplaced line\n",
         None,
     ),
     (
         &["a 1 1 0", "p aux sp p2p 1", "q 1 2", "p aux sp ss 1", "s 1"],
-        "e 2 too many lines\nSources([0]) None Plain\n",
+        "e 2 too many lines\nSources([0]) None Sources\n",
         None,
     ),
     (&["x", "p aux sp ss 1", "s 1"], "e 2 unknown line\n", None),
     // A request that the next section line cuts off.
     (
         &["p aux sp ss 2", "s 1", "p aux sp p2p 1", "q 1 1"],
-        "e 4 too few lines\nPairs([(0, 0)]) None Plain\n",
+        "e 4 too few lines\nPairs([(0, 0)]) None Pairs\n",
         None,
     ),
     (
@@ -146,34 +211,39 @@ const ROWS: [Row; 38] = [
     ),
     (
         &["p aux sp walk 2", "q 1 1", "p aux sp walk 0"],
-        "e 4 too few lines\nPairs([]) None Walks\n",
+        "e 4 too few lines\nPairs([]) None Walk\n",
         None,
     ),
-    // A wrong section line begins a request, and that of an unknown section doesn't.
+    // A wrong section line begins a request, and so does that of an unknown section.
     (
         &["p aux sp ss", "p aux sp ss 0"],
-        "e 2 wrong number of fields\nSources([]) None Plain\n",
+        "e 2 wrong number of fields\nSources([]) None Sources\n",
         None,
     ),
     (
         &["p aux sp walk 1 2", "p aux sp ss 0"],
-        "e 2 wrong number of fields\nSources([]) None Plain\n",
+        "e 2 wrong number of fields\nSources([]) None Sources\n",
         None,
     ),
     (
         &["p aux sp p2q 1", "q 1 1", "p aux sp ss 0"],
-        "e 2 unknown line\n",
+        "e 2 unknown line\nSources([]) None Sources\n",
         None,
     ),
     (
-        &["p aux sp walkx 1", "q 1 1", "p aux sp ss 0"],
-        "e 2 unknown line\n",
+        &[
+            "p aux sp ss 1",
+            "p aux sp walkx 1",
+            "q 1 1",
+            "p aux sp ss 0",
+        ],
+        "e 3 too few lines\ne 3 unknown line\nSources([]) None Sources\n",
         None,
     ),
     // A vertex that the graph doesn't have; the rest is skipped.
     (
         &["p aux sp ss 2", "s 3", "s 1", "s 1", "p aux sp ss 1", "s 2"],
-        "e 3 out of range\nSources([1]) None Plain\n",
+        "e 3 out of range\nSources([1]) None Sources\n",
         None,
     ),
     // A second graph.
@@ -188,12 +258,29 @@ const ROWS: [Row; 38] = [
     (&["p aux sp ss 2", "s 3"], "e 3 out of range\n", None),
 ];
 
+/// Appends the words of a head, its form and its bound.
+fn put_head(alloc: Global, told: &mut String, head: SectionHead) -> Result<(), AllocError> {
+    if let Some(kind) = head.kind {
+        told.push_str(&format!(in alloc; "{kind:?} ")?)?;
+    }
+    if let Some(lines) = head.lines {
+        told.push_str(&format!(in alloc; "{lines:?} ")?)?;
+    }
+    told.push_str(&format!(in alloc; "{:?}", head.form)?)?;
+    if let Some(bound) = head.bound {
+        told.push_str(&format!(in alloc; " {bound}")?)?;
+    }
+    told.push_str("\n")?;
+    Ok(())
+}
+
 fn put_told(alloc: Global, told: &mut String, request: Option<Request>) -> Result<(), AllocError> {
     let line = match request {
         None => return Ok(()),
-        Some(Request::Asked { job, extent }) => {
+        Some(Request::Asked { job, head }) => {
             let added = job.added.as_ref().map(|arcs| arcs.len());
-            format!(in alloc; "{:?} {added:?} {extent:?}\n", job.ask)?
+            told.push_str(&format!(in alloc; "{:?} {added:?} ", job.ask)?)?;
+            return put_head(alloc, told, head);
         }
         Some(Request::Wrong { line, kind }) => format!(in alloc; "e {line} {kind}\n")?,
         Some(Request::NoMemory { line }) => format!(in alloc; "e {line} out of memory\n")?,

@@ -3,8 +3,8 @@
 use crate::kept::asked;
 use dimacs_text::Ask;
 use job_answer::{
-    Answer, Context, Fault, Lines, NoWatch, Question, answer_question, graphs_for, is_unasked,
-    write_whole,
+    Answer, Context, Fault, Lines, NoWatch, Question, answer_question, graphs_by, graphs_for,
+    is_unasked, write_whole,
 };
 use least_costs::Workspace;
 use obim_engine::OpenGate;
@@ -18,10 +18,11 @@ const ROOM: usize = 1000;
 const JOINED: &[u8] = b"k 1 1\nk 2 1\nk 3 1\nk 4 1\nk 5 1\nk 6 1\n";
 
 const REQUESTS: &[u8] =
-    b"p sp 2 1\na 1 2 7\np aux sp ss 1\ns 1\np aux sp add 1\na 2 1 3\np aux sp walk 1\nq 2 1\np aux sp within 2 1\ns 2\n";
+    b"p sp 2 1\na 1 2 7\np aux sp ss 1\ns 1\np aux sp levels totals ss 1\ns 1\np aux sp add 1\na 2 1 3\n\
+    p aux sp walk 1\nq 2 1\np aux sp within 2 1\ns 2\np aux sp levels p2p 1\nq 2 1\np aux sp components ss 0\n";
 
-const REPLIES: &[u8] =
-    b"r 2 1\ns 1\nd 1 0\nd 2 7\nr 2 1\ng 1\nr 2 2\nq 2 1 3\nw 1 3 2 1\nr 2 2\ns 2\nd 2 0\nr 2 2\n";
+const REPLIES: &[u8] = b"r 2 1\ns 1\nd 1 0\nd 2 7\nr 2 1\nt 1 2 1 1 2\nr 2 1\ng 1\nr 2 2\n\
+    q 2 1 3\nw 1 3 2 1\nr 2 2\ns 2\nd 2 0\nr 2 2\nq 2 1 1\nr 2 2\nk 1 1\nk 2 1\nr 2 2\n";
 
 #[test]
 fn of_graphs_for(rt: HostRuntime) -> Result<(), Fail> {
@@ -35,6 +36,25 @@ fn of_graphs_for(rt: HostRuntime) -> Result<(), Fail> {
         graphs_for(&rt, alloc, Answer::Distances, 6, same, None, 2)
     );
     assert!(rt; graphs.network.rows().arc_count() == EXAMPLE_ARCS.len());
+    Ok(())
+}
+
+#[test]
+fn of_graphs_by(rt: HostRuntime) -> Result<(), Fail> {
+    let alloc = rt.alloc();
+    let arcs: Vec<ArcRec> = EXAMPLE_ARCS.to_vec(alloc)?;
+    let weights = graphs_for(&rt, alloc, Answer::Distances, 6, arcs, None, 2)?;
+    // The network of components has each arc both ways.
+    for (answer, count) in [(Answer::Levels, 8), (Answer::Components, 16)] {
+        let graphs = tried_again!(
+            rt,
+            alloc,
+            Memory,
+            graphs_by(&rt, alloc, answer, &weights.network, 2),
+            graphs_by(&rt, alloc, answer, &weights.network, 2)
+        );
+        assert!(rt; graphs.network.rows().arc_count() == count, "{answer:?}");
+    }
     Ok(())
 }
 

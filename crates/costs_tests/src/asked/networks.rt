@@ -89,6 +89,30 @@ fn costs_from_a_start(rt: HostRuntime) -> Result<(), Fail> {
     Ok(())
 }
 
+/// The cost of an arc, and the costs from vertex 0 in the network that is made of that of weights.
+const BY_COST: [(Cost, &[Option<u64>]); 3] = [
+    (
+        Cost::Weight,
+        &[Some(0), Some(10), Some(10), Some(12), Some(10), Some(15)],
+    ),
+    (
+        Cost::One,
+        &[Some(0), Some(1), Some(1), Some(2), Some(2), Some(3)],
+    ),
+    (Cost::FreeBothWays, &[Some(0); 6]),
+];
+
+#[test]
+fn costs_by_another_cost(rt: HostRuntime) -> Result<(), Fail> {
+    let alloc = rt.alloc();
+    let weights = six(&rt, alloc)?;
+    for (row, &(cost, want)) in BY_COST.iter().enumerate() {
+        let network = weights.by_cost(&rt, alloc, cost, 2)?;
+        expect_row(&rt, alloc, row, &network, Start::At(0), want)?;
+    }
+    Ok(())
+}
+
 const SHORTER: [ArcRec; 1] = arcs![(0, 5, 4)];
 
 /// The cost of an arc, and the costs with the shorter arc.

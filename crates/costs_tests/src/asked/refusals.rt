@@ -78,6 +78,20 @@ fn of_network_with_arcs(rt: HostRuntime) -> Result<(), Fail> {
     Ok(())
 }
 
+#[test]
+fn of_network_by_cost(rt: HostRuntime) -> Result<(), Fail> {
+    let alloc = rt.alloc();
+    let weights = six(&rt, alloc)?;
+    for cost in [Cost::Weight, Cost::One, Cost::FreeBothWays] {
+        let network = match refusable!(alloc, weights.by_cost(&rt, alloc, cost, 2)) {
+            Ok(network) => network,
+            Err(Memory) => weights.by_cost(&rt, alloc, cost, 2)?,
+        };
+        assert!(rt; network.n() == 6);
+    }
+    Ok(())
+}
+
 /// A call for the costs of the six vertices, also with the shorter arc.
 #[derive(Clone, Copy)]
 enum Call {

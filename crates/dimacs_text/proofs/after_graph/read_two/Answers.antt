@@ -3,8 +3,8 @@ use Rattle.dimacs_text.specs.declared.fault.LineKind.TheVariants.{Number, Range}
 use Rattle.dimacs_text.specs.Lines.{fields}
 use Rattle.dimacs_text.specs.Forms.{numbers_within}
 use Rattle.dimacs_text.specs.AfterGraph.{within_limits}
-use Rattle.dimacs_text.proofs.ExtentLemmas.{bound_too_large, first_no_number, second_no_number, too_many_sources}
-use Rattle.dimacs_text.proofs.ExtentLemmas.{two_within, wrong_count}
+use Rattle.dimacs_text.proofs.WithinLemmas.{bound_too_large, first_no_number, second_no_number, too_many_sources}
+use Rattle.dimacs_text.proofs.WithinLemmas.{two_within, wrong_count}
 use Rattle.dimacs_text.proofs.after_graph.read_two.Goals as goal
 
 pub returns-in_default : goal.returns-in_default

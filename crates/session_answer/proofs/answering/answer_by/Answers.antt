@@ -1,6 +1,7 @@
 use Rattle.std.proofs.Common.{[], take, drop, ◌-◌}
 use Rattle.dimacs_text.specs.Jobs.{content_of}
 use Rattle.std.proofs.lemmas.Result.{IfErr-weaker, err_from_is_err_and, on_err_weaker}
+use Rattle.session_answer.specs.Terms.{terms_of}
 use Rattle.session_answer.proofs.CutLemmas.{on_err}
 use Rattle.session_answer.proofs.CutSessions.{first_heard_cut, greeting_cut, nothing_cut, session_cut}
 use Rattle.session_answer.proofs.EndLemmas.{after_graph_ends, writing_ends}
@@ -9,90 +10,100 @@ use Rattle.session_answer.proofs.answering.answer_by.Goals as goal
 
 pub returns-then-has_ended-clause-answered : goal.returns-then-has_ended-clause-answered
 returns-then-has_ended-clause-answered g c =
-    let terms = c.args.context.now in
+    let asked = c.args.context.now.asked.now in
+    let terms = terms_of asked in
     let front = c.in_ok-front.front in
-    session_ended terms.asked.now.limit terms.asked.now.answer terms.asked.now.lines front c.read_front.new.buffer
+    session_ended asked.limit terms front c.read_front.new.buffer
     (g.R.Read.remaining c.args.reader.now) (g.R.Read.remaining c.read_front.new.reader)
     (g.W.Write.contents c.args.writer.now) (g.W.Write.contents c.answer.new.writer) c.in_ok-front.ensures.front
-    c.if-has_ended.true (c.in_ok-answer.ensures.answered (content_of front.graph) c.in_ok-conversation.ensures.holds)
+    c.if-has_ended.true (c.in_ok-answer.ensures.answered (content_of front.graph) c.in_ok-session.ensures.holds)
 
 pub returns-clause-answered : goal.returns-clause-answered
 returns-clause-answered g c =
-    let terms = c.args.context.now in
+    let asked = c.args.context.now.asked.now in
+    let terms = terms_of asked in
     let front = c.in_ok-front.front in
     let written = g.W.Write.contents c.answer.new.writer in
-    session_whole terms.asked.now.limit terms.asked.now.answer terms.asked.now.lines front c.read_front.new.buffer
+    session_whole asked.limit terms front c.read_front.new.buffer
     (g.R.Read.remaining c.args.reader.now) (g.R.Read.remaining c.read_front.new.reader)
     (g.R.Read.remaining c.converse.new.reader) (g.W.Write.contents c.args.writer.now) written
     (g.W.Write.contents c.converse.new.writer) c.converse.result c.in_ok-front.ensures.front c.if-has_ended.false
-    (c.in_ok-answer.ensures.answered (content_of front.graph) c.in_ok-conversation.ensures.holds)
+    (c.in_ok-answer.ensures.answered (content_of front.graph) c.in_ok-session.ensures.holds)
     (c.converse.ensures.conversed (content_of front.graph) front.line (take (front.end - front.at) (drop front.at c.read_front.new.buffer))
     written
     (c.in_ok-take.ensures.heard (content_of front.graph) front.line [] written
-    (c.in_ok-conversation.ensures.heard terms.asked.now.lines written)))
+    (c.open_conversation-conversation.ensures.heard terms (content_of front.graph) written
+    (c.in_ok-answer.ensures.graph (content_of front.graph) c.in_ok-session.ensures.holds))))
 
 pub returns-in_err-front-clause-cut : goal.returns-in_err-front-clause-cut
 returns-in_err-front-clause-cut g c =
-    let terms = c.args.context.now in
+    let asked = c.args.context.now.asked.now in
+    let terms = terms_of asked in
     on_err
-    (nothing_cut terms.asked.now.answer terms.asked.now.lines (g.R.Read.remaining c.args.reader.now)
+    (nothing_cut terms (g.R.Read.remaining c.args.reader.now)
     (g.R.Read.remaining c.read_front.new.reader) (g.W.Write.contents c.args.writer.now) c.in_err-front.ensures.cut)
     c.from_residual.result
 
-pub returns-in_err-conversation-clause-cut : goal.returns-in_err-conversation-clause-cut
-returns-in_err-conversation-clause-cut g c =
-    let terms = c.args.context.now in
+pub returns-in_err-session-clause-cut : goal.returns-in_err-session-clause-cut
+returns-in_err-session-clause-cut g c =
+    let asked = c.args.context.now.asked.now in
+    let terms = terms_of asked in
     on_err
-    (nothing_cut terms.asked.now.answer terms.asked.now.lines (g.R.Read.remaining c.args.reader.now)
+    (nothing_cut terms (g.R.Read.remaining c.args.reader.now)
     (g.R.Read.remaining c.read_front.new.reader) (g.W.Write.contents c.args.writer.now)
     (record { bytes = _; taken = c.in_ok-front.ensures.front.taken }))
-    c.from_residual-in_err-conversation.result
+    c.from_residual-in_err-session.result
 
 pub returns-in_err-answer-clause-cut : goal.returns-in_err-answer-clause-cut
 returns-in_err-answer-clause-cut g c =
-    let terms = c.args.context.now in
+    let asked = c.args.context.now.asked.now in
+    let terms = terms_of asked in
     let front = c.in_ok-front.front in
     on_err
-    (greeting_cut terms.asked.now.limit terms.asked.now.answer terms.asked.now.lines front c.read_front.new.buffer
+    (greeting_cut asked.limit terms front c.read_front.new.buffer
     (g.R.Read.remaining c.args.reader.now) (g.R.Read.remaining c.read_front.new.reader)
     (g.W.Write.contents c.args.writer.now) (g.W.Write.contents c.answer.new.writer) c.in_ok-front.ensures.front
-    (c.in_err-answer.ensures.cut (content_of front.graph) c.in_ok-conversation.ensures.holds))
+    (c.in_err-answer.ensures.cut (content_of front.graph) c.in_ok-session.ensures.holds))
     c.from_residual-in_err-answer.result
 
 pub returns-in_err-take-clause-cut : goal.returns-in_err-take-clause-cut
 returns-in_err-take-clause-cut g c =
-    let terms = c.args.context.now in
+    let asked = c.args.context.now.asked.now in
+    let terms = terms_of asked in
     let front = c.in_ok-front.front in
     let graph = content_of front.graph in
     let heard = take (front.end - front.at) (drop front.at c.read_front.new.buffer) in
     let written = g.W.Write.contents c.answer.new.writer in
     let taken = g.R.Read.remaining c.read_front.new.reader in
     on_err
-    (session_cut c.answer_texts_by_lines_are_unique.ensures terms.asked.now.limit terms.asked.now.answer terms.asked.now.lines
+    (session_cut c.answer_texts_by_lines_are_unique.ensures asked.limit terms
     front c.read_front.new.buffer (g.R.Read.remaining c.args.reader.now) taken taken
     (g.W.Write.contents c.args.writer.now) written (g.W.Write.contents c.take.new.writer) c.in_ok-front.ensures.front
-    c.if-has_ended.false (c.in_ok-answer.ensures.answered graph c.in_ok-conversation.ensures.holds)
-    (first_heard_cut terms.asked.now.answer terms.asked.now.lines graph front.line heard taken written
+    c.if-has_ended.false (c.in_ok-answer.ensures.answered graph c.in_ok-session.ensures.holds)
+    (first_heard_cut terms graph front.line heard taken written
     (g.W.Write.contents c.take.new.writer)
-    (c.in_err-take.ensures.cut graph front.line [] written (c.in_ok-conversation.ensures.heard terms.asked.now.lines written))))
+    (c.in_err-take.ensures.cut graph front.line [] written (c.open_conversation-conversation.ensures.heard terms (content_of front.graph) written
+    (c.in_ok-answer.ensures.graph (content_of front.graph) c.in_ok-session.ensures.holds)))))
     c.from_residual-in_err-take.result
 
 pub returns-clause-cut : goal.returns-clause-cut
 returns-clause-cut g c =
-    let terms = c.args.context.now in
+    let asked = c.args.context.now.asked.now in
+    let terms = terms_of asked in
     let front = c.in_ok-front.front in
     let graph = content_of front.graph in
     let heard = take (front.end - front.at) (drop front.at c.read_front.new.buffer) in
     let written = g.W.Write.contents c.answer.new.writer in
     on_err_weaker c.converse.result
     (λ cut.
-    session_cut c.answer_texts_by_lines_are_unique.ensures terms.asked.now.limit terms.asked.now.answer terms.asked.now.lines
+    session_cut c.answer_texts_by_lines_are_unique.ensures asked.limit terms
     front c.read_front.new.buffer (g.R.Read.remaining c.args.reader.now) (g.R.Read.remaining c.read_front.new.reader)
     (g.R.Read.remaining c.converse.new.reader) (g.W.Write.contents c.args.writer.now) written
     (g.W.Write.contents c.converse.new.writer) c.in_ok-front.ensures.front c.if-has_ended.false
-    (c.in_ok-answer.ensures.answered graph c.in_ok-conversation.ensures.holds) cut)
+    (c.in_ok-answer.ensures.answered graph c.in_ok-session.ensures.holds) cut)
     (c.converse.ensures.cut graph front.line heard written
-    (c.in_ok-take.ensures.heard graph front.line [] written (c.in_ok-conversation.ensures.heard terms.asked.now.lines written)))
+    (c.in_ok-take.ensures.heard graph front.line [] written (c.open_conversation-conversation.ensures.heard terms (content_of front.graph) written
+    (c.in_ok-answer.ensures.graph (content_of front.graph) c.in_ok-session.ensures.holds))))
 
 pub returns-in_err-front-clause-says : goal.returns-in_err-front-clause-says
 returns-in_err-front-clause-says g c =
@@ -115,15 +126,17 @@ returns-in_err-take-clause-says g c =
 
 pub returns-clause-says : goal.returns-clause-says
 returns-clause-says g c =
-    let terms = c.args.context.now in
+    let asked = c.args.context.now.asked.now in
+    let terms = terms_of asked in
     let front = c.in_ok-front.front in
     let graph = content_of front.graph in
     let heard = take (front.end - front.at) (drop front.at c.read_front.new.buffer) in
     let written = g.W.Write.contents c.answer.new.writer in
     IfErr-weaker c.converse.result _ _
     (λ fault says.
-    after_graph_ends terms.asked.now.limit front c.read_front.new.buffer (g.R.Read.remaining c.args.reader.now)
+    after_graph_ends asked.limit front c.read_front.new.buffer (g.R.Read.remaining c.args.reader.now)
     (g.R.Read.remaining c.read_front.new.reader) (g.R.Read.remaining c.converse.new.reader) fault c.requires.limit
     c.in_ok-front.ensures.front c.if-has_ended.false says)
     (c.converse.ensures.says graph front.line heard written
-    (c.in_ok-take.ensures.heard graph front.line [] written (c.in_ok-conversation.ensures.heard terms.asked.now.lines written)))
+    (c.in_ok-take.ensures.heard graph front.line [] written (c.open_conversation-conversation.ensures.heard terms (content_of front.graph) written
+    (c.in_ok-answer.ensures.graph (content_of front.graph) c.in_ok-session.ensures.holds))))

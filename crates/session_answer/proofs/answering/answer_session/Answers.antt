@@ -1,5 +1,6 @@
 use Rattle.std.proofs.Common.{[]}
 use Rattle.std.proofs.KnownBytes.{Consumes-nil}
+use Rattle.session_answer.specs.Terms.{terms_of}
 use Rattle.session_answer.proofs.CutLemmas.{on_err}
 use Rattle.session_answer.proofs.CutSessions.{nothing_cut}
 use Rattle.session_answer.proofs.answering.answer_session.Goals as goal
@@ -7,7 +8,7 @@ use Rattle.session_answer.proofs.answering.answer_session.Goals as goal
 pub returns-in_err-buffer-clause-cut : goal.returns-in_err-buffer-clause-cut
 returns-in_err-buffer-clause-cut g c =
     on_err
-    (nothing_cut c.args.asked.now.answer c.args.asked.now.lines _ _ _
+    (nothing_cut (terms_of c.args.asked.now) _ _ _
     (record { bytes = []; taken = Consumes-nil _ }))
     c.from_residual.result
 

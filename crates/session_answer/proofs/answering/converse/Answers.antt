@@ -5,6 +5,7 @@ use Rattle.std.proofs.KnownBytes.{Consumes-nil, Consumes-trans}
 use Rattle.std.specs.Io.KnownBytes.{Consumes}
 use Rattle.std.proofs.lemmas.List.{length-take-le}
 use Rattle.std.proofs.lemmas.Result.{IfErr-weaker, err_from_is_err_and, on_err_weaker}
+use Rattle.session_answer.specs.Terms.{terms_of}
 use Rattle.session_answer.specs.Conversations.{HasHeard}
 use Rattle.session_answer.proofs.CutLemmas.{on_err}
 use Rattle.session_answer.proofs.CutSessions.{end_cut, last_cut, read_cut}
@@ -14,8 +15,9 @@ use Rattle.session_answer.proofs.answering.converse.Goals as goal
 
 pub returns-then-count-eq0-clause-conversed : goal.returns-then-count-eq0-clause-conversed
 returns-then-count-eq0-clause-conversed g c graph first heard before h =
-    let terms = c.args.context.now in
-    all_taken terms.asked.now.answer terms.asked.now.lines graph first c.loop.conversation heard
+    let asked = c.args.context.now.asked.now in
+    let terms = terms_of asked in
+    all_taken terms graph first c.loop.conversation heard
     c.read_some.new.buffer c.in_ok-count.count (g.R.Read.remaining c.args.reader.now)
     (g.R.Read.remaining c.loop.reader) (g.R.Read.remaining c.read_some.new.reader) before
     (g.W.Write.contents c.loop.writer) (g.W.Write.contents c.end.new.writer) c.end.result
@@ -25,7 +27,8 @@ returns-then-count-eq0-clause-conversed g c graph first heard before h =
 
 pub loop-init : goal.loop-init
 loop-init g c =
-    let terms = c.args.context.now in
+    let asked = c.args.context.now.asked.now in
+    let terms = terms_of asked in
     record {
       kept = c.requires.kept;
       room = c.requires.room;
@@ -36,7 +39,7 @@ loop-init g c =
             all =
                 subst
                 (λ bytes.
-                HasHeard terms.asked.now.answer terms.asked.now.lines graph first c.args.conversation.now bytes
+                HasHeard terms graph first c.args.conversation.now bytes
                 before (g.W.Write.contents c.args.writer.now)) (sym (append-nil heard)) h;
           };
       often = record { bytes = []; taken = Consumes-nil _; many = omega arith };
@@ -47,7 +50,7 @@ loop-preserved g c = record {
   kept = c.in_ok-take.ensures.kept;
   room = grind (arith, c.loop.invariant.room, c.read_some.auto.buffer);
   taken = λ graph first heard before h.
-      more_taken c.args.context.now.asked.now.answer c.args.context.now.asked.now.lines graph first
+      more_taken (terms_of c.args.context.now.asked.now) graph first
       c.loop.conversation c.take.new.self heard (take c.in_ok-count.count c.read_some.new.buffer)
       (g.R.Read.remaining c.args.reader.now) (g.R.Read.remaining c.loop.reader)
       (g.R.Read.remaining c.read_some.new.reader) before (g.W.Write.contents c.loop.writer)
@@ -92,9 +95,10 @@ returns-clause-says g c graph first heard before h =
 
 pub returns-in_err-count-clause-cut : goal.returns-in_err-count-clause-cut
 returns-in_err-count-clause-cut g c graph first heard before h =
-    let terms = c.args.context.now in
+    let asked = c.args.context.now.asked.now in
+    let terms = terms_of asked in
     on_err
-    (read_cut c.answer_texts_by_lines_are_unique.ensures terms.asked.now.answer terms.asked.now.lines graph
+    (read_cut c.answer_texts_by_lines_are_unique.ensures terms graph
     first c.loop.conversation heard (g.R.Read.remaining c.args.reader.now) (g.R.Read.remaining c.loop.reader)
     (g.R.Read.remaining c.read_some.new.reader) before (g.W.Write.contents c.loop.writer)
     (c.loop.invariant.taken graph first heard before h) c.in_err-count.ensures.bytes)
@@ -102,11 +106,12 @@ returns-in_err-count-clause-cut g c graph first heard before h =
 
 pub returns-then-count-eq0-clause-cut : goal.returns-then-count-eq0-clause-cut
 returns-then-count-eq0-clause-cut g c graph first heard before h =
-    let terms = c.args.context.now in
+    let asked = c.args.context.now.asked.now in
+    let terms = terms_of asked in
     let so_far = c.loop.invariant.taken graph first heard before h in
     on_err_weaker c.end.result
     (λ cut.
-    end_cut terms.asked.now.answer terms.asked.now.lines graph first c.loop.conversation heard
+    end_cut terms graph first c.loop.conversation heard
     c.read_some.new.buffer c.in_ok-count.count (g.R.Read.remaining c.args.reader.now)
     (g.R.Read.remaining c.loop.reader) (g.R.Read.remaining c.read_some.new.reader) before
     (g.W.Write.contents c.loop.writer) (g.W.Write.contents c.end.new.writer) so_far c.in_ok-count.ensures.bytes.0
@@ -117,10 +122,11 @@ returns-then-count-eq0-clause-cut g c graph first heard before h =
 
 pub returns-in_err-take-clause-cut : goal.returns-in_err-take-clause-cut
 returns-in_err-take-clause-cut g c graph first heard before h =
-    let terms = c.args.context.now in
+    let asked = c.args.context.now.asked.now in
+    let terms = terms_of asked in
     let so_far = c.loop.invariant.taken graph first heard before h in
     on_err
-    (last_cut terms.asked.now.answer terms.asked.now.lines graph first c.loop.conversation heard
+    (last_cut terms graph first c.loop.conversation heard
     (take c.in_ok-count.count c.read_some.new.buffer) (g.R.Read.remaining c.args.reader.now)
     (g.R.Read.remaining c.loop.reader) (g.R.Read.remaining c.read_some.new.reader) before
     (g.W.Write.contents c.loop.writer) (g.W.Write.contents c.take.new.writer) so_far c.in_ok-count.ensures.bytes.0
@@ -129,8 +135,9 @@ returns-in_err-take-clause-cut g c graph first heard before h =
 
 pub returns-clause-cut : goal.returns-clause-cut
 returns-clause-cut g c graph first heard before h =
-    let terms = c.args.context.now in
-    read_cut c.answer_texts_by_lines_are_unique.ensures terms.asked.now.answer terms.asked.now.lines graph
+    let asked = c.args.context.now.asked.now in
+    let terms = terms_of asked in
+    read_cut c.answer_texts_by_lines_are_unique.ensures terms graph
     first c.loop.conversation heard (g.R.Read.remaining c.args.reader.now) (g.R.Read.remaining c.loop.reader)
     (g.R.Read.remaining c.loop.reader) before (g.W.Write.contents c.loop.writer)
     (c.loop.invariant.taken graph first heard before h) (Keeps-refl _)

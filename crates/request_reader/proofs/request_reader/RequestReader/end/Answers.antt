@@ -14,7 +14,7 @@ returns-then-was_refused-clause-requests c first all line outcomes h is =
     subst (λ x. IsPassing old.vertices x old.line first all [] outcomes) c.if-not-self.false
     (as_passing old.is_refused old first all [] outcomes c.if-was_refused.true h) in
     subst (λ os. HasReadBefore c.begin.new.self first all (line ∷ []) os) (sym (append-nil outcomes))
-    (from_fresh c.begin.new.self old.vertices old.line first all (line ∷ []) outcomes b.refused b.section b.extent
+    (from_fresh c.begin.new.self old.vertices old.line first all (line ∷ []) outcomes b.refused b.section b.head
     b.vertices b.line
     (ends_refused old.vertices c.begin.new.self.draft old.line first all line outcomes p
     (sym is ∙ c.if-not-begins.false) b.draft b.lacking))
@@ -23,10 +23,10 @@ pub returns-then-not-lacks-clause-requests : goal.returns-then-not-lacks-clause-
 returns-then-not-lacks-clause-requests c first all line outcomes h is =
     let old = c.args.self.now in
     let p =
-    subst (λ x. IsReading old.vertices old.draft x old.extent old.line first all [] outcomes) c.if-not-self.false
+    subst (λ x. IsReading old.vertices old.draft x old.head old.line first all [] outcomes) c.if-not-self.false
     (as_reading old.is_refused old first all [] outcomes c.if-was_refused.false h) in
     absurd
-    (never_silent old.vertices old.draft old.extent old.line first all [] outcomes p
+    (never_silent old.vertices old.draft old.head old.line first all [] outcomes p
     (λ ls read. c.is_short-lacks.ensures.silent old.vertices ls read c.if-not-lacks.true p.lacking))
 
 pub returns-clause-requests : goal.returns-clause-requests
@@ -34,11 +34,11 @@ returns-clause-requests c first all line outcomes h is =
     let old = c.args.self.now in
     let b = c.begin.ensures in
     let p =
-    subst (λ x. IsReading old.vertices old.draft x old.extent old.line first all [] outcomes) c.if-not-self.false
+    subst (λ x. IsReading old.vertices old.draft x old.head old.line first all [] outcomes) c.if-not-self.false
     (as_reading old.is_refused old first all [] outcomes c.if-was_refused.false h) in
     subst (λ k. HasReadBefore c.begin.new.self first all (line ∷ []) (outcomes ++ wrong k TooFew ∷ [])) (sym b.line)
     (from_fresh c.begin.new.self old.vertices old.line first all (line ∷ []) (outcomes ++ wrong old.line TooFew ∷ [])
-    b.refused b.section b.extent b.vertices b.line
-    (ends_short old.vertices old.draft c.begin.new.self.draft old.extent old.line first all line outcomes p
+    b.refused b.section b.head b.vertices b.line
+    (ends_short old.vertices old.draft c.begin.new.self.draft old.head old.line first all line outcomes p
     (sym is ∙ c.if-not-begins.false)
     (λ ls read. c.is_short-lacks.ensures.short old.vertices ls read c.if-not-lacks.false) b.draft b.lacking))

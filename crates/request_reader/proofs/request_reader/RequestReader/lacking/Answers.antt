@@ -13,12 +13,12 @@ pub returns-then-not-is_short-clause-none : goal.returns-then-not-is_short-claus
 returns-then-not-is_short-clause-none c first all outcomes h =
     let reader = c.args.self.now in
     let p = as_reading reader.is_refused reader first all [] outcomes c.if-self.false h in
-    all_told reader.vertices reader.draft reader.has_section reader.extent reader.line first all outcomes p
+    all_told reader.vertices reader.draft reader.has_section reader.head reader.line first all outcomes p
     (λ ls read. c.is_short.ensures.silent reader.vertices ls read c.if-not-is_short.true p.lacking)
 
 pub returns-clause-some : goal.returns-clause-some
 returns-clause-some c first all outcomes h =
     let reader = c.args.self.now in
-    last_short reader.vertices reader.draft reader.has_section reader.extent reader.line first all outcomes
+    last_short reader.vertices reader.draft reader.has_section reader.head reader.line first all outcomes
     (as_reading reader.is_refused reader first all [] outcomes c.if-self.false h)
     (λ ls read. c.is_short.ensures.short reader.vertices ls read c.if-not-is_short.false)

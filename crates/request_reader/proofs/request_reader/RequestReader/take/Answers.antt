@@ -1,10 +1,11 @@
 use Rattle.std.proofs.Common.{◌≡◌, ◌&&◌, ◌||◌, false, List, ℕ, [], ◌∷◌, ◌++◌, append-nil, ap, subst, sym, ◌∙◌}
 use Rattle.dimacs_text.specs.Jobs.{content_of}
-use Rattle.dimacs_text.specs.AfterGraph.{first_extent, IsExtentWithin, IsFaultAfter, IsWhole}
+use Rattle.std.specs.Option.{option_or}
+use Rattle.dimacs_text.specs.AfterGraph.{head_or_plain, IsFaultAfter, IsHeadWithin, IsWhole}
 use Rattle.dimacs_text.specs.RequestDrafts.{HasReadAfter}
-use Rattle.dimacs_text.proofs.Facts.{extent-more, extents_within, request_within}
+use Rattle.dimacs_text.proofs.Facts.{head_more, heads_within, request_within}
 use Rattle.request_reader.specs.Requests.{whole}
-use Rattle.request_reader.specs.Reading.{IsPassing, IsReading}
+use Rattle.request_reader.specs.Reading.{HasReadBefore, IsPassing, IsReading}
 use Rattle.request_reader.proofs.States.{as_passing, as_reading, from_fresh, from_passing, from_reading, refused_last}
 use Rattle.request_reader.proofs.Steps.{completes, goes_on, passes_by, starves, turns_wrong}
 use Rattle.request_reader.proofs.request_reader.RequestReader.take.Goals as goal
@@ -28,7 +29,7 @@ pub returns-in-Err-Memory-clause-requests : goal.returns-in-Err-Memory-clause-re
 returns-in-Err-Memory-clause-requests c first all outcomes h =
     let old = c.args.self.now in
     let line = c.args.line.now in
-    starves old.vertices old.draft old.has_section (old.has_section || c.args.begins) old.extent old.line
+    starves old.vertices old.draft old.has_section (old.has_section || c.args.begins) old.head old.line
     c.saturating_add-self.result first all line outcomes
     (as_reading old.is_refused old first all (line ∷ []) outcomes c.if-self.false h)
     (subst (λ x. (old.has_section && x) ≡ false) c.requires.begins c.requires.first)
@@ -38,7 +39,7 @@ pub returns-in-Err-Line-clause-requests : goal.returns-in-Err-Line-clause-reques
 returns-in-Err-Line-clause-requests c first all outcomes h =
     let old = c.args.self.now in
     let line = c.args.line.now in
-    turns_wrong old.vertices old.draft old.has_section (old.has_section || c.args.begins) old.extent old.line
+    turns_wrong old.vertices old.draft old.has_section (old.has_section || c.args.begins) old.head old.line
     c.saturating_add-self.result first all line outcomes c.in-Err-Line.line c.in-Err-Line.kind
     (as_reading old.is_refused old first all (line ∷ []) outcomes c.if-self.false h)
     (λ ls read.
@@ -61,28 +62,32 @@ returns-in-Ok-clause-requests c first all outcomes h =
     let line = c.args.line.now in
     let fresh = c.begin-draft.new.self in
     let b = c.begin-draft.ensures in
-    from_fresh fresh old.vertices c.saturating_add-self.result first (all ++ line ∷ []) []
-    (outcomes ++ whole (content_of c.finish.result) c.or-self.result ∷ []) b.refused b.section b.extent b.vertices b.line
-    (completes old.vertices old.draft c.read.new.self fresh.draft old.has_section old.extent c.or-self.result old.line
-    c.saturating_add-self.result first all line outcomes (content_of c.finish.result)
+    let content = content_of c.finish.result in
+    subst
+    (λ head. HasReadBefore fresh first (all ++ line ∷ []) [] (outcomes ++ whole content head ∷ [])) (sym c.or_plain-head.ensures)
+    (from_fresh fresh old.vertices c.saturating_add-self.result first (all ++ line ∷ []) []
+    (outcomes ++ whole content (head_or_plain c.or-self.result) ∷ []) b.refused b.section b.head b.vertices b.line
+    (completes old.vertices old.draft c.read.new.self fresh.draft old.has_section old.head c.or-self.result old.line
+    c.saturating_add-self.result first all line outcomes content
     (as_reading old.is_refused old first all (line ∷ []) outcomes c.if-self.false h)
     (λ ls read. c.in-Ok.ensures.reads old.vertices ls read) (λ ls read. finished c ls read)
-    (c.or-self.ensures ∙ ap (λ x. first_extent old.extent x) c.extent_by.ensures) c.saturating_add-self.ensures b.draft b.lacking)
+    (c.or-self.ensures ∙ ap (λ x. option_or old.head x) c.head_by.ensures) c.saturating_add-self.ensures b.draft b.lacking))
 
 pub returns-in-Ok-clause-within : goal.returns-in-Ok-clause-within
 returns-in-Ok-clause-within c first all outcomes h few =
     let old = c.args.self.now in
     let line = c.args.line.now in
     let p = as_reading old.is_refused old first all (line ∷ []) outcomes c.if-self.false h in
-    let is = c.or-self.ensures ∙ ap (λ x. first_extent old.extent x) c.extent_by.ensures in
+    let is = c.or-self.ensures ∙ ap (λ x. option_or old.head x) c.head_by.ensures in
     let job =
     request_within old.vertices (p.ls ++ line ∷ []) (content_of c.finish.result) few
     (finished c (p.ls ++ line ∷ []) (c.in-Ok.ensures.reads old.vertices p.ls p.read)) in (
       job.0,
       job.1,
       job.2,
-      subst IsExtentWithin (sym (extent-more p.ls line old.extent c.or-self.result p.extent_is is))
-          (extents_within (p.ls ++ line ∷ [])),
+      subst IsHeadWithin
+          (sym (c.or_plain-head.ensures ∙ ap head_or_plain (head_more p.ls line old.head c.or-self.result p.head_is is)))
+          (heads_within (p.ls ++ line ∷ [])),
     )
 
 pub returns-in-Ok-clause-refusable : goal.returns-in-Ok-clause-refusable
@@ -92,7 +97,7 @@ returns-in-Ok-clause-refusable c first all outcomes h =
     let b = c.begin-draft.ensures in
     refused_last c.begin-draft.new.self old.vertices c.saturating_add-self.result old.line first
     (old.has_section || c.args.begins) (all ++ line ∷ []) outcomes b.vertices b.had_section b.line b.last
-    (starves old.vertices old.draft old.has_section (old.has_section || c.args.begins) old.extent old.line
+    (starves old.vertices old.draft old.has_section (old.has_section || c.args.begins) old.head old.line
     c.saturating_add-self.result first all line outcomes
     (as_reading old.is_refused old first all (line ∷ []) outcomes c.if-self.false h)
     (subst (λ x. (old.has_section && x) ≡ false) c.requires.begins c.requires.first)
@@ -108,7 +113,7 @@ returns-in-Ok-2-clause-requests c first all outcomes h =
     IsReading old.vertices c.read.new.self (old.has_section || c.args.begins) c.or-self.result
     c.saturating_add-self.result first (all ++ line ∷ []) [] os)
     (sym (append-nil outcomes))
-    (goes_on old.vertices old.draft c.read.new.self old.has_section (old.has_section || c.args.begins) old.extent
+    (goes_on old.vertices old.draft c.read.new.self old.has_section (old.has_section || c.args.begins) old.head
     c.or-self.result old.line c.saturating_add-self.result first all line outcomes
     (as_reading old.is_refused old first all (line ∷ []) outcomes c.if-self.false h)
     (λ ls read. c.in-Ok.ensures.reads old.vertices ls read) (sym c.is_whole.ensures.is ∙ c.if-is_whole.false)
@@ -117,5 +122,5 @@ returns-in-Ok-2-clause-requests c first all outcomes h =
     let other = c.if-is_whole.false in
     cc)
     (subst (λ x. (old.has_section && x) ≡ false) c.requires.begins c.requires.first)
-    (ap (λ x. old.has_section || x) c.requires.begins) (c.or-self.ensures ∙ ap (λ x. first_extent old.extent x) c.extent_by.ensures)
+    (ap (λ x. old.has_section || x) c.requires.begins) (c.or-self.ensures ∙ ap (λ x. option_or old.head x) c.head_by.ensures)
     c.saturating_add-self.ensures))

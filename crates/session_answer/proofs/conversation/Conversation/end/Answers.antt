@@ -2,6 +2,7 @@ use Rattle.std.proofs.Common.{refl, subst}
 use Rattle.dimacs_text.specs.Lines.{lines}
 use Rattle.std.proofs.lemmas.Result.{err_from_is_err_and}
 use Rattle.request_reader.specs.Requests.{AreRequests, AreShort}
+use Rattle.session_answer.specs.Terms.{terms_of}
 use Rattle.session_answer.proofs.CutLemmas.{cut_here, replied_cut}
 use Rattle.session_answer.proofs.EndLemmas.{writing_is_short}
 use Rattle.session_answer.proofs.conversation.Conversation.end.Goals as goal
@@ -21,10 +22,9 @@ returns-in-None-clause-answered g c graph first heard before is =
 
 pub returns-in-Some-clause-cut : goal.returns-in-Some-clause-cut
 returns-in-Some-clause-cut g c graph first heard before is =
-    let kind = c.args.context.now.asked.now.answer in
-    let by = c.args.context.now.asked.now.lines in
-    cut_here kind by graph first (lines heard) (lines heard) before _ refl
-    (replied_cut c.answer_texts_by_lines_are_unique.ensures kind by graph first c.end_last_line.new.self
+    let terms = terms_of c.args.context.now.asked.now in
+    cut_here terms graph first (lines heard) (lines heard) before _ refl
+    (replied_cut c.answer_texts_by_lines_are_unique.ensures terms graph first c.end_last_line.new.self
     (lines heard) before _ (c.in_ok-end_last_line.ensures.replied graph first heard before is))
 
 pub returns-in_err-end_last_line-clause-says : goal.returns-in_err-end_last_line-clause-says

@@ -1,5 +1,6 @@
 use Rattle.std.proofs.Common.{◌-◌, ◌≤◌, ◌++◌, ℕ, List, Option, length, take}
 use Rattle.dimacs_text.specs.Jobs.{Content}
+use Rattle.session_answer.specs.Terms.{terms_of}
 use Rattle.session_answer.specs.Conversations.{HasHeard, IsKept}
 use Rattle.session_answer.proofs.conversation.Conversation.take.Given as goal
 
@@ -8,9 +9,9 @@ invariant-loop-end g l = record {
   inside : l.at ≤ length l.bytes;
   kept : IsKept l.self;
   heard : (graph : Content) (first : ℕ) (heard : List ℕ) (before : Option (List ℕ))
-      → HasHeard l.context.asked.now.answer l.context.asked.now.lines graph first l.initial.self heard before
+      → HasHeard (terms_of l.context.asked.now) graph first l.initial.self heard before
       (g.W.Write.contents l.initial.writer)
-      → HasHeard l.context.asked.now.answer l.context.asked.now.lines graph first l.self
+      → HasHeard (terms_of l.context.asked.now) graph first l.self
       (heard ++ take l.at l.bytes) before (g.W.Write.contents l.writer);
 }
 

@@ -2,7 +2,8 @@ use Rattle.std.proofs.Common.{◌∙◌, ◌++◌, ◌∷◌, [], ap, append_ass
 use Rattle.std.proofs.lemmas.Result.{on_err_weaker, on_ok_weaker}
 use Rattle.request_reader.specs.Reading.{HasRequests, IsRefusedLast, last_of, outcomes_in, outcomes_of, vertices_of}
 use Rattle.request_reader.specs.Requests.{no_memory}
-use Rattle.job_answer.specs.Graphs.{AreGraphs}
+use Rattle.session_answer.specs.Terms.{terms_of}
+use Rattle.session_answer.specs.Replies.{AreKept, vertices_in}
 use Rattle.session_answer.specs.Conversations.{graph_of}
 use Rattle.session_answer.specs.Replies.{AreReplies, HoldsGraph}
 use Rattle.session_answer.proofs.CutLemmas.{after_cut, cut_after_lines, front_cut, nothing_cut, on_err, refusal_cut}
@@ -11,8 +12,7 @@ use Rattle.session_answer.proofs.conversation.Conversation.take_line.Goals as go
 
 pub returns-clause-replied : goal.returns-clause-replied
 returns-clause-replied g c graph first ls before is =
-    let kind = c.args.context.now.asked.now.answer in
-    let by = c.args.context.now.asked.now.lines in
+    let terms = terms_of c.args.context.now.asked.now in
     let came = c.read-came.result in
     let so_far = graph_of graph is.outcomes in
     let cut = told_whole _ _ _ c.in-Whole.is (c.in_ok-reply.ensures.replied so_far is.replied.holds) in
@@ -27,62 +27,58 @@ returns-clause-replied g c graph first ls before is =
           (c.read-came.ensures.requests first ls is.outcomes is.requests);
       vertices = ap (λ reader. vertices_of reader) same ∙ c.read-came.ensures.vertices ∙ is.vertices;
       replied =
-          replies_then kind by graph is.outcomes (outcomes_of came) _ _ _ _ _ is.replied
-          (replies_then kind by so_far (outcomes_in came.cut) (outcomes_in came.found) _ _ _ _ _ cut found);
+          replies_then terms graph is.outcomes (outcomes_of came) _ _ _ _ _ is.replied
+          (replies_then terms so_far (outcomes_in came.cut) (outcomes_in came.found) _ _ _ _ _ cut found);
     }
 
 pub returns-in_err-reply-clause-cut : goal.returns-in_err-reply-clause-cut
 returns-in_err-reply-clause-cut g c graph first ls before is =
-    let kind = c.args.context.now.asked.now.answer in
-    let by = c.args.context.now.asked.now.lines in
+    let terms = terms_of c.args.context.now.asked.now in
     let law = c.answer_texts_by_lines_are_unique.ensures in
     let came = c.read-came.result in
     let so_far = graph_of graph is.outcomes in
     on_err
-    (cut_after_lines law kind by graph first c.read-came.new.self (ls ++ c.args.line.now ∷ [])
+    (cut_after_lines law terms graph first c.read-came.new.self (ls ++ c.args.line.now ∷ [])
     (is.outcomes ++ outcomes_of came) before _ (c.read-came.ensures.requests first ls is.outcomes is.requests)
     (c.read-came.ensures.vertices ∙ is.vertices)
-    (after_cut law kind by graph is.outcomes (outcomes_of came) c.args.self.now.session before _ _ is.replied
-    (front_cut law kind by so_far (outcomes_in came.cut) (outcomes_in came.found) _ _
+    (after_cut law terms graph is.outcomes (outcomes_of came) c.args.self.now.session before _ _ is.replied
+    (front_cut law terms so_far (outcomes_in came.cut) (outcomes_in came.found) _ _
     (c.in_err-reply.ensures.cut so_far is.replied.holds))))
     c.from_residual.result
 
 pub returns-in_default-clause-cut : goal.returns-in_default-clause-cut
 returns-in_default-clause-cut g c graph first ls before is =
-    let kind = c.args.context.now.asked.now.answer in
-    let by = c.args.context.now.asked.now.lines in
+    let terms = terms_of c.args.context.now.asked.now in
     let law = c.answer_texts_by_lines_are_unique.ensures in
     let came = c.read-came.result in
     let so_far = graph_of graph is.outcomes in
     let none = told_nothing _ _ _ c.in_default.is (c.in_ok-reply.ensures.replied so_far is.replied.holds) in
-    cut_after_lines law kind by graph first c.read-came.new.self (ls ++ c.args.line.now ∷ [])
+    cut_after_lines law terms graph first c.read-came.new.self (ls ++ c.args.line.now ∷ [])
     (is.outcomes ++ outcomes_of came) before _ (c.read-came.ensures.requests first ls is.outcomes is.requests)
     (c.read-came.ensures.vertices ∙ is.vertices)
-    (after_cut law kind by graph is.outcomes (outcomes_of came) c.args.self.now.session before _ _ is.replied
-    (nothing_cut (AreReplies kind by so_far (outcomes_of came)) kind by so_far _ _ _ none))
+    (after_cut law terms graph is.outcomes (outcomes_of came) c.args.self.now.session before _ _ is.replied
+    (nothing_cut (AreReplies terms so_far (outcomes_of came)) terms so_far _ _ _ none))
 
 pub returns-in_err-reply-2-clause-cut : goal.returns-in_err-reply-2-clause-cut
 returns-in_err-reply-2-clause-cut g c graph first ls before is =
-    let kind = c.args.context.now.asked.now.answer in
-    let by = c.args.context.now.asked.now.lines in
+    let terms = terms_of c.args.context.now.asked.now in
     let law = c.answer_texts_by_lines_are_unique.ensures in
     let came = c.read-came.result in
     let so_far = graph_of graph is.outcomes in
     let cut = told_whole _ _ _ c.in-Whole.is (c.in_ok-reply.ensures.replied so_far is.replied.holds) in
     let both = outcomes_of came in
     on_err
-    (cut_after_lines law kind by graph first c.read-came.new.self (ls ++ c.args.line.now ∷ [])
+    (cut_after_lines law terms graph first c.read-came.new.self (ls ++ c.args.line.now ∷ [])
     (is.outcomes ++ both) before _ (c.read-came.ensures.requests first ls is.outcomes is.requests)
     (c.read-came.ensures.vertices ∙ is.vertices)
-    (after_cut law kind by graph is.outcomes both c.args.self.now.session before _ _ is.replied
-    (after_cut law kind by so_far (outcomes_in came.cut) (outcomes_in came.found) c.reply.new.self.session _ _ _ cut
+    (after_cut law terms graph is.outcomes both c.args.self.now.session before _ _ is.replied
+    (after_cut law terms so_far (outcomes_in came.cut) (outcomes_in came.found) c.reply.new.self.session _ _ _ cut
     (c.in_err-reply-2.ensures.cut (graph_of so_far (outcomes_in came.cut)) cut.holds))))
     c.from_residual-in_err-reply-2.result
 
 pub returns-in_default-2-clause-replied : goal.returns-in_default-2-clause-replied
 returns-in_default-2-clause-replied g c graph first ls before is =
-    let kind = c.args.context.now.asked.now.answer in
-    let by = c.args.context.now.asked.now.lines in
+    let terms = terms_of c.args.context.now.asked.now in
     let came = c.read-came.result in
     let so_far = graph_of graph is.outcomes in
     let after = graph_of so_far (outcomes_in came.cut) in
@@ -108,18 +104,17 @@ returns-in_default-2-clause-replied g c graph first ls before is =
           c.refuse_last.ensures.vertices ∙ ap (λ reader. vertices_of reader) same ∙ c.read-came.ensures.vertices
           ∙ is.vertices;
       replied =
-          replies_then kind by graph is.outcomes (outcomes_in came.cut ++ refusal) _ _ _ _ _ is.replied
-          (replies_then kind by so_far (outcomes_in came.cut) refusal _ _ _ _ _ cut
-          (replies_then kind by after [] refusal _ _ _ _ _ none
-          (refused_reply kind by after (last_of c.reply-2.new.self.requests) c.refuse_last.new.self.session _ _
-          (subst (λ session. HoldsGraph kind after session) (sym c.refuse_last.ensures.session) none.holds) given)));
+          replies_then terms graph is.outcomes (outcomes_in came.cut ++ refusal) _ _ _ _ _ is.replied
+          (replies_then terms so_far (outcomes_in came.cut) refusal _ _ _ _ _ cut
+          (replies_then terms after [] refusal _ _ _ _ _ none
+          (refused_reply terms after (last_of c.reply-2.new.self.requests) c.refuse_last.new.self.session _ _
+          (subst (λ session. HoldsGraph after session) (sym c.refuse_last.ensures.session) none.holds) given)));
     })
     c.refuse_last.ensures.told
 
 pub returns-in_default-2-clause-cut : goal.returns-in_default-2-clause-cut
 returns-in_default-2-clause-cut g c graph first ls before is =
-    let kind = c.args.context.now.asked.now.answer in
-    let by = c.args.context.now.asked.now.lines in
+    let terms = terms_of c.args.context.now.asked.now in
     let law = c.answer_texts_by_lines_are_unique.ensures in
     let came = c.read-came.result in
     let so_far = graph_of graph is.outcomes in
@@ -138,16 +133,16 @@ returns-in_default-2-clause-cut g c graph first ls before is =
     (subst (λ reader. IsRefusedLast reader first all (is.outcomes ++ outcomes_in came.cut)) (sym same) last) in
     on_err_weaker c.refuse_last.result
     (λ given.
-    cut_after_lines law kind by graph first c.refuse_last.new.self.requests all
+    cut_after_lines law terms graph first c.refuse_last.new.self.requests all
     (is.outcomes ++ (outcomes_in came.cut ++ refusal)) before _
     (subst (λ outcomes. HasRequests c.refuse_last.new.self.requests first all outcomes)
     (append_assoc is.outcomes (outcomes_in came.cut) refusal) told)
     (c.refuse_last.ensures.vertices ∙ ap (λ reader. vertices_of reader) same ∙ c.read-came.ensures.vertices ∙ is.vertices)
-    (after_cut law kind by graph is.outcomes (outcomes_in came.cut ++ refusal) c.args.self.now.session before _ _
+    (after_cut law terms graph is.outcomes (outcomes_in came.cut ++ refusal) c.args.self.now.session before _ _
     is.replied
-    (after_cut law kind by so_far (outcomes_in came.cut) refusal c.reply.new.self.session _ _ _ cut
-    (after_cut law kind by after [] refusal c.reply-2.new.self.session _ _ _ none
-    (refusal_cut law kind by after (last_of c.reply-2.new.self.requests) _ _ given)))))
+    (after_cut law terms so_far (outcomes_in came.cut) refusal c.reply.new.self.session _ _ _ cut
+    (after_cut law terms after [] refusal c.reply-2.new.self.session _ _ _ none
+    (refusal_cut law terms after (last_of c.reply-2.new.self.requests) _ _ given)))))
     c.refuse_last.ensures.cut
 
 pub returns-in_default-2-clause-kept : goal.returns-in_default-2-clause-kept
@@ -163,8 +158,7 @@ returns-in_default-2-clause-kept g c =
     let n = c.in_ok-reply-2.ensures.vertices ∙ c.in_ok-reply.ensures.vertices in
     on_ok_weaker c.refuse_last.result
     (λ given. record {
-      graphs =
-          subst (λ session. AreGraphs session.graphs) (sym c.refuse_last.ensures.session) c.in_ok-reply-2.ensures.graphs;
+      kept = subst (λ session. AreKept session) (sym c.refuse_last.ensures.session) c.in_ok-reply-2.ensures.kept;
       first = kept.first;
       ls = all;
       outcomes = (kept.outcomes ++ outcomes_in came.cut) ++ no_memory (last_of c.reply-2.new.self.requests) ∷ [];
@@ -173,6 +167,6 @@ returns-in_default-2-clause-kept g c =
           (subst (λ reader. IsRefusedLast reader kept.first all (kept.outcomes ++ outcomes_in came.cut)) (sym same) last);
       vertices =
           c.refuse_last.ensures.vertices ∙ ap (λ reader. vertices_of reader) same ∙ c.read-came.ensures.vertices
-          ∙ kept.vertices ∙ sym (ap (λ session. session.graphs.network.n) c.refuse_last.ensures.session ∙ n);
+          ∙ kept.vertices ∙ sym (ap (λ session. vertices_in session) c.refuse_last.ensures.session ∙ n);
     })
     c.refuse_last.ensures.told

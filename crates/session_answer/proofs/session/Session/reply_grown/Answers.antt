@@ -2,6 +2,7 @@ use Rattle.std.proofs.Common.{◌≡◌, ◌++◌, Some, length, refl, rules}
 use Rattle.answer_lines.specs.Lines.{grown_text}
 use Rattle.dimacs_text.specs.Jobs.{question_of}
 use Rattle.job_answer.proofs.Facts.{appends-then}
+use Rattle.session_answer.specs.Terms.{terms_of}
 use Rattle.session_answer.specs.Replies.{IsAnswerIn, grown_by}
 use Rattle.session_answer.proofs.CutLemmas.{first_cut, on_err, only_cut, second_cut}
 use Rattle.session_answer.proofs.ReplyLemmas.{told_whole}
@@ -17,12 +18,11 @@ returns-in_err-grow-clause-cut g c graph holds =
 
 pub returns-in_err-answer-clause-cut : goal.returns-in_err-answer-clause-cut
 returns-in_err-answer-clause-cut g c graph holds =
-    let kind = c.args.context.now.asked.now.answer in
-    let by = c.args.lines in
+    let terms = terms_of c.args.context.now.asked.now in
     let question = question_of c.args.ask.now in
     let after = grown_by graph (Some c.args.arcs.now) in
     on_err
-    (second_cut (IsAnswerIn kind by after question) _ (grown_text (length c.args.arcs.now)) _ _ _
+    (second_cut (IsAnswerIn terms after question) _ (grown_text (length c.args.arcs.now)) _ _ _
     (λ text is. (is.0, is.1, is.2)) (told_whole _ _ _ c.in-Whole.is c.in_ok-grow.ensures.told)
     (c.in_err-answer.ensures.cut after (told_whole _ _ _ c.in-Whole.is (c.in_ok-grow.ensures.graph graph holds))))
     c.from_residual-in_err-answer.result

@@ -3,9 +3,10 @@ use Rattle.std.proofs.lemmas.Result.{on_err_weaker, on_ok_weaker}
 use Rattle.answer_lines.specs.Lines.{ready_text}
 use Rattle.job_answer.proofs.Facts.{appends-then}
 use Rattle.dimacs_text.specs.Jobs.{question_of}
+use Rattle.session_answer.specs.Terms.{terms_of}
 use Rattle.session_answer.specs.Replies.{IsAnswerIn, IsBodyIn}
 use Rattle.session_answer.proofs.CutLemmas.{first_cut, none_given, on_err, only_cut, ready_cut}
-use Rattle.session_answer.proofs.session.Session.answer.Goals as goal
+use Rattle.session_answer.proofs.kind_graph.KindGraph.answer.Goals as goal
 
 pub returns-clause-answered : goal.returns-clause-answered
 returns-clause-answered g c graph holds =
@@ -30,11 +31,10 @@ returns-clause-answered g c graph holds =
 
 pub returns-in_err-write_body-clause-cut : goal.returns-in_err-write_body-clause-cut
 returns-in_err-write_body-clause-cut g c graph holds =
-    let kind = c.args.context.now.asked.now.answer in
-    let by = c.args.lines in
+    let terms = terms_of c.args.context.now.asked.now in
     let question = question_of c.args.ask.now in
     on_err
-    (first_cut (IsBodyIn kind by graph question) (IsAnswerIn kind by graph question) _ _
+    (first_cut (IsBodyIn terms graph question) (IsAnswerIn terms graph question) _ _
     (λ text is. (is.body, ready_text graph.n (length graph.arcs), is.is_body, is.written))
     (c.in_err-write_body.ensures.cut graph holds))
     c.from_residual.result
@@ -43,7 +43,7 @@ pub returns-in_err-put_ready-clause-cut : goal.returns-in_err-put_ready-clause-c
 returns-in_err-put_ready-clause-cut g c graph holds =
     let body = c.in_ok-write_body.ensures.body graph holds in
     on_err
-    (ready_cut c.answer_texts_by_lines_are_unique.ensures c.args.context.now.asked.now.answer c.args.lines
+    (ready_cut c.answer_texts_by_lines_are_unique.ensures (terms_of c.args.context.now.asked.now)
     graph (question_of c.args.ask.now) body.text _ _ _ body.is_text body.appended
     (none_given (λ text. text ≡ ready_text graph.n (length graph.arcs)) _))
     c.from_residual-in_err-put_ready.result
@@ -59,7 +59,7 @@ returns-clause-cut g c graph holds =
     (ap₂ ready_text (c.n.ensures.vertices ∙ holds.network.vertices) holds.count) in
     on_err_weaker c.write_whole.result
     (λ cut.
-    ready_cut c.answer_texts_by_lines_are_unique.ensures c.args.context.now.asked.now.answer c.args.lines
+    ready_cut c.answer_texts_by_lines_are_unique.ensures (terms_of c.args.context.now.asked.now)
     graph (question_of c.args.ask.now) body.text _ _ _ body.is_text body.appended
     (only_cut bytes (ready_text graph.n (length graph.arcs)) _ _ ready cut))
     c.write_whole.ensures.prefix

@@ -1,0 +1,234 @@
+//! The network of one kind of labels, and the answers in it.
+
+ghost use Rattle.std.specs.Prelude.{◌≡◌, [], Some, IfErr, IfOk, OnErr, OnOk};
+ghost use Rattle.std.specs.Io.KnownBytes.{Appends};
+ghost use Rattle.dimacs_text.specs.Jobs.{Content, IsAddedWithin, IsQuestionWithin, question_of};
+ghost use Rattle.job_answer.specs.Bytes.{Writes, WritesPrefix};
+ghost use Rattle.job_answer.specs.Graphs.{AreGraphs};
+ghost use Rattle.job_answer.specs.Outcome.{IsWritingFault};
+ghost use Rattle.job_answer.specs.declared.asked.Answer.TheVariants.{Distances};
+ghost use Rattle.session_answer.specs.Replies.{HoldsKind, IsAnswerIn, IsBodyIn, IsTold, grown_by};
+ghost use Rattle.session_answer.specs.Terms.{terms_of};
+
+use crate::terms::lines_for;
+use answer_lines::put_ready;
+use dimacs_text::Ask;
+use job_answer::laws::answer_texts_by_lines_are_unique;
+use job_answer::{
+    Answer, Context, Fault, Graphs, NoWatch, Question, answer_question, graphs_by, is_unasked,
+    write_whole,
+};
+use least_costs::Workspace;
+use least_costs::laws::networks_grow;
+use obim_engine::Gate;
+use route_walks::{ArcRec, Memory};
+use std::alloc::Global;
+use std::io::Write;
+use std::sync::Wait;
+use std::thread::Threads;
+use std::time::Clock;
+
+/// The most lines, or vertices on walks, of a reply that is made in memory before its first byte is given: some
+/// megabytes. No reply depends on it.
+const FEW_WORDS: usize = 1 << 16;
+
+/// The outcome of a request.
+#[derive(Clone, Copy, Debug, PartialEq, Eq)]
+pub(crate) enum Told {
+    /// Its reply was given whole.
+    Whole,
+    /// Memory was refused before the first byte of its reply: nothing was given, and nothing is done.
+    Nothing,
+}
+
+/// The network of a kind of labels, grown by all arcs that were added.
+#[derive(Drop)]
+pub(crate) struct KindGraph {
+    pub(crate) graphs: Graphs,
+    /// The number of arcs that were read, those that were added among them.
+    pub(crate) arcs: usize,
+}
+
+impl KindGraph {
+    /// Makes the network of the kind that is asked for, from that of the weights.
+    pub(crate) fn derived<H: Threads + Sync, G>(
+        &self,
+        context: &Context<'_, H, G>,
+    ) -> Result<KindGraph, Memory>
+        ensures holds { (graph : Content) → HoldsKind Distances graph self.now
+            → IfOk result (HoldsKind context.now.asked.now.answer graph) }
+        ensures are { IfOk result (λ kept. AreGraphs kept.graphs) }
+        ensures vertices { IfOk result (λ kept. kept.graphs.network.n ≡ self.now.graphs.network.n) }
+    {
+        let threads = context.asked.settings.workers as usize;
+        let (rt, alloc, answer) = (context.rt, context.alloc, context.asked.answer);
+        let graphs = graphs_by(rt, alloc, answer, &self.graphs.network, threads)?;
+        Ok(KindGraph {
+            graphs,
+            arcs: self.arcs,
+        })
+    }
+
+    /// Makes the network with more arcs.
+    pub(crate) fn grown<H: Threads + Sync, G>(
+        &self,
+        context: &Context<'_, H, G>,
+        arcs: &[ArcRec],
+    ) -> Result<KindGraph, Memory>
+        requires within { IsAddedWithin self.now.graphs.network.n (Some arcs.now) }
+        ensures holds { (graph : Content) → HoldsKind Distances graph self.now
+            → IfOk result (HoldsKind Distances (grown_by graph (Some arcs.now))) }
+        ensures are { IfOk result (λ kept. AreGraphs kept.graphs) }
+        ensures vertices { IfOk result (λ kept. kept.graphs.network.n ≡ self.now.graphs.network.n) }
+    {
+        networks_grow();
+        let Some(count) = self.arcs.checked_add(arcs.len()) else {
+            return Err(Memory);
+        };
+        let threads = context.asked.settings.workers as usize;
+        let (rt, alloc) = (context.rt, context.alloc);
+        let Ok(network) = self.graphs.network.with_arcs(rt, alloc, arcs, threads) else {
+            return Err(Memory);
+        };
+        // Whatever network it is, its ends are vertices.
+        let _ = network.n();
+        Ok(KindGraph {
+            graphs: Graphs {
+                network,
+                grown: None,
+            },
+            arcs: count,
+        })
+    }
+
+    /// Reverses the rows of the network, if searches from both ends gain more than that takes.
+    pub(crate) fn prepare(&mut self, alloc: Global, answer: Answer, kept: &mut Option<Workspace>)
+        ensures { self.new ≡ self.old }
+    {
+        if matches!(answer, Answer::Components) {
+            return;
+        }
+        if let Some(kept) = kept {
+            kept.prepare(alloc, &mut self.graphs.network);
+        }
+    }
+
+    /// Replies to what is asked. A short reply is made in memory first, so that nothing was given if memory is refused.
+    pub(crate) fn reply_asked<H: Threads + Wait + Clock + Sync, W: Write, G: Gate + Sync>(
+        &self,
+        context: &Context<'_, H, G>,
+        writer: &mut W,
+        ask: &Ask,
+        kept: &mut Option<Workspace>,
+    ) -> Result<Told, Fault>
+        requires graphs { AreGraphs self.now.graphs }
+        requires within { IsQuestionWithin self.now.graphs.network.n (question_of ask.now) }
+        ensures answered { (graph : Content) → HoldsKind context.now.asked.now.answer graph self.now
+            → IfOk result (λ told. IsTold told (Writes (IsAnswerIn (terms_of context.now.asked.now) graph
+            (question_of ask.now)) (W.contents writer.old) (W.contents writer.new))
+            (Appends (W.contents writer.old) (W.contents writer.new) [])) }
+        ensures cut { (graph : Content) → HoldsKind context.now.asked.now.answer graph self.now
+            → OnErr result (WritesPrefix (IsAnswerIn (terms_of context.now.asked.now) graph
+            (question_of ask.now)) (W.contents writer.old) (W.contents writer.new)) }
+        ensures kinds { IfErr result IsWritingFault }
+    {
+        answer_texts_by_lines_are_unique();
+        if !self.is_short(context, ask) {
+            self.answer(context, writer, ask, kept)?;
+            return Ok(Told::Whole);
+        }
+        let text = match self.answer_text(context, ask, kept) {
+            Ok(text) => text,
+            Err(Fault::Spawn) => return Err(Fault::Spawn),
+            Err(_) => return Ok(Told::Nothing),
+        };
+        write_whole(writer, &text)?;
+        Ok(Told::Whole)
+    }
+
+    /// Makes the text of an answer and of how large the graph is.
+    fn answer_text<H: Threads + Wait + Clock + Sync, G: Gate + Sync>(
+        &self,
+        context: &Context<'_, H, G>,
+        ask: &Ask,
+        kept: &mut Option<Workspace>,
+    ) -> Result<Vec<u8>, Fault>
+        requires graphs { AreGraphs self.now.graphs }
+        requires within { IsQuestionWithin self.now.graphs.network.n (question_of ask.now) }
+        ensures text { (graph : Content) → HoldsKind context.now.asked.now.answer graph self.now
+            → IfOk result (λ text. IsAnswerIn (terms_of context.now.asked.now) graph
+            (question_of ask.now) text.items) }
+        ensures kinds { IfErr result IsWritingFault }
+    {
+        let mut text = Vec::new(context.alloc);
+        self.answer(context, &mut text, ask, kept)?;
+        Ok(text)
+    }
+
+    /// Tells if a reply is so short that it may be made in memory. No reply depends on it.
+    fn is_short<H, G>(&self, context: &Context<'_, H, G>, ask: &Ask) -> bool {
+        let (answer, lines) = (context.asked.answer, context.asked.lines);
+        let n = self.graphs.network.n() as usize;
+        let (count, has_walks) = match (answer, ask) {
+            (Answer::Components, _) | (_, Ask::Absent) => (n, false),
+            (_, Ask::Sources(sources)) => (sources.len().saturating_mul(n), lines.has_walks()),
+            (_, Ask::Pairs(pairs)) => (pairs.len(), lines.has_walks()),
+        };
+        let words = if has_walks { n } else { 1 };
+        count.saturating_mul(words) <= FEW_WORDS
+    }
+
+    /// Writes what is asked, and how large the graph is.
+    pub(crate) fn answer<H: Threads + Wait + Clock + Sync, W: Write, G: Gate + Sync>(
+        &self,
+        context: &Context<'_, H, G>,
+        writer: &mut W,
+        ask: &Ask,
+        kept: &mut Option<Workspace>,
+    ) -> Result<(), Fault>
+        requires graphs { AreGraphs self.now.graphs }
+        requires within { IsQuestionWithin self.now.graphs.network.n (question_of ask.now) }
+        ensures answered { (graph : Content) → HoldsKind context.now.asked.now.answer graph self.now
+            → OnOk result (Writes (IsAnswerIn (terms_of context.now.asked.now) graph
+            (question_of ask.now)) (W.contents writer.old) (W.contents writer.new)) }
+        ensures cut { (graph : Content) → HoldsKind context.now.asked.now.answer graph self.now
+            → OnErr result (WritesPrefix (IsAnswerIn (terms_of context.now.asked.now) graph
+            (question_of ask.now)) (W.contents writer.old) (W.contents writer.new)) }
+        ensures kinds { IfErr result IsWritingFault }
+    {
+        answer_texts_by_lines_are_unique();
+        self.write_body(context, writer, ask, kept)?;
+        let mut ready = Vec::new(context.alloc);
+        put_ready(&mut ready, self.graphs.network.n(), self.arcs as u64)?;
+        write_whole(writer, &ready)
+    }
+
+    /// Writes what is asked, if something is.
+    fn write_body<H: Threads + Wait + Clock + Sync, W: Write, G: Gate + Sync>(
+        &self,
+        context: &Context<'_, H, G>,
+        writer: &mut W,
+        ask: &Ask,
+        kept: &mut Option<Workspace>,
+    ) -> Result<(), Fault>
+        requires graphs { AreGraphs self.now.graphs }
+        requires within { IsQuestionWithin self.now.graphs.network.n (question_of ask.now) }
+        ensures body { (graph : Content) → HoldsKind context.now.asked.now.answer graph self.now
+            → OnOk result (Writes (IsBodyIn (terms_of context.now.asked.now) graph (question_of ask.now))
+            (W.contents writer.old) (W.contents writer.new)) }
+        ensures cut { (graph : Content) → HoldsKind context.now.asked.now.answer graph self.now
+            → OnErr result (WritesPrefix (IsBodyIn (terms_of context.now.asked.now) graph
+            (question_of ask.now)) (W.contents writer.old) (W.contents writer.new)) }
+        ensures kinds { IfErr result IsWritingFault }
+    {
+        if is_unasked(context.asked.answer, ask) {
+            return Ok(());
+        }
+        let question = Question {
+            graphs: &self.graphs,
+            ask,
+            lines: lines_for(context.asked.lines, ask),
+        };
+        answer_question(context, writer, &question, kept, &mut NoWatch)
+    }
+}
