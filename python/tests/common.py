@@ -13,6 +13,7 @@ import sys
 import threading
 import time
 import unittest
+from functools import partial
 
 if os.environ.get("HOLLOWBOWL_NUMPY") == "no":
     sys.modules["numpy"] = None
@@ -112,17 +113,10 @@ def children():
     return found
 
 
-def program_of(kind):
-    """The number of the one program of this process that answers a kind."""
-    options = {"distances": None, "levels": "levels", "components": "components", "totals": "--totals"}
-    special = set(filter(None, options.values()))
-    found = []
-    for number, words in children().items():
-        if "--session" in words:
-            marks = special.intersection(words)
-            if marks == ({options[kind]} if options[kind] else set()):
-                found.append(number)
-    assert len(found) == 1, (kind, found)
+def the_program():
+    """The number of the one program that this process has begun."""
+    found = [number for number, words in children().items() if "--session" in words]
+    assert len(found) == 1, found
     return found[0]
 
 
@@ -161,19 +155,20 @@ def interrupt(*_):
 
 
 def every_question(graph):
-    """Each kind of question, and the change."""
-    yield lambda: graph.distance(0, 1)
-    yield lambda: graph.distances(0)
-    yield lambda: graph.distances([0])
-    yield lambda: graph.distances([])
-    yield lambda: graph.levels(0)
-    yield lambda: graph.totals(0)
-    yield lambda: graph.within(0, 9)
-    yield lambda: graph.components()
-    yield lambda: graph.matrix([0], [1])
-    yield lambda: graph.pairs([0], [1])
-    yield lambda: graph.path(0, 1)
-    yield lambda: graph.add([0], [1], [1])
+    """Each kind of question, and the change; each takes a time to wait."""
+    for costs in ({}, {"hops": True}):
+        yield partial(graph.distance, 0, 1, **costs)
+        yield partial(graph.distances, 0, **costs)
+        yield partial(graph.distances, [0], **costs)
+        yield partial(graph.distances, [], **costs)
+        yield partial(graph.totals, 0, **costs)
+        yield partial(graph.within, 0, 9, **costs)
+        yield partial(graph.matrix, [0], [1], **costs)
+        yield partial(graph.pairs, [0], [1], **costs)
+        yield partial(graph.path, 0, 1, **costs)
+    yield partial(graph.levels, 0)
+    yield graph.components
+    yield partial(graph.add, [0], [1], [1])
 
 
 class Case(unittest.TestCase):

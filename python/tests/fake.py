@@ -34,11 +34,11 @@ class Fake:
 
     def __enter__(self):
         self._folder = tempfile.TemporaryDirectory()
-        path = os.path.join(self._folder.name, "program")
-        with open(path, "w", encoding="utf-8") as file:
+        self.path = os.path.join(self._folder.name, "program")
+        with open(self.path, "w", encoding="utf-8") as file:
             file.write(self._text)
-        os.chmod(path, 0o755)
-        self._named = mock.patch.dict(os.environ, HOLLOWBOWL=path)
+        os.chmod(self.path, 0o755)
+        self._named = mock.patch.dict(os.environ, HOLLOWBOWL=self.path)
         self._named.start()
         return self
 
@@ -48,5 +48,5 @@ class Fake:
 
 
 def fake(body, pause=0):
-    """A program that has read and answered the graph of one arc from 0 to 1, of weight 7, and goes on by the body."""
-    return Fake('read(2)\nsay(b"r 2 1\\n")\n' + body, pause)
+    """A program that has the graph of one arc from 0 to 1, of weight 7, and knows kinds; it goes on by the body."""
+    return Fake('read(2)\nsay(b"r 2 1\\n")\nread(2)\nsay(b"r 2 1\\nr 2 1\\n")\n' + body, pause)

@@ -3,8 +3,11 @@
 Run by `python3 -m unittest discover python/tests`, with `python/src` on PYTHONPATH.
 """
 
+import pickle
+import sys
 import threading
 import unittest
+from unittest import mock
 
 from common import (
     Case,
@@ -20,12 +23,13 @@ from common import (
     numpy,
     pandas,
     scipy,
+    the_program,
     totals_of,
     whole,
 )
 
 import hollowbowl
-from hollowbowl import INF, Graph, NoPath
+from hollowbowl import INF, Graph, NoPath, NoVertex
 
 
 class Costs(Case):
@@ -41,22 +45,29 @@ class Costs(Case):
                 self.assertEqual(whole(graph.distances(range(n))), wanted)
                 self.assertEqual(whole([graph.distances(n - 1)]), wanted[-1:])
                 self.assertEqual(whole(graph.levels(range(n))), fewest)
-                self.assertEqual(graph.totals(range(n)), [totals_of(row) for row in wanted])
-                self.assertEqual(whole(graph.matrix(range(n), range(n))), wanted)
-                ends = [((7 * place) % n, place % n) for place in range(70)]
-                self.assertEqual(ints(graph.pairs(*zip(*ends))), [wanted[source][target] for source, target in ends])
-                self.check_within(graph, wanted)
-                self.check_paths(graph, n, arcs, wanted)
+                self.check(graph, n, arcs, wanted)
+                self.check(graph, n, [(tail, head, 1) for tail, head, _ in arcs], fewest, hops=True)
 
-    def check_within(self, graph, wanted):
+    def check(self, graph, n, arcs, wanted, **costs):
+        """What is asked in all ways has the costs that are wanted."""
+        self.assertEqual(whole(graph.distances(range(n), **costs)), wanted)
+        self.assertEqual(graph.totals(range(n), **costs), [totals_of(row) for row in wanted])
+        self.assertEqual(whole(graph.matrix(range(n), range(n), **costs)), wanted)
+        ends = [((7 * place) % n, place % n) for place in range(70)]
+        found = ints(graph.pairs(*zip(*ends), **costs))
+        self.assertEqual(found, [wanted[source][target] for source, target in ends])
+        self.check_within(graph, wanted, costs)
+        self.check_paths(graph, n, arcs, wanted, costs)
+
+    def check_within(self, graph, wanted, how):
         """Within a bound the vertices are those whose costs are, in order."""
         for source, costs in enumerate(wanted):
             for bound in (0, sorted(costs)[len(costs) // 2], INF):
                 bound = min(bound, INF - 1)
                 near = [vertex for vertex, cost in enumerate(costs) if cost <= bound]
-                self.assertEqual(whole(graph.within(source, bound)), [near, [costs[vertex] for vertex in near]])
+                self.assertEqual(whole(graph.within(source, bound, **how)), [near, [costs[vertex] for vertex in near]])
 
-    def check_paths(self, graph, n, arcs, wanted):
+    def check_paths(self, graph, n, arcs, wanted, how):
         """Each path has the cost, by arcs that are there."""
         least = {}
         for tail, head, weight in arcs:
@@ -64,14 +75,14 @@ class Costs(Case):
         for target in range(n):
             if wanted[0][target] == INF:
                 with self.assertRaises(NoPath):
-                    graph.path(0, target)
+                    graph.path(0, target, **how)
                 with self.assertRaises(NoPath):
-                    graph.distance(0, target)
+                    graph.distance(0, target, **how)
                 continue
-            path = graph.path(0, target)
+            path = graph.path(0, target, **how)
             self.assertEqual((path[0], path[-1]), (0, target))
             self.assertEqual(sum(least[arc] for arc in zip(path, path[1:])), wanted[0][target])
-            self.assertEqual(graph.distance(0, target), wanted[0][target])
+            self.assertEqual(graph.distance(0, target, **how), wanted[0][target])
 
     def test_components(self):
         for seed in range(30):
@@ -85,14 +96,18 @@ class Costs(Case):
             _, more = drawn(seed + 1000)
             more = [(tail % n, head % n, weight) for tail, head, weight in more]
             with Graph(*columns(arcs), n) as graph:
-                graph.levels(0)
+                number = the_program()
+                if seed % 2:
+                    graph.levels(0), graph.components()
                 graph.add(*columns(more))
                 self.assertEqual(graph.m, len(arcs) + len(more))
-                costs = costs_from(n, arcs + more, 0)
-                self.assertEqual(whole([graph.distances(0)])[0], costs)
+                costs, fewest = costs_from(n, arcs + more, 0), levels_from(n, arcs + more, 0)
+                self.assertEqual((ints(graph.distances(0)), ints(graph.levels(0))), (costs, fewest))
                 near = [vertex for vertex, cost in enumerate(costs) if cost <= 9]
                 self.assertEqual(whole(graph.within(0, 9)), [near, [costs[vertex] for vertex in near]])
-                self.assertEqual(ints(graph.levels(0)), levels_from(n, arcs + more, 0))
+                self.assertEqual(graph.totals(0, hops=True), totals_of(fewest))
+                self.assertEqual(ints(graph.components()), components_of(n, arcs + more))
+                self.assertEqual(the_program(), number)
 
     def test_worked_row(self):
         with Graph([0, 0, 1], [1, 2, 2], [7, 20, 6]) as graph:
@@ -168,6 +183,25 @@ class Names(Case):
         other.add_edge("b", "c", weight=5)
         with Graph.from_networkx(other) as graph:
             self.assertEqual(graph.distance("a", "c"), 6)
+
+    @unittest.skipIf(networkx is None, "no networkx")
+    def test_faults_of_networkx(self):
+        with Graph.from_networkx(networkx.DiGraph([("a", "b")])) as graph:
+            for ask, ours, theirs in (
+                (lambda: graph.path("b", "a"), NoPath, networkx.NetworkXNoPath),
+                (lambda: graph.distance("b", "a"), NoPath, networkx.NetworkXNoPath),
+                (lambda: graph.distance("a", "z"), NoVertex, networkx.NodeNotFound),
+            ):
+                with self.assertRaises(theirs) as caught:
+                    ask()
+                fault = pickle.loads(pickle.dumps(caught.exception))
+                self.assertIsInstance(fault, ours)
+                self.assertIsInstance(fault, theirs)
+                self.assertEqual((str(fault), fault.args), (str(caught.exception), caught.exception.args))
+        # Without networkx there is nothing of it.
+        with mock.patch.dict(sys.modules):
+            del sys.modules["networkx"]
+            self.assertIs(type(hollowbowl._errors.fault_of(NoPath, "b", "a")), NoPath)
 
     @unittest.skipIf(networkx is None, "no networkx")
     def test_networkx(self):

@@ -5,14 +5,15 @@ import os
 import signal
 import subprocess
 import sys
+import tempfile
 import threading
 import time
 import unittest
 
-from common import Case, children, every_question, ints, is_alive, program_of, threads, waits_for
+from common import Case, children, every_question, ints, is_alive, the_program, threads, waits_for
 from fake import fake
 
-from hollowbowl import INF, Closed, Ended, Graph, Refused
+from hollowbowl import INF, Closed, Ended, Graph, ProgramMissing, Refused
 
 ARC = ([0], [1], [7])
 
@@ -23,14 +24,14 @@ class Ends(Case):
     def test_killed(self):
         with Graph([0, 1], [1, 2], [3, 4]) as graph:
             graph.add([0], [2], [5])
-            for kind, ask, wanted in (
-                ("distances", lambda: ints(graph.distances(0)), [0, 3, 5]),
-                ("levels", lambda: ints(graph.levels(0)), [0, 1, 1]),
-                ("components", lambda: ints(graph.components()), [0, 0, 0]),
-                ("totals", lambda: graph.totals(0), (3, 8, 5, 2)),
+            for ask, wanted in (
+                (lambda: ints(graph.distances(0)), [0, 3, 5]),
+                (lambda: ints(graph.levels(0)), [0, 1, 1]),
+                (lambda: ints(graph.components()), [0, 0, 0]),
+                (lambda: graph.totals(0), (3, 8, 5, 2)),
             ):
                 self.assertEqual(ask(), wanted)
-                os.kill(program_of(kind), signal.SIGKILL)
+                os.kill(the_program(), signal.SIGKILL)
                 with self.assertRaises(Ended) as caught:
                     ask()
                 self.assertEqual(caught.exception.status, -9)
@@ -40,7 +41,7 @@ class Ends(Case):
     def test_killed_while_it_answers(self):
         n = 3000
         with Graph(range(n - 1), range(1, n), [1] * (n - 1)) as graph:
-            threading.Timer(0.2, os.kill, (program_of("distances"), signal.SIGKILL)).start()
+            threading.Timer(0.2, os.kill, (the_program(), signal.SIGKILL)).start()
             with self.assertRaises(Ended):
                 graph.distances([0] * 20000)
             self.assertEqual(graph.distance(0, n - 1), n - 1)
@@ -48,10 +49,9 @@ class Ends(Case):
     def test_killed_before_an_add(self):
         with Graph([0], [1], [3], 3) as graph:
             self.assertEqual((ints(graph.levels(0)), ints(graph.components())), ([0, 1, INF], [0, 0, 2]))
-            os.kill(program_of("levels"), signal.SIGKILL)
             graph.add([1], [2], [4])
             self.assertEqual((ints(graph.levels(0)), ints(graph.components()), graph.m), ([0, 1, 2], [0, 0, 0], 2))
-            os.kill(program_of("distances"), signal.SIGKILL)
+            os.kill(the_program(), signal.SIGKILL)
             with self.assertRaises(Ended):
                 graph.add([0], [2], [1])
             self.assertEqual((graph.m, ints(graph.levels(0)), ints(graph.distances(0))), (2, [0, 1, 2], [0, 3, 7]))
@@ -62,6 +62,27 @@ class Ends(Case):
             graph.add([1], [2], [4])
             self.assertEqual((ints(graph.levels(0)), ints(graph.components())), ([0, 1, 2], [0, 0, 0]))
             self.assertEqual((graph.totals(0), ints(graph.distances(0))), ((3, 10, 7, 2), [0, 3, 7]))
+
+    def test_nothing_kept(self):
+        for path in (None, "chain.gr"):
+            with Graph([0, 1], [1, 2], [3, 4], keep=False) if path is None else self.chain(path) as graph:
+                graph.add([0], [2], [5])
+                self.assertEqual((ints(graph.distances(0)), ints(graph.levels(0)), graph.m), ([0, 3, 5], [0, 1, 1], 3))
+                session = graph._wire.state.session
+                self.assertEqual(len(session.added.columns[0]), 0)
+                self.assertIsNone(getattr(session._kept, "_columns", None))
+                os.kill(the_program(), signal.SIGKILL)
+                for ask in every_question(graph):
+                    with self.assertRaisesRegex(Ended, "signal 9"):
+                        ask()
+
+    def chain(self, name):
+        """Such a graph of a file that is gone by now."""
+        with tempfile.TemporaryDirectory() as folder:
+            path = os.path.join(folder, name)
+            with open(path, "w", encoding="ascii") as file:
+                file.write("p sp 3 2\na 1 2 3\na 2 3 4\n")
+            return Graph.from_gr(path, keep=False)
 
     def test_closed(self):
         graph = Graph([0], [1], [3])
@@ -79,14 +100,13 @@ class Ends(Case):
         self.assertTrue(issubclass(Closed, Ended))
 
     def test_closed_while_any_kind_is_asked(self):
-        for kind in ("levels", "totals", "components", "distances"):
+        for place in range(4):
             graph = Graph([0], [1], [3])
-            graph.levels(0), graph.totals(0), graph.components()
-            asks = {"levels": graph.levels, "totals": graph.totals, "components": lambda _: graph.components(), "distances": graph.distances}
-            os.kill(program_of(kind), signal.SIGSTOP)
+            questions = [graph.levels, graph.totals, lambda _, graph=graph: graph.components(), graph.distances]
+            os.kill(the_program(), signal.SIGSTOP)
             came = []
 
-            def ask(ask=asks[kind], came=came):
+            def ask(ask=questions[place], came=came):
                 try:
                     ask(0)
                 except Closed as fault:
@@ -97,7 +117,7 @@ class Ends(Case):
             time.sleep(0.05)
             graph.close()
             asker.join(5)
-            self.assertEqual(len(came), 1, kind)
+            self.assertEqual(len(came), 1, place)
 
     def test_closed_while_threads_ask(self):
         n = 3000
@@ -152,25 +172,27 @@ class Ends(Case):
         with self.assertRaises(Ended):
             Graph([0], [1], [3], workers=1000)
 
-    def test_one_program_a_kind(self):
+    def test_one_program(self):
         with Graph([0], [1], [3]) as graph:
+            number = the_program()
             barrier = threading.Barrier(8)
 
             def ask():
                 barrier.wait()
-                graph.levels(0)
+                for question in every_question(graph):
+                    question()
 
             askers = [threading.Thread(target=ask) for _ in range(8)]
             for each in askers:
                 each.start()
             for each in askers:
                 each.join()
-            self.assertGreater(program_of("levels"), 0)
+            self.assertEqual((the_program(), graph.m), (number, 9))
 
     def test_options(self):
         with fake("rest()"), Graph(*ARC, workers=3):
-            words = [words for words in children().values() if "--session" in words][0]
-        self.assertEqual(words[words.index("--session") :][:5], ["--session", "--workers", "3", "--labels", "raw"])
+            words = children()[the_program()]
+        self.assertEqual(words[words.index("--session") :], ["--session", "--workers", "3", ""])
 
     def test_a_relative_path(self):
         named, folder = os.path.abspath(os.environ["HOLLOWBOWL"]), os.getcwd()
@@ -188,9 +210,14 @@ class Ends(Case):
         named = os.environ.pop("HOLLOWBOWL", None)
         path, os.environ["PATH"] = os.environ["PATH"], ""
         try:
-            with self.assertRaises(FileNotFoundError):
+            with self.assertRaisesRegex(ProgramMissing, "HOLLOWBOWL") as caught:
+                Graph([], [], [])
+            self.assertIsInstance(caught.exception, FileNotFoundError)
+            os.environ["HOLLOWBOWL"] = "/nowhere/obim_query"
+            with self.assertRaisesRegex(ProgramMissing, "^there is no program /nowhere/obim_query"):
                 Graph([], [], [])
         finally:
+            os.environ.pop("HOLLOWBOWL", None)
             os.environ["PATH"] = path
             if named is not None:
                 os.environ["HOLLOWBOWL"] = named
@@ -203,7 +230,7 @@ class Ends(Case):
     def test_end_of_python(self):
         begin = "import atexit, os, sys, threading, time, signal\nfrom hollowbowl import Graph, Closed\n"
         busy = "threading.Thread(target=lambda: g.distances([0] * 3000), daemon=True).start()\ntime.sleep(0.1)\n"
-        chain = "g = Graph(range(2999), range(1, 3000), [1] * 2999)\nprint(g._wire.state.programs.process('distances').id, flush=True)\n"
+        chain = "g = Graph(range(2999), range(1, 3000), [1] * 2999)\nprint(g._wire.state.session.process().id, flush=True)\n"
         for end, status in (("", 0), ("sys.exit(3)", 3), ("os.kill(os.getpid(), 9)", -9)):
             got, out, err = self.run_python(begin + chain + busy + end)
             self.assertEqual((got, err), (status, ""))

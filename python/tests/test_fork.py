@@ -15,7 +15,7 @@ import time
 import unittest
 from multiprocessing.reduction import ForkingPickler
 
-from common import Case, children, optional, program_of, waits_for
+from common import Case, children, optional, the_program, waits_for
 
 from hollowbowl import Closed, Graph, WrongProcess
 
@@ -99,7 +99,7 @@ class Forks(Case):
         self.assertEqual((graph.distance(0, 5), graph.m), (5, N - 1))
 
     def test_while_another_thread_asks(self):
-        number = program_of("distances")
+        number = the_program()
         os.kill(number, signal.SIGSTOP)
         asker = threading.Thread(target=lambda: graph.distances([0] * 100))
         asker.start()

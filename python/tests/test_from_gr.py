@@ -7,7 +7,7 @@ import tempfile
 import time
 import unittest
 
-from common import Case, ints, program_of
+from common import Case, ints, the_program
 
 from hollowbowl import BadGraph, Ended, Graph, GraphChanged
 
@@ -140,11 +140,9 @@ class Files(Case):
         self.write(CHAIN)
         with Graph.from_gr(self.path) as graph:
             self.write(text)
-            for ask in (graph.levels, graph.totals, lambda _: graph.components()):
-                with self.assertRaises(GraphChanged):
-                    ask(0)
-            self.assertEqual(ints(graph.distances(0)), [0, 7, 13])
-            os.kill(program_of("distances"), signal.SIGKILL)
+            self.assertEqual((ints(graph.levels(0)), ints(graph.components())), ([0, 1, 2], [0, 0, 0]))
+            self.assertEqual((graph.totals(0), ints(graph.distances(0))), ((3, 20, 13, 2), [0, 7, 13]))
+            os.kill(the_program(), signal.SIGKILL)
             with self.assertRaises(Ended):
                 graph.distances(0)
             for _ in range(2):
@@ -159,12 +157,17 @@ class Files(Case):
         self.write(CHAIN)
         times = self.time
         with Graph.from_gr(self.path) as graph:
-            for text in ("p sp 3 1\na 1 2 7\nc 2 3 6\n", "p sp 3 2\na 1 2 7\na 2 9 6\n", "p sp 3 3\na 1 2 7\na 2 3 6\n"):
+            os.kill(the_program(), signal.SIGKILL)
+            with self.assertRaises(Ended):
+                graph.levels(0)
+            for text in ("p sp 3 1\na 1 2 7\nc 2 3 6\n", "p sp 3 2\na 1 2 7\na 2 9 6\n", "p sp 3 3\na 1 2 7\na 2 3 6\n", CHAIN):
                 self.write(text)
                 os.utime(self.path, ns=(times, times))
                 self.assertEqual(len(text), len(CHAIN))
-                with self.assertRaises(GraphChanged):
-                    graph.levels(0)
+                if text != CHAIN:
+                    with self.assertRaises(GraphChanged):
+                        graph.levels(0)
+            self.assertEqual(ints(graph.levels(0)), [0, 1, 2])
 
     def test_moved(self):
         self.write(CHAIN)
@@ -181,7 +184,7 @@ class Files(Case):
             os.remove(self.path + ".old")
             self.write(SIX)
             self.assertEqual((graph.totals(0), graph.m), ((3, 12, 7, 1), 3))
-            os.kill(program_of("distances"), signal.SIGKILL)
+            os.kill(the_program(), signal.SIGKILL)
             with self.assertRaises(Ended):
                 graph.distance(0, 2)
             self.assertEqual(graph.distance(0, 2), 5)

@@ -1,4 +1,4 @@
-"""KeyboardInterrupt at any moment of any call."""
+"""KeyboardInterrupt at any moment of any call, and times that are over."""
 
 import os
 import random
@@ -7,19 +7,20 @@ import sys
 import threading
 import time
 import unittest
+from unittest import mock
 
-from common import Case, columns, costs_from, drawn, interrupt, ints, is_alive, levels_from, program_of, totals_of, waits_for, whole
+from common import Case, columns, costs_from, drawn, every_question, interrupt, ints, is_alive, levels_from, the_program, totals_of, waits_for, whole
 
 import hollowbowl
-from hollowbowl import Ended, Graph
+from hollowbowl import Ended, Graph, Timeout
 
 
 class Interrupts(Case):
     """KeyboardInterrupt at any moment of any call."""
 
-    def stopped(self, kind):
-        """Stops the program of a kind, so that whatever asks it waits; it goes on at the end."""
-        number = program_of(kind)
+    def stopped(self):
+        """Stops the program, so that whatever asks it waits; it goes on at the end."""
+        number = the_program()
         os.kill(number, signal.SIGSTOP)
 
         def go_on():
@@ -33,37 +34,58 @@ class Interrupts(Case):
         n, arcs = drawn(7, 60)
         wanted = [costs_from(n, arcs, source) for source in range(n)]
         with Graph(*columns(arcs), n) as graph:
-            number = program_of("distances")
-            for ask in (lambda: graph.distance(0, 0), lambda: graph.distances(range(n)), lambda: graph.path(0, 0), lambda: graph.within(0, 3)):
-                go_on = self.stopped("distances")
-                self.interrupted_after(0.05, ask)
-                go_on()
-                self.assertEqual(whole(graph.distances(range(n))), wanted)
-            self.assertEqual(program_of("distances"), number)
+            number = the_program()
+            # The last is one that is too long for a pipe, so it is interrupted while it is written.
+            many = [0] * 50_000
+            with mock.patch.object(hollowbowl._asking, "_FIRST", {"pairs": len(many)}):
+                for ask in [*every_question(graph)][:-1] + [lambda: graph.pairs(many, many, hops=True)]:
+                    go_on = self.stopped()
+                    self.interrupted_after(0.05, ask)
+                    go_on()
+                    self.assertEqual(whole(graph.distances(range(n))), wanted)
+            self.assertEqual(the_program(), number)
 
     def test_in_an_add(self):
-        for kind in ("levels", "totals", "components", "distances"):
+        for is_asked in (False, True):
             with Graph([0, 1], [1, 2], [3, 4], 4) as graph:
-                graph.levels(0), graph.totals(0), graph.components()
-                go_on = self.stopped(kind)
+                if is_asked:
+                    self.all_kinds(graph)
+                go_on = self.stopped()
                 self.interrupted_after(0.05, lambda: graph.add([2], [3], [1]))
                 go_on()
-                reached = [
-                    ints(graph.distances(0)) == [0, 3, 7, 8],
-                    ints(graph.levels(0)) == [0, 1, 2, 3],
-                    graph.totals(0) == (4, 18, 8, 3),
-                    ints(graph.components()) == [0, 0, 0, 0],
-                    graph.m == 3,
-                ]
-                self.assertEqual(reached, [reached[0]] * 5, kind)
-                os.kill(program_of("distances"), signal.SIGKILL)
+                grown = [0, 3, 7, 8], [0, 1, 2, 3], (4, 18, 8, 3), [0, 0, 0, 0], 3
+                self.assertEqual(self.all_kinds(graph), grown)
+                os.kill(the_program(), signal.SIGKILL)
                 with self.assertRaises(Ended):
                     graph.distance(0, 1)
-                self.assertEqual(ints(graph.distances(0)) == [0, 3, 7, 8], reached[0])
+                self.assertEqual(self.all_kinds(graph), grown)
+
+    def all_kinds(self, graph):
+        """An answer of each kind, and how many arcs there are."""
+        return ints(graph.distances(0)), ints(graph.levels(0)), graph.totals(0), ints(graph.components()), graph.m
+
+    def test_timeouts(self):
+        with Graph([0], [1], [3]) as graph:
+            for place, ask in enumerate([*every_question(graph)]):
+                go_on = self.stopped()
+                start = time.monotonic()
+                with self.assertRaisesRegex(Timeout, "^no answer came within 0.02 s") as caught:
+                    ask(timeout=0.02)
+                self.assertLess(time.monotonic() - start, 1)
+                self.assertIsInstance(caught.exception, TimeoutError)
+                with self.assertRaises(Timeout):
+                    graph.distance(0, 1, timeout=0)
+                go_on()
+                self.assertEqual(graph.distance(0, 0, timeout=5), 0, place)
+            # The time of the last one, an `add`, was over, and its arc is there.
+            self.assertEqual((graph.m, graph.distance(0, 1, timeout=1e300)), (2, 1))
+            for wrong in (-1, float("nan"), "1", 1j):
+                with self.assertRaisesRegex(ValueError, "^timeout is "):
+                    graph.distance(0, 1, timeout=wrong)
 
     def test_of_another_thread(self):
         with Graph([0], [1], [3]) as graph:
-            go_on = self.stopped("distances")
+            go_on = self.stopped()
             found = []
             other = threading.Thread(target=lambda: found.append(graph.distance(0, 1)))
             signal.setitimer(signal.ITIMER_REAL, 0)
@@ -109,7 +131,7 @@ class Interrupts(Case):
         wanted = [costs_from(n, arcs, source) for source in range(n)]
         wrong = []
         with Graph(*columns(arcs), n) as graph:
-            number = program_of("distances")
+            number = the_program()
 
             def ask(draw):
                 source = draw.randrange(n)
@@ -122,7 +144,7 @@ class Interrupts(Case):
 
             cut, _ = self.alarmed(2, ask)
             self.assertGreater(cut, 10)
-            self.assertEqual((wrong, whole(graph.distances(range(n))), program_of("distances")), ([], wanted, number))
+            self.assertEqual((wrong, whole(graph.distances(range(n))), the_program()), ([], wanted, number))
 
     def test_alarms_in_adds(self):
         n, arcs = drawn(9, 20)
@@ -139,7 +161,7 @@ class Interrupts(Case):
             self.assertGreater(cut, 5)
             # What is in the graph, and its order, is what the package itself keeps for a program that begins later.
             graph.distance(0, 0)
-            there = [tuple(int(column[0]) for column in part) for part in graph._wire.state.programs.added]
+            there = list(zip(*graph._wire.state.session.added.columns))
             left = iter(added)
             self.assertTrue(all(arc in left for arc in there))
             costs = [costs_from(n, arcs + there, source) for source in range(n)]

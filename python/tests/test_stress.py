@@ -74,6 +74,8 @@ def question(graph, draw):
             (lambda: tuple(graph.totals(source)), lambda arcs: totals_of(costs_from(VERTICES, arcs, source))),
             (lambda: list(zip(*whole(graph.within(source, bound)))), near),
             (lambda: whole(graph.matrix([source], few)), lambda arcs: [[costs_from(VERTICES, arcs, source)[each] for each in few]]),
+            (lambda: tuple(graph.totals(source, hops=True)), lambda arcs: totals_of(levels_from(VERTICES, arcs, source))),
+            (lambda: whole(graph.matrix([source], few, hops=True)), lambda arcs: [[levels_from(VERTICES, arcs, source)[each] for each in few]]),
             (distance, lambda arcs: costs_from(VERTICES, arcs, source)[target]),
         ]
     )

@@ -177,6 +177,7 @@ class Vertices(Case):
         with Graph.from_edges(edges) as graph:
             self.assertEqual((graph.n, graph.m), (5, 4))
             self.assertEqual(graph.names, ("Rom", "Ulm", ("a", "b"), 10, frozenset("x")))
+            self.assertEqual([each.reached for each in graph.totals(graph)], [5, 4, 3, 2, 1])
             self.assertEqual(ints(graph.distances(("a", "b"))), [INF, INF, 0, 1, 3])
             self.assertEqual(len(graph.distances(["Rom", "Ulm"])), 2)
             self.assertEqual(len(graph.distances(("Rom", "Ulm"))), 2)
@@ -212,6 +213,7 @@ class Rows(Case):
             with self.assertRaisesRegex(ValueError, "^2 sources and 1 targets"):
                 graph.pairs([0, 1], [2])
             self.assertEqual(graph.totals([]), [])
+            self.assertEqual((list(graph), whole(graph.distances(graph))), ([0, 1, 2], [*rows, [INF, INF, 0]]))
             graph.add([], [], [])
             self.assertEqual(graph.m, 2)
 
@@ -234,7 +236,7 @@ class Rows(Case):
         with Graph(*columns(arcs), n) as graph:
             wanted = whole(graph.distances(range(n))), graph.totals(range(n)), whole(graph.matrix(range(n), range(n)))
             for size in (1, 2, 3, 7, 1000):
-                with mock.patch.object(hollowbowl._wire.State, "_size", lambda self, question: size):
+                with mock.patch.object(hollowbowl._asking.Sizes, "of", lambda self, question: size):
                     found = whole(graph.distances(range(n))), graph.totals(range(n)), whole(graph.matrix(range(n), range(n)))
                 self.assertEqual(found, wanted)
 
@@ -250,10 +252,10 @@ class Rows(Case):
     def test_more_sources_than_a_request_takes(self):
         count, most = 2001, 1000
         body = (
-            f"while words := sys.stdin.buffer.readline().split():\n    count = int(words[4])\n    os._exit(9) if count > {most} else read(count)\n"
+            f"while words := sys.stdin.buffer.readline().split():\n    count = int(words[6])\n    os._exit(9) if count > {most} else read(count)\n"
             "    say(b's 1\\n' + bytes(16) if count else b'', *[b's 1\\n' + bytes(16)] * (count - 1), b'r 2 1\\n')\n"
         )
-        with fake(body), Graph([0], [1], [7]) as graph, mock.patch.object(hollowbowl._wire, "MOST_ITEMS", most):
+        with fake(body), Graph([0], [1], [7]) as graph, mock.patch.object(hollowbowl._asking, "MOST_ITEMS", most):
             rows = graph.distances([0] * count)
             self.assertEqual((len(rows), ints(rows[0]), ints(rows[-1])), (count, [0, 0], [0, 0]))
 
@@ -299,6 +301,9 @@ class Text(unittest.TestCase):
             hollowbowl.Ended(-9, ""),
             hollowbowl.Closed(),
             hollowbowl.OutOfStep("x"),
+            hollowbowl.ProgramMissing("x"),
+            hollowbowl.ProgramTooOld("x"),
+            hollowbowl.Timeout("x"),
             hollowbowl.WrongProcess("x"),
         ]
         for fault in made:

@@ -1,15 +1,16 @@
 """Replies in pieces, replies that are none to what was asked, and refusals."""
 
 import os
+import resource
 import signal
 import unittest
 from unittest import mock
 
-from common import Case, every_question, ints, program_of
+from common import Case, every_question, ints, the_program
 from fake import Fake, fake
 
 import hollowbowl
-from hollowbowl import Ended, Graph, OutOfMemory, OutOfStep, Refused
+from hollowbowl import Ended, Graph, OutOfMemory, OutOfStep, ProgramTooOld, Refused
 
 ARC = ([0], [1], [7])
 
@@ -50,27 +51,38 @@ class Replies(Case):
 
     def test_a_reply_to_something_else(self):
         far = bytes(8) + b"\7" + bytes(7)
-        for reply in (b"q 1 2 7\nr 3 1\n", b"q 1 2 7\nr 2 2\n", b"q 2 1 7\nr 2 1\n", b"q 1 2 x\nr 2 1\n", b"r 2 1\n", b"q 1 2 7\nr 2 1\nr 2 1\n", b"e 1 out of range\n", b"e 5 out of range\n", b"e x\n", b"q 1 2 7\nq 1 2 7\nr 2 1\n"):
+        for reply in (b"q 1 2 7\nr 3 1\n", b"q 1 2 7\nr 2 2\n", b"q 2 1 7\nr 2 1\n", b"q 1 2 x\nr 2 1\n", b"r 2 1\n", b"q 1 2 7\nr 2 1\nr 2 1\n", b"e 4 out of range\n", b"e 7 out of range\n", b"e x\n", b"q 1 2 7\nq 1 2 7\nr 2 1\n"):
             self.out_of_step(reply, lambda graph: graph.distance(0, 1))
         for reply in (b"s 2\n" + far + b"r 2 1\n", b"s 1\n" + far + b"r 2 2\n", b"s 1\n" + far + b"s 1\n", b"r 2 1\n", b"s 1\n" + far + b"r 2 1\nq 1 2 7\n", b"x" * 300):
             self.out_of_step(reply, lambda graph: graph.distances(0))
         for reply in (b"t 2 2 7 7 2\nr 2 1\n", b"t 1 2 7 7\nr 2 1\n", b"q 1 2 7\nr 2 1\n"):
-            self.out_of_step(b"r 2 1\n" + reply, lambda graph: graph.totals(0), 0)
+            self.out_of_step(reply, lambda graph: graph.totals(0))
         for reply in (b"s 2\nd 1 0\nr 2 1\n", b"s 1\nd 1\nr 2 1\n"):
             self.out_of_step(reply, lambda graph: graph.within(0, 9))
         for reply in (b"q 1 2 7\nw 2 7 1 1\nr 2 1\n", b"q 1 2 7\nw 2 8 1 2\nr 2 1\n", b"q 1 2 7\nr 2 1\n", b"q 1 2 inf\nw 2 7 1 2\nr 2 1\n"):
             self.out_of_step(reply, lambda graph: graph.path(0, 1))
+        for reply in (b"k 1 1\nr 2 1\n", b"k 1 1\nk 1 1\nr 2 1\n", b"s 1\nr 2 1\n"):
+            self.out_of_step(reply, lambda graph: graph.components(), 1)
         for reply in (b"g 1\nr 2 1\n", b"g 2\nr 2 2\n", b"r 2 2\n"):
             self.out_of_step(reply, lambda graph: graph.add([0], [1], [1]))
 
     def test_no_session(self):
-        for body in ('say(b"hello\\nr 2 1\\n")\nrest()', 'read(2)\nsay(b"r 1 1\\n")\nrest()', 'read(2)\nsay(b"e 2 x\\n")\nrest()'):
+        for body in ('say(b"hello\\nr 2 1\\n")\nrest()', 'read(2)\nsay(b"r 1 1\\n")\nrest()', 'read(2)\nsay(b"e 2 x\\n")\nrest()', 'say(b"x" * 300)\nrest()'):
             with Fake(body), self.assertRaises((OutOfStep, Ended)):
                 Graph(*ARC)
         with Fake('sys.stderr.write("no such option")\nos._exit(1)'), self.assertRaisesRegex(Ended, "status 1: no such option"):
             Graph(*ARC)
         with Fake("os._exit(3)"), self.assertRaises(OutOfMemory):
             Graph(*ARC)
+
+    def test_an_older_program(self):
+        """It knows no kinds: it refuses the first line that names one, and passes by the next."""
+        body = 'read(2)\nsay(b"r 2 1\\n")\nread(2)\nsay({!r})\nrest()'
+        with Fake(body.format(b"e 3 unknown line\n")) as program, self.assertRaisesRegex(ProgramTooOld, f"^{program.path} is older"):
+            Graph(*ARC)
+        for reply in (b"r 2 1\nr 2 2\n", b"r 2 2\nr 2 2\n", b"r 2 1\nr 2 1\nr 2 1\n", b"e 3 out of range\n" * 2):
+            with Fake(body.format(reply)), self.assertRaises(OutOfStep):
+                Graph(*ARC)
 
     def test_long_standard_error(self):
         body = 'read(2)\nfor _ in range(200):\n    os.write(2, b"x" * 50000)\nos.write(2, b"the end")\nos._exit(5)'
@@ -100,6 +112,18 @@ class Refusals(Case):
             graph._names.n = 2
             self.assertEqual(ints(graph.distances(0)), [0, 3])
 
+    def test_in_any_request(self):
+        sources = [0, 1, 0, 9, 0, 1]
+        with Graph([0], [1], [3]) as graph:
+            for size in (1, 2, 3, 4, 100):
+                with mock.patch.object(hollowbowl._asking.Sizes, "of", lambda self, question, size=size: size):
+                    for ask in (graph.totals, lambda ends: graph.pairs(ends, ends)):
+                        graph._names.n = 10
+                        with self.assertRaises(Refused):
+                            ask(sources)
+                        graph._names.n = 2
+                        self.assertEqual((ints(graph.distances(0)), graph.totals(1).sum), ([0, 3], 0))
+
     def test_refused_arcs_are_nowhere(self):
         with Graph([0], [1], [3]) as graph:
             graph.levels(0)
@@ -108,13 +132,13 @@ class Refusals(Case):
                 graph.add([0, 0], [1, 9], [1, 1])
             graph._names.n = 2
             self.assertEqual((ints(graph.levels(0)), ints(graph.distances(0)), graph.m), ([0, 1], [0, 3], 1))
-            os.kill(program_of("distances"), signal.SIGKILL)
+            os.kill(the_program(), signal.SIGKILL)
             with self.assertRaises(Ended):
                 graph.distance(0, 1)
             self.assertEqual((ints(graph.distances(0)), ints(graph.components()), graph.m), ([0, 3], [0, 0], 1))
 
     def test_memory(self):
-        with fake('read(2)\nsay(b"e 4 out of memory\\n")\nread(2)\nsay(b"q 1 2 7\\nr 2 1\\n")\nrest()'), Graph(*ARC) as graph:
+        with fake('read(2)\nsay(b"e 6 out of memory\\n")\nread(2)\nsay(b"q 1 2 7\\nr 2 1\\n")\nrest()'), Graph(*ARC) as graph:
             with self.assertRaises(OutOfMemory) as caught:
                 graph.distance(0, 1)
             self.assertIsInstance(caught.exception, MemoryError)
@@ -123,12 +147,36 @@ class Refusals(Case):
     def test_memory_within_an_add(self):
         body = (
             'for count in (1, 2):\n    read(11)\n    say(b"g 10\\nr 2 %d\\n" % (10 * count + 1))\n'
-            'read(2)\nsay(b"e 26 out of memory\\n")\nread(2)\nsay(b"q 1 2 7\\nr 2 21\\n")\nrest()'
+            'read(2)\nsay(b"e 28 out of memory\\n")\nread(2)\nsay(b"q 1 2 7\\nr 2 21\\n")\nrest()'
         )
-        with fake(body), Graph(*ARC) as graph, mock.patch.object(hollowbowl._programs, "MOST_ITEMS", 10):
+        with fake(body), Graph(*ARC) as graph, mock.patch.object(hollowbowl._session, "MOST_ITEMS", 10):
             with self.assertRaises(OutOfMemory) as caught:
                 graph.add([0] * 21, [1] * 21, [1] * 21)
             self.assertEqual((caught.exception.added, graph.m, graph.distance(0, 1)), (20, 21, 7))
+
+
+class Memory(Case):
+    """A program that is refused memory: it answers what takes less, and all again once there is more."""
+
+    def test_kinds(self):
+        n = 300_000
+        with Graph(range(n - 1), range(1, n), [2] * (n - 1), n) as graph:
+            self.assertEqual(graph.distance(0, 9), 18)
+            number = the_program()
+            limits = resource.prlimit(number, resource.RLIMIT_AS)
+            resource.prlimit(number, resource.RLIMIT_AS, (size_of(number), limits[1]))
+            for ask in (graph.levels, graph.components):
+                with self.assertRaises(OutOfMemory):
+                    ask(*[0] * (ask == graph.levels))
+                self.assertEqual(graph.distance(0, 9), 18)
+            resource.prlimit(number, resource.RLIMIT_AS, limits)
+            self.assertEqual((int(graph.levels(0)[-1]), int(graph.components()[-1]), the_program()), (n - 1, 0, number))
+
+
+def size_of(number):
+    """How many bytes of addresses a process has."""
+    with open(f"/proc/{number}/statm", encoding="ascii") as file:
+        return int(file.read().split()[0]) * resource.getpagesize()
 
 
 if __name__ == "__main__":

@@ -13,7 +13,10 @@ from ._errors import (
     NoVertex,
     OutOfMemory,
     OutOfStep,
+    ProgramMissing,
+    ProgramTooOld,
     Refused,
+    Timeout,
     WrongProcess,
 )
 from ._graph import Graph, Totals
@@ -31,7 +34,10 @@ __all__ = [
     "NoVertex",
     "OutOfMemory",
     "OutOfStep",
+    "ProgramMissing",
+    "ProgramTooOld",
     "Refused",
+    "Timeout",
     "Totals",
     "WrongProcess",
 ]

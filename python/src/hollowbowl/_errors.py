@@ -1,5 +1,8 @@
 """What can go wrong when a graph is asked. Each of these can be pickled, so that a pool of processes can pass it on."""
 
+import sys
+from functools import lru_cache
+
 
 class Error(Exception):
     """Any fault of this package."""
@@ -27,6 +30,22 @@ class NoVertex(Error, KeyError, IndexError):
 
     def __str__(self):
         return f"{self.vertex!r} is none of {self.count} vertices"
+
+
+# What networkx raises for the same.
+_OTHERS = {NoPath: "NetworkXNoPath", NoVertex: "NodeNotFound"}
+
+
+def fault_of(kind, *words):
+    """A NoPath or a NoVertex, which is also what networkx raises where networkx is imported by now."""
+    other = getattr(sys.modules.get("networkx"), _OTHERS[kind], None)
+    return (kind if other is None else _both(kind, other))(*words)
+
+
+@lru_cache(maxsize=None)
+def _both(kind, other):
+    reduce = lambda self: (fault_of, (kind, *self.args))
+    return type(kind.__name__, (kind, other), {"__module__": __name__, "__reduce__": reduce})
 
 
 class BadGraph(Error, ValueError):
@@ -98,6 +117,18 @@ class Closed(Ended):
 
     def __init__(self, status=None, text="the graph is closed"):
         super().__init__(status, text)
+
+
+class Timeout(Error, TimeoutError):
+    """No answer came within the time that was given. The question is answered all the same, and an `add` is done."""
+
+
+class ProgramMissing(Error, FileNotFoundError):
+    """There is no program where it was looked for."""
+
+
+class ProgramTooOld(Error, RuntimeError):
+    """The program is older than this package: it can't answer several kinds of questions about one graph."""
 
 
 class OutOfStep(Error, RuntimeError):

@@ -2,11 +2,13 @@
 
 from typing import Hashable, NamedTuple
 
-from ._errors import NoPath
+from . import _from, _questions
+from ._errors import NoPath, fault_of
 from ._kept import Columns, File
 from ._names import Names
-from ._numbers import INF, MOST_VERTICES, MOST_WEIGHT, as_bound, as_column, as_floats, is_float, most_of, numpy, whole
-from ._questions import Components, Matrix, Near, Pairs, Rows, Totals as TotalsOf, Walk
+from ._numbers import INF, MOST_VERTICES, MOST_WEIGHT, as_bound, as_column, as_floats, as_rows, as_seconds
+from ._numbers import is_float, most_of, whole
+from ._questions import DISTANCES, LEVELS
 from ._wire import Wire
 
 
@@ -30,13 +32,19 @@ class Graph:
     time; one question is answered after another. A graph belongs to the process that made it. It is closed by `close`,
     by leaving a `with`, or once nothing refers to it.
 
+    With `hops=True` the cost of a walk is the number of its arcs. A call that takes longer than `timeout` seconds is a
+    Timeout; what was asked goes on.
+
     >>> with Graph([0, 0, 1], [1, 2, 2], [7, 20, 6]) as graph:
     ...     graph.distance(0, 2), graph.path(0, 2)
     (13, [0, 1, 2])
     """
 
-    def __init__(self, tails, heads, weights, n=None, *, workers=None, names=None):
-        """The graph of these arcs among `n` vertices; without `n` up to the greatest that an arc has."""
+    def __init__(self, tails, heads, weights, n=None, *, workers=None, names=None, keep=True):
+        """The graph of these arcs among `n` vertices; without `n` up to the greatest that an arc has.
+
+        With `keep=False` Python keeps no arcs, so no other program can begin if this one is killed.
+        """
         tails = as_column("tails", tails, MOST_VERTICES - 1)
         heads = as_column("heads", heads, MOST_VERTICES - 1)
         weights = as_column("weights", weights, MOST_WEIGHT)
@@ -46,51 +54,45 @@ class Graph:
         if count is None or not least <= count <= MOST_VERTICES:
             raise ValueError(f"n is {n!r}, where a whole number from {least} to {MOST_VERTICES} is wanted")
         self._names = Names(count, names)
-        self._begin(Columns(count, tails, heads, weights), workers)
+        self._begin(Columns(count, tails, heads, weights), workers, keep)
 
     @classmethod
-    def from_edges(cls, edges, *, nodes=(), workers=None):
+    def from_edges(cls, edges, *, nodes=(), workers=None, keep=True):
         """The graph of edges `(tail, head, weight)` whose ends are any hashable names, in the order in which they come.
 
         `nodes` are names that come before these, as of vertices without edges.
         """
-        names = {name: place for place, name in enumerate(dict.fromkeys(nodes))}
-        tails, heads, weights = [], [], []
-        for tail, head, weight in edges:
-            tails.append(names.setdefault(tail, len(names)))
-            heads.append(names.setdefault(head, len(names)))
-            weights.append(weight)
-        return cls(tails, heads, weights, len(names), workers=workers, names=names)
+        tails, heads, weights, names = _from.edges(edges, nodes)
+        return cls(tails, heads, weights, len(names), workers=workers, names=names, keep=keep)
 
     @classmethod
-    def from_gr(cls, path, *, workers=None):
+    def from_gr(cls, path, *, workers=None, keep=True):
         """The graph of a file in the `.gr` format, whose vertices count from 1: vertex 0 here is 1 there.
 
         A file that ends with `.gz` is unpacked. What is more than a graph, as a job with queries, is a BadGraph. The
         file is read again where another program has to begin; if it has changed by then, that is a GraphChanged.
         """
         graph = cls.__new__(cls)
-        graph._begin(File(path), workers)
-        graph._names = Names(graph._wire.state.programs.n)
+        graph._begin(File(path), workers, keep)
+        graph._names = Names(graph._wire.state.session.n)
         return graph
 
     @classmethod
-    def from_pandas(cls, frame, source="source", target="target", weight="weight", *, nodes=(), workers=None):
-        """The graph of a DataFrame's rows, as `networkx.from_pandas_edgelist` takes it; for `nodes` see `from_edges`."""
-        return cls.from_edges(zip(frame[source], frame[target], frame[weight]), nodes=nodes, workers=workers)
+    def from_pandas(
+        cls, frame, source="source", target="target", weight="weight", *, nodes=(), workers=None, keep=True
+    ):
+        """The graph of a DataFrame's rows, as `networkx.from_pandas_edgelist` takes it; of `nodes` see `from_edges`."""
+        edges = zip(frame[source], frame[target], frame[weight])
+        return cls.from_edges(edges, nodes=nodes, workers=workers, keep=keep)
 
     @classmethod
-    def from_networkx(cls, other, weight="weight", *, workers=None):
+    def from_networkx(cls, other, weight="weight", *, workers=None, keep=True):
         """The graph of a networkx graph, in which an edge without a weight has 1. Undirected edges go both ways."""
-        names = {name: place for place, name in enumerate(other)}
-        edges = [(names[tail], names[head], size) for tail, head, size in other.edges(data=weight, default=1)]
-        if not other.is_directed():
-            edges += [(head, tail, size) for tail, head, size in edges]
-        tails, heads, weights = zip(*edges) if edges else ((), (), ())
-        return cls(tails, heads, weights, len(names), workers=workers, names=names)
+        tails, heads, weights, names = _from.networkx(other, weight)
+        return cls(tails, heads, weights, len(names), workers=workers, names=names, keep=keep)
 
-    def _begin(self, kept, workers):
-        self._wire = Wire(kept, [] if workers is None else ["--workers", str(workers)])
+    def _begin(self, kept, workers, keep):
+        self._wire = Wire(kept, [] if workers is None else ["--workers", str(workers)], keep)
         try:
             self._wire.ask("open")
         except BaseException:
@@ -108,12 +110,16 @@ class Graph:
     def m(self):
         """How many arcs there are, those that were added among them."""
         self._wire.check()
-        return self._wire.state.programs.m
+        return self._wire.state.session.m
 
     @property
     def names(self):
         """The names of the vertices, in the order of rows, as a tuple; None where vertices are numbers."""
         return self._names.names
+
+    def __iter__(self):
+        """The vertices, in the order of rows: `distances(graph)` has a row for each."""
+        return iter(range(self.n) if self.names is None else self.names)
 
     def __enter__(self):
         return self
@@ -122,80 +128,74 @@ class Graph:
         self.close()
 
     def close(self):
-        """Ends the programs. Whatever is asked from then on, or waits, is a Closed."""
+        """Ends the program. Whatever is asked from then on, or waits, is a Closed."""
         self._wire.close()
 
     def __reduce_ex__(self, _):
-        raise TypeError("a Graph is a running program, which can't be copied: make one in each process, of the same arcs")
+        raise TypeError("a Graph is a running program, which can't be copied: make one in each process, of its arcs")
 
     # ---- costs
 
-    def distances(self, sources, *, dtype=None):
+    def distances(self, sources, *, hops=False, dtype=None, timeout=None):
         """The least costs from each of the sources to all vertices: a row for each, 2**64 - 1 where no walk leads.
 
         A single source gives a single row. Rows are numpy arrays of uint64 if numpy is there, and else `array('Q')`.
         With `dtype=float` they are of floats, with `inf` where no walk leads.
         """
-        return self._rows("distances", sources, dtype)
+        are_floats = is_float(dtype)
+        is_one, places = self._names.one_or_several("sources", sources)
+        rows = self._ask(_questions.Rows(_kind(hops), places, self.n), timeout).rows
+        rows = as_floats(rows) if are_floats else rows
+        return rows[0] if is_one else rows
 
-    def levels(self, sources, *, dtype=None):
+    def levels(self, sources, *, dtype=None, timeout=None):
         """As `distances`, the fewest arcs of a walk in place of the least cost."""
-        return self._rows("levels", sources, dtype)
+        return self.distances(sources, hops=True, dtype=dtype, timeout=timeout)
 
-    def within(self, source, cost):
+    def within(self, source, cost, *, hops=False, timeout=None):
         """The vertices that cost at most `cost` from the source, in rising order, and the cost of each: two arrays.
 
         The source is solved no further, so a small bound in a large graph takes little. Arrays are as in `distances`;
         vertices with names come as a list of these.
         """
-        question = Near(self._names.place("source", source), as_bound(cost))
-        self._wire.ask("ask", question)
-        vertices, costs = question.found
+        question = _questions.Near(_kind(hops), self._names.place("source", source), as_bound(cost))
+        vertices, costs = self._ask(question, timeout).found
         return vertices if self.names is None else [self.names[place] for place in vertices], costs
 
-    def components(self):
+    def components(self, *, timeout=None):
         """For each vertex the place of the least vertex that arcs join to it, whichever way they point: a row."""
-        question = Components(self.n)
-        self._wire.ask("ask", question)
-        return question.labels
+        return self._ask(_questions.Components(self.n), timeout).labels
 
-    def totals(self, sources):
+    def totals(self, sources, *, hops=False, timeout=None):
         """For each of the sources what the costs from it come to; a single source gives a single one.
 
         Of n vertices that are all reached the closeness of a source is (n - 1) / sum, and its eccentricity is greatest.
         """
         is_one, places = self._names.one_or_several("sources", sources)
-        question = TotalsOf(places)
-        self._wire.ask("ask", question)
+        question = self._ask(_questions.Totals(_kind(hops), places), timeout)
         found = [Totals(*numbers, self._names.name(place)) for *numbers, place in question.found]
         return found[0] if is_one else found
 
-    def distance(self, source, target):
+    def distance(self, source, target, *, hops=False, timeout=None):
         """The least cost of a walk from the source to the target; NoPath if there is none."""
-        question = Matrix([self._names.place("source", source)], [self._names.place("target", target)])
-        self._wire.ask("ask", question)
-        cost = int(question.costs[0])
+        ends = [self._names.place("source", source)], [self._names.place("target", target)]
+        cost = int(self._ask(_questions.Matrix(_kind(hops), *ends), timeout).costs[0])
         if cost == INF:
-            raise NoPath(source, target)
+            raise fault_of(NoPath, source, target)
         return cost
 
-    def matrix(self, sources, targets, *, dtype=None):
+    def matrix(self, sources, targets, *, hops=False, dtype=None, timeout=None):
         """The least costs from each source to each target: a row for each source, 2**64 - 1 where no walk leads.
 
         With `dtype=float` costs are floats, with `inf` where no walk leads.
         """
         are_floats = is_float(dtype)
         sources, targets = self._names.places("sources", sources), self._names.places("targets", targets)
-        question = Matrix(sources, targets)
-        self._wire.ask("ask", question)
-        costs, width = question.costs, len(targets)
-        if numpy is not None:
-            rows = costs.reshape(len(sources), width)
-        else:
-            rows = [costs[place * width : (place + 1) * width] for place in range(len(sources))]
+        costs = self._ask(_questions.Matrix(_kind(hops), sources, targets), timeout).costs
+        rows = as_rows(costs, len(sources), len(targets))
         return as_floats(rows) if are_floats else rows
 
-    def pairs(self, sources, targets, *, dtype=None):
+    def pairs(self, sources, targets, *, hops=False, dtype=None, timeout=None):
         """The least cost from each source to the target at its place: a row, 2**64 - 1 where no walk leads.
 
         With `dtype=float` costs are floats, with `inf` where no walk leads.
@@ -204,22 +204,24 @@ class Graph:
         sources, targets = self._names.places("sources", sources), self._names.places("targets", targets)
         if len(sources) != len(targets):
             raise ValueError(f"{len(sources)} sources and {len(targets)} targets")
-        question = Pairs(sources, targets)
-        self._wire.ask("ask", question)
-        costs = question.costs
-        return as_floats([costs] if numpy is None else costs[None])[0] if are_floats else costs
+        costs = self._ask(_questions.Pairs(_kind(hops), sources, targets), timeout).costs
+        return as_floats(as_rows(costs, 1, len(costs)))[0] if are_floats else costs
 
-    def path(self, source, target):
+    def path(self, source, target, *, hops=False, timeout=None):
         """The vertices of a walk of least cost, with as few arcs as one can have; NoPath if there is none."""
-        question = Walk(self._names.place("source", source), self._names.place("target", target))
-        self._wire.ask("ask", question)
-        if question.vertices is None:
-            raise NoPath(source, target)
-        return [self._names.name(place) for place in question.vertices]
+        ends = self._names.place("source", source), self._names.place("target", target)
+        vertices = self._ask(_questions.Walk(_kind(hops), *ends), timeout).vertices
+        if vertices is None:
+            raise fault_of(NoPath, source, target)
+        return [self._names.name(place) for place in vertices]
+
+    def _ask(self, question, timeout):
+        self._wire.ask("ask", question, seconds=as_seconds(timeout))
+        return question
 
     # ---- arcs that are added
 
-    def add(self, tails, heads, weights):
+    def add(self, tails, heads, weights, *, timeout=None):
         """Adds arcs between vertices that are there. If one is refused, none is added.
 
         After an interrupt all of them are there, or none; of more than 2**20 arcs so many times 2**20.
@@ -230,15 +232,11 @@ class Graph:
             as_column("weights", weights, MOST_WEIGHT),
         ]
         _check_lengths(*columns)
-        self._wire.ask("add", columns)
+        self._wire.ask("add", columns, seconds=as_seconds(timeout))
 
-    def _rows(self, kind, sources, dtype):
-        are_floats = is_float(dtype)
-        is_one, places = self._names.one_or_several("sources", sources)
-        question = Rows(kind, places, self.n)
-        self._wire.ask("ask", question)
-        rows = as_floats(question.rows) if are_floats else question.rows
-        return rows[0] if is_one else rows
+
+def _kind(hops):
+    return LEVELS if hops else DISTANCES
 
 
 def _check_lengths(tails, heads, weights):

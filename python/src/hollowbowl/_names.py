@@ -2,7 +2,7 @@
 
 from operator import index
 
-from ._errors import NoVertex
+from ._errors import NoVertex, fault_of
 from ._numbers import column, numpy
 
 
@@ -29,7 +29,7 @@ class Names:
             except TypeError:
                 raise TypeError(f"{argument} has {vertex!r}, which can't be a name") from None
             if place is None:
-                raise NoVertex(vertex, self.n)
+                raise fault_of(NoVertex, vertex, self.n)
             return place
         try:
             # Arithmetic on the number of another library may make a float of it.
@@ -37,7 +37,7 @@ class Names:
         except TypeError:
             raise TypeError(f"{argument} has {vertex!r}, where a vertex is a whole number") from None
         if not 0 <= place < self.n:
-            raise NoVertex(vertex, self.n)
+            raise fault_of(NoVertex, vertex, self.n)
         return place
 
     def places(self, argument, vertices):
@@ -53,7 +53,7 @@ class Names:
     def _places_of_array(self, given):
         bad = (given < 0) | (given >= self.n)
         if bad.any():
-            raise NoVertex(int(given[numpy.argmax(bad)]), self.n)
+            raise fault_of(NoVertex, int(given[numpy.argmax(bad)]), self.n)
         return given.astype(numpy.uint32)
 
     def one_or_several(self, argument, given):

@@ -1,5 +1,6 @@
 """Numbers as the program takes them: whole ones up to a limit, in arrays of numpy where that is there."""
 
+import threading
 from array import array
 from numbers import Real
 from operator import index
@@ -34,6 +35,15 @@ def as_bound(cost):
     if number is None or not 0 <= number < INF:
         raise ValueError(f"the cost is {cost!r}, which is no whole number from 0 to {INF - 1}")
     return number
+
+
+def as_seconds(timeout):
+    """A time to wait as a lock takes it; ValueError if it is none, and -1, which is without end, for None."""
+    if timeout is None:
+        return -1
+    if not isinstance(timeout, Real) or not timeout >= 0:
+        raise ValueError(f"timeout is {timeout!r}, which is no number of seconds")
+    return min(float(timeout), threading.TIMEOUT_MAX)
 
 
 def as_column(name, values, most):
@@ -106,6 +116,13 @@ def rows_for(count, n):
     if numpy is not None:
         return numpy.empty((count, n), dtype=numpy.uint64)
     return [labels_for(n) for _ in range(count)]
+
+
+def as_rows(labels, count, width):
+    """Labels of one row after another, as rows of so many each."""
+    if numpy is not None:
+        return labels.reshape(count, width)
+    return [labels[place * width : (place + 1) * width] for place in range(count)]
 
 
 def is_float(dtype):

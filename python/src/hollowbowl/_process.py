@@ -8,7 +8,7 @@ import subprocess
 import tempfile
 import threading
 
-from ._errors import BadGraph, OutOfStep
+from ._errors import BadGraph, OutOfStep, ProgramMissing
 
 _READ = 1 << 16
 
@@ -38,14 +38,14 @@ def program():
         return _OWN
     found = shutil.which("obim_query")
     if found is None:
-        raise FileNotFoundError("obim_query is not on the path; set HOLLOWBOWL to the program")
+        raise ProgramMissing("obim_query is not on the path; set HOLLOWBOWL to the program")
     return os.path.abspath(found)
 
 
 class Process:
     """The program as a co-process. One thread uses it; `kill` is for any."""
 
-    def __init__(self, kind, command):
+    def __init__(self, command):
         """Begins the program, in a session of its own: Ctrl-C at a terminal doesn't reach it."""
         self._faults = tempfile.TemporaryFile()
         try:
@@ -58,10 +58,12 @@ class Process:
                     bufsize=0,
                     start_new_session=True,
                 )
+        except FileNotFoundError as fault:
+            self._faults.close()
+            raise ProgramMissing(f"there is no program {command[0]}: {fault.strerror}") from None
         except BaseException:
             self._faults.close()
             raise
-        self.kind = kind
         self.id = self._popen.pid
         self._is_over = False
         self._end = None

@@ -1,66 +1,71 @@
 """What can be asked, each as requests of some of its items and what is read of their replies.
 
-A question has a `kind` of program that answers it, a `form` whose requests take alike long an item, a `count` of items
-and a `step`: requests are cut at multiples of it where they can. `request` makes the text for the items from `first` up
-to `last`; `read` takes the reply to it and gives its last line.
+A question has a `kind`, which says what a walk costs, a `form` whose requests take alike long an item, a `count` of
+items and a `step`: requests are cut at multiples of it where they can. `request` makes the text for the items from
+`first` up to `last`; `read` gives what came in reply and its last line, and `take` looks at what came.
+
+Requests name all that they ask, so no option of the program changes what it answers.
 """
 
 from ._errors import OutOfStep
 from ._numbers import labels_for, numpy, rows_for
 from ._text import components_in, near_in, pair_costs, pairs_text, sources_text, totals_in, walk_of
 
+#: The kinds: costs are sums of weights, or numbers of arcs.
+DISTANCES, LEVELS = b"distances", b"levels"
+
 
 class Question:
     """A question that is asked as one request, and whose reply is a text."""
 
-    kind = "distances"
     form = "one"
     step = count = 1
 
     def read(self, process, first, last):
-        body, end = process.text()
-        if not end.startswith(b"e"):
-            self.take(body, first, last)
-        return end
+        return process.text()
 
 
 class Rows(Question):
     """The labels from each source to all vertices, which go to `rows`."""
 
-    step = 1
+    form = "rows"
 
     def __init__(self, kind, sources, n):
-        self.kind = self.form = kind
+        self.kind = kind
         self.count = len(sources)
         self.rows = rows_for(len(sources), n)
         self._sources = sources
 
     def request(self, first, last):
-        return sources_text(b"ss", self._sources[first:last])
+        return sources_text(self.kind + b" raw ss", self._sources[first:last])
 
     def read(self, process, first, last):
         for place in range(first, last):
             line = process.line()
             if place == first and line.startswith(b"e"):
-                return line
+                return None, line
             if line != b"s %d\n" % (int(self._sources[place]) + 1):
                 raise OutOfStep("a row is that of another source")
             process.fill(self.rows[place])
-        return process.line()
+        return None, process.line()
+
+    def take(self, body, first, last):
+        """Nothing is left to look at: the labels came into their rows."""
 
 
 class Totals(Question):
     """What the costs from each source come to; `found` has four numbers for each."""
 
-    kind = form = "totals"
+    form = "totals"
 
-    def __init__(self, sources):
+    def __init__(self, kind, sources):
+        self.kind = kind
         self.count = len(sources)
         self.found = []
         self._sources = sources
 
     def request(self, first, last):
-        return sources_text(b"ss", self._sources[first:last])
+        return sources_text(self.kind + b" totals ss", self._sources[first:last])
 
     def take(self, body, first, last):
         self.found.extend(totals_in(body, self._sources[first:last]))
@@ -71,7 +76,8 @@ class Pairs(Question):
 
     form = "pairs"
 
-    def __init__(self, sources, targets):
+    def __init__(self, kind, sources, targets):
+        self.kind = kind
         self.count = len(sources)
         self.costs = labels_for(self.count)
         self._sources, self._targets = sources, targets
@@ -80,7 +86,7 @@ class Pairs(Question):
         return self._sources[first:last], self._targets[first:last]
 
     def request(self, first, last):
-        return pairs_text(b"p2p", *self._ends(first, last))
+        return pairs_text(self.kind + b" each p2p", *self._ends(first, last))
 
     def take(self, body, first, last):
         self.costs[first:last] = pair_costs(body, *self._ends(first, last))
@@ -89,7 +95,8 @@ class Pairs(Question):
 class Matrix(Pairs):
     """The cost from each source to each target, source by source."""
 
-    def __init__(self, sources, targets):
+    def __init__(self, kind, sources, targets):
+        self.kind = kind
         self.count = len(sources) * len(targets)
         self.step = max(1, len(targets))
         self.costs = labels_for(self.count)
@@ -101,18 +108,19 @@ class Matrix(Pairs):
         if numpy is not None:
             places = numpy.arange(first, last)
             return self._sources[places // self.step], self._targets[places % self.step]
-        places = range(first, last)
-        return [self._sources[place // self.step] for place in places], [self._targets[place % self.step] for place in places]
+        ends = [divmod(place, self.step) for place in range(first, last)]
+        return [self._sources[row] for row, _ in ends], [self._targets[place] for _, place in ends]
 
 
 class Walk(Question):
     """The walk between two vertices; `vertices` has it, or None if there is none."""
 
-    def __init__(self, source, target):
+    def __init__(self, kind, source, target):
+        self.kind = kind
         self._source, self._target = source, target
 
     def request(self, first, last):
-        return pairs_text(b"walk", [self._source], [self._target])
+        return pairs_text(self.kind + b" walk", [self._source], [self._target])
 
     def take(self, body, first, last):
         self.vertices = walk_of(body, self._source, self._target)
@@ -121,11 +129,12 @@ class Walk(Question):
 class Near(Question):
     """The vertices within a bound of a source, and their costs; `found` has both."""
 
-    def __init__(self, source, bound):
+    def __init__(self, kind, source, bound):
+        self.kind = kind
         self._source, self._bound = source, bound
 
     def request(self, first, last):
-        return sources_text(b"within %d" % self._bound, [self._source])
+        return sources_text(self.kind + b" each within %d" % self._bound, [self._source])
 
     def take(self, body, first, last):
         self.found = near_in(body, self._source)
@@ -134,13 +143,13 @@ class Near(Question):
 class Components(Question):
     """The weak components; `labels` has a number for each vertex."""
 
-    kind = "components"
+    kind = b"components"
 
     def __init__(self, n):
         self._n = n
 
     def request(self, first, last):
-        return b"p aux sp ss 0\n"
+        return sources_text(self.kind + b" ss", [])
 
     def take(self, body, first, last):
         self.labels = components_in(body, self._n)

@@ -1,26 +1,19 @@
-"""The programs of a graph, and the one thread that talks to them.
+"""A graph's program, and the one thread that talks to it.
 
 A caller puts an exchange into a queue and waits. The thread makes one exchange after another, and reads each reply to
-its end whether or not anybody still waits. So nothing that happens to a caller, as Ctrl-C, parts requests and replies.
-Neither the thread nor the finalizer holds the graph.
+its end whether or not anybody still waits. So nothing that happens to a caller, as Ctrl-C or the end of its time, parts
+requests and replies. Neither the thread nor the finalizer holds the graph.
 """
 
 import os
 import queue
 import threading
-import time
 import weakref
 
-from ._errors import Closed, Error, OutOfStep, WrongProcess
+from ._asking import Sizes, ask
+from ._errors import Closed, Error, OutOfStep, Timeout, WrongProcess
 from ._process import beginning
-from ._programs import Programs
-from ._text import MOST_ITEMS
-
-# How many items the first request of a form has, and how many seconds one should take: what is left of a question that
-# was interrupted holds up the next one no longer than that.
-_FIRST = {"pairs": 4096}
-_FEW = 16
-_SECONDS = 0.25
+from ._session import Session
 
 # How long `close` waits for the thread. It ends at once, but where foreign code has kept an end of a pipe.
 _PATIENCE = 10
@@ -34,6 +27,7 @@ class Exchange:
     def __init__(self, work):
         self.work = work
         self.fault = None
+        #: Whether its caller has gone.
         self.is_left = False
         self.done = threading.Lock()
         self.done.acquire()
@@ -42,8 +36,8 @@ class Exchange:
 class State:
     """What the thread and the finalizer share."""
 
-    def __init__(self, kept, options):
-        self.programs = Programs(kept, options, self.why)
+    def __init__(self, kept, options, is_kept):
+        self.session = Session(kept, options, is_kept, self.why)
         self.todo = queue.SimpleQueue()
         #: Why nothing is answered: a class of faults, and what it is made with.
         self.ended = None
@@ -52,7 +46,7 @@ class State:
         self.over.acquire()
         self.thread = None
         self._pid = os.getpid()
-        self._sizes = {}
+        self._sizes = Sizes()
 
     # ---- for any thread
 
@@ -70,13 +64,13 @@ class State:
         return kind(*words)
 
     def end(self, *why):
-        """Kills the programs. The thread closes what is open, and tells those that wait."""
+        """Kills the program. The thread closes what is open, and tells those that wait."""
         if os.getpid() != self._pid:
             return
         if self.ended is None:
             self.ended = why
         self.todo.put(None)
-        self.programs.kill()
+        self.session.kill()
 
     # ---- for the thread
 
@@ -108,7 +102,7 @@ class State:
     def _sweep(self):
         self.ended = self.ended or (Closed,)
         try:
-            self.programs.end()
+            self.session.end()
         finally:
             self.is_over = True
             self.over.release()
@@ -128,52 +122,25 @@ class State:
 
     def open(self, exchange):
         """Begins the first program."""
-        self.programs.process("distances")
+        self.session.process()
 
     def ask(self, question, exchange):
-        """Asks a question, in as many requests as it takes."""
-        first = 0
-        while not exchange.is_left:
-            process = self.programs.process(question.kind)
-            last = min(first + self._size(question), question.count)
-            start = time.monotonic()
-            self.programs.in_step(process, self._answer, question, first, last)
-            self._learn(question.form, last - first, time.monotonic() - start)
-            first = last
-            if first == question.count:
-                return
-
-    def _answer(self, process, question, first, last):
-        request = question.request(first, last)
-        if not process.is_silent():
-            raise OutOfStep("more came than a reply")
-        process.write(request)
-        try:
-            end = question.read(process, first, last)
-        except (ValueError, IndexError):
-            raise OutOfStep("a reply is none to its request") from None
-        self.programs.end_of(process, end, request)
-
-    def _size(self, question):
-        size = self._sizes.get(question.form) or _FIRST.get(question.form, _FEW)
-        return size // question.step * question.step or size
-
-    def _learn(self, form, count, seconds):
-        if count:
-            wanted = int(count * _SECONDS / max(seconds, 1e-6))
-            self._sizes[form] = min(max(wanted, count // 4, 1), count * 4, MOST_ITEMS)
+        """Asks a question, unless its caller has gone before."""
+        if not exchange.is_left:
+            self.session.process()
+            self.session.in_step(ask, self.session, question, self._sizes, exchange)
 
     def add(self, columns, exchange):
-        """Adds arcs."""
-        self.programs.add(columns)
+        """Adds arcs, whether or not their caller waits."""
+        self.session.add(columns)
 
 
 class Wire:
     """A graph's way to its state."""
 
-    def __init__(self, kept, options):
+    def __init__(self, kept, options, is_kept):
         self._pid = os.getpid()
-        self.state = State(kept, options)
+        self.state = State(kept, options, is_kept)
         self.finalizer = weakref.finalize(self, self.state.end, Closed)
         _wires.add(self)
         threading.Thread(target=self.state.serve, name=f"hollowbowl-{self._pid}", daemon=True).start()
@@ -183,13 +150,14 @@ class Wire:
         if os.getpid() != self._pid:
             raise WrongProcess(f"the graph is that of process {self._pid}: make one in each process")
 
-    def ask(self, work, *words):
+    def ask(self, work, *words, seconds=-1):
         """Has the thread do some work, and waits for it. A caller that goes away leaves the rest undone."""
         self.check()
         exchange = Exchange(lambda state, exchange: getattr(state, work)(*words, exchange))
         try:
             self.state.put(exchange)
-            exchange.done.acquire()
+            if not exchange.done.acquire(timeout=seconds):
+                raise Timeout(f"no answer came within {seconds:g} s")
         except BaseException:
             exchange.is_left = True
             raise
@@ -201,7 +169,7 @@ class Wire:
                 exchange = None
 
     def close(self):
-        """Ends the programs and waits for that; nothing in the child of a fork."""
+        """Ends the program and waits for that; nothing in the child of a fork."""
         state = self.state
         if os.getpid() == self._pid:
             state.end(Closed)
@@ -216,7 +184,7 @@ def _in_child():
     beginning.release()
     for wire in list(_wires):
         wire.finalizer.detach()
-        wire.state.programs.let_go()
+        wire.state.session.let_go()
 
 
 os.register_at_fork(before=beginning.acquire, after_in_parent=beginning.release, after_in_child=_in_child)

@@ -1,99 +1,109 @@
-"""The programs of a graph, one for each kind of question: how they begin, are told arcs, and end."""
+"""The program of a graph: how it begins, is told arcs, and ends."""
 
 import re
 
-from ._errors import BadGraph, Ended, Error, GraphChanged, OutOfMemory, OutOfStep, Refused
-from ._kept import File
+from ._errors import BadGraph, Ended, Error, GraphChanged, OutOfMemory, OutOfStep, ProgramTooOld, Refused
+from ._kept import Added, File
 from ._marked import GOES_ON, MarkedText
 from ._process import Process, bad_graph, program
 from ._text import MOST_ITEMS, arcs_text
 
-# The options of the program that answers a kind.
-_KINDS = {
-    "distances": ["--labels", "raw"],
-    "levels": ["--answer", "levels", "--labels", "raw"],
-    "components": ["--answer", "components"],
-    "totals": ["--totals"],
-}
-
 # How long a program that closed its pipes may take to end by itself, and so to have a status of its own.
 _MOMENT = 1
+
+# A program that knows no kinds refuses the first line, and passes by the second.
+_PROBE = b"p aux sp levels ss 0\np aux sp ss 0\n"
 
 _FAULT = re.compile(rb"e ([0-9]+) (.+)\n")
 
 
-class Programs:
-    """The programs that are there, and what another one begins with: what the graph was made of, and added arcs."""
+class Session:
+    """The program that is there, and what another one begins with: what the graph was made of, and added arcs."""
 
-    def __init__(self, kept, options, why):
+    def __init__(self, kept, options, is_kept, why):
         """None yet. `why` gives the fault of a graph that has ended, and None before."""
         self.n, self.m = getattr(kept, "n", None), getattr(kept, "m", None)
-        #: Columns of arcs, in the order in which they were added.
-        self.added = []
+        #: The arcs that were added, in their order.
+        self.added = Added()
         self._kept = kept
+        self._is_kept = is_kept
         self._command = [program(), "--session", *options]
         self._why = why
-        self._all = {}
+        self._process = None
+        # The status and the words of a program after which no other begins.
+        self._last = None
 
     # ---- for any thread
 
     def kill(self):
-        """Kills all programs."""
-        for process in list(self._all.values()):
+        """Kills the program."""
+        process = self._process
+        if process is not None:
             process.kill()
 
     def let_go(self):
         """Closes this process's ends of the pipes, and the file."""
-        for process in list(self._all.values()):
+        process = self._process
+        if process is not None:
             process.let_go()
         self._kept.close()
 
     # ---- for the thread
 
+    def process(self):
+        """The program, begun if there is none."""
+        if self._process is None:
+            if self._last is not None:
+                raise Ended(*self._last)
+            self._process = Process(self._command)
+            # Who ends a graph kills the program that is there; one that comes later is killed here.
+            if self._why() is not None:
+                self.kill()
+            try:
+                self.in_step(self._begin)
+            except Error:
+                self._drop()
+                raise
+            if not self._is_kept:
+                self._kept.close()
+        return self._process
+
     def end(self):
-        """Ends all programs, and closes the file."""
-        for process in list(self._all.values()):
-            self._drop(process)
+        """Ends the program, and closes the file."""
+        self._drop()
         self._kept.close()
 
-    def process(self, kind):
-        """The program that answers a kind, begun if there is none."""
-        if kind not in self._all:
-            process = self._all[kind] = Process(kind, self._command + _KINDS[kind])
-            # Who ends a graph kills the programs that are there; one that comes later is killed here.
-            if self._why() is not None:
-                process.kill()
-            try:
-                self.in_step(process, self._begin)
-            except Error:
-                self._drop(process)
-                raise
-        return self._all[kind]
-
-    def _drop(self, process, patience=0):
-        self._all.pop(process.kind, None)
-        return process.end(patience)
-
-    def in_step(self, process, work, *words):
-        """Does some work with a program. It goes on after a refusal; after anything else a reply may be left of it."""
+    def in_step(self, work, *words):
+        """Does some work with the program. It goes on after a refusal; after all else a reply may be left of it."""
         try:
-            return work(process, *words)
+            return work(self._process, *words)
         except (Refused, OutOfMemory):
             raise
         except (EOFError, BrokenPipeError):
-            raise self._early_end(process) from None
+            raise self._early_end() from None
         except BaseException:
-            self._drop(process)
+            self._drop()
             raise
 
-    def _early_end(self, process, lines=None):
+    def _drop(self, patience=0):
+        process, self._process = self._process, None
+        if process is None:
+            return None, ""
+        end = process.end(patience)
+        if not self._is_kept:
+            self._last = end
+        return end
+
+    def _early_end(self, lines=None):
         """The fault of a program that has ended; of one that reads a file, so many lines of it were written."""
-        status, text = self._drop(process, _MOMENT)
+        status, text = self._drop(_MOMENT)
         if self._why() is not None:
             return self._why()
         if status == 2 and lines is not None:
             return bad_graph(self._kept.path, text, lines)
         return OutOfMemory() if status == 3 else Ended(status, text)
+
+    # ---- its beginning
 
     def _begin(self, process):
         """Gives a new program the graph, and the arcs that were added."""
@@ -102,14 +112,21 @@ class Programs:
         else:
             for piece in self._kept.pieces():
                 process.write(piece)
-            body, line = process.text()
-            self.end_of(process, line, m=self._kept.m)
-            if body and process.kind != "components":
-                raise OutOfStep("a reply to a graph says more than its size")
+            self.end_of(process, process.line(), m=self._kept.m)
+        self._probe(process)
         m = self._kept.m
-        for columns in self.added:
+        for columns in self.added.parts(MOST_ITEMS):
             m += len(columns[0])
-            self._add_to(process, columns, m)
+            self._add(process, columns, m)
+
+    def _probe(self, process):
+        process.write(_PROBE)
+        line = process.line()
+        if line.startswith(b"e ") and line.endswith(b" unknown line\n"):
+            raise ProgramTooOld(f"{self._command[0]} is older than this package: its sessions answer one kind alone")
+        if line != process.line():
+            raise OutOfStep("two replies to nothing differ")
+        self.end_of(process, line, m=self._kept.m)
 
     def _load(self, process):
         text = MarkedText(self._kept.path, self._kept.pieces())
@@ -121,7 +138,7 @@ class Programs:
                 return
             fault = None
         except EOFError:
-            fault = self._early_end(process, text.file_lines)
+            fault = self._early_end(text.file_lines)
         except BadGraph as wrong:
             fault = self._with_line(wrong)
         if self.n is not None and (fault is None or isinstance(fault, BadGraph)):
@@ -135,36 +152,31 @@ class Programs:
         lines = [line for line in (wrong.line, self._kept.section_line()) if line is not None]
         return BadGraph(wrong.path, min(lines, default=None), GOES_ON)
 
+    # ---- arcs that are added
+
     def add(self, columns):
-        """Adds arcs: to the graph, once the distances program has them, and then to the other programs."""
+        """Adds arcs."""
         for first in range(0, len(columns[0]) or 1, MOST_ITEMS):
             part = [column[first : first + MOST_ITEMS] for column in columns]
             m = self.m + len(part[0])
-            process = self.process("distances")
+            self.process()
             try:
-                self.in_step(process, self._add_to, part, m)
+                self.in_step(self._add, part, m)
             except OutOfMemory:
                 raise OutOfMemory(added=first) from None
-            self.added.append(part)
+            if self._is_kept:
+                self.added.append(part)
             self.m = m
-            for other in list(self._all.values()):
-                if other is not process:
-                    self._add_or_end(other, part, m)
 
-    def _add_or_end(self, process, part, m):
-        try:
-            self.in_step(process, self._add_to, part, m)
-        except (Refused, OutOfMemory, Ended):
-            # It lags behind: the next question begins another, with all arcs.
-            self._drop(process)
-
-    def _add_to(self, process, columns, m):
+    def _add(self, process, columns, m):
         request = arcs_text(*columns)
         process.write(request)
         body, line = process.text()
         self.end_of(process, line, request, m)
-        if not body.startswith(b"g %d\n" % len(columns[0])):
+        if body != b"g %d\n" % len(columns[0]):
             raise OutOfStep("arcs were added by another reply")
+
+    # ---- the ends of replies
 
     def end_of(self, process, line, request=b"", m=None):
         """Goes on if the last line of a reply is the one that is due."""
