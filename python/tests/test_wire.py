@@ -76,7 +76,7 @@ class Replies(Case):
             Graph(*ARC)
 
     def test_an_older_program(self):
-        """It knows no kinds: it refuses the first line that names one, and passes by the next."""
+        """It refuses a line with words that it doesn't know, and passes by the next."""
         body = 'read(2)\nsay(b"r 2 1\\n")\nread(2)\nsay({!r})\nrest()'
         with Fake(body.format(b"e 3 unknown line\n")) as program, self.assertRaisesRegex(ProgramTooOld, f"^{program.path} is older"):
             Graph(*ARC)

@@ -11,8 +11,9 @@ from ._text import MOST_ITEMS, arcs_text
 # How long a program that closed its pipes may take to end by itself, and so to have a status of its own.
 _MOMENT = 1
 
-# A program that knows no kinds refuses the first line, and passes by the second.
-_PROBE = b"p aux sp levels ss 0\np aux sp ss 0\n"
+# An older program refuses the first line, whose words it doesn't know, and passes by the second. Nothing is worked out
+# for either, where a kind would have arcs with other costs made.
+_PROBE = b"p aux sp each ss 0\np aux sp ss 0\n"
 
 _FAULT = re.compile(rb"e ([0-9]+) (.+)\n")
 
