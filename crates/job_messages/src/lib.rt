@@ -1,7 +1,7 @@
 //! The texts of a job on standard error.
 //!
-//! `Progress` prints how far a job is, and keeps its `Figures` and its fault's explanation. A `Counter` is a gate that
-//! counts visits. `print_stats` prints both, and `print_explanation` a fault, for example of `p sp 2 1`, `a 1 3 7`:
+//! `ProgressReport` prints how far a job is, and keeps its `Figures` and its fault's explanation. A `Counter` is a gate
+//! that counts visits. `print_stats` prints both, and `print_explanation` a fault, for example of `p sp 2 1`, `a 1 3 7`:
 //!
 //! ```text
 //! obim_query: why: line 2 is 'a 1 3 7'
@@ -22,5 +22,5 @@ mod stats;
 pub use counter::Counter;
 pub use explain::print_explanation;
 pub use figures::Figures;
-pub use progress::{Progress, Shown};
+pub use progress::{ProgressMode, ProgressReport};
 pub use stats::print_stats;

@@ -13,12 +13,13 @@ const MOST_LINES: u32 = 100;
 const LINES_AT_A_PACE: u32 = 10;
 
 /// Milliseconds between lines at a terminal.
-const TERMINAL_PACE: u64 = 200;
+const TERMINAL_MILLISECONDS: u64 = 200;
 
-/// The place where progress is shown.
+/// The way in which progress is shown.
 #[derive(Clone, Copy, PartialEq)]
-pub enum Shown {
-    Nowhere,
+pub enum ProgressMode {
+    /// Not at all.
+    Off,
     /// In lines.
     Lines,
     /// In one line, which is replaced.
@@ -27,13 +28,13 @@ pub enum Shown {
 
 /// Figures of a job, which it prints from time to time.
 #[derive(Drop)]
-pub struct Progress<'a, H> {
+pub struct ProgressReport<'a, H> {
     rt: &'a H,
     /// The figures so far.
     pub figures: Figures,
     /// The explanation of the fault, if the text is refused.
     pub explanation: Option<Explanation>,
-    shown: Shown,
+    mode: ProgressMode,
     bytes: u64,
     lines: u32,
     /// The times at which the job began, and its first query was solved.
@@ -42,14 +43,14 @@ pub struct Progress<'a, H> {
     next: Duration,
 }
 
-impl<'a, H: Eprint + Clock> Progress<'a, H> {
+impl<'a, H: Eprint + Clock> ProgressReport<'a, H> {
     /// The progress of a job whose time begins now.
-    pub fn new(rt: &'a H, shown: Shown) -> Progress<'a, H> {
-        let mut progress = Progress {
+    pub fn new(rt: &'a H, mode: ProgressMode) -> ProgressReport<'a, H> {
+        let mut progress = ProgressReport {
             rt,
             figures: Figures::new(rt),
             explanation: None,
-            shown,
+            mode,
             bytes: 0,
             lines: 0,
             began: rt.monotonic().unwrap_or(Duration::ZERO),
@@ -61,15 +62,15 @@ impl<'a, H: Eprint + Clock> Progress<'a, H> {
     }
 
     fn pace(&self) -> Duration {
-        if self.shown == Shown::Terminal {
-            return Duration::from_millis(TERMINAL_PACE);
+        if self.mode == ProgressMode::Terminal {
+            return Duration::from_millis(TERMINAL_MILLISECONDS);
         }
         Duration::from_secs(1_u64 << (self.lines.min(MOST_LINES) / LINES_AT_A_PACE))
     }
 
     /// The time, if a line is due. A clock that fails makes none due.
     fn due(&mut self) -> Option<Duration> {
-        if self.shown == Shown::Nowhere || self.lines >= MOST_LINES {
+        if self.mode == ProgressMode::Off || self.lines >= MOST_LINES {
             return None;
         }
         let Ok(now) = self.rt.monotonic() else {
@@ -78,7 +79,7 @@ impl<'a, H: Eprint + Clock> Progress<'a, H> {
         if now < self.next {
             return None;
         }
-        if self.shown == Shown::Lines {
+        if self.mode == ProgressMode::Lines {
             self.lines += 1;
         }
         self.next = now.saturating_add(self.pace());
@@ -94,7 +95,7 @@ impl<'a, H: Eprint + Clock> Progress<'a, H> {
             spent: now.saturating_sub(self.began),
             left: step.left(now.saturating_sub(self.began_queries.unwrap_or(self.began))),
         };
-        if self.shown == Shown::Terminal {
+        if self.mode == ProgressMode::Terminal {
             let _ = eprint!(self.rt; "\r\u{1b}[Kobim_query: {line}");
         } else {
             let _ = eprintln!(self.rt; "obim_query: {line}");
@@ -113,13 +114,13 @@ impl<'a, H: Eprint + Clock> Progress<'a, H> {
 
     /// Clears the line at a terminal.
     pub fn clear(&self) {
-        if self.shown == Shown::Terminal {
+        if self.mode == ProgressMode::Terminal {
             let _ = eprint!(self.rt; "\r\u{1b}[K");
         }
     }
 }
 
-impl<H: Eprint + Clock> ReadWatch for Progress<'_, H> {
+impl<H: Eprint + Clock> ReadWatch for ProgressReport<'_, H> {
     fn see_text(&mut self, count: usize, arcs: Option<(usize, usize)>) {
         self.bytes = self.bytes.saturating_add(count as u64);
         self.tell(match arcs {
@@ -133,7 +134,7 @@ impl<H: Eprint + Clock> ReadWatch for Progress<'_, H> {
     }
 }
 
-impl<H: Eprint + Clock> Watch for Progress<'_, H> {
+impl<H: Eprint + Clock> Watch for ProgressReport<'_, H> {
     fn see_rows(&mut self, vertices: u32, arcs: usize) {
         self.figures.see_rows(vertices, arcs);
     }

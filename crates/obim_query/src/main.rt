@@ -16,7 +16,7 @@ use command_line::{Options, Refusal, parse_options};
 use dimacs_text::Explanation;
 use input::Input;
 use job_answer::{Fault, Phase, Watch, answer_watched, status};
-use job_messages::{Counter, Progress, Shown, print_explanation, print_stats};
+use job_messages::{Counter, ProgressMode, ProgressReport, print_explanation, print_stats};
 use obim_engine::OpenGate;
 use output::Output;
 use session_answer::answer_session;
@@ -118,13 +118,13 @@ fn print_clap<H: Print + Eprint>(rt: &H, text: &clap::Error) -> u8
     }
 }
 
-fn shown_at(options: &Options, is_terminal: bool) -> Shown {
+fn progress_mode(options: &Options, is_terminal: bool) -> ProgressMode {
     if !options.progress {
-        Shown::Nowhere
+        ProgressMode::Off
     } else if is_terminal {
-        Shown::Terminal
+        ProgressMode::Terminal
     } else {
-        Shown::Lines
+        ProgressMode::Lines
     }
 }
 
@@ -139,7 +139,7 @@ fn answer_job<H: AllocGlobal + Eprint + Threads + Wait + Clock + Sync, R: Read, 
     ensures { HasReplied options.now.asked (R.remaining input.old.inner) (R.remaining input.new.inner)
         (W.contents output.old.inner) (W.contents output.new.inner) result }
 {
-    let mut progress = Progress::new(rt, shown_at(options, is_terminal));
+    let mut progress = ProgressReport::new(rt, progress_mode(options, is_terminal));
     let replied = reply(rt, input, output, options, &mut progress);
     match replied {
         Ok(()) => 0,
@@ -180,7 +180,7 @@ fn reply<H: AllocGlobal + Eprint + Threads + Wait + Clock + Sync, R: Read, W: Wr
     reader: &mut R,
     writer: &mut W,
     options: &Options,
-    progress: &mut Progress<H>,
+    progress: &mut ProgressReport<H>,
 ) -> Result<(), Fault>
     ensures { IsReply options.now.asked.limit options.now.asked.answer options.now.asked.lines
         (R.remaining reader.old) (R.remaining reader.new)
@@ -199,7 +199,7 @@ fn answer_with_figures<H: AllocGlobal + Eprint + Threads + Wait + Clock + Sync, 
     reader: &mut R,
     writer: &mut W,
     options: &Options,
-    progress: &mut Progress<H>,
+    progress: &mut ProgressReport<H>,
 ) -> Result<(), Fault>
     ensures { IsReply options.now.asked.limit options.now.asked.answer options.now.asked.lines
         (R.remaining reader.old) (R.remaining reader.new)
