@@ -11,7 +11,7 @@ import time
 import unittest
 
 from common import Case, children, every_question, ints, is_alive, the_program, threads, waits_for
-from fake import fake
+from fake import Fake, fake
 
 from hollowbowl import INF, Closed, Ended, Graph, ProgramMissing, Refused
 
@@ -169,8 +169,8 @@ class Ends(Case):
             gc.enable()
 
     def test_constructor_that_fails(self):
-        with self.assertRaises(Ended):
-            Graph([0], [1], [3], workers=1000)
+        with Fake("os._exit(1)"), self.assertRaises(Ended):
+            Graph([0], [1], [3])
 
     def test_one_program(self):
         with Graph([0], [1], [3]) as graph:
@@ -221,6 +221,19 @@ class Ends(Case):
             os.environ["PATH"] = path
             if named is not None:
                 os.environ["HOLLOWBOWL"] = named
+
+    def test_no_program_for_a_command(self):
+        for name, words in (("/nowhere/obim_query", "No such file or directory"), ("/etc/passwd", "Permission denied")):
+            for option in ("--version", "--walks"):
+                done = subprocess.run(
+                    [sys.executable, "-m", "hollowbowl", option],
+                    env={**os.environ, "HOLLOWBOWL": name},
+                    stdin=subprocess.DEVNULL,
+                    capture_output=True,
+                    timeout=30,
+                    text=True,
+                )
+                self.assertEqual((done.returncode, done.stderr), (1, f"hollowbowl: {name} can't be run: {words}\n"))
 
     def run_python(self, text):
         """Runs a text by another Python, and gives its status and what it printed."""

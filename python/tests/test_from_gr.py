@@ -1,11 +1,13 @@
 """Graphs of files: what is one, what is more than one, and files that change."""
 
+import gc
 import gzip
 import os
 import signal
 import tempfile
 import time
 import unittest
+import warnings
 
 from common import Case, ints, the_program
 
@@ -54,6 +56,15 @@ class Files(Case):
         self.write("p sp 0 0\n")
         with Graph.from_gr(self.path) as graph:
             self.assertEqual((graph.n, graph.m, len(graph.components())), (0, 0, 0))
+
+    def test_closed_if_no_program_begins(self):
+        self.write(SIX)
+        with warnings.catch_warnings(record=True) as told:
+            warnings.simplefilter("always", ResourceWarning)
+            with self.assertRaises(ValueError):
+                Graph.from_gr(self.path, workers=0)
+            gc.collect()
+        self.assertEqual(told, [])
 
     def refused(self, text, line, words):
         self.write(text)

@@ -52,6 +52,19 @@ class Columns(Case):
         with Graph([0], [1], [1], 3.0) as graph:
             self.assertEqual((graph.n, len(graph.distances(0))), (3, 3))
 
+    def test_how_many_workers(self):
+        for workers in (0, 65, -1, 2.5, "x", "4", [4]):
+            with self.assertRaisesRegex(ValueError, "^workers is "):
+                Graph([0], [1], [1], workers=workers)
+        for workers in (1, 64, 2.0, "auto", None):
+            with Graph([0], [1], [1], workers=workers) as graph:
+                self.assertEqual(graph.distance(0, 1), 1)
+
+    def test_what_is_no_edge(self):
+        for edge in (("a", "b"), ("a", "b", 1, 2), 5, (["a"], "b", 1)):
+            with self.assertRaisesRegex((TypeError, ValueError), r"^edges\[1\] is .*, which is no \(tail, head, weight"):
+                Graph.from_edges([("a", "b", 1), edge])
+
     @unittest.skipIf(pandas is None, "no pandas")
     def test_an_index_of_its_own(self):
         for index in ([10, 11, 12], [1, 2, 0], ["a", "b", "c"]):
@@ -194,6 +207,11 @@ class Vertices(Case):
                 graph.distance(["Rom"], "Ulm")
         with Graph.from_edges([("A", "B", 1)]) as graph, self.assertRaisesRegex(NoVertex, "^'AB' is none"):
             graph.distances("AB")
+        with Graph.from_edges([("A", "B", 1)], nodes=["AB"]) as graph:
+            self.assertEqual(ints(graph.distances("AB")), [0, INF, INF])
+            for ask in (graph.matrix, graph.pairs, lambda *ends: graph.add(*ends, [1, 2])):
+                with self.assertRaisesRegex(TypeError, "^(sources|tails) is 'AB', a text"):
+                    ask("AB", ["A", "B"])
         with Graph([0], [1], [3]) as graph:
             self.assertIsNone(graph.names)
 
@@ -227,6 +245,9 @@ class Rows(Case):
             self.assertEqual(list(graph.pairs([1, 1], [0, 2], dtype=float)), [far, 6.0])
             with self.assertRaises(ValueError):
                 graph.distances(0, dtype=complex)
+            for dtype in ("no type", 5):
+                with self.assertRaisesRegex(ValueError, "^dtype is "):
+                    graph.matrix([0], [1], dtype=dtype)
             if numpy is not None:
                 self.assertEqual(graph.distances(1, dtype=numpy.float64).dtype, float)
                 self.assertEqual(graph.distances([0, 1], dtype="float64").shape, (2, 3))

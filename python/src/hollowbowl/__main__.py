@@ -4,17 +4,22 @@ With --version alone it says which package and program there are, and from which
 """
 
 import os
-import subprocess
 import sys
 
 from . import __commit__, __version__
+from ._errors import ProgramMissing
 from ._process import program
 
 
 def run():
     """Becomes the program, with the words of the command line."""
-    command = program()
-    os.execvp(command, [command, *sys.argv[1:]])
+    try:
+        command = program()
+        os.execvp(command, [command, *sys.argv[1:]])
+    except ProgramMissing as fault:
+        sys.exit(f"hollowbowl: {fault}")
+    except OSError as fault:
+        sys.exit(f"hollowbowl: {command} can't be run: {fault.strerror}")
 
 
 def main():
@@ -23,12 +28,8 @@ def main():
         run()
     print(f"hollowbowl {__version__}, of commit {__commit__ or 'unknown'}")
     sys.stdout.flush()
-    command = program()
-    sys.exit(subprocess.run([command, "--version"], check=False).returncode)
+    run()
 
 
 if __name__ == "__main__":
-    try:
-        main()
-    except FileNotFoundError as fault:
-        sys.exit(f"hollowbowl: {fault}")
+    main()

@@ -5,9 +5,14 @@ def edges(given, nodes):
     """Those of edges `(tail, head, weight)`, whose ends are names; `nodes` are names that come before these."""
     names = {name: place for place, name in enumerate(dict.fromkeys(nodes))}
     tails, heads, weights = [], [], []
-    for tail, head, weight in given:
-        tails.append(names.setdefault(tail, len(names)))
-        heads.append(names.setdefault(head, len(names)))
+    for edge in given:
+        try:
+            tail, head, weight = edge
+            tails.append(names.setdefault(tail, len(names)))
+            heads.append(names.setdefault(head, len(names)))
+        except (TypeError, ValueError) as fault:
+            kind = TypeError if isinstance(fault, TypeError) else ValueError
+            raise kind(f"edges[{len(weights)}] is {edge!r}, which is no (tail, head, weight): {fault}") from None
         weights.append(weight)
     return tails, heads, weights, names
 

@@ -6,8 +6,8 @@ from . import _from, _questions
 from ._errors import NoPath, fault_of
 from ._kept import Columns, File
 from ._names import Names
-from ._numbers import INF, MOST_VERTICES, MOST_WEIGHT, as_bound, as_column, as_floats, as_rows, as_seconds
-from ._numbers import is_float, most_of, whole
+from ._numbers import INF, MOST_VERTICES, MOST_WEIGHT, as_bound, as_column, as_floats, as_options, as_rows
+from ._numbers import as_seconds, is_float, most_of, whole
 from ._questions import DISTANCES, LEVELS
 from ._wire import Wire
 
@@ -92,7 +92,11 @@ class Graph:
         return cls(tails, heads, weights, len(names), workers=workers, names=names, keep=keep)
 
     def _begin(self, kept, workers, keep):
-        self._wire = Wire(kept, [] if workers is None else ["--workers", str(workers)], keep)
+        try:
+            self._wire = Wire(kept, as_options(workers), keep)
+        except BaseException:
+            kept.close()
+            raise
         try:
             self._wire.ask("open")
         except BaseException:

@@ -44,6 +44,9 @@ class Names:
         """The places of several vertices, in a column."""
         if isinstance(vertices, (set, frozenset)):
             raise TypeError(f"{argument} is a set, which has no order")
+        if isinstance(vertices, (str, bytes)):
+            # Its letters may be names too, but a text is meant as one.
+            raise TypeError(f"{argument} is {vertices!r}, a text and no list of vertices")
         if self._places is None and numpy is not None and hasattr(vertices, "__array__"):
             given = numpy.asarray(vertices)
             if given.ndim == 1 and given.dtype.kind in "iu":

@@ -15,6 +15,7 @@ INF = 2**64 - 1
 
 MOST_VERTICES = 2**28
 MOST_WEIGHT = 2**32 - 1
+MOST_WORKERS = 64
 
 
 def whole(value):
@@ -44,6 +45,16 @@ def as_seconds(timeout):
     if not isinstance(timeout, Real) or not timeout >= 0:
         raise ValueError(f"timeout is {timeout!r}, which is no number of seconds")
     return min(float(timeout), threading.TIMEOUT_MAX)
+
+
+def as_options(workers):
+    """How many workers, as options of the program; ValueError if it takes no such number."""
+    if workers is None:
+        return []
+    number = workers if workers == "auto" else whole(workers)
+    if number is None or (number != "auto" and not 1 <= number <= MOST_WORKERS):
+        raise ValueError(f"workers is {workers!r}, where a whole number from 1 to {MOST_WORKERS}, or 'auto', is wanted")
+    return ["--workers", str(number)]
 
 
 def as_column(name, values, most):
@@ -129,8 +140,11 @@ def is_float(dtype):
     """Whether labels are wanted as floats, with `inf` where no walk leads; ValueError for what is no type of them."""
     if dtype is None:
         return False
-    if dtype is float or dtype == "d" or (numpy is not None and numpy.dtype(dtype) == numpy.float64):
-        return True
+    try:
+        if dtype is float or dtype == "d" or (numpy is not None and numpy.dtype(dtype) == numpy.float64):
+            return True
+    except TypeError:
+        pass
     raise ValueError(f"dtype is {dtype!r}: labels are whole numbers (None) or float")
 
 
