@@ -7,7 +7,7 @@ use itoa::write_digits;
 use route_walks::INF;
 
 /// The most bytes of a line: a letter, three numbers of 20 digits, three spaces and a line feed.
-pub(crate) const ROOM: usize = 65;
+pub(crate) const MAX_LINE_BYTES: usize = 65;
 
 pub(crate) fn put_byte(line: &mut [u8], end: usize, byte: u8) -> usize
     requires { (0 < end) × (end ≤ length line.old) }

@@ -15,15 +15,15 @@ use route_walks::{INF, MAX_VERTICES, Memory};
 use std::simd::Simd;
 
 /// The most lines of a group, which begins at multiples of this.
-const GROUP: usize = 50;
+const GROUP_LINES: usize = 50;
 
 /// A bound on the bytes of a line.
-const LINE: usize = 40;
+const LINE_BYTES: usize = 40;
 
-const GROUP_ROOM: usize = GROUP * LINE;
+const GROUP_BYTES: usize = GROUP_LINES * LINE_BYTES;
 
 /// The room of a head: a letter, a space and at most 7 digits of a vertex.
-const HEAD: usize = 16;
+const HEAD_BYTES: usize = 16;
 
 /// The two digits of each number below 100.
 static PAIRS: [u8; 200] =
@@ -32,7 +32,7 @@ static PAIRS: [u8; 200] =
 /// The beginning of a group's lines, at the end of an array: letter, space, and the vertex without its last two digits.
 #[derive(Drop)]
 struct Head {
-    bytes: [u8; HEAD],
+    bytes: [u8; HEAD_BYTES],
     start: usize,
     /// The least number with these digits.
     base: u32,
@@ -40,27 +40,27 @@ struct Head {
 
 /// Puts the digits of a vertex without the last two into a head.
 fn put_front(head: &mut [u8], hundreds: u64) -> usize
-    requires room { length head.old ≡ HEAD }
+    requires room { length head.old ≡ HEAD_BYTES }
     requires short { hundreds < 10000000 }
-    ensures place { (2 ≤ result) × (result ≤ HEAD) }
+    ensures place { (2 ≤ result) × (result ≤ HEAD_BYTES) }
     ensures put { drop result head.new ≡ front_digits hundreds }
 {
     if hundreds == 0 {
-        HEAD
+        HEAD_BYTES
     } else {
-        write_digits(hundreds, head, HEAD)
+        write_digits(hundreds, head, HEAD_BYTES)
     }
 }
 
 /// The head of the lines of a letter and of all numbers with these hundreds.
 fn head_of(letter: u8, number: u32) -> Head
     requires short { number < 1000000000 }
-    ensures place { result.start ≤ HEAD }
+    ensures place { result.start ≤ HEAD_BYTES }
     ensures base { result.base ≡ number / 100 * 100 }
     ensures head { drop result.start result.bytes ≡ letter ∷ codes " " ++ front_digits (number / 100) }
 {
     let hundreds = number / 100;
-    let mut bytes = [0u8; HEAD];
+    let mut bytes = [0u8; HEAD_BYTES];
     let end = put_front(&mut bytes, u64::from(hundreds));
     let end = put_byte(&mut bytes, end, b' ');
     let start = put_byte(&mut bytes, end, letter);
@@ -73,13 +73,13 @@ fn head_of(letter: u8, number: u32) -> Head
 
 /// Puts a head in front of some lines, by a copy of its whole array.
 fn put_head(lines: &mut [u8], end: usize, head: &Head) -> usize
-    requires room { (HEAD ≤ end) × (end ≤ length lines.old) }
-    requires head { head.now.start ≤ HEAD }
-    ensures place { (end ≤ result + HEAD) × (result ≤ end) }
+    requires room { (HEAD_BYTES ≤ end) × (end ≤ length lines.old) }
+    requires head { head.now.start ≤ HEAD_BYTES }
+    ensures place { (end ≤ result + HEAD_BYTES) × (result ≤ end) }
     ensures put { drop result lines.new ≡ drop head.now.start head.now.bytes ++ drop end lines.old }
 {
-    Simd::<u8, HEAD>::from_slice(&head.bytes).copy_to_slice(&mut lines[end - HEAD..]);
-    end - HEAD + head.start
+    Simd::<u8, HEAD_BYTES>::from_slice(&head.bytes).copy_to_slice(&mut lines[end - HEAD_BYTES..]);
+    end - HEAD_BYTES + head.start
 }
 
 fn put_two(lines: &mut [u8], end: usize, pair: u32) -> usize
@@ -108,12 +108,12 @@ fn put_last(lines: &mut [u8], end: usize, number: u32, pair: u32) -> usize
 }
 
 fn put_label_line(lines: &mut [u8], end: usize, head: &Head, v: u32, label: u64) -> usize
-    requires room { (LINE ≤ end) × (end ≤ length lines.old) }
+    requires room { (LINE_BYTES ≤ end) × (end ≤ length lines.old) }
     requires vertex { v < MAX_VERTICES }
-    requires place { head.now.start ≤ HEAD }
+    requires place { head.now.start ≤ HEAD_BYTES }
     requires base { head.now.base ≡ (v + 1) / 100 * 100 }
     requires head { drop head.now.start head.now.bytes ≡ codes "d " ++ front_digits ((v + 1) / 100) }
-    ensures place { (end ≤ result + LINE) × (result ≤ end) }
+    ensures place { (end ≤ result + LINE_BYTES) × (result ≤ end) }
     ensures put { drop result lines.new ≡ label_text v label ++ drop end lines.old }
 {
     let end = put_byte(lines, end, b'\n');
@@ -124,13 +124,13 @@ fn put_label_line(lines: &mut [u8], end: usize, head: &Head, v: u32, label: u64)
 }
 
 fn put_component_line(lines: &mut [u8], end: usize, head: &Head, v: u32, label: u64) -> usize
-    requires room { (LINE ≤ end) × (end ≤ length lines.old) }
+    requires room { (LINE_BYTES ≤ end) × (end ≤ length lines.old) }
     requires vertex { v < MAX_VERTICES }
     requires finite { label < INF }
-    requires place { head.now.start ≤ HEAD }
+    requires place { head.now.start ≤ HEAD_BYTES }
     requires base { head.now.base ≡ (v + 1) / 100 * 100 }
     requires head { drop head.now.start head.now.bytes ≡ codes "k " ++ front_digits ((v + 1) / 100) }
-    ensures place { (end ≤ result + LINE) × (result ≤ end) }
+    ensures place { (end ≤ result + LINE_BYTES) × (result ≤ end) }
     ensures put { drop result lines.new ≡ component_text v label ++ drop end lines.old }
 {
     let end = put_byte(lines, end, b'\n');
@@ -145,9 +145,9 @@ fn group_len(first: u32, count: usize) -> usize
     requires { first < MAX_VERTICES }
     ensures some { 0 < count → 0 < result }
     ensures within { result ≤ count }
-    ensures group { (first + 1) % GROUP + result ≤ GROUP }
+    ensures group { (first + 1) % GROUP_LINES + result ≤ GROUP_LINES }
 {
-    count.min(GROUP - (first as usize + 1) % GROUP)
+    count.min(GROUP_LINES - (first as usize + 1) % GROUP_LINES)
 }
 
 /// Appends the lines `d V COST` of a group's vertices from `first` on.
@@ -157,10 +157,10 @@ fn put_label_group(
     first: u32,
     labels: &[u64],
 ) -> Result<(), Memory>
-    requires room { length lines.old ≡ GROUP_ROOM }
-    requires group { (first + 1) % GROUP + length labels.now ≤ GROUP }
+    requires room { length lines.old ≡ GROUP_BYTES }
+    requires group { (first + 1) % GROUP_LINES + length labels.now ≤ GROUP_LINES }
     requires vertices { first + length labels.now ≤ MAX_VERTICES }
-    ensures room { length lines.new ≡ GROUP_ROOM }
+    ensures room { length lines.new ≡ GROUP_BYTES }
     ensures ok { OnOk result (out.new.items ≡ out.old.items ++ label_lines first labels.now) }
     ensures err { OnErr result (out.new.items ≡ out.old.items) }
 {
@@ -180,11 +180,11 @@ fn put_component_group(
     first: u32,
     labels: &[u64],
 ) -> Result<(), Memory>
-    requires room { length lines.old ≡ GROUP_ROOM }
-    requires group { (first + 1) % GROUP + length labels.now ≤ GROUP }
+    requires room { length lines.old ≡ GROUP_BYTES }
+    requires group { (first + 1) % GROUP_LINES + length labels.now ≤ GROUP_LINES }
     requires vertices { first + length labels.now ≤ MAX_VERTICES }
     requires finite { All (λ label. label < INF) labels.now }
-    ensures room { length lines.new ≡ GROUP_ROOM }
+    ensures room { length lines.new ≡ GROUP_BYTES }
     ensures ok { OnOk result (out.new.items ≡ out.old.items ++ component_lines first labels.now) }
     ensures err { OnErr result (out.new.items ≡ out.old.items) }
 {
@@ -204,7 +204,7 @@ pub fn put_labels(out: &mut Vec<u8>, first: u32, labels: &[u64]) -> Result<(), M
     ensures err { OnErr result (out.new.items ≡ out.old.items) }
 {
     let before = out.len();
-    let mut lines = [0u8; GROUP_ROOM];
+    let mut lines = [0u8; GROUP_BYTES];
     let mut v = first;
     let mut rest = labels;
     while !rest.is_empty() {
@@ -228,7 +228,7 @@ pub fn put_components(out: &mut Vec<u8>, first: u32, labels: &[u64]) -> Result<(
     ensures err { OnErr result (out.new.items ≡ out.old.items) }
 {
     let start = out.len();
-    let mut lines = [0u8; GROUP_ROOM];
+    let mut lines = [0u8; GROUP_BYTES];
     let mut v = first;
     let mut rest = labels;
     while !rest.is_empty() {

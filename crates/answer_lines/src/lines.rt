@@ -3,7 +3,7 @@
 ghost use Rattle.std.specs.Prelude.{◌≡◌, ◌<◌, ◌++◌, codes, decimal, OnOk, OnErr};
 ghost use Rattle.answer_lines.specs.Lines.{grown_text, label_text, pair_text, ready_text, refusal_text, source_text};
 
-use crate::digits::{ROOM, put_byte, put_cost, put_number, put_start};
+use crate::digits::{MAX_LINE_BYTES, put_byte, put_cost, put_number, put_start};
 use route_walks::{MAX_VERTICES, Memory};
 
 /// Appends the line `s V` of a source.
@@ -12,8 +12,8 @@ pub fn put_source(out: &mut Vec<u8>, s: u32) -> Result<(), Memory>
     ensures ok { OnOk result (out.new.items ≡ out.old.items ++ source_text s) }
     ensures err { OnErr result (out.new.items ≡ out.old.items) }
 {
-    let mut line = [0u8; ROOM];
-    let end = put_byte(&mut line, ROOM, b'\n');
+    let mut line = [0u8; MAX_LINE_BYTES];
+    let end = put_byte(&mut line, MAX_LINE_BYTES, b'\n');
     let start = put_start(&mut line, end, b's', u64::from(s) + 1);
     out.extend_from_slice(&line[start..])?;
     Ok(())
@@ -25,8 +25,8 @@ pub fn put_label(out: &mut Vec<u8>, v: u32, label: u64) -> Result<(), Memory>
     ensures ok { OnOk result (out.new.items ≡ out.old.items ++ label_text v label) }
     ensures err { OnErr result (out.new.items ≡ out.old.items) }
 {
-    let mut line = [0u8; ROOM];
-    let end = put_byte(&mut line, ROOM, b'\n');
+    let mut line = [0u8; MAX_LINE_BYTES];
+    let end = put_byte(&mut line, MAX_LINE_BYTES, b'\n');
     let end = put_cost(&mut line, end, label);
     let end = put_byte(&mut line, end, b' ');
     let start = put_start(&mut line, end, b'd', u64::from(v) + 1);
@@ -41,8 +41,8 @@ pub fn put_pair(out: &mut Vec<u8>, s: u32, t: u32, label: u64) -> Result<(), Mem
     ensures ok { OnOk result (out.new.items ≡ out.old.items ++ pair_text s t label) }
     ensures err { OnErr result (out.new.items ≡ out.old.items) }
 {
-    let mut line = [0u8; ROOM];
-    let end = put_byte(&mut line, ROOM, b'\n');
+    let mut line = [0u8; MAX_LINE_BYTES];
+    let end = put_byte(&mut line, MAX_LINE_BYTES, b'\n');
     let end = put_cost(&mut line, end, label);
     let end = put_byte(&mut line, end, b' ');
     let end = put_number(&mut line, end, u64::from(t) + 1);
@@ -57,8 +57,8 @@ pub fn put_grown(out: &mut Vec<u8>, k: u32) -> Result<(), Memory>
     ensures ok { OnOk result (out.new.items ≡ out.old.items ++ grown_text k) }
     ensures err { OnErr result (out.new.items ≡ out.old.items) }
 {
-    let mut line = [0u8; ROOM];
-    let end = put_byte(&mut line, ROOM, b'\n');
+    let mut line = [0u8; MAX_LINE_BYTES];
+    let end = put_byte(&mut line, MAX_LINE_BYTES, b'\n');
     let start = put_start(&mut line, end, b'g', u64::from(k));
     out.extend_from_slice(&line[start..])?;
     Ok(())
@@ -69,8 +69,8 @@ pub fn put_ready(out: &mut Vec<u8>, n: u32, arcs: u64) -> Result<(), Memory>
     ensures ok { OnOk result (out.new.items ≡ out.old.items ++ ready_text n arcs) }
     ensures err { OnErr result (out.new.items ≡ out.old.items) }
 {
-    let mut line = [0u8; ROOM];
-    let end = put_byte(&mut line, ROOM, b'\n');
+    let mut line = [0u8; MAX_LINE_BYTES];
+    let end = put_byte(&mut line, MAX_LINE_BYTES, b'\n');
     let end = put_number(&mut line, end, arcs);
     let end = put_byte(&mut line, end, b' ');
     let start = put_start(&mut line, end, b'r', u64::from(n));
@@ -96,8 +96,8 @@ fn put_wrong(out: &mut Vec<u8>, number: u64) -> Result<(), Memory>
     ensures ok { OnOk result (out.new.items ≡ out.old.items ++ codes "e " ++ decimal number ++ codes " ") }
     ensures err { OnErr result (out.new.items ≡ out.old.items) }
 {
-    let mut line = [0u8; ROOM];
-    let end = put_byte(&mut line, ROOM, b' ');
+    let mut line = [0u8; MAX_LINE_BYTES];
+    let end = put_byte(&mut line, MAX_LINE_BYTES, b' ');
     let start = put_start(&mut line, end, b'e', number);
     out.extend_from_slice(&line[start..])?;
     Ok(())

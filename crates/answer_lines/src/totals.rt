@@ -9,7 +9,7 @@ use itoa::write_digits;
 use route_walks::{INF, MAX_VERTICES, Memory};
 
 /// The most bytes of a line: a letter, four numbers of 20 digits, one of 39, five spaces and a line feed.
-const ROOM: usize = 126;
+const MAX_TOTALS_BYTES: usize = 126;
 
 /// The totals of the labels from a source.
 #[derive(Clone, Copy, Debug, PartialEq, Eq)]
@@ -83,8 +83,8 @@ pub fn put_totals(out: &mut Vec<u8>, s: u32, totals: &Totals) -> Result<(), Memo
         totals.now.greatest totals.now.farthest) }
     ensures err { OnErr result (out.new.items ≡ out.old.items) }
 {
-    let mut line = [0u8; ROOM];
-    let end = put_byte(&mut line, ROOM, b'\n');
+    let mut line = [0u8; MAX_TOTALS_BYTES];
+    let end = put_byte(&mut line, MAX_TOTALS_BYTES, b'\n');
     let end = put_field(&mut line, end, u64::from(totals.farthest) + 1);
     let end = put_field(&mut line, end, totals.greatest);
     let end = put_sum(&mut line, end, totals.sum);

@@ -3,7 +3,7 @@
 ghost use Rattle.std.specs.Prelude.{◌≡◌, ◌+◌, ◌<◌, ◌++◌, length, decimal, codes, All, OnOk, OnErr};
 ghost use Rattle.answer_lines.specs.Lines.{vertices_text, walk_text};
 
-use crate::digits::{ROOM, put_byte, put_number, put_start};
+use crate::digits::{MAX_LINE_BYTES, put_byte, put_number, put_start};
 use route_walks::{MAX_VERTICES, Memory};
 
 /// Appends the line `w V COST V .. V` of a walk: its last vertex, its cost, and its vertices in order.
@@ -28,8 +28,8 @@ fn put_target(out: &mut Vec<u8>, v: u32, cost: u64) -> Result<(), Memory>
         ≡ out.old.items ++ codes "w " ++ decimal (v + 1) ++ codes " " ++ decimal cost) }
     ensures err { OnErr result (out.new.items ≡ out.old.items) }
 {
-    let mut line = [0u8; ROOM];
-    let end = put_number(&mut line, ROOM, cost);
+    let mut line = [0u8; MAX_LINE_BYTES];
+    let end = put_number(&mut line, MAX_LINE_BYTES, cost);
     let end = put_byte(&mut line, end, b' ');
     let start = put_start(&mut line, end, b'w', u64::from(v) + 1);
     out.extend_from_slice(&line[start..])?;
@@ -60,8 +60,8 @@ fn put_vertex(out: &mut Vec<u8>, v: u32) -> Result<(), Memory>
     ensures ok { OnOk result (out.new.items ≡ out.old.items ++ codes " " ++ decimal (v + 1)) }
     ensures err { OnErr result (out.new.items ≡ out.old.items) }
 {
-    let mut line = [0u8; ROOM];
-    let end = put_number(&mut line, ROOM, u64::from(v) + 1);
+    let mut line = [0u8; MAX_LINE_BYTES];
+    let end = put_number(&mut line, MAX_LINE_BYTES, u64::from(v) + 1);
     let start = put_byte(&mut line, end, b' ');
     out.extend_from_slice(&line[start..])?;
     Ok(())

@@ -2,7 +2,7 @@ use Rattle.std.proofs.Common.{◌≡◌, ◌+◌, ◌<◌, ◌≤◌, ◌++◌, 
 use Rattle.std.specs.Prelude.{All}
 use Rattle.route_walks.specs.declared.graph.TheConstants.{INF}
 use Rattle.answer_lines.specs.Lines.{component_lines}
-use Rattle.answer_lines.specs.declared.groups.TheConstants.{GROUP_ROOM}
+use Rattle.answer_lines.specs.declared.groups.TheConstants.{GROUP_BYTES}
 use Rattle.answer_lines.proofs.groups.put_components.Given as goal
 
 abbrev pub invariant-loop-rest : goal.invariant-loop-rest
@@ -12,7 +12,7 @@ invariant-loop-rest l = record {
   whole : l.out.items ++ component_lines l.v l.rest ≡ l.fn.out.items ++ component_lines l.first l.labels;
   longer : length l.fn.out.items ≤ length l.out.items;
   before : l.start ≡ length l.fn.out.items;
-  room : length l.lines ≡ GROUP_ROOM;
+  room : length l.lines ≡ GROUP_BYTES;
 }
 
 abbrev pub decreases-loop-rest : goal.decreases-loop-rest

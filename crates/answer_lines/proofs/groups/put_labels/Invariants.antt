@@ -1,6 +1,6 @@
 use Rattle.std.proofs.Common.{◌≡◌, ◌+◌, ◌≤◌, ◌++◌, length}
 use Rattle.answer_lines.specs.Lines.{label_lines}
-use Rattle.answer_lines.specs.declared.groups.TheConstants.{GROUP_ROOM}
+use Rattle.answer_lines.specs.declared.groups.TheConstants.{GROUP_BYTES}
 use Rattle.answer_lines.proofs.groups.put_labels.Given as goal
 
 abbrev pub invariant-loop-rest : goal.invariant-loop-rest
@@ -9,7 +9,7 @@ invariant-loop-rest l = record {
   whole : l.out.items ++ label_lines l.v l.rest ≡ l.fn.out.items ++ label_lines l.first l.labels;
   longer : length l.fn.out.items ≤ length l.out.items;
   before : l.before ≡ length l.fn.out.items;
-  room : length l.lines ≡ GROUP_ROOM;
+  room : length l.lines ≡ GROUP_BYTES;
 }
 
 abbrev pub decreases-loop-rest : goal.decreases-loop-rest
