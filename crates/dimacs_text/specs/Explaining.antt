@@ -1,6 +1,6 @@
 -- What an explanation says of the line that is wrong. What it expects there is words for people, and no contract's.
 use Rattle.std.specs.Prelude.{◌≡◌, ℕ, ◌-◌, List, [], ◌∷◌, take, drop, length, min, Option, Some, None}
-use Rattle.dimacs_text.specs.declared.explanation.TheConstants.{MAX_KEPT}
+use Rattle.dimacs_text.specs.declared.explanation.TheConstants.{MAX_KEPT_BYTES}
 use Rattle.dimacs_text.specs.declared.explanation.Beginning.{Beginning}
 use Rattle.dimacs_text.specs.declared.explanation.Explanation.{Explanation}
 use Rattle.dimacs_text.specs.declared.fault.LineKind.{LineKind}
@@ -10,12 +10,12 @@ use Rattle.dimacs_text.specs.Lines.{lines}
 
 -- the first bytes of a line, as many as it has and at most those that are kept
 abbrev pub kept_of : Beginning → List ℕ
-kept_of beginning = take (min MAX_KEPT beginning.length) beginning.bytes
+kept_of beginning = take (min MAX_KEPT_BYTES beginning.length) beginning.bytes
 
 -- the line is shown: its first bytes, and how many it has
 abbrev pub IsShown : List ℕ → Option Beginning → Type 0
 IsShown line None = ⊥
-IsShown line (Some beginning) = (kept_of beginning ≡ take MAX_KEPT line) × (beginning.length ≡ length line)
+IsShown line (Some beginning) = (kept_of beginning ≡ take MAX_KEPT_BYTES line) × (beginning.length ≡ length line)
 
 -- the first of the lines is shown, and where there is none, none is
 abbrev pub IsFirstShown : List (List ℕ) → Option Beginning → Type 0

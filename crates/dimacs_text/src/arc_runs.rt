@@ -18,13 +18,13 @@ use std::sync::atomic::{AtomicUsize, Ordering};
 use std::thread::{Threads, for_each_mut};
 
 /// Bytes of the shortest line of an arc, with its line feed.
-const SHORTEST_ARC: usize = 8;
+const SHORTEST_ARC_BYTES: usize = 8;
 
 /// Bytes of a part: few, so that no thread is waited for long.
-const PART: usize = 1 << 15;
+const PART_BYTES: usize = 1 << 15;
 
 /// Arcs for which a run has room beyond those that its part can have.
-const SPARE: usize = 64;
+const SPARE_ARCS: usize = 64;
 
 /// Arcs whose lines come one after the other in a piece of a text, from one place to another.
 #[derive(Debug, Drop)]
@@ -69,7 +69,7 @@ impl ArcRun {
         let end = cut_at(bytes, part.saturating_add(1), parts);
         let start = cut_at(bytes, part, parts).min(end);
         self.begin(start, vertices);
-        let room = ((end - start) / SHORTEST_ARC).min(u32::MAX as usize);
+        let room = ((end - start) / SHORTEST_ARC_BYTES).min(u32::MAX as usize);
         if has_room(&mut self.arcs, room) {
             self.after = read_run(&bytes[..end], start, vertices, room as u32, &mut self.arcs).1;
         }
@@ -81,9 +81,10 @@ impl ArcRun {
 fn has_room(arcs: &mut Vec<ArcRec>, count: usize) -> bool
     ensures items { arcs.new.items ≡ arcs.old.items }
     ensures room { OnTrue result (vec_len arcs.new + count ≤ vec_capacity arcs.new) }
-    ensures few { vec_capacity arcs.new ≤ max (vec_capacity arcs.old) (vec_len arcs.old + count + SPARE) }
+    ensures few { vec_capacity arcs.new ≤ max (vec_capacity arcs.old) (vec_len arcs.old + count + SPARE_ARCS) }
 {
-    count <= arcs.capacity() - arcs.len() || arcs.reserve_exact(count.saturating_add(SPARE)).is_ok()
+    count <= arcs.capacity() - arcs.len()
+        || arcs.reserve_exact(count.saturating_add(SPARE_ARCS)).is_ok()
 }
 
 /// A piece of a text in parts, cut behind line feeds. Each part goes to the thread that asks first.
@@ -102,9 +103,9 @@ impl<'a> Parts<'a> {
     /// Cuts a piece into all of its parts, for this many threads. Vertices count to this number.
     pub fn new(bytes: &'a [u8], vertices: u32, threads: usize) -> Parts<'a>
         ensures bytes { result.bytes.now ≡ bytes.now }
-        ensures share { most_parts result ≤ 2 * (length bytes.now / PART / max threads 1) + 1 }
+        ensures share { most_parts result ≤ 2 * (length bytes.now / PART_BYTES / max threads 1) + 1 }
     {
-        let count = bytes.len() / PART;
+        let count = bytes.len() / PART_BYTES;
         let share = count / threads.max(1);
         Parts {
             bytes,

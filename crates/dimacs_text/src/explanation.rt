@@ -15,7 +15,7 @@ use std::error::Error;
 use std::fmt;
 
 /// The most bytes of a line that an explanation keeps.
-pub const MAX_KEPT: usize = 80;
+pub const MAX_KEPT_BYTES: usize = 80;
 
 /// A bound on the numbers of a form.
 const MOST_NUMBERS: usize = 3;
@@ -24,7 +24,7 @@ const MOST_NUMBERS: usize = 3;
 /// space are escaped.
 #[derive(Clone, Copy, Debug, PartialEq, Eq)]
 pub struct Beginning {
-    bytes: [u8; MAX_KEPT],
+    bytes: [u8; MAX_KEPT_BYTES],
     /// The number of bytes of the whole line.
     length: usize,
 }
@@ -34,11 +34,11 @@ impl Beginning {
 
     /// The beginning of this line.
     pub(crate) fn of(line: &[u8]) -> Beginning
-        ensures kept { kept_of result ≡ take MAX_KEPT line.now }
+        ensures kept { kept_of result ≡ take MAX_KEPT_BYTES line.now }
         ensures length { result.length ≡ length line.now }
     {
-        let mut bytes = [0; MAX_KEPT];
-        let kept = MAX_KEPT.min(line.len());
+        let mut bytes = [0; MAX_KEPT_BYTES];
+        let kept = MAX_KEPT_BYTES.min(line.len());
         bytes[..kept].copy_from_slice(&line[..kept]);
         Beginning {
             bytes,
@@ -50,7 +50,7 @@ impl Beginning {
     pub fn bytes(&self) -> &[u8]
         ensures { result.now ≡ kept_of self.now }
     {
-        &self.bytes[..MAX_KEPT.min(self.length)]
+        &self.bytes[..MAX_KEPT_BYTES.min(self.length)]
     }
 
     /// The number of bytes of the whole line.

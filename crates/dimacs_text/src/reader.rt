@@ -27,7 +27,7 @@ use route_walks::Memory;
 use std::alloc::Global;
 
 /// Bytes of the shortest line of an arc, `a 1 1 0` and a line feed.
-const SHORTEST_ARC: usize = 8;
+const SHORTEST_ARC_BYTES: usize = 8;
 
 /// The lines that were read, all of them whole.
 #[derive(Debug, Drop)]
@@ -341,7 +341,7 @@ impl JobReader {
             Some((read, all)) => all.saturating_sub(read).max(1),
             None => 1,
         };
-        if bytes.len() / SHORTEST_ARC < lines - 1 {
+        if bytes.len() / SHORTEST_ARC_BYTES < lines - 1 {
             bytes.len()
         } else {
             after_feeds(bytes, lines)

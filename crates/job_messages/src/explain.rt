@@ -1,7 +1,7 @@
 //! Lines that `--explain` prints on standard error after a fault.
 
 use crate::guess::guess;
-use dimacs_text::{Explanation, LineKind, MAX_KEPT};
+use dimacs_text::{Explanation, LineKind, MAX_KEPT_BYTES};
 use job_answer::{Fault, MAX_BYTES};
 use std::{fmt, io};
 
@@ -88,7 +88,7 @@ fn write_line<W: fmt::Write>(f: &mut fmt::Formatter<W>, explanation: &Explanatio
     let line = explanation.line;
     match &explanation.text {
         None => write!(f, "the text ends before line {line}"),
-        Some(text) if text.length() > MAX_KEPT => {
+        Some(text) if text.length() > MAX_KEPT_BYTES => {
             let length = text.length();
             write!(f, "line {line} has {length} bytes and begins '{text}'")
         }

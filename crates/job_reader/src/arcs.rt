@@ -19,10 +19,10 @@ use std::thread::Threads;
 use std::time::Clock;
 
 /// The bytes of the shortest line of an arc, `a 1 1 0` and a line feed.
-const SHORTEST_ARC: usize = 8;
+const SHORTEST_ARC_BYTES: usize = 8;
 
 /// The fewest sure bytes that are worth threads.
-const LEAST: usize = 1 << 20;
+const MIN_BYTES_FOR_THREADS: usize = 1 << 20;
 
 /// Reads on in a graph, at most `limit` bytes and none that may come after it. It reads nothing if many threads aren't
 /// worth it, and stops at the reader's end and soon after a wrong line. At most `threads` threads work, and no more
@@ -43,7 +43,7 @@ pub fn read_arcs_from<H: Threads + Clock + Sync, R: Read>(
     ensures short { IfErr result (λ _. TakesAtMost limit (R.remaining reader.old) (R.remaining reader.new)) }
     ensures only { IfErr result IsOfSystem }
 {
-    if threads < 2 || sure_bytes(job, 0) < LEAST {
+    if threads < 2 || sure_bytes(job, 0) < MIN_BYTES_FOR_THREADS {
         return Ok(0);
     }
     let mut pieces = Pieces::new(alloc)?;
@@ -94,7 +94,7 @@ fn next_piece(
 {
     let at_hand = pieces.front.len().saturating_add(pieces.back.len());
     let sure = sure_bytes(job, at_hand);
-    if ended || sure < LEAST {
+    if ended || sure < MIN_BYTES_FOR_THREADS {
         0
     } else {
         readers.piece().min(sure).min(left)
@@ -107,7 +107,7 @@ fn sure_bytes(job: &JobReader, at_hand: usize) -> usize {
         Some((read, all)) if !job.is_refused() => all
             .saturating_sub(read)
             .saturating_sub(1)
-            .saturating_mul(SHORTEST_ARC)
+            .saturating_mul(SHORTEST_ARC_BYTES)
             .saturating_sub(at_hand),
         _ => 0,
     }

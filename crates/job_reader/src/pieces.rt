@@ -3,7 +3,7 @@
 ghost use Rattle.std.specs.Prelude.{◌≡◌, [], IfOk};
 
 use crate::piece::Piece;
-use crate::readers::BLOCK;
+use crate::readers::PIECE_BYTES;
 use route_walks::Memory;
 use std::alloc::Global;
 use std::mem::swap;
@@ -24,9 +24,9 @@ impl Pieces {
         ensures back { IfOk result (λ pieces. pieces.back ≡ []) }
     {
         Ok(Pieces {
-            front: Piece::new(alloc, BLOCK)?,
-            back: Piece::new(alloc, BLOCK)?,
-            spare: Piece::new(alloc, BLOCK)?,
+            front: Piece::new(alloc, PIECE_BYTES)?,
+            back: Piece::new(alloc, PIECE_BYTES)?,
+            spare: Piece::new(alloc, PIECE_BYTES)?,
         })
     }
 

@@ -6,18 +6,18 @@ ghost use Rattle.job_reader.specs.declared.readers.TheConstants.{MOST_THREADS};
 use std::time::Duration;
 
 /// The bytes of a piece that one thread reads. Three of these fit into a second-level cache.
-pub(crate) const BLOCK: usize = 1 << 16;
+pub(crate) const PIECE_BYTES: usize = 1 << 16;
 
 /// The bytes of a piece for each of several threads, so that their start costs little.
-const PART: usize = 1 << 20;
+const PART_BYTES_A_THREAD: usize = 1 << 20;
 
 /// More threads read no faster.
 const MOST_THREADS: usize = 16;
 
-const FIRST_ALONE: usize = 8 * BLOCK;
+const FIRST_BYTES_ALONE: usize = 8 * PIECE_BYTES;
 
 /// The bytes that one thread reads after several were slower twice in a row; twice as many each further time.
-const NEXT_ALONE: usize = 1 << 24;
+const NEXT_BYTES_ALONE: usize = 1 << 24;
 
 /// Several are slower if a piece takes them longer by more than this part: less is chance.
 const TOLERANCE: u128 = 4;
@@ -42,8 +42,8 @@ impl Readers {
     pub(crate) fn new(threads: usize) -> Readers {
         Readers {
             threads: threads.min(MOST_THREADS),
-            alone: FIRST_ALONE,
-            next_alone: NEXT_ALONE,
+            alone: FIRST_BYTES_ALONE,
+            next_alone: NEXT_BYTES_ALONE,
             read_alone: 0,
             spent_alone: 0,
             were_slower: false,
@@ -66,15 +66,15 @@ impl Readers {
         ensures few { result ≤ 2 ^ 24 }
     {
         match self.threads() {
-            1 => BLOCK,
-            threads => PART * threads,
+            1 => PIECE_BYTES,
+            threads => PART_BYTES_A_THREAD * threads,
         }
     }
 
     /// Notes that `threads` threads took `spent` for a piece of `count` bytes.
     pub(crate) fn see(&mut self, threads: usize, count: usize, spent: Duration) {
         // A piece that was taken for another number of threads says nothing.
-        if count == 0 || (threads > 1) != (count > BLOCK) {
+        if count == 0 || (threads > 1) != (count > PIECE_BYTES) {
             return;
         }
         let count = count as u128;

@@ -1,6 +1,6 @@
 //! Explanations of wrong lines, worked by hand. Those of all faults are in `tests/explanations.tsv`.
 
-use dimacs_text::{ExplainedFault, Explanation, JobReader, LineKind, MAX_KEPT, TextFault};
+use dimacs_text::{ExplainedFault, Explanation, JobReader, LineKind, MAX_KEPT_BYTES, TextFault};
 use std::alloc::Global;
 use std::process::Abort;
 use std::test::Fail;
@@ -129,9 +129,9 @@ fn fault_of_a_long_line(rt: HostRuntime) -> Result<(), Fail> {
 fn expect_beginning(rt: &impl Abort, alloc: Global, explanation: &Explanation) -> Result<(), Fail> {
     assert!(rt; explanation.line == 2 && explanation.kind == LineKind::Unknown);
     let line = explanation.text.expect(rt, "a line");
-    assert!(rt; line.length() == 1000 && line.bytes() == [b'\x1f'; MAX_KEPT].as_slice());
+    assert!(rt; line.length() == 1000 && line.bytes() == [b'\x1f'; MAX_KEPT_BYTES].as_slice());
     let shown = format!(in alloc; "{line}")?;
-    assert!(rt; shown.len() == 4 * MAX_KEPT);
+    assert!(rt; shown.len() == 4 * MAX_KEPT_BYTES);
     Ok(())
 }
 
