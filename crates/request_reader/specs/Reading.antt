@@ -6,7 +6,7 @@ use Rattle.dimacs_text.specs.Jobs.{content_of, IsWithinLimits}
 use Rattle.dimacs_text.specs.AfterGraph.{head_among, IsHeadWithin}
 use Rattle.dimacs_text.specs.Heads.{begins_section}
 use Rattle.dimacs_text.specs.RequestDrafts.{HasReadAfter, is_whole}
-use Rattle.request_reader.specs.declared.request.Came.{Came}
+use Rattle.request_reader.specs.declared.request.LineEvents.{LineEvents}
 use Rattle.request_reader.specs.declared.request.Request.{Request}
 use Rattle.request_reader.specs.declared.request.Request.TheVariants.{Asked, Wrong, NoMemory}
 use Rattle.request_reader.specs.declared.request_reader.RequestReader.{RequestReader}
@@ -23,8 +23,8 @@ outcomes_in None = []
 outcomes_in (Some request) = outcome_of request ∷ []
 
 -- what came of a line, in order
-abbrev pub outcomes_of : Came → List Outcome
-outcomes_of came = outcomes_in came.cut ++ outcomes_in came.found
+abbrev pub outcomes_of : LineEvents → List Outcome
+outcomes_of events = outcomes_in events.ended ++ outcomes_in events.completed
 
 -- to what vertices count
 abbrev pub vertices_of : RequestReader → ℕ

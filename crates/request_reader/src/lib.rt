@@ -26,5 +26,5 @@ pub mod laws;
 mod request;
 mod request_reader;
 
-pub use request::{Came, Request};
+pub use request::{LineEvents, Request};
 pub use request_reader::RequestReader;

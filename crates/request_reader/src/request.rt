@@ -13,10 +13,10 @@ pub enum Request {
     NoMemory { line: u64 },
 }
 
-/// The outcomes of a line: first the request that ends before it, and then the one that it completes or that is refused
-/// at it.
+/// The outcomes of a line: `ended` is the request that ends before it, and `completed` the one that it completes or
+/// that is refused at it.
 #[derive(Debug, Drop)]
-pub struct Came {
-    pub cut: Option<Request>,
-    pub found: Option<Request>,
+pub struct LineEvents {
+    pub ended: Option<Request>,
+    pub completed: Option<Request>,
 }

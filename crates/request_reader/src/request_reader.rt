@@ -10,7 +10,7 @@ ghost use Rattle.request_reader.specs.Requests.{AreRequests, AreShort, Outcome, 
 ghost use Rattle.request_reader.specs.Reading.{outcomes_in, outcomes_of, vertices_of, HasReadBefore, HasRequests};
 ghost use Rattle.request_reader.specs.Reading.{last_of, IsAskedWithin, IsRefusable, IsRefusedLast};
 
-use crate::request::{Came, Request};
+use crate::request::{LineEvents, Request};
 use dimacs_text::{LineKind, RequestDraft, SectionHead, TextFault, begins_section};
 use std::alloc::Global;
 use std::mem::replace;
@@ -64,7 +64,7 @@ impl RequestReader {
     }
 
     /// Reads the next line, without its line feed, and returns its outcome.
-    pub fn read(&mut self, line: &[u8]) -> Came
+    pub fn read(&mut self, line: &[u8]) -> LineEvents
         ensures requests { (first : ℕ) (all : List (List ℕ)) (outcomes : List Outcome)
             → HasRequests self.old first all outcomes
             → HasRequests self.new first (all ++ line.now ∷ []) (outcomes ++ outcomes_of result) }
@@ -72,19 +72,19 @@ impl RequestReader {
         // What a request asks keeps the limits.
         ensures within { (first : ℕ) (all : List (List ℕ)) (outcomes : List Outcome)
             → HasRequests self.old first all outcomes → vertices_of self.old ≤ MAX_VERTICES
-            → IfSome result.found (IsAskedWithin (vertices_of self.old)) }
+            → IfSome result.completed (IsAskedWithin (vertices_of self.old)) }
         // A request that is whole with the line can still be refused.
         ensures refusable { (first : ℕ) (all : List (List ℕ)) (outcomes : List Outcome)
             → HasRequests self.old first all outcomes
-            → IfSome result.found (IsRefusable self.new first (all ++ line.now ∷ [])
-            (outcomes ++ outcomes_in result.cut)) }
+            → IfSome result.completed (IsRefusable self.new first (all ++ line.now ∷ [])
+            (outcomes ++ outcomes_in result.ended)) }
         // What ends before the line asks nothing.
-        ensures within_cut { IfSome result.cut (IsAskedWithin (vertices_of self.old)) }
+        ensures within_ended { IfSome result.ended (IsAskedWithin (vertices_of self.old)) }
     {
         let begins = begins_section(line);
-        let cut = self.end(begins);
-        let found = self.take(line, begins);
-        Came { cut, found }
+        let ended = self.end(begins);
+        let completed = self.take(line, begins);
+        LineEvents { ended, completed }
     }
 
     /// Ends the request if the next line is a second section line in it. Returns what is wrong with it, if it wasn't

@@ -196,12 +196,12 @@ impl Conversation {
         ensures kinds { IfErr result IsWritingFault }
     {
         answer_texts_by_lines_are_unique();
-        let came = self.requests.read(line);
-        let Told::Whole = self.reply(context, writer, came.cut)? else {
+        let events = self.requests.read(line);
+        let Told::Whole = self.reply(context, writer, events.ended)? else {
             // What ends before the line asks nothing.
             return Err(Fault::Memory);
         };
-        let Told::Whole = self.reply(context, writer, came.found)? else {
+        let Told::Whole = self.reply(context, writer, events.completed)? else {
             return self.refuse_last(context.alloc, writer);
         };
         Ok(())

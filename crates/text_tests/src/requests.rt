@@ -293,9 +293,9 @@ fn expect(rt: &impl Abort, alloc: Global, row: &Row) -> Result<(), Fail> {
     let mut requests = RequestReader::new(alloc, 2, 2);
     let mut told = String::new(alloc);
     for line in row.0 {
-        let came = requests.read(line.as_bytes());
-        put_told(alloc, &mut told, came.cut)?;
-        put_told(alloc, &mut told, came.found)?;
+        let events = requests.read(line.as_bytes());
+        put_told(alloc, &mut told, events.ended)?;
+        put_told(alloc, &mut told, events.completed)?;
     }
     assert!(rt; told.as_str() == row.1, "{told}");
     assert!(rt; requests.lacking() == row.2, "{told}");

@@ -11,19 +11,19 @@ use std::time::Clock;
 
 /// The calls that a watch has seen.
 #[derive(Clone, Copy, Debug, PartialEq, Eq)]
-pub struct Told {
+pub struct WatchedCalls {
     pub bytes: usize,
     pub arcs: Option<(usize, usize)>,
     pub faults: u32,
 }
 
-pub const NOTHING: Told = Told {
+pub const NOTHING: WatchedCalls = WatchedCalls {
     bytes: 0,
     arcs: None,
     faults: 0,
 };
 
-impl ReadWatch for Told {
+impl ReadWatch for WatchedCalls {
     fn see_text(&mut self, count: usize, arcs: Option<(usize, usize)>) {
         self.bytes = self.bytes.saturating_add(count);
         self.arcs = arcs;
@@ -38,7 +38,7 @@ impl ReadWatch for Told {
 pub const ONE_ARC: &[u8] = b"p sp 2 1\na 1 2 7\n";
 
 /// The calls that a watch sees of that job.
-const ALL: Told = Told {
+const ALL: WatchedCalls = WatchedCalls {
     bytes: 17,
     arcs: Some((1, 1)),
     faults: 0,
@@ -49,10 +49,10 @@ fn expect_one_arc<H: Threads + Clock + Abort + Sync>(
     alloc: Global,
     threads: usize,
 ) -> Result<(), Fail> {
-    let (mut text, mut told) = (ONE_ARC, NOTHING);
-    let job = read_job_from(rt, alloc, &mut text, 17, threads, &mut told)?;
+    let (mut text, mut seen) = (ONE_ARC, NOTHING);
+    let job = read_job_from(rt, alloc, &mut text, 17, threads, &mut seen)?;
     assert!(rt; job.n == 2 && job.arcs.as_slice() == [ArcRec::new(0, 1, 7)].as_slice());
-    assert!(rt; told == ALL && text.is_empty());
+    assert!(rt; seen == ALL && text.is_empty());
     Ok(())
 }
 
@@ -81,10 +81,10 @@ const REFUSED: [(&[u8], u64, ReadFault, usize, u32); 4] = [
 fn readers_without_a_job(rt: HostRuntime) {
     for (text, limit, want, left, faults) in REFUSED {
         let mut text = text;
-        let mut told = NOTHING;
-        let refused = read_job_from(&rt, rt.alloc(), &mut text, limit, 2, &mut told);
+        let mut seen = NOTHING;
+        let refused = read_job_from(&rt, rt.alloc(), &mut text, limit, 2, &mut seen);
         assert!(rt; refused.err() == Some(want));
-        assert!(rt; text.len() == left && told.faults == faults);
+        assert!(rt; text.len() == left && seen.faults == faults);
     }
 }
 

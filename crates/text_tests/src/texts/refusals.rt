@@ -453,12 +453,12 @@ fn of_request_reader_read(rt: HostRuntime) -> Result<(), Fail> {
     let alloc = rt.alloc();
     let mut requests = RequestReader::new(alloc, 6, 10);
     requests.read(b"p aux sp p2p 1");
-    let job = match asked(refusable!(alloc, requests.read(b"q 1 6")).found) {
+    let job = match asked(refusable!(alloc, requests.read(b"q 1 6")).completed) {
         Ok(job) => job,
         Err(line) => {
             assert!(rt; line == 11);
             requests.read(b"p aux sp p2p 1");
-            asked(requests.read(b"q 1 6").found).ok().flatten()
+            asked(requests.read(b"q 1 6").completed).ok().flatten()
         }
     };
     assert_pairs(&rt, &job.expect(&rt, "the pair"), &[(0, 5)]);
