@@ -15,31 +15,31 @@ use std::alloc::Global;
 pub(crate) const TOTAL: usize = 0;
 
 /// The words before the first vertex.
-const FIRST: usize = 8;
+const HEADER_WORDS: usize = 8;
 
 pub(crate) const fn label_word(v: u32) -> usize
     ensures { result ≡ label_at v }
 {
-    2 * v as usize + FIRST
+    2 * v as usize + HEADER_WORDS
 }
 
 pub(crate) const fn mark_word(v: u32) -> usize
     ensures { result ≡ mark_at v }
 {
-    2 * v as usize + FIRST + 1
+    2 * v as usize + HEADER_WORDS + 1
 }
 
 pub(crate) const fn word_count(n: u32) -> usize
     ensures { result ≡ count n }
 {
-    2 * n as usize + FIRST
+    2 * n as usize + HEADER_WORDS
 }
 
 pub(crate) const fn vertex_count(words: usize) -> usize
     requires { 8 ≤ words }
     ensures { result ≡ vertices_of words }
 {
-    (words - FIRST) / 2
+    (words - HEADER_WORDS) / 2
 }
 
 /// The words of `n` vertices without a seed: labels `INF`, no mark, total 0.
@@ -48,7 +48,7 @@ pub(crate) fn cleared(alloc: Global, n: u32) -> Result<Vec<u64>, Memory>
     ensures { IfOk result (λ words. IsSown n [] words.items) }
 {
     let mut words = Vec::with_capacity(alloc, word_count(n))?;
-    words.extend_from_slice(&[0; FIRST])?;
+    words.extend_from_slice(&[0; HEADER_WORDS])?;
     put_cleared(&mut words, n);
     Ok(words)
 }

@@ -4,7 +4,7 @@ ghost use Rattle.std.specs.Prelude.{◌≡◌, ◌<◌, ◌≤◌, All, length, 
 ghost use Rattle.near_labels.specs.Aim.{IsServedBy, targets_of};
 
 #[derive(Clone, Copy, Debug)]
-pub(crate) enum Aim<'a> {
+pub(crate) enum SearchAim<'a> {
     /// Those of these vertices.
     Costs(&'a [u32]),
     /// Those of these vertices and of all on a least walk to one of them.
@@ -13,14 +13,14 @@ pub(crate) enum Aim<'a> {
     Within(u64),
 }
 
-impl<'a> Aim<'a> {
+impl<'a> SearchAim<'a> {
     pub(crate) fn targets(&self) -> &'a [u32]
         ensures { result.now ≡ targets_of self.now }
     {
         match *self {
-            Aim::Costs(targets) => targets,
-            Aim::Walks(targets) => targets,
-            Aim::Within(_) => &[],
+            SearchAim::Costs(targets) => targets,
+            SearchAim::Walks(targets) => targets,
+            SearchAim::Within(_) => &[],
         }
     }
 
@@ -30,9 +30,9 @@ impl<'a> Aim<'a> {
         ensures { IsServedBy self.now labels.now result }
     {
         match *self {
-            Aim::Costs(targets) => farthest(labels, targets),
-            Aim::Walks(targets) => farthest(labels, targets).saturating_add(1),
-            Aim::Within(bound) => bound.saturating_add(1),
+            SearchAim::Costs(targets) => farthest(labels, targets),
+            SearchAim::Walks(targets) => farthest(labels, targets).saturating_add(1),
+            SearchAim::Within(bound) => bound.saturating_add(1),
         }
     }
 
@@ -42,11 +42,11 @@ impl<'a> Aim<'a> {
         requires { All (λ t. t < length labels.now) (targets_of self.now) }
     {
         let (targets, known) = match *self {
-            Aim::Within(bound) => return next > bound,
-            Aim::Costs(targets) => (targets, next),
+            SearchAim::Within(bound) => return next > bound,
+            SearchAim::Costs(targets) => (targets, next),
             // One that has just the label of the next vertex may have a walk of fewer arcs.
-            Aim::Walks(_) if next == 0 => return false,
-            Aim::Walks(targets) => (targets, next - 1),
+            SearchAim::Walks(_) if next == 0 => return false,
+            SearchAim::Walks(targets) => (targets, next - 1),
         };
         *seen = first_above(labels, targets, *seen, known);
         *seen >= targets.len()

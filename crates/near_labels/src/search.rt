@@ -7,7 +7,7 @@ ghost use Rattle.label_words.specs.Paused.{IsPause};
 ghost use Rattle.near_labels.specs.Aim.{IsServedBy, targets_of};
 ghost use Rattle.near_labels.specs.Noted.{AreNoted, IsBlank, rest_of};
 
-use crate::aim::Aim;
+use crate::aim::SearchAim;
 use crate::state::State;
 use csr_graph::Csr;
 use label_words::laws::pauses_are_least_up_to;
@@ -15,7 +15,7 @@ use std::cmp::Reverse;
 
 /// Searches from the source of a blank state until labels serve the aim. Returns the limit up to which they are least;
 /// `None` if the allowed visits don't do, or memory is refused.
-pub(crate) fn search(state: &mut State, csr: &Csr, source: u32, aim: Aim<'_>) -> Option<u64>
+pub(crate) fn search(state: &mut State, csr: &Csr, source: u32, aim: SearchAim<'_>) -> Option<u64>
     requires count { length state.old.labels.items ≡ csr.now.n }
     requires blank { IsBlank state.old.labels.items state.old.marks.items }
     requires none { state.old.noted.items ≡ [] }
@@ -50,7 +50,7 @@ pub(crate) fn begin(state: &mut State, csr: &Csr, source: u32, other: &[u64]) ->
 }
 
 /// Visits vertices until no lower label than the next one is asked for.
-fn go_on(state: &mut State, csr: &Csr, source: u32, aim: &Aim<'_>) -> bool
+fn go_on(state: &mut State, csr: &Csr, source: u32, aim: &SearchAim<'_>) -> bool
     requires noted { AreNoted state.old.labels.items state.old.marks.items state.old.noted.items }
     requires pause { IsPause csr.now (seeds_from source) (rest_of state.old.labels.items state.old.marks.items) }
     requires targets { All (λ t. t < csr.now.n) (targets_of aim.now) }
@@ -79,7 +79,7 @@ fn go_on(state: &mut State, csr: &Csr, source: u32, aim: &Aim<'_>) -> bool
 }
 
 /// The limit up to which labels are least, if it serves the aim.
-fn limit_reached(state: &State, csr: &Csr, source: u32, aim: &Aim<'_>) -> Option<u64>
+fn limit_reached(state: &State, csr: &Csr, source: u32, aim: &SearchAim<'_>) -> Option<u64>
     requires noted { AreNoted state.now.labels.items state.now.marks.items state.now.noted.items }
     requires pause { IsPause csr.now (seeds_from source) (rest_of state.now.labels.items state.now.marks.items) }
     requires targets { All (λ t. t < csr.now.n) (targets_of aim.now) }

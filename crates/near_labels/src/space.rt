@@ -9,7 +9,7 @@ ghost use Rattle.near_labels.specs.Found.{AreWalksFound};
 ghost use Rattle.near_labels.specs.Meeting.{IsReversed};
 ghost use Rattle.near_labels.specs.Noted.{AreLeastOf, AreNoted, AreThoseWithin};
 
-use crate::aim::Aim;
+use crate::aim::SearchAim;
 use crate::both_ends::cost_from_both;
 use crate::listing::{labels_of, listed};
 use crate::search::search;
@@ -92,7 +92,7 @@ impl SearchSpace {
         ensures least { IfSome result (λ labels.
             AreLeastOf csr.now.arcs (seeds_from source) targets.now labels.items) }
     {
-        let reached = search(&mut self.state, csr, source, Aim::Costs(targets));
+        let reached = search(&mut self.state, csr, source, SearchAim::Costs(targets));
         let labels = match reached {
             Some(limit) => least_of(alloc, csr, source, &self.state.labels, limit, targets),
             None => None,
@@ -119,7 +119,7 @@ impl SearchSpace {
         ensures vertices_of_walks { walks.new ≡ walks.old }
         ensures walks { IfSome result (AreWalksFound csr.now.n csr.now.arcs source targets.now) }
     {
-        let reached = search(&mut self.state, csr, source, Aim::Walks(targets));
+        let reached = search(&mut self.state, csr, source, SearchAim::Walks(targets));
         let found = match reached {
             Some(limit) => {
                 let labels = &self.state.labels;
@@ -147,7 +147,7 @@ impl SearchSpace {
         ensures within { IfSome result (λ found.
             AreThoseWithin bound csr.now.n csr.now.arcs (seeds_from source) found.items) }
     {
-        let reached = search(&mut self.state, csr, source, Aim::Within(bound));
+        let reached = search(&mut self.state, csr, source, SearchAim::Within(bound));
         let list = match reached {
             Some(limit) => list_within(&mut self.state, alloc, csr, source, limit, bound),
             None => None,
