@@ -78,9 +78,9 @@ impl Split<Tally> for CutsShare {
     ghost right = { cut_share };
 }
 
-pub(crate) struct Joins;
+pub(crate) struct JoinsPasses;
 
-impl Join<Tally> for Joins {
+impl Join<Tally> for JoinsPasses {
     ghost use Rattle.obim_bags.specs.BagRule.{joined, spent_tally};
 
     ghost both = { joined };

@@ -20,12 +20,12 @@ use std::sync::{Arc, Wait};
 
 /// A bag of the log, and by worker the place that its mirror hasn't claimed yet.
 #[derive(Drop)]
-pub(crate) struct Entry {
+pub(crate) struct LogEntry {
     bag: Arc<Bag>,
     unclaimed: Vec<Option<Access>>,
 }
 
-impl Model for Entry {
+impl Model for LogEntry {
     ghost use Rattle.std.specs.Prelude.{All};
     ghost use Rattle.obim_bags.specs.Entries.{EntrySeen, IsUnclaimed};
 
@@ -36,14 +36,14 @@ impl Model for Entry {
     ghost invariant = { λ e. All (IsUnclaimed e.bag.value) e.unclaimed.items };
 }
 
-impl Entry {
+impl LogEntry {
     /// A new bag with a place for each worker. All room is made before the bag is shared.
     pub(crate) fn open<R: Wait>(
         rt: &R,
         alloc: Global,
         metric: u64,
         workers: u32,
-    ) -> Result<Entry, Memory>
+    ) -> Result<LogEntry, Memory>
         requires { 1 ≤ workers }
         ensures { IfOk result (λ entry. entry.bag.metric ≡ metric) }
     {
@@ -54,7 +54,7 @@ impl Entry {
             let bag = Arc::try_clone(&bag)?;
             unclaimed.push(Some(Access::new(bag, pass)))?;
         }
-        Ok(Entry { bag, unclaimed })
+        Ok(LogEntry { bag, unclaimed })
     }
 
     pub(crate) fn bag(&self) -> &Bag
@@ -130,7 +130,7 @@ fn keep(place: Option<Access>, passes: &mut Vec<BagPass>) -> Result<(), Memory>
 /// The entries of a log, at most one for each metric.
 #[derive(Drop)]
 pub(crate) struct Entries {
-    pub(crate) list: Vec<Entry>,
+    pub(crate) list: Vec<LogEntry>,
 }
 
 impl Model for Entries {
@@ -185,7 +185,7 @@ impl Entries {
     {
         self.list.reserve(1)?;
         self.list
-            .push_reserved(Entry::open(rt, alloc, metric, workers)?);
+            .push_reserved(LogEntry::open(rt, alloc, metric, workers)?);
         Ok(())
     }
 

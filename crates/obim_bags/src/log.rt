@@ -25,9 +25,9 @@ use std::marker::Model;
 use std::sync::Wait;
 
 // The one word of the table is 1 while a seat holds its one slot.
-const WORD: usize = 0;
+const LOCK_WORD: usize = 0;
 
-const SLOT: usize = 0;
+const ENTRIES_SLOT: usize = 0;
 
 /// A log of bags, one for each metric that was asked for. Threads share it through a `&`, each with its mirror.
 #[derive(Drop)]
@@ -73,7 +73,7 @@ impl BagLog {
             accesses: Accesses::new(alloc, 0),
         });
         for worker in 1..workers {
-            let (_, seat) = table.shared.load_new_seat::<OpensSeat>(WORD);
+            let (_, seat) = table.shared.load_new_seat::<OpensSeat>(LOCK_WORD);
             mirrors.push_reserved(Mirror {
                 seat,
                 accesses: Accesses::new(alloc, worker),
@@ -226,14 +226,14 @@ impl BagLog {
     {
         let backoff = Backoff::new();
         for _ in rt.forever() {
-            if self.table.shared.swap::<Acquires>(seat, WORD, 1) == 0 {
+            if self.table.shared.swap::<Acquires>(seat, LOCK_WORD, 1) == 0 {
                 break;
             }
             backoff.snooze();
         }
         self.table
             .shared
-            .exchange(seat, SLOT, Entries::none(self.alloc))
+            .exchange(seat, ENTRIES_SLOT, Entries::none(self.alloc))
     }
 
     // Puts the entries back into the slot and gives it back.
@@ -245,7 +245,7 @@ impl BagLog {
         ensures table { seat.new.table_id ≡ seat.old.table_id }
         ensures me { seat.new.me ≡ (without_slot (bags_of entries) seat.old.me.0, []) }
     {
-        drop(self.table.shared.exchange(seat, SLOT, entries));
-        self.table.shared.swap::<Releases>(seat, WORD, 0);
+        drop(self.table.shared.exchange(seat, ENTRIES_SLOT, entries));
+        self.table.shared.swap::<Releases>(seat, LOCK_WORD, 0);
     }
 }

@@ -58,9 +58,9 @@ impl Play<Entries, LogKnown> for OpensSeat {
     ghost then = { λ step old found new. new.0 ≡ new_known };
 }
 
-pub(crate) struct Joins;
+pub(crate) struct JoinsSeats;
 
-impl Join<LogKnown> for Joins {
+impl Join<LogKnown> for JoinsSeats {
     ghost use Rattle.obim_bags.specs.LogRule.{joined_known, new_known};
 
     ghost both = { joined_known };

@@ -6,7 +6,7 @@ ghost use Rattle.obim_bags.specs.Chunks.{ChunkSeen};
 ghost use Rattle.obim_bags.specs.BagRule.{first_tally, new_tally, shares_of, weight_of};
 ghost use Rattle.obim_bags.specs.Bags.{IsPassAmong, pass_among, tallies_of, AreJoined};
 
-use crate::bag_rule::{AddsWorker, ChunkQueue, CutsShare, Gets, Joins, QueuePass};
+use crate::bag_rule::{AddsWorker, ChunkQueue, CutsShare, Gets, JoinsPasses, QueuePass};
 use crate::chunk::Chunk;
 use std::alloc::{AllocError, Global};
 use std::fmt;
@@ -108,7 +108,7 @@ pub(crate) fn join_all(
     let count = passes.len();
     let mut one = passes.pop()?.into_pass();
     while let Some(other) = passes.pop() {
-        queue.absorb::<Joins>(&mut one, other.into_pass());
+        queue.absorb::<JoinsPasses>(&mut one, other.into_pass());
     }
     if count == workers as usize {
         Some(one)

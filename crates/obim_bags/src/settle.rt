@@ -15,10 +15,10 @@ ghost use Rattle.obim_bags.specs.Settling.{lists_of, passes_in, accesses_of};
 
 use crate::access::Access;
 use crate::chunk::Chunk;
-use crate::entries::{Entries, Entry};
+use crate::entries::{Entries, LogEntry};
 use crate::fault::SettleFault;
 use crate::log::BagLog;
-use crate::log_rule::{Joins, LogSeat};
+use crate::log_rule::{JoinsSeats, LogSeat};
 use crate::mirror::Mirror;
 use crate::passes::BagPass;
 use std::alloc::Global;
@@ -66,14 +66,14 @@ impl BagLog {
         held.push(accesses)?;
         while let Some(mirror) = mirrors.pop() {
             let (other, accesses) = mirror.into_parts();
-            self.table.shared.join_seat::<Joins>(&mut seat, other);
+            self.table.shared.join_seat::<JoinsSeats>(&mut seat, other);
             held.push(accesses)?;
         }
         Ok((seat, held))
     }
 }
 
-impl Entry {
+impl LogEntry {
     // What is left in the bag, whose passes are these and those that are still here.
     fn drain<R: Wait>(
         &mut self,

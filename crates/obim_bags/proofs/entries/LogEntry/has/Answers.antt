@@ -3,7 +3,7 @@ use Rattle.std.proofs.Common.{◌≡◌, ◌∙◌, ap, refl, Some, None}
 use Rattle.std.specs.Prelude.{Option, is_some, IsTrue}
 use Rattle.obim_bags.specs.Logs.{AccessSeen}
 use Rattle.obim_bags.proofs.Listed.{found_at}
-use Rattle.obim_bags.proofs.entries.Entry.has.Goals as goal
+use Rattle.obim_bags.proofs.entries.LogEntry.has.Goals as goal
 
 there : (found : Option AccessSeen) → IsTrue (is_some found) → (place : AccessSeen) × (found ≡ Some place)
 there None some = absurd cc

@@ -3,7 +3,7 @@ use Rattle.std.proofs.Common.{◌≡◌, length}
 use Rattle.std.specs.Prelude.{All}
 use Rattle.obim_bags.specs.Bags.{PassSeen, new_pass}
 use Rattle.obim_bags.specs.Entries.{IsUnclaimed}
-use Rattle.obim_bags.proofs.entries.Entry.open.Given as goal
+use Rattle.obim_bags.proofs.entries.LogEntry.open.Given as goal
 
 abbrev pub invariant-loop-pass : goal.invariant-loop-pass
 invariant-loop-pass g l = record {

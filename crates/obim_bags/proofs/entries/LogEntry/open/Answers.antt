@@ -4,7 +4,7 @@ use Rattle.std.proofs.lemmas.List.Elements.{All-append, All-cons, All-nil, All-p
 use Rattle.obim_bags.specs.Bags.{BagSeen, PassSeen, new_pass}
 use Rattle.obim_bags.specs.Logs.{AccessSeen}
 use Rattle.obim_bags.specs.Entries.{IsUnclaimed}
-use Rattle.obim_bags.proofs.entries.Entry.open.Goals as goal
+use Rattle.obim_bags.proofs.entries.LogEntry.open.Goals as goal
 
 place_unclaimed : (bag bag' : BagSeen) (pass : PassSeen) (place : AccessSeen) → pass ≡ new_pass bag → bag' ≡ bag
     → place ≡ record { bag = bag'; pass = pass } → IsUnclaimed bag (Some place)

@@ -1,7 +1,7 @@
 -- The passes that were still here put and got nothing.
 use Rattle.std.proofs.lemmas.Result.{IfOk-weaker}
 use Rattle.obim_bags.proofs.Totals.{settled_of_some}
-use Rattle.obim_bags.proofs.entries.Entry.drain.Goals as goal
+use Rattle.obim_bags.proofs.entries.LogEntry.drain.Goals as goal
 
 pub returns-clause-settled : goal.returns-clause-settled
 returns-clause-settled g c =
