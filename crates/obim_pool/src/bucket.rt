@@ -5,7 +5,7 @@ ghost use Rattle.obim_pool.specs.Scales.{widening_bucket};
 ghost use Rattle.obim_pool.specs.declared.bucket.TheConstants.{BUCKETS};
 
 /// Labels below this have a bucket each; larger ones keep as many leading bits as this has.
-const NARROW: u64 = 1 << 8;
+const NARROW_LABELS: u64 = 1 << 8;
 
 /// The number of buckets for all labels of 64 bits.
 pub const BUCKETS: u64 = 7424;
@@ -17,9 +17,9 @@ pub fn bucket_of(label: u64) -> u64
     ensures narrow { label < 256 → result ≡ label }
     ensures few { result < BUCKETS }
 {
-    if label < NARROW {
+    if label < NARROW_LABELS {
         return label;
     }
     let bits = 56_u32.saturating_sub(label.leading_zeros());
-    u64::from(bits) * (NARROW / 2) + (label >> bits)
+    u64::from(bits) * (NARROW_LABELS / 2) + (label >> bits)
 }

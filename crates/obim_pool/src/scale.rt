@@ -11,13 +11,13 @@ use std::marker::Model;
 pub const MOST_BUCKETS: u64 = 15_616;
 
 /// Below this many widths no bucket of `bucket_of` is wider than one.
-const NARROW: u64 = 256;
+const NARROW_WIDTHS: u64 = 256;
 
 /// The most even buckets: the looks into lower ones then take less than a second.
-const MOST_EVEN: u64 = 8192;
+const MAX_EVEN_BUCKETS: u64 = 8192;
 
-/// The greatest shift: it leaves less than `MOST_EVEN` of a label of 64 bits.
-const WIDEST: u32 = 51;
+/// The greatest shift: it leaves less than `MAX_EVEN_BUCKETS` of a label of 64 bits.
+const MAX_WIDTH_BITS: u32 = 51;
 
 /// Buckets as wide as those of `bucket_of`, but no wider than 2^`shift` while the label is below `even` times that.
 ///
@@ -48,8 +48,8 @@ impl Scale {
         ensures { result ≡ record { shift = min shift 51; even = min even 8192 } }
     {
         Scale {
-            shift: shift.min(WIDEST),
-            even: even.min(MOST_EVEN),
+            shift: shift.min(MAX_WIDTH_BITS),
+            even: even.min(MAX_EVEN_BUCKETS),
         }
     }
 
@@ -57,7 +57,7 @@ impl Scale {
     pub fn widening() -> Scale
         ensures { result ≡ record { shift = 51; even = 0 } }
     {
-        Scale::new(WIDEST, 0)
+        Scale::new(MAX_WIDTH_BITS, 0)
     }
 
     /// The bucket of a label, which never falls as labels rise.
@@ -68,7 +68,7 @@ impl Scale {
         ensures few { result < MOST_BUCKETS }
     {
         let widths = label >> self.shift;
-        if widths < NARROW {
+        if widths < NARROW_WIDTHS {
             bucket_of(label)
         } else if widths < self.even {
             // Below 256 widths `bucket_of` has 128 for each of `shift` doublings, and 256.

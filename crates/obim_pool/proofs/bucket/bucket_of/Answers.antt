@@ -11,5 +11,5 @@ pub returns-clause-few : goal.returns-clause-few
 returns-clause-few c =
     rw c.from.ensures (rw c.saturating_sub-bits.ensures (omega (arith, eight_bits c.args.label c.ranges.label.fits)))
 
-pub returns-then-label-lt-NARROW-clause-exact : goal.returns-then-label-lt-NARROW-clause-exact
-returns-then-label-lt-NARROW-clause-exact c = narrow_bucket c.args.label (omega arith)
+pub returns-then-label-lt-NARROW_LABELS-clause-exact : goal.returns-then-label-lt-NARROW_LABELS-clause-exact
+returns-then-label-lt-NARROW_LABELS-clause-exact c = narrow_bucket c.args.label (omega arith)
