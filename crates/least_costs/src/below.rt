@@ -9,7 +9,7 @@ ghost use Rattle.least_costs.specs.Network.{IsStartWithin, graph_of, seeds_at};
 
 use crate::network::Network;
 use crate::start::Start;
-use obim_engine::{Closed, Reached};
+use obim_engine::{Closed, GoalResult};
 use std::marker::Model;
 use std::snapshot::Snapshot;
 
@@ -35,7 +35,7 @@ impl Model for CostsBelow {
 }
 
 impl CostsBelow {
-    pub(crate) fn new(network: &Network, start: Start, reached: Reached) -> CostsBelow
+    pub(crate) fn new(network: &Network, start: Start, reached: GoalResult) -> CostsBelow
         requires start { IsStartWithin network.now.n start }
         requires end { IsEnd (graph_of network.now) (seeds_at network.now.n start) reached.closed }
         requires least { AreLeastLabelsUpTo reached.limit network.now.n network.now.arcs

@@ -14,8 +14,8 @@ use crate::network::Network;
 use crate::start::Start;
 use csr_graph::Csr;
 use obim_engine::{
-    Buckets, Closed, Gate, Goal, MAX_SHIFT, Paused, Reached, RunFault, Settings, Setup, Worklist,
-    grow, resume_until, run_until, widths_of,
+    Buckets, Closed, Gate, Goal, GoalResult, MAX_SHIFT, Paused, RunFault, Settings, Setup,
+    Worklist, grow, resume_until, run_until, widths_of,
 };
 use obim_pool::{ObimPool, ObimSide, WideningPool, WorkPool};
 use route_walks::{Memory, Seed, seeds_all, seeds_from};
@@ -101,7 +101,7 @@ impl Runner {
         start: Start,
         goal: Goal<'_>,
         gate: &G,
-    ) -> Result<Reached, Memory>
+    ) -> Result<GoalResult, Memory>
         requires start { IsStartWithin network.now.n start }
         requires goal { IsGoalWithin network.now.n goal }
         ensures { IfOk result (HasReached goal.entry (graph_of network.now) (seeds_at network.now.n start)) }
@@ -133,7 +133,7 @@ impl Runner {
         rest: Paused,
         goal: Goal<'_>,
         gate: &G,
-    ) -> Result<Reached, Memory>
+    ) -> Result<GoalResult, Memory>
         requires start { IsStartWithin grown.now.n start }
         requires rest { IsPause (graph_of grown.now) (seeds_at grown.now.n start) rest }
         requires goal { IsGoalWithin grown.now.n goal }
@@ -199,7 +199,7 @@ fn run_over<H: Threads + Wait + Clock + Sync, G: Gate + Sync>(
     goal: Goal<'_>,
     kind: &mut Kind,
     gate: &G,
-) -> Result<Reached, RunFault>
+) -> Result<GoalResult, RunFault>
     requires seeds { AreSeeds rows.now.n seeds.now }
     requires rest { IfSome rest (IsPause rows.now seeds.now) }
     requires goal { IsGoalWithin rows.now.n goal }
@@ -220,7 +220,7 @@ fn run_on<H: Threads + Wait + Clock + Sync, P: WorkPool + Sync, G: Gate + Sync>(
     goal: Goal<'_>,
     setup: &Setup<'_, P, G>,
     sides: &mut [P::Side],
-) -> Result<Reached, RunFault>
+) -> Result<GoalResult, RunFault>
 where
     P::Side: Send,
     requires seeds { AreSeeds rows.now.n seeds.now }
@@ -270,7 +270,7 @@ fn run_even<H: Threads + Wait + Clock + Sync, G: Gate + Sync>(
     goal: Goal<'_>,
     even: &mut Even,
     gate: &G,
-) -> Result<Reached, RunFault>
+) -> Result<GoalResult, RunFault>
     requires seeds { AreSeeds rows.now.n seeds.now }
     requires rest { IfSome rest (IsPause rows.now seeds.now) }
     requires goal { IsGoalWithin rows.now.n goal }
@@ -296,7 +296,7 @@ fn run_fitted<H: Threads + Wait + Clock + Sync, G: Gate + Sync>(
     goal: Goal<'_>,
     fitted: &mut Fitted,
     gate: &G,
-) -> Result<Reached, RunFault>
+) -> Result<GoalResult, RunFault>
     requires seeds { AreSeeds rows.now.n seeds.now }
     requires rest { IfSome rest (IsPause rows.now seeds.now) }
     requires goal { IsGoalWithin rows.now.n goal }

@@ -8,7 +8,7 @@ ghost use Rattle.least_costs.specs.Network.{graph_of};
 ghost use Rattle.least_costs.specs.Within.{IsBeyond, IsCostWithin};
 
 use crate::network::Network;
-use obim_engine::Reached;
+use obim_engine::GoalResult;
 use route_walks::INF;
 use std::marker::Model;
 use std::snapshot::Snapshot;
@@ -34,7 +34,12 @@ impl Model for CostsWithin {
 }
 
 impl CostsWithin {
-    pub(crate) fn new(network: &Network, source: u32, bound: u64, reached: Reached) -> CostsWithin
+    pub(crate) fn new(
+        network: &Network,
+        source: u32,
+        bound: u64,
+        reached: GoalResult,
+    ) -> CostsWithin
         requires source { source < network.now.n }
         requires reached { HasReached (goal.Within bound) (graph_of network.now) (seeds_from source) reached }
         ensures { result ≡ record { net = network.now; source = source; bound = bound } }

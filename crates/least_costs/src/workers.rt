@@ -15,7 +15,7 @@ use crate::runner::{Runner, pause_after};
 use crate::start::Start;
 use crate::workspace::Workspace;
 use near_labels::WalksFound;
-use obim_engine::{Closed, Gate, Goal, Reached, Settings};
+use obim_engine::{Closed, Gate, Goal, GoalResult, Settings};
 use route_walks::Memory;
 use std::alloc::Global;
 use std::sync::Wait;
@@ -185,7 +185,7 @@ impl<'a, G: Gate + Sync> Workers<'a, G> {
         network: &Network,
         start: Start,
         goal: Goal<'_>,
-    ) -> Result<Reached, Memory>
+    ) -> Result<GoalResult, Memory>
         requires start { IsStartWithin network.now.n start }
         requires goal { IsGoalWithin network.now.n goal }
         ensures { IfOk result (HasReached goal.entry (graph_of network.now) (seeds_at network.now.n start)) }
@@ -206,7 +206,7 @@ impl<'a, G: Gate + Sync> Workers<'a, G> {
         start: Start,
         closed: Closed,
         goal: Goal<'_>,
-    ) -> Result<Reached, Memory>
+    ) -> Result<GoalResult, Memory>
         requires start { IsStartWithin network.now.n start }
         requires grown { GrowsTo network.now grown.now }
         requires closed { IsEnd (graph_of network.now) (seeds_at network.now.n start) closed }

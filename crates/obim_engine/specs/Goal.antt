@@ -8,7 +8,7 @@ use Rattle.csr_graph.specs.Graph.{Graph}
 use Rattle.label_words.specs.Closed.{IsEnd, closed_labels}
 use Rattle.obim_engine.specs.declared.goal.Goal.{Goal}
 use Rattle.obim_engine.specs.declared.goal.Goal.TheVariants as goal
-use Rattle.obim_engine.specs.declared.goal.Reached.{Reached}
+use Rattle.obim_engine.specs.declared.goal.GoalResult.{GoalResult}
 
 -- the vertices that a goal names
 abbrev pub targets_of : Goal → List ℕ
@@ -49,17 +49,17 @@ HasWanted (goal.Within bound) graph seeds labels =
 
 -- a run over a graph and seeds reached its goal: it ended with least labels or with a pause, its labels are
 -- least up to the limit, this serves the goal, and so the labels that are wanted are least
-pub record HasReached (goal : Goal) (graph : Graph) (seeds : List Seed) (reached : Reached) : Type 0 where
+pub record HasReached (goal : Goal) (graph : Graph) (seeds : List Seed) (reached : GoalResult) : Type 0 where
   pub end : IsEnd graph seeds reached.closed
   pub labels : AreLeastLabelsUpTo reached.limit graph.n graph.arcs seeds (closed_labels reached.closed)
   pub limit : IsServedBy goal (closed_labels reached.closed) reached.limit
   pub wanted : HasWanted goal graph seeds (closed_labels reached.closed)
 
 -- whichever seeds it is the end of a run from, that run reached its goal
-abbrev pub Stops : Goal → Graph → Reached → Type 0
+abbrev pub Stops : Goal → Graph → GoalResult → Type 0
 Stops goal graph reached = (seeds : List Seed) → IsEnd graph seeds reached.closed → HasReached goal graph seeds reached
 
 -- a run from these seeds came to an end, and whichever seeds it is the end of a run from, that run reached its goal
-pub record HasStopped (wanted : Goal) (graph : Graph) (seeds : List Seed) (reached : Reached) : Type 0 where
+pub record HasStopped (wanted : Goal) (graph : Graph) (seeds : List Seed) (reached : GoalResult) : Type 0 where
   pub end : IsEnd graph seeds reached.closed
   pub stops : Stops wanted graph reached

@@ -61,7 +61,7 @@ impl<'a> Goal<'a> {
 
 /// The result of a run that may stop once its goal is reached.
 #[derive(Debug, Drop)]
-pub struct Reached {
+pub struct GoalResult {
     /// Least labels if the run came to its end, or else a pause.
     pub closed: Closed,
     /// The limit up to which labels are least: `INF` if all are.

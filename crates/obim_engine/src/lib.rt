@@ -24,7 +24,7 @@ mod worker;
 
 pub use gate::{Gate, OpenGate};
 pub use gates::{Recorder, Yielding};
-pub use goal::{Goal, Reached};
+pub use goal::{Goal, GoalResult};
 pub use growing::grow;
 pub use hints::widths::{Widths, widths_of};
 pub use label_words::{Closed, Paused};

@@ -10,7 +10,7 @@ ghost use Rattle.obim_engine.specs.Goal.{HasReached, HasStopped, IsGoalWithin};
 ghost use Rattle.obim_engine.specs.Workers.{CanLead};
 
 use crate::gate::Gate;
-use crate::goal::{Goal, Reached};
+use crate::goal::{Goal, GoalResult};
 use crate::hints::widths::widths_of;
 use crate::opened::Opened;
 use crate::runs::RunFault;
@@ -55,7 +55,7 @@ pub fn least_labels_until<H: Threads + Wait + Clock + Sync, G: Gate + Sync>(
     goal: Goal<'_>,
     settings: &Settings,
     gate: &G,
-) -> Result<Reached, RunFault>
+) -> Result<GoalResult, RunFault>
     requires seeds { AreSeeds csr.now.n seeds.items }
     requires goal { IsGoalWithin csr.now.n goal }
     ensures { IfOk result (HasReached goal.entry csr.now seeds.items) }
@@ -102,7 +102,7 @@ pub fn least_labels_resumed_until<H: Threads + Wait + Clock + Sync, G: Gate + Sy
     goal: Goal<'_>,
     settings: &Settings,
     gate: &G,
-) -> Result<Reached, RunFault>
+) -> Result<GoalResult, RunFault>
     requires going { CanGoOn csr.now rest }
     requires goal { IsGoalWithin csr.now.n goal }
     ensures { (seeds : List Seed)
@@ -125,7 +125,7 @@ fn reach_alone<H: Threads + Wait + Clock + Sync, G: Gate + Sync>(
     goal: Goal<'_>,
     settings: &Settings,
     gate: &G,
-) -> Result<Reached, RunFault>
+) -> Result<GoalResult, RunFault>
     requires seat { CanLead csr.now MAX_WORKERS opened.seat }
     requires goal { IsGoalWithin csr.now.n goal }
     ensures { IfOk result (HasStopped goal.entry csr.now opened.seat.known.seeds) }
@@ -190,7 +190,7 @@ pub fn distances_until<H: Threads + Wait + Clock + Sync, G: Gate + Sync>(
     goal: Goal<'_>,
     settings: &Settings,
     gate: &G,
-) -> Result<Reached, RunFault>
+) -> Result<GoalResult, RunFault>
     requires source { source < csr.now.n }
     requires goal { IsGoalWithin csr.now.n goal }
     ensures { IfOk result (HasReached goal.entry csr.now (seeds_from source)) }

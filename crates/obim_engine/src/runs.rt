@@ -222,7 +222,7 @@ fn push_marked<H: Wait, P: WorkPool, G>(
         if let Some(label) = shared.words.marked_label(seat, v) {
             // If the pool refuses the vertex, it stays marked all the same.
             if !run.pool.push(rt, side, v, run.metric_of(label)) {
-                shared.pace.lose();
+                shared.pace.request_sweep();
             }
         }
     }

@@ -10,7 +10,7 @@ ghost use Rattle.obim_engine.specs.Goal.{HasReached, HasStopped, IsGoalWithin};
 ghost use Rattle.obim_engine.specs.Workers.{CanLead};
 
 use crate::gate::Gate;
-use crate::goal::{Goal, Reached};
+use crate::goal::{Goal, GoalResult};
 use crate::opened::Opened;
 use crate::runs::{RunFault, run_workers, solve};
 use crate::settings::{MAX_WORKERS, Setup};
@@ -37,7 +37,7 @@ pub fn run_until<H: Threads + Wait + Clock + Sync, P: WorkPool + Sync, G: Gate +
     goal: Goal<'_>,
     setup: &Setup<'_, P, G>,
     sides: &mut [P::Side],
-) -> Result<Reached, RunFault>
+) -> Result<GoalResult, RunFault>
 where
     P::Side: Send,
     requires seeds { AreSeeds csr.now.n seeds.now }
@@ -61,7 +61,7 @@ pub fn resume_until<H: Threads + Wait + Clock + Sync, P: WorkPool + Sync, G: Gat
     goal: Goal<'_>,
     setup: &Setup<'_, P, G>,
     sides: &mut [P::Side],
-) -> Result<Reached, RunFault>
+) -> Result<GoalResult, RunFault>
 where
     P::Side: Send,
     requires seeds { AreSeeds csr.now.n seeds.now }
@@ -86,7 +86,7 @@ pub(crate) fn reach<H: Threads + Wait + Clock + Sync, P: WorkPool + Sync, G: Gat
     opened: Opened,
     run: &Run<'_, P, G>,
     sides: &mut [P::Side],
-) -> Result<Reached, RunFault>
+) -> Result<GoalResult, RunFault>
 where
     P::Side: Send,
     requires seat { CanLead run.now.csr.now MAX_WORKERS opened.seat }
@@ -106,7 +106,7 @@ where
     let limit = run.goal.limit_of(rest.labels());
     if rest.is_unmarked_below(limit) {
         let closed = Closed::Paused(rest);
-        return Ok(Reached { closed, limit });
+        return Ok(GoalResult { closed, limit });
     }
     let opened = Opened::from_pause(alloc, run.csr, rest)?;
     resumed_runs_end_alike();
@@ -114,10 +114,10 @@ where
     Ok(settled(labels))
 }
 
-fn settled(labels: Vec<u64>) -> Reached
+fn settled(labels: Vec<u64>) -> GoalResult
     ensures { result ≡ record { closed = Closed.Settled labels; limit = INF } }
 {
-    Reached {
+    GoalResult {
         closed: Closed::Settled(labels),
         limit: INF,
     }

@@ -15,8 +15,8 @@ ghost use Rattle.obim_engine.specs.declared.goal.Goal.TheVariants as goal;
 use crate::budget::Budget;
 use crate::gate::Gate;
 use crate::goal::Goal;
-use crate::hints::aim::{Aim, Seeker, Wanted, Whole, first_look, next_look};
-use crate::hints::pace::Watch;
+use crate::hints::aim::{Aim, FindTargets, RunToEnd, StopAtLimit, first_look, next_look};
+use crate::hints::pace::LeadMonitor;
 use crate::hints::patience::Patience;
 use crate::hints::pauses::Pauses;
 use crate::hints::prefetch::prefetch;
@@ -30,10 +30,10 @@ use std::sync::Wait;
 use std::time::Clock;
 
 /// The credits that a worker raises at once, if it has none for a mark.
-const RAISED: u8 = 64;
+const RAISED_CREDITS: u8 = 64;
 
 /// The most credits that a worker keeps after a visit; with more it gives all back.
-const MOST_KEPT: u8 = 128;
+const MAX_KEPT_CREDITS: u8 = 128;
 
 /// Works until the seat sees the total at 0, the budget is spent, or nothing wanted is left to do.
 pub(crate) fn work<H: Wait + Clock, P: WorkPool, G: Gate>(
@@ -50,7 +50,7 @@ pub(crate) fn work<H: Wait + Clock, P: WorkPool, G: Gate>(
     ensures side { P.is_side shared.now.run.pool.now side.new }
 {
     match shared.run.goal {
-        Goal::EachVertex => work_with(rt, shared, worker, seat, side, &mut Whole),
+        Goal::EachVertex => work_with(rt, shared, worker, seat, side, &mut RunToEnd),
         _ => work_until(rt, shared, worker, seat, side),
     }
 }
@@ -71,19 +71,19 @@ fn work_until<H: Wait + Clock, P: WorkPool, G: Gate>(
     ensures seat { AreDone shared.now.run.budget shared.now.run.goal seat result }
     ensures side { P.is_side shared.now.run.pool.now side.new }
 {
-    let mut seeker = Seeker::new();
+    let mut search = FindTargets::new();
     let mut seat = seat;
-    if !seeker.has_found(&shared.run.goal) {
-        seat = work_with(rt, shared, worker, seat, side, &mut seeker);
-        if !seeker.has_found(&shared.run.goal) {
+    if !search.has_reached_all(&shared.run.goal) {
+        seat = work_with(rt, shared, worker, seat, side, &mut search);
+        if !search.has_reached_all(&shared.run.goal) {
             return seat;
         }
     }
-    if seeker.is_late(shared) {
-        return work_with(rt, shared, worker, seat, side, &mut Whole);
+    if search.is_near_end(shared) {
+        return work_with(rt, shared, worker, seat, side, &mut RunToEnd);
     }
-    let mut wanted = Wanted::new(shared, &seat);
-    work_with(rt, shared, worker, seat, side, &mut wanted)
+    let mut stop = StopAtLimit::new(shared, &seat);
+    work_with(rt, shared, worker, seat, side, &mut stop)
 }
 
 /// Works as `work` for one aim, or until another is due. The seat goes by value, so that it lies in registers.
@@ -105,12 +105,12 @@ fn work_with<H: Wait + Clock, P: WorkPool, G: Gate, A: Aim>(
     let n = near.run.csr.n();
     let is_alone = near.pace.is_alone();
     let mut pauses = Pauses::new();
-    let mut watch = Watch::new(worker, first_look(&near.run.goal));
+    let mut monitor = LeadMonitor::new(worker, first_look(&near.run.goal));
     let mut budget = Budget::new(near.run.budget);
     let mut patience = Patience::new(n, budget.left());
     for _ in rt.forever() {
         if budget.is_spent() {
-            near.pace.leave(worker);
+            near.pace.worker_left(worker);
             // The run may be over all the same.
             is_over(near.words, &mut seat);
             return seat;
@@ -127,9 +127,9 @@ fn work_with<H: Wait + Clock, P: WorkPool, G: Gate, A: Aim>(
                 prefetch(&near, n, &seat, side);
                 visit(rt, &near, worker, &mut seat, side, u, aim);
                 budget.spend();
-                if watch.visited() {
-                    seat = look(rt, &near, &mut watch, aim, seat, budget.made());
-                    if aim.is_over(&near) {
+                if monitor.visited() {
+                    seat = look(rt, &near, &mut monitor, aim, seat, budget.made());
+                    if aim.should_switch(&near) {
                         give_all_back(near.words, &mut seat);
                         return seat;
                     }
@@ -138,7 +138,7 @@ fn work_with<H: Wait + Clock, P: WorkPool, G: Gate, A: Aim>(
             _ => {
                 if patience.had_work(budget.left()) {
                     pauses.reset();
-                    aim.renew();
+                    aim.note_visit();
                 }
                 let ends = patience.ends(popped);
                 // A pool that gave a vertex isn't empty: the next one may be marked.
@@ -149,14 +149,14 @@ fn work_with<H: Wait + Clock, P: WorkPool, G: Gate, A: Aim>(
                 if is_over(near.words, &mut seat) {
                     return seat;
                 }
-                if aim.is_reached(shared, &seat, worker, popped) {
+                if aim.should_stop(shared, &seat, worker, popped) {
                     return seat;
                 }
                 if ends {
                     (seat, budget) = sweep(rt, shared, worker, seat, side, budget, aim);
                     patience.renew();
                 }
-                pauses.wait(rt, near.pace.has_lost());
+                pauses.wait(rt, near.pace.needs_sweep());
             }
         }
     }
@@ -175,7 +175,7 @@ fn take_below<P, G, A: Aim>(shared: &Shared<'_, P, G>, seat: &mut WorkSeat, aim:
     ensures credit { result ≡ true → 1 ≤ seat.new.known.view.credits }
     ensures no_vertex { result ≡ false → HasNoVertex seat.new }
 {
-    !aim.leaves(shared, seat, u) && shared.words.take(seat, u)
+    !aim.skips(shared, seat, u) && shared.words.take(seat, u)
 }
 
 #[inline(always)]
@@ -213,7 +213,7 @@ fn is_over(words: &Words, seat: &mut WorkSeat) -> bool
 fn look<C: Clock, P, G, A: Aim>(
     clock: &C,
     shared: &Shared<'_, P, G>,
-    watch: &mut Watch,
+    monitor: &mut LeadMonitor,
     aim: &mut A,
     mut seat: WorkSeat,
     visits: u64,
@@ -223,15 +223,15 @@ fn look<C: Clock, P, G, A: Aim>(
     requires no_vertex { HasNoVertex seat }
     ensures stays { Stays seat result }
     ensures no_vertex { HasNoVertex result }
-    ensures left { 0 < watch.new.left }
+    ensures left { 0 < monitor.new.left }
 {
     aim.look(shared, &seat, visits);
-    let naps = watch.is_far_ahead(shared.pace);
+    let naps = monitor.is_far_ahead(shared.pace);
     if naps {
         give_all_back(shared.words, &mut seat);
     }
-    watch.look(clock, shared.pace, naps);
-    watch.look_within(next_look(&shared.run.goal));
+    monitor.look(clock, shared.pace, naps);
+    monitor.look_within(next_look(&shared.run.goal));
     seat
 }
 
@@ -272,7 +272,7 @@ fn sweep<H: Wait, P: WorkPool, G: Gate, A: Aim>(
     ensures side { P.is_side shared.now.run.pool.now side.new }
     ensures limit { result.1.has_limit ≡ budget.has_limit }
 {
-    shared.pace.seek();
+    shared.pace.sweep_started();
     let before = budget.left();
     for v in 0..shared.run.csr.n() {
         if budget.is_spent() {
@@ -287,7 +287,7 @@ fn sweep<H: Wait, P: WorkPool, G: Gate, A: Aim>(
         }
     }
     give_all_back(shared.words, &mut seat);
-    aim.swept(budget.left() != before);
+    aim.note_sweep(budget.left() != before);
     (seat, budget)
 }
 
@@ -328,10 +328,10 @@ fn visit<H: Wait, P: WorkPool, G: Gate, A: Aim>(
         let pushed = run.pool.push_now(side, head, metric) || run.pool.push(rt, side, head, metric);
         // If the pool refuses the head, it stays marked all the same.
         if !pushed {
-            shared.pace.lose();
+            shared.pace.request_sweep();
         }
     }
-    if seat.credits() > MOST_KEPT {
+    if seat.credits() > MAX_KEPT_CREDITS {
         words.finish(seat, csr);
     } else {
         words.keep(seat, csr);
@@ -378,7 +378,7 @@ fn mark(words: &Words, seat: &mut WorkSeat, u: u32)
     ensures place { place_of seat.new.known.view.hand ≡ place_of seat.old.known.view.hand }
 {
     if seat.credits() == 1 {
-        words.raise_by(seat, RAISED);
+        words.raise_by(seat, RAISED_CREDITS);
     }
     words.set_mark(seat);
 }

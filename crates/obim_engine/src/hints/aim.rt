@@ -12,17 +12,17 @@ use label_words::WorkSeat;
 use route_walks::INF;
 
 /// The least number of visits between two looks at targets; more targets have as many visits.
-const VISITS: u32 = 64;
+const MIN_VISITS_A_LOOK: u32 = 64;
 
 /// Fruitless pops in a row before a worker leaves, if there are others.
-const POPS: u32 = 16;
+const IDLE_POPS_BEFORE_LEAVING: u32 = 16;
 
 /// Fruitless pops in a row after which it leaves in any case.
-const MOST_POPS: u32 = 2048;
+const MAX_IDLE_POPS: u32 = 2048;
 
 /// A worker alone with one in so many vertices left before each target has a label goes on to the end: to look for
 /// marks would take longer.
-const LAST: u32 = 32;
+const VERTICES_A_LATE_ONE: u32 = 32;
 
 /// An aim says which vertices a worker leaves alone, and when it leaves. By default it leaves no vertex alone.
 pub(crate) trait Aim {
@@ -33,7 +33,7 @@ pub(crate) trait Aim {
     }
 
     #[inline(always)]
-    fn leaves<P, G>(&self, shared: &Shared<'_, P, G>, seat: &WorkSeat, v: u32) -> bool
+    fn skips<P, G>(&self, shared: &Shared<'_, P, G>, seat: &WorkSeat, v: u32) -> bool
         requires words { seat.now.words ≡ shared.now.words.now }
         requires graph { shared.now.run.csr.now ≡ seat.now.known.graph }
         requires vertex { v < shared.now.run.csr.now.n }
@@ -43,11 +43,11 @@ pub(crate) trait Aim {
 
     /// Notes a visit since the last fruitless pop.
     #[inline(always)]
-    fn renew(&mut self) {}
+    fn note_visit(&mut self) {}
 
     /// Notes a sweep, and if it visited a vertex.
     #[inline(always)]
-    fn swept(&mut self, _has_visited: bool) {}
+    fn note_sweep(&mut self, _has_visited: bool) {}
 
     /// Looks at the labels of the targets, after this many visits.
     fn look<P, G>(&mut self, shared: &Shared<'_, P, G>, seat: &WorkSeat, visits: u64)
@@ -55,12 +55,12 @@ pub(crate) trait Aim {
         requires graph { shared.now.run.csr.now ≡ seat.now.known.graph };
 
     /// Tells if the last look asks for another aim.
-    fn is_over<P, G>(&self, shared: &Shared<'_, P, G>) -> bool
+    fn should_switch<P, G>(&self, shared: &Shared<'_, P, G>) -> bool
         ensures { result ≡ true → shared.now.run.goal ≢ goal.EachVertex };
 
     /// Tells if a worker that drew nothing, or this vertex after a fruitless sweep, is to leave: what is wanted is
     /// done, and no sweep is due.
-    fn is_reached<P, G>(
+    fn should_stop<P, G>(
         &mut self,
         shared: &Shared<'_, P, G>,
         seat: &WorkSeat,
@@ -72,21 +72,21 @@ pub(crate) trait Aim {
         ensures { result ≡ true → shared.now.run.goal ≢ goal.EachVertex };
 }
 
-/// All is wanted.
+/// The aim of a run to its end.
 #[derive(Drop)]
-pub(crate) struct Whole;
+pub(crate) struct RunToEnd;
 
-impl Aim for Whole {
+impl Aim for RunToEnd {
     #[inline(always)]
     fn look<P, G>(&mut self, _shared: &Shared<'_, P, G>, _seat: &WorkSeat, _visits: u64) {}
 
     #[inline(always)]
-    fn is_over<P, G>(&self, _shared: &Shared<'_, P, G>) -> bool {
+    fn should_switch<P, G>(&self, _shared: &Shared<'_, P, G>) -> bool {
         false
     }
 
     #[inline(always)]
-    fn is_reached<P, G>(
+    fn should_stop<P, G>(
         &mut self,
         _shared: &Shared<'_, P, G>,
         _seat: &WorkSeat,
@@ -97,28 +97,28 @@ impl Aim for Whole {
     }
 }
 
-/// Some target has no label yet.
+/// The aim while some target has no label.
 #[derive(Drop)]
-pub(crate) struct Seeker {
+pub(crate) struct FindTargets {
     /// Targets before this place had a label at the last look.
     reached: usize,
     visits: u64,
 }
 
-impl Aim for Seeker {
+impl Aim for FindTargets {
     fn look<P, G>(&mut self, shared: &Shared<'_, P, G>, seat: &WorkSeat, visits: u64) {
-        shared.pace.begin();
+        shared.pace.mark_started();
         self.visits = visits;
         self.reached = first_unreached(shared, seat, shared.run.goal.targets(), self.reached);
     }
 
-    fn is_over<P, G>(&self, shared: &Shared<'_, P, G>) -> bool {
+    fn should_switch<P, G>(&self, shared: &Shared<'_, P, G>) -> bool {
         let goal = &shared.run.goal;
-        !matches!(goal, Goal::EachVertex) && self.has_found(goal)
+        !matches!(goal, Goal::EachVertex) && self.has_reached_all(goal)
     }
 
     #[inline(never)]
-    fn is_reached<P, G>(
+    fn should_stop<P, G>(
         &mut self,
         shared: &Shared<'_, P, G>,
         seat: &WorkSeat,
@@ -126,33 +126,33 @@ impl Aim for Seeker {
         _drawn: Option<u32>,
     ) -> bool {
         self.reached = first_unreached(shared, seat, shared.run.goal.targets(), self.reached);
-        self.is_over(shared)
+        self.should_switch(shared)
     }
 }
 
-impl Seeker {
-    pub(crate) fn new() -> Seeker {
-        Seeker {
+impl FindTargets {
+    pub(crate) fn new() -> FindTargets {
+        FindTargets {
             reached: 0,
             visits: 0,
         }
     }
 
     /// Tells if each target had a label at the last look.
-    pub(crate) fn has_found(&self, goal: &Goal<'_>) -> bool {
+    pub(crate) fn has_reached_all(&self, goal: &Goal<'_>) -> bool {
         self.reached >= goal.targets().len()
     }
 
     /// Tells if so little is left that the run may as well go to its end.
-    pub(crate) fn is_late<P, G>(&self, shared: &Shared<'_, P, G>) -> bool {
+    pub(crate) fn is_near_end<P, G>(&self, shared: &Shared<'_, P, G>) -> bool {
         let n = shared.run.csr.n();
-        shared.pace.is_alone() && self.visits > u64::from(n - n / LAST)
+        shared.pace.is_alone() && self.visits > u64::from(n - n / VERTICES_A_LATE_ONE)
     }
 }
 
-/// Each target has a label.
+/// The aim once each target has a label: to stop at the limit.
 #[derive(Drop)]
-pub(crate) struct Wanted {
+pub(crate) struct StopAtLimit {
     /// Vertices with at least this label are left alone. It never rises.
     limit: u64,
     idle: u32,
@@ -160,42 +160,42 @@ pub(crate) struct Wanted {
     has_swept: bool,
 }
 
-impl Aim for Wanted {
+impl Aim for StopAtLimit {
     #[inline(always)]
     fn is_past(&self, label: u64) -> bool {
         label >= self.limit
     }
 
     #[inline(always)]
-    fn leaves<P, G>(&self, shared: &Shared<'_, P, G>, seat: &WorkSeat, v: u32) -> bool {
+    fn skips<P, G>(&self, shared: &Shared<'_, P, G>, seat: &WorkSeat, v: u32) -> bool {
         // Without a limit a vertex that has no label may be marked, for example if arcs were added: it is taken too.
         self.limit < INF && shared.words.label_hint(seat, v) >= self.limit
     }
 
-    fn renew(&mut self) {
+    fn note_visit(&mut self) {
         self.idle = 0;
         self.has_swept = false;
     }
 
-    fn swept(&mut self, has_visited: bool) {
+    fn note_sweep(&mut self, has_visited: bool) {
         self.has_swept = !has_visited;
         if self.has_swept {
-            self.idle = self.idle.max(POPS);
+            self.idle = self.idle.max(IDLE_POPS_BEFORE_LEAVING);
         }
     }
 
     fn look<P, G>(&mut self, shared: &Shared<'_, P, G>, seat: &WorkSeat, _visits: u64) {
-        shared.pace.begin();
+        shared.pace.mark_started();
         self.take_aim(shared, seat);
     }
 
     #[inline(always)]
-    fn is_over<P, G>(&self, _shared: &Shared<'_, P, G>) -> bool {
+    fn should_switch<P, G>(&self, _shared: &Shared<'_, P, G>) -> bool {
         false
     }
 
     #[inline(never)]
-    fn is_reached<P, G>(
+    fn should_stop<P, G>(
         &mut self,
         shared: &Shared<'_, P, G>,
         seat: &WorkSeat,
@@ -204,17 +204,17 @@ impl Aim for Wanted {
     ) -> bool {
         match shared.run.goal {
             Goal::EachVertex => false,
-            _ => (drawn.is_none() || self.has_swept) && self.is_done(shared, seat, worker),
+            _ => (drawn.is_none() || self.has_swept) && self.sees_no_work(shared, seat, worker),
         }
     }
 }
 
-impl Wanted {
-    pub(crate) fn new<P, G>(shared: &Shared<'_, P, G>, seat: &WorkSeat) -> Wanted
+impl StopAtLimit {
+    pub(crate) fn new<P, G>(shared: &Shared<'_, P, G>, seat: &WorkSeat) -> StopAtLimit
         requires words { seat.now.words ≡ shared.now.words.now }
         requires graph { shared.now.run.csr.now ≡ seat.now.known.graph }
     {
-        let mut aim = Wanted {
+        let mut aim = StopAtLimit {
             limit: INF,
             idle: 0,
             has_swept: false,
@@ -233,7 +233,12 @@ impl Wanted {
         self.limit = goal.limit_past(farthest).min(self.limit);
     }
 
-    fn is_done<P, G>(&mut self, shared: &Shared<'_, P, G>, seat: &WorkSeat, worker: u32) -> bool
+    fn sees_no_work<P, G>(
+        &mut self,
+        shared: &Shared<'_, P, G>,
+        seat: &WorkSeat,
+        worker: u32,
+    ) -> bool
         requires words { seat.now.words ≡ shared.now.words.now }
         requires graph { shared.now.run.csr.now ≡ seat.now.known.graph }
     {
@@ -242,16 +247,16 @@ impl Wanted {
         let pace = shared.pace;
         if worker == 0 {
             // The first vertices were handed to its side, and it has drawn them.
-            pace.begin();
+            pace.mark_started();
         }
-        if self.limit == INF || pace.has_lost() {
+        if self.limit == INF || pace.needs_sweep() {
             return false;
         }
-        if pace.is_alone() || self.idle >= MOST_POPS {
+        if pace.is_alone() || self.idle >= MAX_IDLE_POPS {
             return true;
         }
         let lowest = pace.is_lowest(worker, shared.run.metric_of(self.limit));
-        lowest && pace.has_begun() && self.idle >= POPS
+        lowest && pace.has_started() && self.idle >= IDLE_POPS_BEFORE_LEAVING
     }
 }
 
@@ -267,7 +272,7 @@ pub(crate) fn first_look(goal: &Goal<'_>) -> u32 {
 pub(crate) fn next_look(goal: &Goal<'_>) -> u32 {
     match goal {
         Goal::EachVertex => u32::MAX,
-        _ => (goal.targets().len().min(u32::MAX as usize) as u32).max(VISITS),
+        _ => (goal.targets().len().min(u32::MAX as usize) as u32).max(MIN_VISITS_A_LOOK),
     }
 }
 

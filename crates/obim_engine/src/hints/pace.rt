@@ -14,16 +14,16 @@ use std::thread::sleep;
 use std::time::{Clock, Duration};
 
 /// Visits between two looks at the others, by each worker; by all together if it was far ahead.
-const VISITS: u32 = 64;
+const VISITS_A_LOOK: u32 = 64;
 
 /// A worker is far ahead if its metric is more than this many buckets above another's.
-const AHEAD: u64 = 8;
+const FAR_AHEAD_BUCKETS: u64 = 8;
 
 /// A nap, in microseconds.
-const NAP: u64 = 100;
+const NAP_MICROS: u64 = 100;
 
 /// The most naps between two visits: first one, then twice as many each time that they don't help.
-const NAPS: u32 = 128;
+const MAX_NAPS: u32 = 128;
 
 /// The figures that workers show one another.
 #[derive(Drop)]
@@ -32,8 +32,8 @@ pub(crate) struct Pace {
     /// By worker, the bucket that it visits, or that of `INF` while it has nothing to do.
     buckets: Vec<CachePadded<AtomicU64>>,
     /// True if since the last sweep the pool refused a vertex, or a worker left that had spent its budget.
-    lost: AtomicBool,
-    begun: AtomicBool,
+    sweep_due: AtomicBool,
+    started: AtomicBool,
 }
 
 impl Pace {
@@ -45,8 +45,8 @@ impl Pace {
         Ok(Pace {
             workers,
             buckets,
-            lost: AtomicBool::new(false),
-            begun: AtomicBool::new(false),
+            sweep_due: AtomicBool::new(false),
+            started: AtomicBool::new(false),
         })
     }
 
@@ -65,35 +65,35 @@ impl Pace {
         }
     }
 
-    /// Notes that the pool refused a vertex: a sweep has to find it.
-    pub(crate) fn lose(&self) {
-        self.lost.store(true, Ordering::Relaxed);
+    /// Asks for a sweep, since the pool refused a vertex.
+    pub(crate) fn request_sweep(&self) {
+        self.sweep_due.store(true, Ordering::Relaxed);
     }
 
     /// Notes that a worker leaves with its budget spent: a sweep has to find what its side keeps.
-    pub(crate) fn leave(&self, worker: u32) {
+    pub(crate) fn worker_left(&self, worker: u32) {
         self.show(worker, INF);
-        self.lose();
+        self.request_sweep();
     }
 
-    pub(crate) fn seek(&self) {
-        self.lost.store(false, Ordering::Relaxed);
+    pub(crate) fn sweep_started(&self) {
+        self.sweep_due.store(false, Ordering::Relaxed);
     }
 
-    /// Tells if something was lost since the last sweep began.
-    pub(crate) fn has_lost(&self) -> bool {
-        self.lost.load(Ordering::Relaxed)
+    /// Tells if a sweep was asked for since the last one began.
+    pub(crate) fn needs_sweep(&self) -> bool {
+        self.sweep_due.load(Ordering::Relaxed)
     }
 
-    pub(crate) fn begin(&self) {
-        if !self.has_begun() {
-            self.begun.store(true, Ordering::Relaxed);
+    pub(crate) fn mark_started(&self) {
+        if !self.has_started() {
+            self.started.store(true, Ordering::Relaxed);
         }
     }
 
     /// Tells if the first vertices have been drawn. Until then one that draws nothing may be early.
-    pub(crate) fn has_begun(&self) -> bool {
-        self.begun.load(Ordering::Relaxed)
+    pub(crate) fn has_started(&self) -> bool {
+        self.started.load(Ordering::Relaxed)
     }
 
     pub(crate) fn is_lowest(&self, worker: u32, metric: u64) -> bool {
@@ -113,28 +113,28 @@ impl Pace {
             least = least.min(bucket.load(Ordering::Relaxed));
         }
         match self.buckets.get(worker as usize) {
-            Some(own) => own.load(Ordering::Relaxed) > least.saturating_add(AHEAD),
+            Some(own) => own.load(Ordering::Relaxed) > least.saturating_add(FAR_AHEAD_BUCKETS),
             None => false,
         }
     }
 }
 
-/// A worker's watch over its lead.
+/// A monitor of a worker's lead over the others.
 #[derive(Drop)]
-pub(crate) struct Watch {
+pub(crate) struct LeadMonitor {
     worker: u32,
     left: u32,
     /// Naps to take if it is far ahead then.
     naps: u32,
 }
 
-impl Watch {
-    pub(crate) fn new(worker: u32, first: u32) -> Watch
+impl LeadMonitor {
+    pub(crate) fn new(worker: u32, first: u32) -> LeadMonitor
         ensures { 0 < result.left }
     {
-        Watch {
+        LeadMonitor {
             worker,
-            left: VISITS.min(first).max(1),
+            left: VISITS_A_LOOK.min(first).max(1),
             naps: 1,
         }
     }
@@ -164,18 +164,18 @@ impl Watch {
         ensures { 0 < self.new.left }
     {
         if is_far && self.nap(clock, pace) {
-            self.naps = self.naps.saturating_mul(2).min(NAPS);
-            self.left = VISITS;
+            self.naps = self.naps.saturating_mul(2).min(MAX_NAPS);
+            self.left = VISITS_A_LOOK;
         } else {
             self.naps = 1;
-            self.left = VISITS.saturating_mul(pace.workers.max(1));
+            self.left = VISITS_A_LOOK.saturating_mul(pace.workers.max(1));
         }
     }
 
     /// Naps until the worker isn't far ahead. Returns true if it still is.
     fn nap<C: Clock>(&self, clock: &C, pace: &Pace) -> bool {
         for _ in 0..self.naps {
-            sleep(clock, Duration::from_micros(NAP));
+            sleep(clock, Duration::from_micros(NAP_MICROS));
             if !self.is_far_ahead(pace) {
                 return false;
             }

@@ -1,7 +1,7 @@
 //! The point at which a worker looks at every vertex itself.
 
 /// Fruitless pops in a row before a worker looks at every vertex itself, since the pool may have lost some.
-const POPS: u32 = 1024;
+const IDLE_POPS_BEFORE_SWEEP: u32 = 1024;
 
 /// The fruitless pops that a worker still takes before it looks at every vertex.
 ///
@@ -20,8 +20,8 @@ impl Patience {
     pub(crate) fn new(vertices: u32, visits: u64) -> Patience {
         Patience {
             vertices,
-            left: POPS,
-            left_unmarked: vertices.max(POPS),
+            left: IDLE_POPS_BEFORE_SWEEP,
+            left_unmarked: vertices.max(IDLE_POPS_BEFORE_SWEEP),
             visits,
         }
     }

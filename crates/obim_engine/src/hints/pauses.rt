@@ -7,11 +7,11 @@ use std::time::{Clock, Duration};
 /// The first sleep, in microseconds, the growth of each next one, and the longest. So 1,024 fruitless pops in a row
 /// sleep for some 0.3 seconds: a worker that the system held back with all the work comes back before. And a worker
 /// sleeps no more than a small part of the time that it had no work.
-const FIRST: u64 = 50;
+const FIRST_SLEEP_MICROS: u64 = 50;
 
-const LONGER: u64 = 1;
+const SLEEP_GROWTH_MICROS: u64 = 1;
 
-const LONGEST: u64 = 400;
+const LONGEST_SLEEP_MICROS: u64 = 400;
 
 /// The pauses after fruitless pops in a row: turns of a loop, then yields, then growing sleeps.
 #[derive(Drop)]
@@ -26,7 +26,7 @@ impl Pauses {
     pub(crate) fn new() -> Pauses {
         Pauses {
             backoff: Backoff::new(),
-            micros: FIRST,
+            micros: FIRST_SLEEP_MICROS,
             has_waited: false,
         }
     }
@@ -46,7 +46,10 @@ impl Pauses {
             self.backoff.spin();
         } else if self.backoff.is_completed() {
             sleep(clock, Duration::from_micros(self.micros));
-            self.micros = self.micros.saturating_add(LONGER).min(LONGEST);
+            self.micros = self
+                .micros
+                .saturating_add(SLEEP_GROWTH_MICROS)
+                .min(LONGEST_SLEEP_MICROS);
         } else {
             self.backoff.snooze();
         }

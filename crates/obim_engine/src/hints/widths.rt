@@ -4,16 +4,16 @@ use csr_graph::Csr;
 use obim_pool::Scale;
 
 /// The most arcs that are sampled.
-const SAMPLES: usize = 1024;
+const MAX_SAMPLED_ARCS: usize = 1024;
 
 /// One arc in this many counts as light.
-const LIGHT: u64 = 8;
+const ARCS_A_LIGHT_ONE: u64 = 8;
 
 /// The least width of a bucket is this power of two of light weights, divided by the arcs of a vertex.
-const LIGHT_WEIGHTS: u32 = 3;
+const LIGHT_WEIGHTS_BITS: u32 = 3;
 
 /// A long chain has this power of two of buckets.
-const CHAIN_BUCKETS: u32 = 9;
+const CHAIN_BUCKETS_BITS: u32 = 9;
 
 /// The widths of buckets: a hint.
 #[derive(Clone, Copy, Debug, PartialEq, Eq)]
@@ -43,12 +43,12 @@ pub fn widths_of(csr: &Csr) -> Widths {
     let shift = match sample.light_bits() {
         0 => 0,
         bits => bits
-            .saturating_add(LIGHT_WEIGHTS)
+            .saturating_add(LIGHT_WEIGHTS_BITS)
             .saturating_sub(bit_length(degree.max(1))),
     };
     let vertices = bit_length(u64::from(csr.n()));
     let shift = if is_chain(csr) {
-        shift.saturating_add(vertices.saturating_sub(CHAIN_BUCKETS))
+        shift.saturating_add(vertices.saturating_sub(CHAIN_BUCKETS_BITS))
     } else {
         shift
     };
@@ -67,13 +67,13 @@ fn bit_length(number: u64) -> u32 {
 
 /// The step from one sampled arc to the next, odd so that it meets each arc of equal rows.
 fn step_of(csr: &Csr) -> usize {
-    csr.arc_count() / SAMPLES | 1
+    csr.arc_count() / MAX_SAMPLED_ARCS | 1
 }
 
 fn is_chain(csr: &Csr) -> bool {
     let step = step_of(csr);
     let mut place = 0_usize;
-    for _ in 0..SAMPLES {
+    for _ in 0..MAX_SAMPLED_ARCS {
         if place >= csr.arc_count() {
             break;
         }
@@ -125,7 +125,7 @@ impl Sample {
         };
         let step = step_of(csr);
         let mut place = 0_usize;
-        for _ in 0..SAMPLES {
+        for _ in 0..MAX_SAMPLED_ARCS {
             if place >= csr.arc_count() {
                 break;
             }
@@ -148,7 +148,7 @@ impl Sample {
         let mut seen = 0_u64;
         for count in self.lengths {
             seen = seen.saturating_add(count);
-            if seen.saturating_mul(LIGHT) >= self.count {
+            if seen.saturating_mul(ARCS_A_LIGHT_ONE) >= self.count {
                 break;
             }
             bits = bits.saturating_add(1);

@@ -10,7 +10,7 @@ use Rattle.label_words.specs.declared.closed.Closed.TheVariants.{Settled}
 use Rattle.label_words.specs.declared.known.Known.{Known}
 use Rattle.label_words.specs.Closed.{IsEnd}
 use Rattle.label_words.specs.Paused.{IsPause}
-use Rattle.obim_engine.specs.declared.goal.Reached.{Reached}
+use Rattle.obim_engine.specs.declared.goal.GoalResult.{GoalResult}
 use Rattle.obim_engine.specs.Goal.{HasStopped, IsServedBy}
 use Rattle.obim_engine.proofs.Stopping.{settled_stops, paused_stops}
 use Rattle.obim_engine.proofs.until.reach.Goals as goal
@@ -20,7 +20,7 @@ returns-in-Settled-clause-stopped g c =
     let run = c.args.run.now in
     let graph = run.csr.now in
     let seeds = c.args.opened.seat.known.seeds in
-    subst (λ (r : Reached). HasStopped run.goal graph seeds r) (sym c.settled.ensures)
+    subst (λ (r : GoalResult). HasStopped run.goal graph seeds r) (sym c.settled.ensures)
     (record {
       end = subst (λ (x : Closed). IsEnd graph seeds x) c.in-Settled.is c.in_ok-labels.ensures.end;
       stops = settled_stops run.goal graph c.in-Settled.labels c.requires.goal;
@@ -56,7 +56,7 @@ returns-clause-stopped g c =
     subst (λ (s : List Seed). AreLeastLabels graph.n graph.arcs s labels.items) from
     (subst (λ (x : Graph). AreLeastLabels x.n x.arcs c.in_ok-opened.opened.seat.known.seeds labels.items)
     c.to_end.ensures.csr c.in_ok-labels-2.ensures.labels) in
-    subst (λ (r : Reached). HasStopped run.goal graph seeds r) (sym c.settled-2.ensures)
+    subst (λ (r : GoalResult). HasStopped run.goal graph seeds r) (sym c.settled-2.ensures)
     (record {
       end = (c.resumed_runs_end_alike.ensures graph seeds rest (Settled labels) within pause found).0;
       stops = settled_stops run.goal graph labels c.requires.goal;

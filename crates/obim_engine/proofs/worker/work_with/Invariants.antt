@@ -8,5 +8,5 @@ invariant-loop g l =
     Stays l.fn.seat l.seat
     × HasNoVertex l.seat
     × (l.shared.run.budget ≡ None → l.budget.has_limit ≡ false)
-    × (0 < l.watch.left)
+    × (0 < l.monitor.left)
     × g.P.WorkPool.is_side l.shared.run.pool.now l.side
