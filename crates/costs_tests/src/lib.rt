@@ -7,6 +7,6 @@
 #[cfg(test)]
 mod asked;
 #[cfg(test)]
-mod rounds;
+mod task_queue;
 #[cfg(test)]
 mod walks;

@@ -320,6 +320,6 @@ fn put_all<H: Threads + Wait + Clock + Sync, W: Write, G: Gate + Sync>(
         &mut workers,
         watch,
     )?;
-    *kept = Some(workers.into_kept());
+    *kept = Some(workers.into_workspace());
     Ok(())
 }

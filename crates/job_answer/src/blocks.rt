@@ -2,7 +2,7 @@
 
 ghost use Rattle.std.specs.Prelude.{◌≡◌, ◌<◌, ◌≤◌, length, slice_index, All, IfErr, IfOk, IfSome, OnErr, OnOk};
 ghost use Rattle.std.specs.Thread.{IsSync};
-ghost use Rattle.least_costs.specs.Rounds.{AreMade};
+ghost use Rattle.least_costs.specs.TaskQueue.{AreFinished};
 ghost use Rattle.job_answer.specs.AnswerText.{AreBlocks};
 ghost use Rattle.job_answer.specs.Choices.{IsLinesAsked};
 ghost use Rattle.job_answer.specs.Graphs.{AreGraphs};
@@ -32,7 +32,7 @@ use crate::source_tasks::SourceTasks;
 use crate::team_watch::{SolveCount, TeamWatch, see_round};
 use crate::watch::{Phase, Watch};
 use answer_lines::put_grown;
-use least_costs::{CostsBelow, Network, Rounds, Start, Tasks, TeamGate, Workers, Workspace};
+use least_costs::{CostsBelow, Network, Start, TaskQueue, Tasks, TeamGate, Workers, Workspace};
 use obim_engine::Gate;
 use route_walks::laws::least_labels_exist;
 use route_walks::{MAX_VERTICES, Memory};
@@ -79,9 +79,9 @@ pub fn put_sources<H: Threads + Wait + Clock + Sync, W: Write, G: Gate + Sync>(
         solves: SolveCount::new(),
     };
     let workers = Workers::new(asked.settings, context.gate, kept.take());
-    let mut rounds = Rounds::new(env.alloc, sources.len(), teams, workers);
-    put_blocks(&env, sink, &tasks, &mut rounds, watch)?;
-    *kept = Some(rounds.into_kept());
+    let mut queue = TaskQueue::new(env.alloc, sources.len(), teams, workers);
+    put_blocks(&env, sink, &tasks, &mut queue, watch)?;
+    *kept = Some(queue.into_workspace());
     Ok(())
 }
 
@@ -89,11 +89,11 @@ fn put_blocks<H: Threads + Wait + Clock + Sync, W: Write, G: Gate + Sync>(
     env: &Env<'_, H>,
     sink: &mut Sink<'_, W>,
     tasks: &SourceTasks<'_>,
-    rounds: &mut Rounds<'_, BlockText, G>,
+    queue: &mut TaskQueue<'_, BlockText, G>,
     watch: &mut impl Watch,
 ) -> Result<(), Fault>
     requires graphs { AreGraphs tasks.now.kind.graphs.now }
-    requires made { AreMade (IsBlockText tasks.now) rounds.old.made.items }
+    requires made { AreFinished (IsBlockText tasks.now) queue.old.made.items }
     ensures same { IsSame sink.old sink.new }
     ensures blocks { OnOk result (Puts W.contents (AreBlocks (IsSourceBlock tasks.now) tasks.now.sources.now)
         sink.old sink.new) }
@@ -105,7 +105,7 @@ fn put_blocks<H: Threads + Wait + Clock + Sync, W: Write, G: Gate + Sync>(
     lines_are_unique();
     for place in 0..tasks.sources.len() {
         watch.see_answered(place, tasks.sources.len());
-        put_block_at(env, sink, tasks, place, rounds, watch)?;
+        put_block_at(env, sink, tasks, place, queue, watch)?;
     }
     Ok(())
 }
@@ -116,14 +116,14 @@ fn put_block_at<H: Threads + Wait + Clock + Sync, W: Write, G: Gate + Sync>(
     sink: &mut Sink<'_, W>,
     tasks: &SourceTasks<'_>,
     place: usize,
-    rounds: &mut Rounds<'_, BlockText, G>,
+    queue: &mut TaskQueue<'_, BlockText, G>,
     watch: &mut impl Watch,
 ) -> Result<(), Fault>
     requires graphs { AreGraphs tasks.now.kind.graphs.now }
     requires place { place < length tasks.now.sources.now }
-    requires made { AreMade (IsBlockText tasks.now) rounds.old.made.items }
+    requires made { AreFinished (IsBlockText tasks.now) queue.old.made.items }
     ensures same { IsSame sink.old sink.new }
-    ensures left { AreMade (IsBlockText tasks.now) rounds.new.made.items }
+    ensures left { AreFinished (IsBlockText tasks.now) queue.new.made.items }
     ensures block { OnOk result (Puts W.contents (IsSourceBlock tasks.now (slice_index tasks.now.sources.now place))
         sink.old sink.new) }
     ensures prefix { OnErr result (Cuts W.contents (IsSourceBlock tasks.now (slice_index tasks.now.sources.now place))
@@ -131,30 +131,30 @@ fn put_block_at<H: Threads + Wait + Clock + Sync, W: Write, G: Gate + Sync>(
     ensures kinds { IfErr result IsWritingFault }
 {
     lines_are_unique();
-    let text = take_block(env, rounds, tasks, place);
-    see_round(env.rt, rounds.at_once(), &tasks.solves, watch);
+    let text = take_block(env, queue, tasks, place);
+    see_round(env.rt, queue.at_once(), &tasks.solves, watch);
     if let Some(text) = text {
         sink.send_with(&text.bytes)?;
         watch.end(env.rt, Phase::Writing);
         return Ok(());
     }
     let start = Start::At(tasks.sources[place]);
-    put_solved(env, sink, &tasks.kind, start, &mut rounds.workers, watch)
+    put_solved(env, sink, &tasks.kind, start, &mut queue.workers, watch)
 }
 
 /// The block of the source at a place, if it was made before.
 fn take_block<H: Threads + Wait + Clock + Sync, G: Gate + Sync>(
     env: &Env<'_, H>,
-    rounds: &mut Rounds<'_, BlockText, G>,
+    queue: &mut TaskQueue<'_, BlockText, G>,
     tasks: &SourceTasks<'_>,
     place: usize,
 ) -> Option<BlockText>
     requires graphs { AreGraphs tasks.now.kind.graphs.now }
-    requires made { AreMade (IsBlockText tasks.now) rounds.old.made.items }
-    ensures left { AreMade (IsBlockText tasks.now) rounds.new.made.items }
+    requires made { AreFinished (IsBlockText tasks.now) queue.old.made.items }
+    ensures left { AreFinished (IsBlockText tasks.now) queue.new.made.items }
     ensures text { IfSome result (IsBlockText tasks.now place) }
 {
-    rounds.take(
+    queue.take(
         env.rt,
         env.alloc,
         tasks,

@@ -3,7 +3,7 @@
 ghost use Rattle.std.specs.Prelude.{◌≡◌, ◌+◌, ◌<◌, ◌≤◌, ◌++◌, drop, length, max, slice_index, slice_range, take};
 ghost use Rattle.std.specs.Prelude.{All, IfErr, IfOk, IfSome, OnErr, OnOk, true};
 ghost use Rattle.std.specs.Thread.{IsSync};
-ghost use Rattle.least_costs.specs.Rounds.{AreMade};
+ghost use Rattle.least_costs.specs.TaskQueue.{AreFinished};
 ghost use Rattle.route_walks.specs.Limit.{AreLeastLabelsUpTo};
 ghost use Rattle.route_walks.specs.Operators.{seeds_from};
 ghost use Rattle.dimacs_text.specs.Jobs.{IsPairWithin};
@@ -29,7 +29,7 @@ use crate::solves::{Solve, costs_after, costs_from, next_source};
 use crate::team_watch::{SolveCount, TeamWatch, see_round};
 use crate::watch::{Phase, Watch};
 use answer_lines::{put_grown, put_pair};
-use least_costs::{Network, Rounds, Start, Tasks, TeamGate, Workers, Workspace};
+use least_costs::{Network, Start, TaskQueue, Tasks, TeamGate, Workers, Workspace};
 use obim_engine::{Gate, Goal};
 use route_walks::laws::least_labels_exist;
 use route_walks::{MAX_VERTICES, Memory};
@@ -87,9 +87,9 @@ pub fn put_all_walked<H: Threads + Wait + Clock + Sync, W: Write, G: Gate + Sync
         solves: SolveCount::new(),
     };
     let workers = Workers::new(asked.settings, context.gate, kept.take());
-    let mut rounds = Rounds::new(env.alloc, count, teams, workers);
-    put_all_lines(&env, sink, &tasks, &mut rounds, watch)?;
-    *kept = Some(rounds.into_kept());
+    let mut queue = TaskQueue::new(env.alloc, count, teams, workers);
+    put_all_lines(&env, sink, &tasks, &mut queue, watch)?;
+    *kept = Some(queue.into_workspace());
     Ok(())
 }
 
@@ -97,11 +97,11 @@ fn put_all_lines<H: Threads + Wait + Clock + Sync, W: Write, G: Gate + Sync>(
     env: &Env<'_, H>,
     sink: &mut Sink<'_, W>,
     tasks: &WalkTasks<'_>,
-    rounds: &mut Rounds<'_, LinesText, G>,
+    queue: &mut TaskQueue<'_, LinesText, G>,
     watch: &mut impl Watch,
 ) -> Result<(), Fault>
     requires graphs { AreGraphs tasks.now.queries.graphs.now }
-    requires made { AreMade (AreLines tasks.now) rounds.old.made.items }
+    requires made { AreFinished (AreLines tasks.now) queue.old.made.items }
     ensures same { IsSame sink.old sink.new }
     ensures blocks { OnOk result (Puts W.contents (AreBlocks (IsWalkedBlock tasks.now.queries.graphs.now)
         tasks.now.queries.pairs.now) sink.old sink.new) }
@@ -114,7 +114,7 @@ fn put_all_lines<H: Threads + Wait + Clock + Sync, W: Write, G: Gate + Sync>(
     let mut first = 0;
     while first < count {
         watch.see_answered(first, count);
-        first += put_lines_at(env, sink, tasks, first, rounds, watch)?;
+        first += put_lines_at(env, sink, tasks, first, queue, watch)?;
     }
     Ok(())
 }
@@ -125,14 +125,14 @@ fn put_lines_at<H: Threads + Wait + Clock + Sync, W: Write, G: Gate + Sync>(
     sink: &mut Sink<'_, W>,
     tasks: &WalkTasks<'_>,
     first: usize,
-    rounds: &mut Rounds<'_, LinesText, G>,
+    queue: &mut TaskQueue<'_, LinesText, G>,
     watch: &mut impl Watch,
 ) -> Result<usize, Fault>
     requires graphs { AreGraphs tasks.now.queries.graphs.now }
     requires place { first < length tasks.now.queries.pairs.now }
-    requires made { AreMade (AreLines tasks.now) rounds.old.made.items }
+    requires made { AreFinished (AreLines tasks.now) queue.old.made.items }
     ensures same { IsSame sink.old sink.new }
-    ensures left { AreMade (AreLines tasks.now) rounds.new.made.items }
+    ensures left { AreFinished (AreLines tasks.now) queue.new.made.items }
     ensures some { IfOk result (λ count. 1 ≤ count) }
     ensures within { IfOk result (λ count. first + count ≤ length tasks.now.queries.pairs.now) }
     ensures blocks { IfOk result (λ count. Puts W.contents (AreBlocks (IsWalkedBlock tasks.now.queries.graphs.now)
@@ -142,8 +142,8 @@ fn put_lines_at<H: Threads + Wait + Clock + Sync, W: Write, G: Gate + Sync>(
     ensures kinds { IfErr result IsWritingFault }
 {
     blocks_are_unique();
-    let text = take_lines(env, rounds, tasks, first);
-    see_round(env.rt, rounds.at_once(), &tasks.solves, watch);
+    let text = take_lines(env, queue, tasks, first);
+    see_round(env.rt, queue.at_once(), &tasks.solves, watch);
     if let Some(text) = text {
         sink.send_with(&text.bytes)?;
         watch.end(env.rt, Phase::Writing);
@@ -151,7 +151,7 @@ fn put_lines_at<H: Threads + Wait + Clock + Sync, W: Write, G: Gate + Sync>(
     }
     let queries = &tasks.queries;
     let solve = Solve::of_queries(queries.pairs, first);
-    let workers = &mut rounds.workers;
+    let workers = &mut queue.workers;
     put_solved_pairs(env, sink, queries, solve, workers, watch)?;
     Ok(solve.end - first)
 }
@@ -159,16 +159,16 @@ fn put_lines_at<H: Threads + Wait + Clock + Sync, W: Write, G: Gate + Sync>(
 /// The lines of a task, if they were made before.
 fn take_lines<H: Threads + Wait + Clock + Sync, G: Gate + Sync>(
     env: &Env<'_, H>,
-    rounds: &mut Rounds<'_, LinesText, G>,
+    queue: &mut TaskQueue<'_, LinesText, G>,
     tasks: &WalkTasks<'_>,
     place: usize,
 ) -> Option<LinesText>
     requires graphs { AreGraphs tasks.now.queries.graphs.now }
-    requires made { AreMade (AreLines tasks.now) rounds.old.made.items }
-    ensures left { AreMade (AreLines tasks.now) rounds.new.made.items }
+    requires made { AreFinished (AreLines tasks.now) queue.old.made.items }
+    ensures left { AreFinished (AreLines tasks.now) queue.new.made.items }
     ensures text { IfSome result (AreLines tasks.now place) }
 {
-    rounds.take(
+    queue.take(
         env.rt,
         env.alloc,
         tasks,

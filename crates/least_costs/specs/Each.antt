@@ -2,9 +2,9 @@
 use Rattle.std.specs.Prelude.{ℕ, ◌<◌, ◌≤◌, List, All, length, slice_index}
 use Rattle.least_costs.specs.Costs.{CostsSeen, IsFrom}
 use Rattle.least_costs.specs.Network.{NetworkSeen}
-use Rattle.least_costs.specs.Rounds.{AreMade}
+use Rattle.least_costs.specs.TaskQueue.{AreFinished}
 use Rattle.least_costs.specs.declared.each.Sources.{Sources}
-use Rattle.least_costs.specs.declared.rounds.Made.{Made}
+use Rattle.least_costs.specs.declared.task_queue.FinishedTask.{FinishedTask}
 
 -- the network, and the sources whose costs were not handed over yet
 pub record EachSeen : Type 0 where
@@ -24,7 +24,7 @@ abbrev pub IsFromPlace : Sources → ℕ → CostsSeen → Type 0
 IsFromPlace asked place costs = IsFrom asked.network.now (slice_index asked.sources.now place) costs
 
 -- what is so between two calls
-pub record IsTurn (asked : Sources) (next : ℕ) (made : List (Made CostsSeen)) : Type 0 where
+pub record IsTurn (asked : Sources) (next : ℕ) (made : List (FinishedTask CostsSeen)) : Type 0 where
   pub within : AreSources asked
   pub place : next ≤ length asked.sources.now
-  pub are_made : AreMade (IsFromPlace asked) made
+  pub are_made : AreFinished (IsFromPlace asked) made

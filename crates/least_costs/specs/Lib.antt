@@ -4,7 +4,7 @@ pub mod Faults
 pub mod Costs
 pub mod Walks
 pub mod Teams
-pub mod Rounds
+pub mod TaskQueue
 pub mod Each
 pub mod Taken
 pub mod Pairs

@@ -9,51 +9,51 @@ const VERTICES_A_VISIT: u32 = 32;
 const VERTICES_A_FIRST_VISIT: u32 = 64;
 
 /// A search of so few visits takes next to no time.
-const FEW: u32 = 512;
+const CHEAP_VISITS: u32 = 512;
 
 /// A network of more vertices is searched less far after several vain searches.
-const SMALL: u32 = 4096;
+const SMALL_VERTICES: u32 = 4096;
 
-/// A search then visits one vertex for so many, and at most `FEW`.
+/// A search then visits one vertex for so many, and at most `CHEAP_VISITS`.
 const VERTICES_A_LAST_VISIT: u32 = 512;
 
 /// The fewest visits that a search is given.
-const FEWEST: u32 = 64;
+const MIN_VISITS: u32 = 64;
 
 /// The limit of one search.
 #[derive(Clone, Copy, Debug)]
-pub(crate) struct Limit {
+pub(crate) struct SearchLimit {
     pub(crate) visits: u32,
     pub(crate) arcs: usize,
 }
 
 /// The number of visits of a search: half as many after one that finds nothing, and twice after one that finds.
 #[derive(Clone, Copy, Debug)]
-pub(crate) struct Budget {
+pub(crate) struct SearchBudget {
     visits: u32,
     least: u32,
     most: u32,
 }
 
-impl Budget {
+impl SearchBudget {
     /// The budget in a network of `n` vertices.
-    pub(crate) fn of(n: u32) -> Budget {
-        Budget {
-            visits: (n / VERTICES_A_FIRST_VISIT).max(FEW),
+    pub(crate) fn of(n: u32) -> SearchBudget {
+        SearchBudget {
+            visits: (n / VERTICES_A_FIRST_VISIT).max(CHEAP_VISITS),
             least: least_visits(n),
-            most: (n / VERTICES_A_VISIT).max(FEW),
+            most: (n / VERTICES_A_VISIT).max(CHEAP_VISITS),
         }
     }
 
     /// The limit of the next search: twice as many arcs as so many vertices have.
-    pub(crate) fn limit(self, network: &Network) -> Limit {
+    pub(crate) fn limit(self, network: &Network) -> SearchLimit {
         let rows = network.rows();
         let each = rows.arc_count() / (rows.n() as usize).max(1);
         let arcs = each
             .saturating_add(1)
             .saturating_mul(2)
             .saturating_mul(self.visits as usize);
-        Limit {
+        SearchLimit {
             visits: self.visits,
             arcs,
         }
@@ -71,9 +71,11 @@ impl Budget {
 
 /// The fewest visits of a search, after several vain ones.
 fn least_visits(n: u32) -> u32 {
-    if n > SMALL {
-        (n / VERTICES_A_LAST_VISIT).max(FEWEST).min(FEW)
+    if n > SMALL_VERTICES {
+        (n / VERTICES_A_LAST_VISIT)
+            .max(MIN_VISITS)
+            .min(CHEAP_VISITS)
     } else {
-        FEW
+        CHEAP_VISITS
     }
 }

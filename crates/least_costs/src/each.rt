@@ -5,13 +5,13 @@ ghost use Rattle.std.specs.Prelude.{IfNone, IfOk, IfSome, OnSome};
 ghost use Rattle.std.specs.Thread.{IsSync};
 ghost use Rattle.least_costs.specs.Costs.{IsFrom};
 ghost use Rattle.least_costs.specs.Each.{AreSources, AreWithin, IsFromPlace};
-ghost use Rattle.least_costs.specs.Rounds.{AreMade};
+ghost use Rattle.least_costs.specs.TaskQueue.{AreFinished};
 
 use crate::costs::Costs;
 use crate::network::Network;
-use crate::rounds::{Rounds, Tasks};
 use crate::solver::Solver;
 use crate::start::Start;
+use crate::task_queue::{TaskQueue, Tasks};
 use crate::teams::TeamGate;
 use crate::workers::Workers;
 use obim_engine::Gate;
@@ -38,7 +38,7 @@ impl<'a> Tasks<Costs> for Sources<'a> {
 #[derive(Drop)]
 pub struct Each<'a, G> {
     asked: Sources<'a>,
-    rounds: Rounds<'a, Costs, G>,
+    queue: TaskQueue<'a, Costs, G>,
     next: usize,
 }
 
@@ -50,7 +50,7 @@ impl<'a, G> Model for Each<'a, G> {
 
     ghost view = { λ e. record { net = e.asked.network.now; left = drop e.next e.asked.sources.now } };
 
-    ghost invariant = { λ e. IsTurn e.asked e.next e.rounds.made.items };
+    ghost invariant = { λ e. IsTurn e.asked e.next e.queue.made.items };
 }
 
 impl<'a, G: Gate + Sync> Solver<'a, G> {
@@ -65,7 +65,7 @@ impl<'a, G: Gate + Sync> Solver<'a, G> {
         let workers = Workers::new(self.plan.settings, &self.gate, None);
         Each {
             asked: Sources { network, sources },
-            rounds: Rounds::new(alloc, sources.len(), teams, workers),
+            queue: TaskQueue::new(alloc, sources.len(), teams, workers),
             next: 0,
         }
     }
@@ -92,12 +92,12 @@ impl<'a, G: Gate + Sync> Each<'a, G> {
         }
         let (network, sources) = (self.asked.network, self.asked.sources);
         let asked = Sources { network, sources };
-        let rounds = &mut self.rounds;
-        let found = match take_ahead(rt, alloc, rounds, &asked, place) {
+        let queue = &mut self.queue;
+        let found = match take_ahead(rt, alloc, queue, &asked, place) {
             Some(costs) => Ok(costs),
             None => {
                 let start = Start::At(sources[place]);
-                let workers = &mut rounds.workers;
+                let workers = &mut queue.workers;
                 workers.costs_from(rt, alloc, network, start)
             }
         };
@@ -110,16 +110,16 @@ impl<'a, G: Gate + Sync> Each<'a, G> {
 fn take_ahead<H: Threads + Wait + Clock + Sync, G: Gate + Sync>(
     rt: &H,
     alloc: Global,
-    rounds: &mut Rounds<'_, Costs, G>,
+    queue: &mut TaskQueue<'_, Costs, G>,
     asked: &Sources<'_>,
     place: usize,
 ) -> Option<Costs>
     requires sources { AreSources asked.now }
-    requires made { AreMade (IsFromPlace asked.now) rounds.old.made.items }
-    ensures left { AreMade (IsFromPlace asked.now) rounds.new.made.items }
+    requires made { AreFinished (IsFromPlace asked.now) queue.old.made.items }
+    ensures left { AreFinished (IsFromPlace asked.now) queue.new.made.items }
     ensures costs { IfSome result (IsFromPlace asked.now place) }
 {
-    rounds.take(
+    queue.take(
         rt,
         alloc,
         asked,

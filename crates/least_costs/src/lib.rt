@@ -20,8 +20,8 @@
 //! }
 //! ```
 //!
-//! `Each` is made of `Rounds`: tasks of any kind that teams do at the same time, before their turn. `Workers` keep
-//! their pool, a `Runner`, from one task to the next. Asked for the costs that serve a goal, they go no further, and
+//! `Each` is made of a `TaskQueue`: tasks of any kind that teams do at the same time, before their turn. `Workers` keep
+//! their pool, a `WarmPool`, from one task to the next. Asked for the costs that serve a goal, they go no further, and
 //! give `CostsBelow`: labels that are least up to a limit.
 //!
 //! Stands on `obim_engine`, whose workers give the costs, on its pools in `obim_pool`, and on `near_labels` for near
@@ -41,12 +41,12 @@ mod network;
 mod pairs;
 mod plan;
 mod progress;
-mod rounds;
-mod runner;
 mod solver;
 mod start;
+mod task_queue;
 mod teams;
 mod walks;
+mod warm_pool;
 mod within;
 mod workers;
 mod workspace;
@@ -61,12 +61,12 @@ pub use network::{MOST_ARCS, Network};
 pub use pairs::PairCosts;
 pub use plan::{AtOnce, Plan};
 pub use progress::{Progress, Unwatched};
-pub use rounds::{Made, Rounds, Tasks};
-pub use runner::Runner;
 pub use solver::Solver;
 pub use start::Start;
+pub use task_queue::{FinishedTask, TaskQueue, Tasks};
 pub use teams::{Team, TeamGate};
 pub use walks::Walks;
+pub use warm_pool::WarmPool;
 pub use within::CostsWithin;
 pub use workers::Workers;
 pub use workspace::Workspace;

@@ -9,7 +9,7 @@ ghost use Rattle.least_costs.specs.Costs.{AreCostsTo};
 ghost use Rattle.least_costs.specs.Near.{AreCostsWithin, AreLabelsTo};
 ghost use Rattle.least_costs.specs.declared.start.Start.TheVariants.{At};
 
-use crate::budget::{Budget, Limit};
+use crate::budget::{SearchBudget, SearchLimit};
 use crate::costs::costs_in_order;
 use crate::network::Network;
 use crate::start::Start;
@@ -29,7 +29,7 @@ const VAIN_IN: u64 = 8;
 const VISITED_A_VERTEX: usize = 2;
 
 /// Visits so few are never worth it.
-const FEW_SPENT: u64 = 4096;
+const MIN_SPENT_VISITS: u64 = 4096;
 
 /// The room for searches by the thread that asks. They take the time of what they visit, without a pass over all
 /// vertices.
@@ -38,8 +38,8 @@ pub(crate) struct Near {
     forward: Option<SearchSpace>,
     backward: Option<SearchSpace>,
     walks: Option<WalkSpace>,
-    one_end: Budget,
-    both_ends: Budget,
+    one_end: SearchBudget,
+    both_ends: SearchBudget,
     /// The visits of searches from one end to one target.
     spent: u64,
 }
@@ -51,15 +51,15 @@ impl Near {
             forward: None,
             backward: None,
             walks: None,
-            one_end: Budget::of(0),
-            both_ends: Budget::of(0),
+            one_end: SearchBudget::of(0),
+            both_ends: SearchBudget::of(0),
             spent: 0,
         }
     }
 
     /// Tells if the rows are worth reversing.
     pub(crate) fn wants_reversed(&self, network: &Network) -> bool {
-        self.spent >= FEW_SPENT.max(u64::from(network.n()) / SPENT_IN)
+        self.spent >= MIN_SPENT_VISITS.max(u64::from(network.n()) / SPENT_IN)
     }
 
     /// Counts anew what searches from one end visit.
@@ -193,8 +193,8 @@ impl Near {
     fn prepare(&mut self, alloc: Global, network: &Network) {
         let n = network.n();
         if fit(&mut self.forward, alloc, n) {
-            self.one_end = Budget::of(n);
-            self.both_ends = Budget::of(n);
+            self.one_end = SearchBudget::of(n);
+            self.both_ends = SearchBudget::of(n);
         }
     }
 }
@@ -231,7 +231,7 @@ fn walks_by(
     network: &Network,
     source: u32,
     targets: &[u32],
-    limit: Limit,
+    limit: SearchLimit,
 ) -> Option<WalksFound>
     requires source { source < network.now.n }
     requires targets { All (λ t. t < network.now.n) targets.now }
@@ -254,7 +254,7 @@ fn labels_by(
     network: &Network,
     source: u32,
     targets: &[u32],
-    limit: Limit,
+    limit: SearchLimit,
 ) -> Option<Vec<u64>>
     requires source { source < network.now.n }
     requires targets { All (λ t. t < network.now.n) targets.now }
@@ -276,7 +276,7 @@ fn within_by(
     network: &Network,
     source: u32,
     bound: u64,
-    limit: Limit,
+    limit: SearchLimit,
 ) -> Option<Vec<(u32, u64)>>
     requires source { source < network.now.n }
     requires bound { bound < INF }
@@ -298,7 +298,7 @@ fn label_by_both(
     network: &Network,
     source: u32,
     target: u32,
-    limit: Limit,
+    limit: SearchLimit,
 ) -> Option<u64>
     requires source { source < network.now.n }
     requires target { target < network.now.n }

@@ -7,14 +7,14 @@ ghost use Rattle.least_costs.specs.Network.{IsStartWithin, NetworkSeen, graph_of
 ghost use Rattle.least_costs.specs.Pairs.{AreAsked, AreBySource, AreCostsAfter, AreCostsAt, AreCostsFrom, AreFilled};
 ghost use Rattle.least_costs.specs.Pairs.{AreFilledAfter, AreGrownCostsTo, ArePairCosts, ArePairsWithin, AreTargets};
 ghost use Rattle.least_costs.specs.Pairs.{GrowsInto, IsRun};
-ghost use Rattle.least_costs.specs.Rounds.{AreMade};
+ghost use Rattle.least_costs.specs.TaskQueue.{AreFinished};
 
 use crate::costs::costs_at;
 use crate::network::Network;
 use crate::progress::{Progress, Unwatched};
-use crate::rounds::{Rounds, Tasks};
 use crate::solver::Solver;
 use crate::start::Start;
+use crate::task_queue::{TaskQueue, Tasks};
 use crate::teams::TeamGate;
 use crate::workers::Workers;
 use crate::workspace::Workspace;
@@ -100,17 +100,11 @@ impl<'a, G: Gate + Sync> Solver<'a, G> {
         let mut after = room_after(alloc, &asked)?;
         let teams = self.plan.teams(self.network);
         let workers = Workers::new(self.plan.settings, &self.gate, kept.take());
-        let mut rounds = Rounds::new(alloc, order.len(), teams, workers);
+        let mut queue = TaskQueue::new(alloc, order.len(), teams, workers);
         fill_all(
-            rt,
-            alloc,
-            &asked,
-            &mut rounds,
-            &mut costs,
-            &mut after,
-            progress,
+            rt, alloc, &asked, &mut queue, &mut costs, &mut after, progress,
         )?;
-        *kept = Some(rounds.into_kept());
+        *kept = Some(queue.into_workspace());
         Ok(PairCosts { costs, after })
     }
 }
@@ -143,13 +137,13 @@ fn fill_all<H: Threads + Wait + Clock + Sync, G: Gate + Sync>(
     rt: &H,
     alloc: Global,
     asked: &Pairs<'_>,
-    rounds: &mut Rounds<'_, PairCosts, G>,
+    queue: &mut TaskQueue<'_, PairCosts, G>,
     costs: &mut [Option<u64>],
     after: &mut [Option<u64>],
     progress: &mut impl Progress,
 ) -> Result<(), Memory>
     requires asked { AreAsked asked.now }
-    requires made { AreMade (AreCostsFrom asked.now) rounds.old.made.items }
+    requires made { AreFinished (AreCostsFrom asked.now) queue.old.made.items }
     requires places { length costs.old ≡ length asked.now.pairs.now }
     requires after { IfSome asked.now.grown (λ _. length after.old ≡ length asked.now.pairs.now) }
     ensures costs { OnOk result (ArePairCosts asked.now.network.now asked.now.pairs.now costs.new) }
@@ -159,12 +153,12 @@ fn fill_all<H: Threads + Wait + Clock + Sync, G: Gate + Sync>(
     let solves = if asked.grown.is_some() { 2 } else { 1 };
     let mut first = 0;
     while first < order.len() {
-        let found = costs_next(rt, alloc, asked, rounds, first)?;
+        let found = costs_next(rt, alloc, asked, queue, first)?;
         let own: &[Option<u64>] = &found.costs;
         fill(costs, order, first, own);
         fill_after(after, asked, first, &found);
         first += own.len();
-        progress.see(rt, first, order.len(), solves, rounds.at_once());
+        progress.see(rt, first, order.len(), solves, queue.at_once());
     }
     Ok(())
 }
@@ -175,23 +169,23 @@ fn costs_next<H: Threads + Wait + Clock + Sync, G: Gate + Sync>(
     rt: &H,
     alloc: Global,
     asked: &Pairs<'_>,
-    rounds: &mut Rounds<'_, PairCosts, G>,
+    queue: &mut TaskQueue<'_, PairCosts, G>,
     first: usize,
 ) -> Result<PairCosts, Memory>
     requires asked { AreAsked asked.now }
     requires place { first < length asked.now.order.now }
-    requires made { AreMade (AreCostsFrom asked.now) rounds.old.made.items }
+    requires made { AreFinished (AreCostsFrom asked.now) queue.old.made.items }
     ensures costs { IfOk result (AreCostsFrom asked.now first) }
-    ensures left { AreMade (AreCostsFrom asked.now) rounds.new.made.items }
+    ensures left { AreFinished (AreCostsFrom asked.now) queue.new.made.items }
 {
-    if !rounds.was_tried(first)
-        && let Some(found) = costs_near(alloc, asked, first, &mut rounds.workers.kept)
+    if !queue.was_tried(first)
+        && let Some(found) = costs_near(alloc, asked, first, &mut queue.workers.workspace)
     {
         return Ok(found);
     }
-    match take_ahead(rt, alloc, rounds, asked, first) {
+    match take_ahead(rt, alloc, queue, asked, first) {
         Some(found) => Ok(found),
-        None => costs_of(rt, alloc, asked, first, &mut rounds.workers),
+        None => costs_of(rt, alloc, asked, first, &mut queue.workers),
     }
 }
 
@@ -199,16 +193,16 @@ fn costs_next<H: Threads + Wait + Clock + Sync, G: Gate + Sync>(
 fn take_ahead<H: Threads + Wait + Clock + Sync, G: Gate + Sync>(
     rt: &H,
     alloc: Global,
-    rounds: &mut Rounds<'_, PairCosts, G>,
+    queue: &mut TaskQueue<'_, PairCosts, G>,
     asked: &Pairs<'_>,
     first: usize,
 ) -> Option<PairCosts>
     requires asked { AreAsked asked.now }
-    requires made { AreMade (AreCostsFrom asked.now) rounds.old.made.items }
-    ensures left { AreMade (AreCostsFrom asked.now) rounds.new.made.items }
+    requires made { AreFinished (AreCostsFrom asked.now) queue.old.made.items }
+    ensures left { AreFinished (AreCostsFrom asked.now) queue.new.made.items }
     ensures costs { IfSome result (AreCostsFrom asked.now first) }
 {
-    rounds.take(
+    queue.take(
         rt,
         alloc,
         asked,
@@ -235,7 +229,7 @@ fn costs_by<H: Threads + Wait + Clock + Sync, G: Gate + Sync>(
     if place >= asked.order.len() {
         return None;
     }
-    match costs_near(alloc, asked, place, &mut workers.kept) {
+    match costs_near(alloc, asked, place, &mut workers.workspace) {
         Some(costs) => Some(costs),
         None => costs_of(rt, alloc, asked, place, workers).ok(),
     }

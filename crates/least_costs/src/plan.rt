@@ -20,7 +20,7 @@ const SHARED_CHUNK: usize = 64;
 /// several don't fit into the processors' caches.
 const MANY_VERTICES: u32 = 1 << 17;
 
-const MANY_ARCS: usize = 8;
+const MANY_ARCS_A_VERTEX: usize = 8;
 
 /// The number of sources that are solved at the same time, each by its own share of the workers.
 #[derive(Clone, Copy, Debug, PartialEq, Eq)]
@@ -47,7 +47,7 @@ impl AtOnce {
 }
 
 fn is_large(rows: &Csr) -> bool {
-    rows.n() >= MANY_VERTICES && rows.arc_count() / MANY_ARCS >= rows.n() as usize
+    rows.n() >= MANY_VERTICES && rows.arc_count() / MANY_ARCS_A_VERTEX >= rows.n() as usize
 }
 
 /// The settings by which costs are worked out. No cost depends on them.

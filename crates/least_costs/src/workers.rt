@@ -11,8 +11,8 @@ ghost use Rattle.least_costs.specs.Network.{GrowsTo, IsStartWithin, graph_of, se
 use crate::below::CostsBelow;
 use crate::costs::Costs;
 use crate::network::Network;
-use crate::runner::{Runner, pause_after};
 use crate::start::Start;
+use crate::warm_pool::{WarmPool, pause_after};
 use crate::workspace::Workspace;
 use near_labels::WalksFound;
 use obim_engine::{Closed, Gate, Goal, GoalResult, Settings};
@@ -29,29 +29,29 @@ pub struct Workers<'a, G> {
     pub settings: Settings,
     /// Watches them.
     pub gate: &'a G,
-    pub(crate) kept: Workspace,
+    pub(crate) workspace: Workspace,
 }
 
 impl<'a, G: Gate + Sync> Workers<'a, G> {
     /// Takes what others kept, and of that the pool if it is for as many workers.
-    pub fn new(settings: Settings, gate: &'a G, kept: Option<Workspace>) -> Workers<'a, G>
+    pub fn new(settings: Settings, gate: &'a G, workspace: Option<Workspace>) -> Workers<'a, G>
         ensures settings { result.settings ≡ settings }
         ensures gate { result.gate.now ≡ gate.now }
     {
-        let kept = match kept {
-            Some(kept) => kept,
+        let workspace = match workspace {
+            Some(workspace) => workspace,
             None => Workspace::new().searching(false),
         };
         Workers {
             settings,
             gate,
-            kept,
+            workspace,
         }
     }
 
     /// Returns what they kept, for others after them.
-    pub fn into_kept(self) -> Workspace {
-        self.kept
+    pub fn into_workspace(self) -> Workspace {
+        self.workspace
     }
 
     /// The least costs of a network from a start.
@@ -66,9 +66,9 @@ impl<'a, G: Gate + Sync> Workers<'a, G> {
         ensures net { IfOk result (λ costs. costs.net ≡ network.now) }
         ensures start { IfOk result (λ costs. costs.start ≡ start) }
     {
-        let mut runner = self.runner(alloc, network)?;
-        let costs = runner.costs_from(rt, alloc, network, start, self.gate)?;
-        self.kept.pool = Some(runner);
+        let mut warm_pool = self.warm_pool(alloc, network)?;
+        let costs = warm_pool.costs_from(rt, alloc, network, start, self.gate)?;
+        self.workspace.pool = Some(warm_pool);
         Ok(costs)
     }
 
@@ -150,8 +150,10 @@ impl<'a, G: Gate + Sync> Workers<'a, G> {
         requires targets { All (λ t. t < network.now.n) targets.now }
         ensures { IfSome result (AreWalksFound network.now.n network.now.arcs source targets.now) }
     {
-        if self.kept.searches {
-            self.kept.near.walks_to(alloc, network, source, targets)
+        if self.workspace.searches {
+            self.workspace
+                .near
+                .walks_to(alloc, network, source, targets)
         } else {
             None
         }
@@ -170,8 +172,8 @@ impl<'a, G: Gate + Sync> Workers<'a, G> {
         requires bound { bound < INF }
         ensures { IfSome result (AreCostsWithin network.now source bound) }
     {
-        if self.kept.searches {
-            self.kept.near.within(alloc, network, source, bound)
+        if self.workspace.searches {
+            self.workspace.near.within(alloc, network, source, bound)
         } else {
             None
         }
@@ -190,9 +192,9 @@ impl<'a, G: Gate + Sync> Workers<'a, G> {
         requires goal { IsGoalWithin network.now.n goal }
         ensures { IfOk result (HasReached goal.entry (graph_of network.now) (seeds_at network.now.n start)) }
     {
-        let mut runner = self.runner(alloc, network)?;
-        let reached = runner.reach(rt, alloc, network, start, goal, self.gate)?;
-        self.kept.pool = Some(runner);
+        let mut warm_pool = self.warm_pool(alloc, network)?;
+        let reached = warm_pool.reach(rt, alloc, network, start, goal, self.gate)?;
+        self.workspace.pool = Some(warm_pool);
         Ok(reached)
     }
 
@@ -213,18 +215,18 @@ impl<'a, G: Gate + Sync> Workers<'a, G> {
         requires goal { IsGoalWithin grown.now.n goal }
         ensures { IfOk result (HasReached goal.entry (graph_of grown.now) (seeds_at grown.now.n start)) }
     {
-        let mut runner = self.runner(alloc, grown)?;
+        let mut warm_pool = self.warm_pool(alloc, grown)?;
         let rest = pause_after(alloc, network, grown, start, closed)?;
-        let reached = runner.resume(rt, alloc, grown, start, rest, goal, self.gate)?;
-        self.kept.pool = Some(runner);
+        let reached = warm_pool.resume(rt, alloc, grown, start, rest, goal, self.gate)?;
+        self.workspace.pool = Some(warm_pool);
         Ok(reached)
     }
 
     /// The pool that they kept, or another one.
-    fn runner(&mut self, alloc: Global, network: &Network) -> Result<Runner, Memory> {
-        match self.kept.pool.take() {
-            Some(runner) if runner.workers() == self.settings.workers => Ok(runner),
-            _ => Runner::open(alloc, network, &self.settings),
+    fn warm_pool(&mut self, alloc: Global, network: &Network) -> Result<WarmPool, Memory> {
+        match self.workspace.pool.take() {
+            Some(warm_pool) if warm_pool.workers() == self.settings.workers => Ok(warm_pool),
+            _ => WarmPool::open(alloc, network, &self.settings),
         }
     }
 }

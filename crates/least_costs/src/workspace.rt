@@ -4,7 +4,7 @@ ghost use Rattle.std.specs.Prelude.{◌≡◌};
 
 use crate::near::Near;
 use crate::network::Network;
-use crate::runner::Runner;
+use crate::warm_pool::WarmPool;
 use std::alloc::Global;
 
 /// The workers' pool, and room for searches by the thread that asks, kept from one question to the next. Both are made
@@ -13,7 +13,7 @@ use std::alloc::Global;
 /// Searches take 9 bytes a vertex, 9 more from both ends, and 8 more for walks.
 #[derive(Drop)]
 pub struct Workspace {
-    pub(crate) pool: Option<Runner>,
+    pub(crate) pool: Option<WarmPool>,
     pub(crate) near: Near,
     pub(crate) searches: bool,
 }

@@ -223,7 +223,7 @@ fn expect_kept(
         let network = if near.is_long { long } else { short };
         expect_near(rt, alloc, network, &mut workers, near, searches);
     }
-    workers.into_kept()
+    workers.into_workspace()
 }
 
 #[test]

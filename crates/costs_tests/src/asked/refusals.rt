@@ -8,8 +8,8 @@ ghost use Rattle.least_costs.specs.Pairs.{GrowsInto};
 use crate::asked::kept::{ask_in_vain, prepare};
 use crate::asked::{expect_costs, expect_within, six, tree};
 use least_costs::{
-    AtOnce, Cost, Costs, CostsBelow, CostsWithin, Network, NetworkFault, PairCosts, Plan, Runner,
-    Solver, Start, Unwatched, Workers, Workspace,
+    AtOnce, Cost, Costs, CostsBelow, CostsWithin, Network, NetworkFault, PairCosts, Plan, Solver,
+    Start, Unwatched, WarmPool, Workers, Workspace,
 };
 use obim_engine::{Goal, OpenGate};
 use route_walks::{ArcRec, EXAMPLE_ARCS, Memory, arcs, refusable};
@@ -99,7 +99,7 @@ enum Call {
     From(u32),
     Everywhere,
     After,
-    FromRunner,
+    FromWarmPool,
     Copied,
 }
 
@@ -110,7 +110,7 @@ fn costs_by<H: Threads + Wait + Clock + Sync>(
     call: Call,
     network: &Network,
     grown: &Network,
-    runner: &mut Runner,
+    warm_pool: &mut WarmPool,
 ) -> Result<Costs, Memory>
     requires grows { GrowsTo network.now grown.now }
     requires six { (network.now.n ≡ 6) × (grown.now.n ≡ 6) }
@@ -123,33 +123,33 @@ fn costs_by<H: Threads + Wait + Clock + Sync>(
             Solver::new(network, Plan::usual(2)).costs_from(rt, alloc, Start::Everywhere)
         }
         Call::After => {
-            let costs = runner.costs_from(rt, alloc, network, start, &OpenGate)?;
+            let costs = warm_pool.costs_from(rt, alloc, network, start, &OpenGate)?;
             Solver::new(network, Plan::usual(2)).costs_after(rt, alloc, grown, costs)
         }
-        Call::FromRunner => runner.costs_from(rt, alloc, network, start, &OpenGate),
+        Call::FromWarmPool => warm_pool.costs_from(rt, alloc, network, start, &OpenGate),
         Call::Copied => {
-            let costs = runner.costs_from(rt, alloc, network, start, &OpenGate)?;
+            let costs = warm_pool.costs_from(rt, alloc, network, start, &OpenGate)?;
             costs.copied(alloc, network)
         }
     }
 }
 
-/// The costs, asked once more of the same runner if memory was refused.
+/// The costs, asked once more of the same warm pool if memory was refused.
 fn asked_again<H: Threads + Wait + Clock + Sync>(
     rt: &H,
     alloc: Global,
     call: Call,
     network: &Network,
     grown: &Network,
-    runner: &mut Runner,
+    warm_pool: &mut WarmPool,
 ) -> Result<Costs, Memory>
     requires grows { GrowsTo network.now grown.now }
     requires six { (network.now.n ≡ 6) × (grown.now.n ≡ 6) }
     ensures { IfOk result (λ costs. costs.net.n ≡ 6) }
 {
-    match refusable!(alloc, costs_by(rt, alloc, call, network, grown, runner)) {
+    match refusable!(alloc, costs_by(rt, alloc, call, network, grown, warm_pool)) {
         Ok(costs) => Ok(costs),
-        Err(Memory) => costs_by(rt, alloc, call, network, grown, runner),
+        Err(Memory) => costs_by(rt, alloc, call, network, grown, warm_pool),
     }
 }
 
@@ -173,8 +173,8 @@ fn costs_of<H: Threads + Wait + Clock + Sync>(
     ensures { IfOk result (λ costs. costs.net.n ≡ 6) }
 {
     let settings = Plan::usual(2).settings;
-    let mut runner = Runner::open(alloc, network, &settings)?;
-    asked_again(rt, alloc, call, network, grown, &mut runner)
+    let mut warm_pool = WarmPool::open(alloc, network, &settings)?;
+    asked_again(rt, alloc, call, network, grown, &mut warm_pool)
 }
 
 fn expect_again<H: Threads + Wait + Clock + Abort + Sync>(
@@ -209,8 +209,8 @@ fn of_solver_costs_after(rt: HostRuntime) -> Result<(), Fail> {
 
 // A pool whose source was refused memory serves the next one.
 #[test]
-fn of_runner_costs_from(rt: HostRuntime) -> Result<(), Fail> {
-    expect_again(&rt, rt.alloc(), Call::FromRunner, &FROM_0)
+fn of_warm_pool_costs_from(rt: HostRuntime) -> Result<(), Fail> {
+    expect_again(&rt, rt.alloc(), Call::FromWarmPool, &FROM_0)
 }
 
 /// The costs for walks to vertex 5, asked once more: workers then open another pool.
@@ -278,19 +278,19 @@ fn of_costs_copied(rt: HostRuntime) -> Result<(), Fail> {
     expect_again(&rt, rt.alloc(), Call::Copied, &FROM_0)
 }
 
-fn opened_again(alloc: Global, network: &Network) -> Result<Runner, Memory> {
+fn opened_again(alloc: Global, network: &Network) -> Result<WarmPool, Memory> {
     let settings = Plan::usual(2).settings;
-    match refusable!(alloc, Runner::open(alloc, network, &settings)) {
-        Ok(runner) => Ok(runner),
-        Err(Memory) => Runner::open(alloc, network, &settings),
+    match refusable!(alloc, WarmPool::open(alloc, network, &settings)) {
+        Ok(warm_pool) => Ok(warm_pool),
+        Err(Memory) => WarmPool::open(alloc, network, &settings),
     }
 }
 
 #[test]
-fn of_runner_open(rt: HostRuntime) -> Result<(), Fail> {
+fn of_warm_pool_open(rt: HostRuntime) -> Result<(), Fail> {
     let network = six(&rt, rt.alloc())?;
-    let runner = opened_again(rt.alloc(), &network)?;
-    assert!(rt; runner.workers() == 2);
+    let warm_pool = opened_again(rt.alloc(), &network)?;
+    assert!(rt; warm_pool.workers() == 2);
     Ok(())
 }
 

@@ -1,5 +1,5 @@
 use Rattle.std.proofs.Common.{take}
-use Rattle.least_costs.specs.Rounds.{AreMade}
+use Rattle.least_costs.specs.TaskQueue.{AreFinished}
 use Rattle.job_answer.specs.AnswerText.{AreBlocks}
 use Rattle.job_answer.specs.Sinks.{IsSame, Puts}
 use Rattle.job_answer.specs.Tasks.{IsBlockText, IsSourceBlock}
@@ -9,5 +9,5 @@ abbrev pub invariant-loop-place : goal.invariant-loop-place
 invariant-loop-place g l = record {
   same : IsSame l.initial.sink l.sink;
   put : Puts g.W.Write.contents (AreBlocks (IsSourceBlock l.tasks) (take l.place l.tasks.sources.now)) l.initial.sink l.sink;
-  made : AreMade (IsBlockText l.tasks) l.rounds.made.items;
+  made : AreFinished (IsBlockText l.tasks) l.queue.made.items;
 }

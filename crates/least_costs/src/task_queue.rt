@@ -2,7 +2,7 @@
 
 ghost use Rattle.std.specs.Prelude.{◌≡◌, ◌+◌, ◌<◌, ◌≤◌, [], ℕ, All, IfSome, length};
 ghost use Rattle.std.specs.Thread.{IsSync};
-ghost use Rattle.least_costs.specs.Rounds.{AreMade, Makes};
+ghost use Rattle.least_costs.specs.TaskQueue.{AreFinished, Makes};
 ghost use Rattle.obim_engine.specs.declared.settings.TheConstants.{MAX_WORKERS};
 
 use crate::teams::{Team, TeamGate};
@@ -27,16 +27,16 @@ pub trait Tasks<P>: Sync {
 
 /// The part that the task at a place gave.
 #[derive(Drop)]
-pub struct Made<P> {
+pub struct FinishedTask<P> {
     pub place: usize,
     pub part: P,
 }
 
 /// A team's own room, kept from task to task, and what it made in this round.
 #[derive(Drop)]
-struct Crew<P> {
-    kept: Option<Workspace>,
-    made: Vec<Made<P>>,
+struct TeamState<P> {
+    workspace: Option<Workspace>,
+    made: Vec<FinishedTask<P>>,
     /// True if it made all that it took.
     whole: bool,
 }
@@ -68,13 +68,13 @@ struct Round<'a, T, F, G> {
 /// The tasks that teams do in rounds: one or two each at the same time. What these give waits for its turn. A team
 /// keeps its pool of work to the end.
 #[derive(Drop)]
-pub struct Rounds<'a, P, G> {
+pub struct TaskQueue<'a, P, G> {
     /// The parts that were made and not taken yet.
-    pub made: Vec<Made<P>>,
+    pub made: Vec<FinishedTask<P>>,
     /// All workers, for a task in its turn. Teams are made of as many.
     pub workers: Workers<'a, G>,
     settings: Settings,
-    crews: Vec<Crew<P>>,
+    states: Vec<TeamState<P>>,
     /// The places before this one were tried.
     end: usize,
     /// The number of places.
@@ -85,18 +85,23 @@ pub struct Rounds<'a, P, G> {
     ghost within: { (teams ≤ settings.workers) × (settings.workers ≤ MAX_WORKERS) },
 }
 
-impl<'a, P: Send + Drop, G: Gate + Sync> Rounds<'a, P, G> {
+impl<'a, P: Send + Drop, G: Gate + Sync> TaskQueue<'a, P, G> {
     /// Makes nothing yet. The places are those below `len`, and so many teams share these workers.
-    pub fn new(alloc: Global, len: usize, teams: usize, workers: Workers<'a, G>) -> Rounds<'a, P, G>
+    pub fn new(
+        alloc: Global,
+        len: usize,
+        teams: usize,
+        workers: Workers<'a, G>,
+    ) -> TaskQueue<'a, P, G>
         requires teams { teams ≤ workers.settings.workers }
         requires few { workers.settings.workers ≤ MAX_WORKERS }
         ensures { result.made.items ≡ [] }
     {
-        Rounds {
+        TaskQueue {
             made: Vec::new(alloc),
             settings: workers.settings,
             workers,
-            crews: Vec::new(alloc),
+            states: Vec::new(alloc),
             end: 0,
             len,
             teams,
@@ -110,8 +115,8 @@ impl<'a, P: Send + Drop, G: Gate + Sync> Rounds<'a, P, G> {
     }
 
     /// Returns what all workers keep, for others after them.
-    pub fn into_kept(self) -> Workspace {
-        self.workers.into_kept()
+    pub fn into_workspace(self) -> Workspace {
+        self.workers.into_workspace()
     }
 
     /// Tells if the task at a place was tried before its turn.
@@ -136,8 +141,8 @@ impl<'a, P: Send + Drop, G: Gate + Sync> Rounds<'a, P, G> {
         F: Fn(usize, &mut Workers<'_, TeamGate<'_, G>>) -> Option<P> + Sync,
         requires callable { F.IsAlwaysCallable make.now }
         requires makes { Makes (T.is_part tasks.now) (F.post make.now) }
-        requires made { AreMade (T.is_part tasks.now) self.old.made.items }
-        ensures left { AreMade (T.is_part tasks.now) self.new.made.items }
+        requires made { AreFinished (T.is_part tasks.now) self.old.made.items }
+        ensures left { AreFinished (T.is_part tasks.now) self.new.made.items }
         ensures part { IfSome result (T.is_part tasks.now place) }
     {
         self.make_next(rt, alloc, tasks, make, place);
@@ -153,8 +158,8 @@ impl<'a, P: Send + Drop, G: Gate + Sync> Rounds<'a, P, G> {
         F: Fn(usize, &mut Workers<'_, TeamGate<'_, G>>) -> Option<P> + Sync,
         requires callable { F.IsAlwaysCallable make.now }
         requires makes { Makes (T.is_part tasks.now) (F.post make.now) }
-        requires made { AreMade (T.is_part tasks.now) self.old.made.items }
-        ensures { AreMade (T.is_part tasks.now) self.new.made.items }
+        requires made { AreFinished (T.is_part tasks.now) self.old.made.items }
+        ensures { AreFinished (T.is_part tasks.now) self.new.made.items }
     {
         if place < self.end || self.teams < 2 {
             return;
@@ -163,8 +168,8 @@ impl<'a, P: Send + Drop, G: Gate + Sync> Rounds<'a, P, G> {
         let Some((places, end)) = places_from::<P, T>(alloc, tasks, place, self.len, most) else {
             return;
         };
-        hire(alloc, &mut self.crews, self.teams);
-        let teams = self.teams.min(places.len()).min(self.crews.len());
+        add_states(alloc, &mut self.states, self.teams);
+        let teams = self.teams.min(places.len()).min(self.states.len());
         if teams < 2 {
             return;
         }
@@ -176,11 +181,11 @@ impl<'a, P: Send + Drop, G: Gate + Sync> Rounds<'a, P, G> {
             make,
             places: &places[..count],
             settings: self.settings,
-            searches: self.workers.kept.searches,
+            searches: self.workers.workspace.searches,
             gate: self.workers.gate,
         };
-        let crews = &mut self.crews[..teams];
-        let whole = do_round(rt, &round, crews, &mut self.made);
+        let states = &mut self.states[..teams];
+        let whole = do_round(rt, &round, states, &mut self.made);
         self.end = if count < places.len() {
             places[count]
         } else {
@@ -201,15 +206,15 @@ fn count_ahead(teams: usize, left: usize) -> usize
     if left / 2 >= teams { teams * 2 } else { teams }
 }
 
-/// Adds crews until there are this many, or memory is refused.
-fn hire<P: Drop>(alloc: Global, crews: &mut Vec<Crew<P>>, count: usize) {
-    for _ in crews.len()..count {
-        let crew = Crew {
-            kept: None,
+/// Adds states of teams until there are this many, or memory is refused.
+fn add_states<P: Drop>(alloc: Global, states: &mut Vec<TeamState<P>>, count: usize) {
+    for _ in states.len()..count {
+        let state = TeamState {
+            workspace: None,
             made: Vec::new(alloc),
             whole: true,
         };
-        if crews.push(crew).is_err() {
+        if states.push(state).is_err() {
             break;
         }
     }
@@ -219,8 +224,8 @@ fn hire<P: Drop>(alloc: Global, crews: &mut Vec<Crew<P>>, count: usize) {
 fn do_round<H, P, T, F, G>(
     rt: &H,
     round: &Round<'_, T, F, G>,
-    crews: &mut [Crew<P>],
-    made: &mut Vec<Made<P>>,
+    states: &mut [TeamState<P>],
+    made: &mut Vec<FinishedTask<P>>,
 ) -> bool
 where
     H: Threads + Wait + Sync,
@@ -230,18 +235,18 @@ where
     G: Gate + Sync,
     requires callable { F.IsAlwaysCallable round.now.make.now }
     requires makes { Makes (T.is_part round.now.tasks.now) (F.post round.now.make.now) }
-    requires some { 0 < length crews.old }
-    requires crews { length crews.old ≤ round.now.settings.workers }
+    requires some { 0 < length states.old }
+    requires states { length states.old ≤ round.now.settings.workers }
     requires few { round.now.settings.workers ≤ MAX_WORKERS }
-    requires made { AreMade (T.is_part round.now.tasks.now) made.old.items }
-    ensures { AreMade (T.is_part round.now.tasks.now) made.new.items }
+    requires made { AreFinished (T.is_part round.now.tasks.now) made.old.items }
+    ensures { AreFinished (T.is_part round.now.tasks.now) made.new.items }
 {
-    work_all(rt, round, crews);
-    gather::<P, T>(round.tasks, crews, made)
+    work_all(rt, round, states);
+    gather::<P, T>(round.tasks, states, made)
 }
 
-/// Lets the crews work at the same time.
-fn work_all<H, P, T, F, G>(rt: &H, round: &Round<'_, T, F, G>, crews: &mut [Crew<P>])
+/// Lets the teams work at the same time.
+fn work_all<H, P, T, F, G>(rt: &H, round: &Round<'_, T, F, G>, states: &mut [TeamState<P>])
 where
     H: Threads + Wait + Sync,
     P: Send + Drop,
@@ -250,36 +255,36 @@ where
     G: Gate + Sync,
     requires callable { F.IsAlwaysCallable round.now.make.now }
     requires makes { Makes (T.is_part round.now.tasks.now) (F.post round.now.make.now) }
-    requires some { 0 < length crews.old }
-    requires crews { length crews.old ≤ round.now.settings.workers }
+    requires some { 0 < length states.old }
+    requires states { length states.old ≤ round.now.settings.workers }
     requires few { round.now.settings.workers ≤ MAX_WORKERS }
-    ensures { All (λ crew. AreMade (T.is_part round.now.tasks.now) crew.made.items) crews.new }
+    ensures { All (λ state. AreFinished (T.is_part round.now.tasks.now) state.made.items) states.new }
 {
-    let (teams, workers) = (crews.len(), round.settings.workers);
+    let (teams, workers) = (states.len(), round.settings.workers);
     let cursor = Mutex::new(Cursor { taken: 0 });
     for_each_mut(
         rt,
-        crews,
+        states,
         teams,
-        &|place: usize, crew: &mut Crew<P>|
+        &|place: usize, state: &mut TeamState<P>|
             requires sync { IsSync H.row × IsSync T.row × IsSync F.row × IsSync G.row }
             requires callable { F.IsAlwaysCallable round.now.make.now }
             requires makes { Makes (T.is_part round.now.tasks.now) (F.post round.now.make.now) }
             requires place { place < teams }
             requires teams { teams ≤ workers }
             requires few { workers ≤ MAX_WORKERS }
-            ensures { AreMade (T.is_part round.entry.now.tasks.now) crew.new.made.items }
-        { work_on(rt, round, &cursor, Team::at(place, teams, workers), crew) },
+            ensures { AreFinished (T.is_part round.entry.now.tasks.now) state.new.made.items }
+        { work_on(rt, round, &cursor, Team::at(place, teams, workers), state) },
     );
 }
 
-/// Does tasks of a round by one crew, with what it kept.
+/// Does tasks of a round by one team, with what it kept.
 fn work_on<H, P, T, F, G>(
     rt: &H,
     round: &Round<'_, T, F, G>,
     cursor: &Mutex<Cursor>,
     team: Team,
-    crew: &mut Crew<P>,
+    state: &mut TeamState<P>,
 )
 where
     H: Threads + Wait + Sync,
@@ -289,19 +294,19 @@ where
     G: Gate + Sync,
     requires callable { F.IsAlwaysCallable round.now.make.now }
     requires makes { Makes (T.is_part round.now.tasks.now) (F.post round.now.make.now) }
-    ensures { AreMade (T.is_part round.now.tasks.now) crew.new.made.items }
+    ensures { AreFinished (T.is_part round.now.tasks.now) state.new.made.items }
 {
     let gate = TeamGate {
         gate: round.gate,
         team,
     };
-    let kept = match crew.kept.take() {
-        Some(kept) => kept,
+    let workspace = match state.workspace.take() {
+        Some(workspace) => workspace,
         None => Workspace::new().searching(round.searches),
     };
-    let mut workers = Workers::new(team.settings(&round.settings), &gate, Some(kept));
-    make_some(rt, round, cursor, &mut workers, crew);
-    crew.kept = Some(workers.into_kept());
+    let mut workers = Workers::new(team.settings(&round.settings), &gate, Some(workspace));
+    make_some(rt, round, cursor, &mut workers, state);
+    state.workspace = Some(workers.into_workspace());
 }
 
 /// Does tasks of a round while there are places to take. Ends if one can't be done.
@@ -310,7 +315,7 @@ fn make_some<H, P, T, F, G>(
     round: &Round<'_, T, F, G>,
     cursor: &Mutex<Cursor>,
     workers: &mut Workers<'_, TeamGate<'_, G>>,
-    crew: &mut Crew<P>,
+    state: &mut TeamState<P>,
 )
 where
     H: Threads + Wait + Sync,
@@ -321,11 +326,11 @@ where
     requires callable { F.IsAlwaysCallable round.now.make.now }
     requires makes { Makes (T.is_part round.now.tasks.now) (F.post round.now.make.now) }
     requires team { workers.old.settings.workers ≡ workers.old.gate.now.team.workers }
-    ensures { AreMade (T.is_part round.now.tasks.now) crew.new.made.items }
+    ensures { AreFinished (T.is_part round.now.tasks.now) state.new.made.items }
 {
     let make = round.make;
-    crew.made.clear();
-    crew.whole = true;
+    state.made.clear();
+    state.whole = true;
     for _ in 0..round.places.len() {
         let at = cursor.lock(rt).take();
         if at >= round.places.len() {
@@ -333,33 +338,33 @@ where
         }
         let place = round.places[at];
         let Some(part) = make(place, workers) else {
-            crew.whole = false;
+            state.whole = false;
             break;
         };
-        if crew.made.push(Made { place, part }).is_err() {
-            crew.whole = false;
+        if state.made.push(FinishedTask { place, part }).is_err() {
+            state.whole = false;
             break;
         }
     }
 }
 
-/// Moves what the crews made to one list. Returns true if nothing is missing.
+/// Moves what the teams made to one list. Returns true if nothing is missing.
 fn gather<P: Send + Drop, T: Tasks<P>>(
     tasks: &T,
-    crews: &mut [Crew<P>],
-    made: &mut Vec<Made<P>>,
+    states: &mut [TeamState<P>],
+    made: &mut Vec<FinishedTask<P>>,
 ) -> bool
-    requires made { AreMade (T.is_part tasks.now) made.old.items }
-    requires crews { All (λ crew. AreMade (T.is_part tasks.now) crew.made.items) crews.old }
-    ensures { AreMade (T.is_part tasks.now) made.new.items }
+    requires made { AreFinished (T.is_part tasks.now) made.old.items }
+    requires states { All (λ state. AreFinished (T.is_part tasks.now) state.made.items) states.old }
+    ensures { AreFinished (T.is_part tasks.now) made.new.items }
 {
     // The tasks are for the contract alone.
     let _ = tasks;
     let mut whole = true;
-    for at in 0..crews.len() {
-        let crew = &mut crews[at];
-        let kept = made.append(&mut crew.made).is_ok();
-        whole = whole && kept && crew.whole;
+    for at in 0..states.len() {
+        let state = &mut states[at];
+        let kept = made.append(&mut state.made).is_ok();
+        whole = whole && kept && state.whole;
     }
     whole
 }

@@ -53,18 +53,18 @@ enum Kind {
 /// A pool of workers, kept from one source to the next so that its bags are made once. What a source leaves in it the
 /// next one draws and ignores. It serves any network, and best the one it was opened for.
 #[derive(Drop)]
-pub struct Runner {
+pub struct WarmPool {
     kind: Kind,
 }
 
-impl Runner {
+impl WarmPool {
     /// Opens a pool for this network and these settings.
-    pub fn open(alloc: Global, network: &Network, settings: &Settings) -> Result<Runner, Memory> {
+    pub fn open(alloc: Global, network: &Network, settings: &Settings) -> Result<WarmPool, Memory> {
         let kind = match settings.buckets {
             Buckets::Widening => Kind::Fitted(open_fitted(alloc, &network.rows, settings)?),
             Buckets::Even(_) => Kind::Even(open_even(alloc, settings)?),
         };
-        Ok(Runner { kind })
+        Ok(WarmPool { kind })
     }
 
     /// The number of its workers.

@@ -2,7 +2,7 @@ use Rattle.std.proofs.Common.{subst, sym}
 use Rattle.label_words.specs.Paused.{IsPause}
 use Rattle.least_costs.specs.Network.{seeds_at}
 use Rattle.least_costs.proofs.Starts.{start-seeds}
-use Rattle.least_costs.proofs.runner.pause_after.Goals as goal
+use Rattle.least_costs.proofs.warm_pool.pause_after.Goals as goal
 
 pub returns-in_ok-settled-in-Settled : goal.returns-in_ok-settled-in-Settled
 returns-in_ok-settled-in-Settled c =

@@ -1,11 +1,11 @@
 use Rattle.std.proofs.Common.{◌-◌, arith, length, rules}
 use Rattle.std.proofs.lemmas.List.Elements.{All-set, All-take}
-use Rattle.least_costs.specs.declared.rounds.Made.{Made}
-use Rattle.least_costs.proofs.rounds.Rounds.take.Goals as goal
+use Rattle.least_costs.specs.declared.task_queue.FinishedTask.{FinishedTask}
+use Rattle.least_costs.proofs.task_queue.TaskQueue.take.Goals as goal
 
 pub returns : goal.returns
 returns g c =
-    let IsPart : Made g.row.P.Denot → Type 0 = λ one. g.T.Tasks.is_part c.args.tasks.now one.place one.part in
+    let IsPart : FinishedTask g.row.P.Denot → Type 0 = λ one. g.T.Tasks.is_part c.args.tasks.now one.place one.part in
     let made = c.make_next.new.self.made.items in
     record {
       left =

@@ -4,7 +4,7 @@ mod refusals;
 
 ghost use Rattle.std.specs.Prelude.{⊤};
 
-use least_costs::{Plan, Rounds, Tasks, TeamGate, Workers};
+use least_costs::{Plan, TaskQueue, Tasks, TeamGate, Workers};
 use obim_engine::OpenGate;
 use std::alloc::Global;
 use std::process::Abort;
@@ -40,10 +40,10 @@ fn taken<H: Threads + Wait + Abort + Sync>(
 ) -> [Option<(usize, u32)>; 8] {
     assert!(rt; teams <= 4);
     let workers = Workers::new(Plan::usual(4).settings, &OpenGate, None);
-    let mut rounds = Rounds::new(alloc, 8, teams, workers);
+    let mut queue = TaskQueue::new(alloc, 8, teams, workers);
     let mut all = [None; 8];
     for (place, part) in all.iter_mut().enumerate() {
-        *part = rounds.take(rt, alloc, &Places, &part_at, place);
+        *part = queue.take(rt, alloc, &Places, &part_at, place);
     }
     all
 }
