@@ -12,7 +12,7 @@ use Rattle.std.specs.List.{All}
 use Rattle.std.proofs.lemmas.List.Elements.{All-get_or}
 use Rattle.route_walks.specs.declared.graph.ArcRec.{ArcRec}
 use Rattle.answer_lines.specs.Lines.{grown_text, pair_text}
-use Rattle.job_answer.specs.declared.graphs.Grown.{Grown}
+use Rattle.job_answer.specs.declared.graphs.GrownNetwork.{GrownNetwork}
 use Rattle.job_answer.specs.declared.walked_pairs.Walked.{Walked}
 use Rattle.least_costs.specs.declared.start.Start.{Start}
 use Rattle.least_costs.specs.declared.start.Start.TheVariants.{At, Everywhere}
@@ -86,7 +86,7 @@ cost-line law net pair cost is within told =
     }
 
 -- and in both
-pub plain-block : CostsAreLabels → (net : NetworkSeen) (grown : Option Grown) (pairs : List (ℕ × ℕ))
+pub plain-block : CostsAreLabels → (net : NetworkSeen) (grown : Option GrownNetwork) (pairs : List (ℕ × ℕ))
     (costs after : List (Option ℕ)) (k : ℕ)
     → IsNetwork net → GrowsInto net grown → All (IsPairWithin net.n) pairs
     → ArePairCosts net pairs costs → AreCostsAfter grown pairs after
@@ -116,7 +116,7 @@ plain-block law net (Some grown) pairs costs after k is grows within are later h
     }
 
 -- by the walks in both
-pub walked-blocks : (net : NetworkSeen) (grown : Option Grown) (pair : ℕ × ℕ) (walked : Walked) (after : Option Walked)
+pub walked-blocks : (net : NetworkSeen) (grown : Option GrownNetwork) (pair : ℕ × ℕ) (walked : Walked) (after : Option Walked)
     → GrowsInto net grown → IsWalked net.n net.arcs pair walked → IsWalkedAfter grown pair after
     → IsGrownPair true net.n net.arcs (growth_of grown) pair
     (with_growth (growth_of grown) (walked_text pair walked) (walked_after_text pair after))
@@ -143,7 +143,7 @@ along-kind Levels n arcs net is = is.along
 along-kind Components n arcs net is = is.along
 
 -- and it grows by the job's added arcs as the job does
-pub grown-alike : NetworksGrow → (kind : Answer) (n : ℕ) (arcs added : List ArcRec) (net : NetworkSeen) (grown : Grown)
+pub grown-alike : NetworksGrow → (kind : Answer) (n : ℕ) (arcs added : List ArcRec) (net : NetworkSeen) (grown : GrownNetwork)
     → grown.count ≡ length added → IsNetworkOf n (cost_for kind) arcs net → GrowsTo net grown.network
     → grown.network.cost ≡ net.cost → grown.network.added ≡ arcs_of net.cost added
     → GrowAlike (growth_of (Some grown)) (growth_from (arcs_for kind) arcs (Some added))

@@ -4,12 +4,12 @@ use Rattle.std.specs.List.{All}
 use Rattle.std.proofs.lemmas.List.Elements.{All-from_get_or, All-get_or}
 use Rattle.dimacs_text.specs.Jobs.{IsPairWithin}
 use Rattle.least_costs.specs.Pairs.{pair_at}
-use Rattle.job_answer.specs.declared.graphs.Grown.{Grown}
+use Rattle.job_answer.specs.declared.graphs.GrownNetwork.{GrownNetwork}
 use Rattle.job_answer.specs.declared.solves.Solve.{Solve}
 use Rattle.job_answer.specs.Solves.{AreCostsAfter, AreEachTold, AreTargetsOf, HasCostAfter, IsForQueries}
 
 -- a place of a pair is one of its cost in the grown network
-pub has_cost_after : (grown : Option Grown) (pairs : List (ℕ × ℕ)) (costs : List (Option ℕ)) (k : ℕ)
+pub has_cost_after : (grown : Option GrownNetwork) (pairs : List (ℕ × ℕ)) (costs : List (Option ℕ)) (k : ℕ)
     → AreCostsAfter grown pairs costs → k < length pairs
     → HasCostAfter grown k costs
 has_cost_after None pairs costs k are here = tt

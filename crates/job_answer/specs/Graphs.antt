@@ -8,7 +8,7 @@ use Rattle.least_costs.specs.Network.{GrowsTo, IsNetwork, NetworkSeen}
 use Rattle.job_answer.specs.declared.asked.Answer.{Answer}
 use Rattle.job_answer.specs.declared.asked.Answer.TheVariants as answer
 use Rattle.job_answer.specs.declared.graphs.Graphs.{Graphs}
-use Rattle.job_answer.specs.declared.graphs.Grown.{Grown}
+use Rattle.job_answer.specs.declared.graphs.GrownNetwork.{GrownNetwork}
 use Rattle.job_answer.specs.AnswerText.{Growth, arcs_for}
 
 -- what an arc costs in the network of an answer kind
@@ -18,15 +18,15 @@ cost_for answer.Levels = cost.One
 cost_for answer.Components = cost.FreeBothWays
 
 -- how the network grows
-abbrev pub growth_of : Option Grown → Option Growth
+abbrev pub growth_of : Option GrownNetwork → Option Growth
 growth_of grown = option_map (λ g. record { count = g.count; arcs = g.network.arcs }) grown
 
 -- the second network is the first with the added arcs, if arcs are added
-pub record HasGrown (net : NetworkSeen) (grown : Grown) : Type 0 where
+pub record HasGrown (net : NetworkSeen) (grown : GrownNetwork) : Type 0 where
   pub is : IsNetwork grown.network
   pub to : GrowsTo net grown.network
 
-abbrev pub GrowsInto : NetworkSeen → Option Grown → Type 0
+abbrev pub GrowsInto : NetworkSeen → Option GrownNetwork → Type 0
 GrowsInto net None = ⊤
 GrowsInto net (Some grown) = HasGrown net grown
 

@@ -14,7 +14,7 @@ use Rattle.obim_engine.specs.declared.goal.Goal.TheVariants as goal
 use Rattle.least_costs.specs.declared.start.Start.{Start}
 use Rattle.least_costs.specs.declared.start.Start.TheVariants as start
 use Rattle.job_answer.specs.declared.solves.Solve.{Solve}
-use Rattle.job_answer.specs.declared.graphs.Grown.{Grown}
+use Rattle.job_answer.specs.declared.graphs.GrownNetwork.{GrownNetwork}
 use Rattle.job_answer.specs.declared.walked_pairs.Walked.{Walked}
 use Rattle.job_answer.specs.declared.asked.Lines.{Lines}
 use Rattle.job_answer.specs.declared.asked.Lines.TheVariants as lines
@@ -81,12 +81,12 @@ pub record AreTargetsOf (queries : List (ℕ × ℕ)) (first end : ℕ) (targets
   pub each : (k : ℕ) → k < length targets → slice_index targets k ≡ (pair_at queries (first + k)).1
 
 -- each pair has its cost in the grown network, if there is one
-abbrev pub AreCostsAfter : Option Grown → List (ℕ × ℕ) → List (Option ℕ) → Type 0
+abbrev pub AreCostsAfter : Option GrownNetwork → List (ℕ × ℕ) → List (Option ℕ) → Type 0
 AreCostsAfter None pairs costs = ⊤
 AreCostsAfter (Some grown) pairs costs = ArePairCosts grown.network pairs costs
 
 -- in the grown network, if there is one, there is a cost at a place
-abbrev pub HasCostAfter : Option Grown → ℕ → List (Option ℕ) → Type 0
+abbrev pub HasCostAfter : Option GrownNetwork → ℕ → List (Option ℕ) → Type 0
 HasCostAfter None place costs = ⊤
 HasCostAfter (Some grown) place costs = place < length costs
 
@@ -107,7 +107,7 @@ AreWalkedBelow limit n arcs source walked =
     (t : ℕ) → t < n → min (slice_index walked.labels.items t + 1) INF ≤ limit → IsWalked n arcs (source, t) walked
 
 -- the same of a pair in the grown graph, if there is one
-abbrev pub IsWalkedAfter : Option Grown → ℕ × ℕ → Option Walked → Type 0
+abbrev pub IsWalkedAfter : Option GrownNetwork → ℕ × ℕ → Option Walked → Type 0
 IsWalkedAfter None pair after = ⊤
 IsWalkedAfter (Some grown) pair None = ⊥
 IsWalkedAfter (Some grown) pair (Some walked) = IsWalked grown.network.n grown.network.arcs pair walked

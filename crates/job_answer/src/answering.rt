@@ -24,7 +24,7 @@ use crate::pair_queries::PairQueries;
 use crate::pairs::put_pairs;
 use crate::question::Question;
 use crate::saving::asked_for;
-use crate::sink::{PIECE, Sink};
+use crate::sink::{Sink, WRITE_BYTES};
 use crate::watch::{NoWatch, Phase, Watch};
 use dimacs_text::{Ask, Job};
 use job_reader::{ReadWatch, read_job_from};
@@ -256,7 +256,7 @@ fn write_text<H: Threads + Wait + Clock + Sync, W: Write, G: Gate + Sync>(
     let mut sink = Sink {
         writer,
         waiting: &mut waiting,
-        piece: PIECE,
+        piece: WRITE_BYTES,
     };
     put_text(context, &mut sink, question, kept, watch)?;
     sink.finish()

@@ -21,7 +21,7 @@ use crate::asked::Lines;
 use crate::block_kind::BlockKind;
 use crate::env::{Context, Env};
 use crate::fault::Fault;
-use crate::graphs::{Grown, teams_for};
+use crate::graphs::{GrownNetwork, teams_for};
 use crate::laws::{blocks_are_unique, lines_are_unique};
 use crate::line_walks::{LineWalks, walks_below};
 use crate::lines::{put_components, put_labels, put_raw, put_totals, put_within};
@@ -254,7 +254,7 @@ pub fn put_solved<H: Threads + Wait + Clock + Sync, W: Write, G: Gate + Sync>(
 fn put_grown_block<W: Write>(
     alloc: Global,
     sink: &mut Sink<'_, W>,
-    grown: &Grown,
+    grown: &GrownNetwork,
     lines: Lines,
     start: Start,
     costs: &CostsBelow,

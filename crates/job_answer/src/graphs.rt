@@ -20,12 +20,12 @@ use std::thread::Threads;
 #[derive(Drop)]
 pub struct Graphs {
     pub network: Network,
-    pub grown: Option<Grown>,
+    pub grown: Option<GrownNetwork>,
 }
 
 /// A network after its added arcs.
 #[derive(Drop)]
-pub struct Grown {
+pub struct GrownNetwork {
     /// The number of added arcs.
     pub count: u32,
     pub network: Network,
@@ -71,7 +71,7 @@ pub fn graphs_for<H: Threads + Sync>(
         Err(_) => return Err(Memory),
     };
     let _ = grown.n();
-    let grown = Some(Grown {
+    let grown = Some(GrownNetwork {
         count,
         network: grown,
     });

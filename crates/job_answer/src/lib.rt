@@ -42,7 +42,7 @@ pub use answering::{answer, answer_bytes, answer_question, answer_watched, is_un
 pub use asked::{Answer, Asked, Lines, MAX_AT_ONCE, MAX_BYTES};
 pub use env::Context;
 pub use fault::{Fault, status};
-pub use graphs::{Graphs, Grown, graphs_by, graphs_for};
+pub use graphs::{Graphs, GrownNetwork, graphs_by, graphs_for};
 pub use job_reader::ReadWatch;
 pub use least_costs::AtOnce;
 pub use question::Question;

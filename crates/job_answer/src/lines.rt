@@ -19,7 +19,7 @@ use std::alloc::Global;
 use std::io::Write;
 
 /// Lines put between two looks at the buffer's size.
-const LINES: usize = 512;
+const LINES_A_LOOK: usize = 512;
 
 /// Puts the lines of components.
 pub fn put_components<W: Write>(sink: &mut Sink<'_, W>, labels: &[u64]) -> Result<(), Fault>
@@ -32,7 +32,7 @@ pub fn put_components<W: Write>(sink: &mut Sink<'_, W>, labels: &[u64]) -> Resul
     ensures kinds { IfErr result IsWritingFault }
 {
     let mut v = 0;
-    for group in labels.chunks(LINES) {
+    for group in labels.chunks(LINES_A_LOOK) {
         answer_lines::put_components(sink.waiting, v, group)?;
         sink.send_if_full()?;
         v += group.len() as u32;
@@ -56,7 +56,7 @@ pub fn put_labels<W: Write>(
 {
     put_source(sink.waiting, source)?;
     let mut v = 0;
-    for group in labels.chunks(LINES) {
+    for group in labels.chunks(LINES_A_LOOK) {
         answer_lines::put_labels(sink.waiting, v, group)?;
         sink.send_if_full()?;
         v += group.len() as u32;
@@ -74,7 +74,7 @@ pub fn put_raw<W: Write>(sink: &mut Sink<'_, W>, source: u32, labels: &[u64]) ->
     ensures kinds { IfErr result IsWritingFault }
 {
     put_source(sink.waiting, source)?;
-    for group in labels.chunks(LINES) {
+    for group in labels.chunks(LINES_A_LOOK) {
         answer_lines::put_raw(sink.waiting, group)?;
         sink.send_if_full()?;
     }

@@ -11,13 +11,14 @@ use obim_engine::{MAX_CHUNK, Settings};
 
 /// The vertices and arcs at which a second worker gains what its start costs, some 100 microseconds. Those of each of
 /// several sources or pairs count.
-const FEW: usize = 1 << 14;
+const SERIAL_MAX_SIZE: usize = 1 << 14;
 
-/// The number in place of `FEW` for a single source or pair, which workers share: each step takes longer there.
-const FEW_SHARED: usize = 1 << 17;
+/// The number in place of `SERIAL_MAX_SIZE` for a single source or pair, which workers share: each step takes longer
+/// there.
+const SERIAL_MAX_SIZE_SHARED: usize = 1 << 17;
 
-/// The number in place of `FEW_SHARED` for two workers, which gain the least.
-const FEW_SHARED_BY_TWO: usize = 3 << 18;
+/// The number in place of `SERIAL_MAX_SIZE_SHARED` for two workers, which gain the least.
+const SERIAL_MAX_SIZE_SHARED_BY_TWO: usize = 3 << 18;
 
 /// Returns the question with one worker, if workers are saved and there is too little to do for another.
 pub(crate) fn asked_for(asked: &Asked, graphs: &Graphs, ask: &Ask) -> Asked
@@ -48,11 +49,11 @@ fn count_of(answer: Answer, ask: &Ask) -> usize {
 /// The vertices and arcs up to which one worker answers alone.
 fn few_for(count: usize, workers: u32) -> usize {
     if count > 1 {
-        FEW
+        SERIAL_MAX_SIZE
     } else if workers > 2 {
-        FEW_SHARED
+        SERIAL_MAX_SIZE_SHARED
     } else {
-        FEW_SHARED_BY_TWO
+        SERIAL_MAX_SIZE_SHARED_BY_TWO
     }
 }
 

@@ -10,10 +10,10 @@ use crate::graphs::Graphs;
 use std::io::{self, ErrorKind, Write};
 
 /// The most bytes a vertex of a text that is made before its turn. A block without walks has fewer.
-const MOST_A_VERTEX: usize = 64;
+const MAX_BYTES_A_VERTEX: usize = 64;
 
 /// The bytes that are written at once.
-pub const PIECE: usize = 1 << 16;
+pub const WRITE_BYTES: usize = 1 << 16;
 
 /// Takes the bytes of an answer in order, and writes them in pieces.
 #[derive(Drop)]
@@ -78,7 +78,7 @@ impl<'a, W: Write> Sink<'a, W> {
 
 /// The most bytes of a text made before its turn, so that memory doesn't grow with walks.
 pub fn most_bytes(graphs: &Graphs) -> usize {
-    let once = (graphs.network.n() as usize).saturating_mul(MOST_A_VERTEX);
+    let once = (graphs.network.n() as usize).saturating_mul(MAX_BYTES_A_VERTEX);
     match &graphs.grown {
         None => once,
         Some(_) => once.saturating_mul(2),

@@ -1,7 +1,7 @@
 use Rattle.std.proofs.Common.{◌≡◌, ap, arith, length}
 use Rattle.least_costs.specs.Network.{IsNetworkOf}
 use Rattle.job_answer.specs.Graphs.{cost_for}
-use Rattle.job_answer.specs.declared.graphs.Grown.{Grown}
+use Rattle.job_answer.specs.declared.graphs.GrownNetwork.{GrownNetwork}
 use Rattle.job_answer.proofs.Growing.{along-kind, grown-alike}
 use Rattle.job_answer.proofs.graphs.graphs_for.Goals as goal
 
@@ -29,7 +29,7 @@ returns-clause-graphs g c =
     let more = c.in-Ok-with_arcs.ensures in
     let count : c.len-count.result ≡ length c.in-Some.added.items =
     omega (arith, c.len-count.ensures, c.deref.ensures.len, ap length c.deref.ensures.value) in
-    let grown : Grown = record { count = c.len-count.result; network = c.in-Ok-with_arcs.grown } in
+    let grown : GrownNetwork = record { count = c.len-count.result; network = c.in-Ok-with_arcs.grown } in
     record {
       are = record {
         is = c.n.ensures.network;
