@@ -7,7 +7,7 @@ use std::sync::Wait;
 use std::sync::atomic::{AtomicU64, Ordering};
 
 /// Words between two workers' counts, which so share no line of a cache.
-const SPREAD: usize = 16;
+const COUNT_STRIDE_WORDS: usize = 16;
 
 /// A gate that counts each worker's visits, and what the worklist held.
 #[derive(Debug, Drop)]
@@ -21,8 +21,8 @@ pub struct Counter {
 impl Counter {
     /// A count of 0 for each worker.
     pub fn open(alloc: Global, workers: u32) -> Result<Counter, Memory> {
-        let mut visits = Vec::with_capacity(alloc, workers as usize * SPREAD)?;
-        for _ in 0..workers as usize * SPREAD {
+        let mut visits = Vec::with_capacity(alloc, workers as usize * COUNT_STRIDE_WORDS)?;
+        for _ in 0..workers as usize * COUNT_STRIDE_WORDS {
             visits.push(AtomicU64::new(0))?;
         }
         Ok(Counter {
@@ -35,7 +35,7 @@ impl Counter {
 
     /// The visits of this worker.
     pub fn visits_of(&self, worker: u32) -> u64 {
-        match self.visits.get(worker as usize * SPREAD) {
+        match self.visits.get(worker as usize * COUNT_STRIDE_WORDS) {
             Some(count) => count.load(Ordering::Relaxed),
             None => 0,
         }
@@ -53,7 +53,7 @@ impl Counter {
 
 impl Gate for Counter {
     fn pass<H: Wait>(&self, _rt: &H, worker: u32, _vertex: u32) {
-        if let Some(count) = self.visits.get(worker as usize * SPREAD) {
+        if let Some(count) = self.visits.get(worker as usize * COUNT_STRIDE_WORDS) {
             count.fetch_add(1, Ordering::Relaxed);
         }
     }

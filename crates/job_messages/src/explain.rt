@@ -21,13 +21,13 @@ pub fn print_explanation<H: Eprint>(
         }
         Fault::Read | Fault::Write => {
             if let Some(failure) = &failure {
-                say(rt, Words::System(failure));
+                say(rt, ExplainedText::System(failure));
             }
         }
-        Fault::TooLong => say(rt, Words::Limit),
-        Fault::NoAsk => say(rt, Words::Advice(NO_ASK)),
-        Fault::NoSources => say(rt, Words::Advice(NO_SOURCES)),
-        Fault::Memory => say(rt, Words::Advice(NO_MEMORY)),
+        Fault::TooLong => say(rt, ExplainedText::Limit),
+        Fault::NoAsk => say(rt, ExplainedText::Advice(NO_ASK)),
+        Fault::NoSources => say(rt, ExplainedText::Advice(NO_SOURCES)),
+        Fault::Memory => say(rt, ExplainedText::Advice(NO_MEMORY)),
         Fault::Spawn => {}
     }
 }
@@ -41,23 +41,23 @@ const NO_SOURCES: &str =
 const NO_MEMORY: &str = "--at-once 1 takes least: MEMORY in the manual says how much";
 
 fn print_line<H: Eprint>(rt: &H, explanation: &Explanation) {
-    say(rt, Words::Line(explanation));
-    say(rt, Words::Expected(explanation));
+    say(rt, ExplainedText::Line(explanation));
+    say(rt, ExplainedText::Expected(explanation));
     if explanation.place.is_some() {
-        say(rt, Words::Place(explanation));
+        say(rt, ExplainedText::Place(explanation));
     }
     if let Some(advice) = guess(explanation) {
-        say(rt, Words::Advice(advice));
+        say(rt, ExplainedText::Advice(advice));
     }
 }
 
 /// Prints a line. A closed standard error doesn't matter.
-fn say<H: Eprint>(rt: &H, words: Words) {
+fn say<H: Eprint>(rt: &H, words: ExplainedText) {
     let _ = eprintln!(rt; "obim_query: why: {words}");
 }
 
 #[derive(Clone, Copy)]
-enum Words<'a> {
+enum ExplainedText<'a> {
     /// The line, or that there is no line.
     Line(&'a Explanation),
     /// The text that belongs in which field.
@@ -71,15 +71,15 @@ enum Words<'a> {
     Advice(&'static str),
 }
 
-impl fmt::Display for Words<'_> {
+impl fmt::Display for ExplainedText<'_> {
     fn fmt<W: fmt::Write>(&self, f: &mut fmt::Formatter<W>) -> fmt::Result {
         match *self {
-            Words::Line(explanation) => write_line(f, explanation),
-            Words::Expected(explanation) => write_expected(f, explanation),
-            Words::Place(explanation) => write_place(f, explanation),
-            Words::System(error) => write!(f, "{error}"),
-            Words::Limit => write!(f, "a job has at most {MAX_BYTES} bytes"),
-            Words::Advice(advice) => f.write_str(advice),
+            ExplainedText::Line(explanation) => write_line(f, explanation),
+            ExplainedText::Expected(explanation) => write_expected(f, explanation),
+            ExplainedText::Place(explanation) => write_place(f, explanation),
+            ExplainedText::System(error) => write!(f, "{error}"),
+            ExplainedText::Limit => write!(f, "a job has at most {MAX_BYTES} bytes"),
+            ExplainedText::Advice(advice) => f.write_str(advice),
         }
     }
 }

@@ -86,7 +86,7 @@ impl<'a, H: Eprint + Clock> ProgressReport<'a, H> {
         Some(now)
     }
 
-    fn tell(&mut self, step: Step) {
+    fn tell(&mut self, step: ProgressStep) {
         let Some(now) = self.due() else {
             return;
         };
@@ -124,8 +124,8 @@ impl<H: Eprint + Clock> ReadWatch for ProgressReport<'_, H> {
     fn see_text(&mut self, count: usize, arcs: Option<(usize, usize)>) {
         self.bytes = self.bytes.saturating_add(count as u64);
         self.tell(match arcs {
-            Some((read, all)) => Step::Arcs(read, all),
-            None => Step::Bytes(self.bytes),
+            Some((read, all)) => ProgressStep::Arcs(read, all),
+            None => ProgressStep::Bytes(self.bytes),
         });
     }
 
@@ -151,7 +151,7 @@ impl<H: Eprint + Clock> Watch for ProgressReport<'_, H> {
         if self.began_queries.is_none() {
             self.began_queries = self.rt.monotonic().ok();
         }
-        self.tell(Step::Answered(done, all));
+        self.tell(ProgressStep::Answered(done, all));
     }
 
     fn end<C: Clock>(&mut self, clock: &C, phase: Phase) {
@@ -160,7 +160,7 @@ impl<H: Eprint + Clock> Watch for ProgressReport<'_, H> {
 }
 
 #[derive(Clone, Copy)]
-enum Step {
+enum ProgressStep {
     /// The bytes read, before the problem line.
     Bytes(u64),
     /// The arcs read, and all.
@@ -169,13 +169,13 @@ enum Step {
     Answered(usize, usize),
 }
 
-impl Step {
+impl ProgressStep {
     /// Estimates the time that is left, from the pace since the step began.
     fn left(self, spent: Duration) -> Option<Duration> {
         let (done, all) = match self {
-            Step::Bytes(_) => return None,
-            Step::Arcs(read, all) => (read as u128, all as u128),
-            Step::Answered(done, all) => (done as u128, all as u128),
+            ProgressStep::Bytes(_) => return None,
+            ProgressStep::Arcs(read, all) => (read as u128, all as u128),
+            ProgressStep::Answered(done, all) => (done as u128, all as u128),
         };
         if done == 0 || done >= all {
             return None;
@@ -185,12 +185,12 @@ impl Step {
     }
 }
 
-impl fmt::Display for Step {
+impl fmt::Display for ProgressStep {
     fn fmt<W: fmt::Write>(&self, f: &mut fmt::Formatter<W>) -> fmt::Result {
         match self {
-            Step::Bytes(bytes) => write!(f, "{} MiB read", bytes >> 20),
-            Step::Arcs(read, all) => write!(f, "{read} of {all} arcs read"),
-            Step::Answered(done, all) => write!(f, "{done} of {all} queries answered"),
+            ProgressStep::Bytes(bytes) => write!(f, "{} MiB read", bytes >> 20),
+            ProgressStep::Arcs(read, all) => write!(f, "{read} of {all} arcs read"),
+            ProgressStep::Answered(done, all) => write!(f, "{done} of {all} queries answered"),
         }
     }
 }
@@ -198,7 +198,7 @@ impl fmt::Display for Step {
 /// A line: how far the job is, its time, and how much longer the step may take.
 #[derive(Clone, Copy)]
 struct Line {
-    step: Step,
+    step: ProgressStep,
     spent: Duration,
     left: Option<Duration>,
 }

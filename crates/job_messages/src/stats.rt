@@ -6,12 +6,12 @@ use job_answer::Asked;
 use obim_engine::{Buckets, Settings};
 
 /// More buckets cost time: each is looked into again as workers go on.
-const MANY: u64 = 4000;
+const MANY_BUCKETS: u64 = 4000;
 
-/// With fewer buckets labels may fall again and again, if vertices are visited more than `OFTEN` hundredths of a time.
-const FEW: u64 = 20;
+/// With fewer buckets labels may fall again and again, if vertices are visited more often than `OFTEN_HUNDREDTHS`.
+const FEW_BUCKETS: u64 = 20;
 
-const OFTEN: u64 = 200;
+const OFTEN_HUNDREDTHS: u64 = 200;
 
 /// Prints a line for each figure and for each worker's visits, and a hint if the default shift would serve better.
 pub fn print_stats<H: Eprint>(rt: &H, asked: &Asked, figures: &Figures, counter: &Counter) {
@@ -61,5 +61,6 @@ fn hundredths(visits: u64, figures: &Figures) -> u64 {
 
 /// Tells if the given shift makes too many buckets, or so few that vertices are visited again and again.
 fn misfits(settings: &Settings, buckets: u64, rate: u64) -> bool {
-    settings.buckets != Buckets::Widening && (buckets > MANY || buckets < FEW && rate > OFTEN)
+    settings.buckets != Buckets::Widening
+        && (buckets > MANY_BUCKETS || buckets < FEW_BUCKETS && rate > OFTEN_HUNDREDTHS)
 }

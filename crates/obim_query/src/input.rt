@@ -3,7 +3,7 @@
 use std::io::{self, Read};
 
 /// The bytes of the stack between the process's start and what `main` calls.
-const APART: usize = 1 << 14;
+const STACK_GAP_BYTES: usize = 1 << 14;
 
 /// A reader that notes why it failed.
 #[derive(Drop)]
@@ -13,7 +13,7 @@ pub(crate) struct Input<R> {
     /// Nobody reads this. It keeps what `main` calls away from the stack of the process's start. There glibc 2.36, at
     /// the first allocation, reads the setting of large pages into memory that it doesn't clear. It would take other
     /// bytes for a setting.
-    _apart: [u8; APART],
+    _apart: [u8; STACK_GAP_BYTES],
 }
 
 impl<R> Input<R> {
@@ -21,7 +21,7 @@ impl<R> Input<R> {
         Input {
             inner,
             failure: None,
-            _apart: [0; APART],
+            _apart: [0; STACK_GAP_BYTES],
         }
     }
 }

@@ -30,9 +30,9 @@ use std::time::Clock;
 use std::{env, fmt};
 
 /// The status of a refused command line.
-const USAGE: u8 = 1;
+const USAGE_STATUS: u8 = 1;
 
-const REFUSED: u8 = 2;
+const REFUSED_STATUS: u8 = 2;
 
 /// The refusal to read a job from a terminal.
 const NO_JOB: &str = "no job: obim_query [OPTIONS] < JOB, or - to type it (see obim_query --help)";
@@ -74,7 +74,7 @@ fn arguments<H: AllocGlobal + Env + Eprint>(rt: &H) -> Result<Vec<String>, u8> {
         Err(error) if error.kind() == ErrorKind::InvalidData => Err(print_error(
             rt,
             "the command line is not UTF-8 text",
-            USAGE,
+            USAGE_STATUS,
         )),
         Err(_) => Err(print_fault(rt, Fault::Memory)),
     }
@@ -91,7 +91,7 @@ fn run<
         (W.contents output.old.inner) (W.contents output.new.inner) result }
 {
     match parse_options(rt.alloc(), words) {
-        Ok(options) if !options.typed && terminals.input => print_error(rt, NO_JOB, USAGE),
+        Ok(options) if !options.typed && terminals.input => print_error(rt, NO_JOB, USAGE_STATUS),
         Ok(options) if options.session => serve(rt, input, output, &options, terminals.error),
         Ok(options) => answer_job(rt, input, output, &options, terminals.error),
         Err(refusal) => print_refusal(rt, refusal),
@@ -104,7 +104,7 @@ fn print_refusal<H: Print + Eprint>(rt: &H, refusal: Refusal) -> u8
 {
     match refusal {
         Refusal::Text(text) => print_clap(rt, &text),
-        Refusal::Line(line) => print_error(rt, line, USAGE),
+        Refusal::Line(line) => print_error(rt, line, USAGE_STATUS),
         Refusal::Memory => print_fault(rt, Fault::Memory),
     }
 }
@@ -232,7 +232,7 @@ fn print_whole_fault<H: Eprint>(
     let status = print_fault(rt, fault);
     if options.explain {
         print_explanation(rt, fault, explanation, failure);
-    } else if is_terminal && status == REFUSED {
+    } else if is_terminal && status == REFUSED_STATUS {
         print_error(rt, HINT, status);
     }
     status
