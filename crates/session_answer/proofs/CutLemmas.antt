@@ -81,7 +81,7 @@ first_cut IsFirst IsWhole before after split cut = record {
       let prefix = cut.is_prefix parts.0 parts.2 in (
         prefix.0 ++ parts.1,
         parts.3
-            ∙ ap (λ (front : List ℕ). front ++ parts.1) prefix.1
+            ∙ ap (λ (initial : List ℕ). initial ++ parts.1) prefix.1
             ∙ append_assoc cut.given prefix.0 parts.1,
       );
   appended = cut.appended;
@@ -230,7 +230,7 @@ module _ (law : AnswerTextsByLinesAreUnique) (terms : Terms) where
         parts.1,
         parts.3,
         parts.4
-            ∙ ap (λ (front : List ℕ). front ++ parts.1)
+            ∙ ap (λ (initial : List ℕ). initial ++ parts.1)
             (one_of_all graph some parts.0 one.text parts.2 one.replied),
       ))
       one.written cut

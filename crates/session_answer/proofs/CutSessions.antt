@@ -10,15 +10,15 @@ use Rattle.dimacs_text.specs.Lines.{lines}
 use Rattle.request_reader.specs.Requests.{AreRequestsTo}
 use Rattle.job_answer.specs.Bytes.{Writes, WritesPrefix}
 use Rattle.job_answer.specs.Within.{AnswerTextsByLinesAreUnique}
-use Rattle.session_answer.specs.Conversations.{HasFront}
+use Rattle.session_answer.specs.Conversations.{HasInitialGraph}
 use Rattle.session_answer.specs.Cuts.{AreAllReplies, AreCutAfterBytes, AreRepliesCut, IsCutConversation, IsCutSession}
 use Rattle.session_answer.specs.Cuts.{MayFollow, TakesSome}
 use Rattle.session_answer.specs.Terms.{Terms}
 use Rattle.session_answer.specs.Replies.{AreReplies, IsAnswerIn}
 use Rattle.session_answer.specs.declared.conversation.Conversation.{Conversation}
-use Rattle.session_answer.specs.declared.graph_front.Front.{Front}
+use Rattle.session_answer.specs.declared.initial_graph.InitialGraph.{InitialGraph}
 use Rattle.session_answer.proofs.CutLemmas.{first_cut, heard_cut, one_answer, second_cut}
-use Rattle.session_answer.proofs.FrontLemmas.{IsFed}
+use Rattle.session_answer.proofs.InitialGraphLemmas.{IsFed}
 use Rattle.session_answer.proofs.WholeLemmas.{HasTaken}
 
 -- ---- while the graph is read
@@ -116,17 +116,17 @@ nothing_cut terms taken_from taken_to same some =
     record { text = some.bytes; taken = some.taken; given = inl (Keeps-refl same) }
 
 -- the lines of a graph, and those that follow
-front_parts : (limit : ℕ) (front : Front) (buffer : List ℕ) (taken_from taken_to : Option (List ℕ))
-    → (is : HasFront limit front buffer taken_from taken_to)
+front_parts : (limit : ℕ) (initial : InitialGraph) (buffer : List ℕ) (taken_from taken_to : Option (List ℕ))
+    → (is : HasInitialGraph limit initial buffer taken_from taken_to)
     → (more : List ℕ) → MayFollow taken_to more
     → (rest : List (List ℕ))
-    × (lines ((is.text ++ take (front.end - front.at) (drop front.at buffer)) ++ more) ≡ lines is.text ++ rest)
-front_parts limit front buffer taken_from taken_to is more may = by_end front.has_ended refl
+    × (lines ((is.text ++ take (initial.end - initial.at) (drop initial.at buffer)) ++ more) ≡ lines is.text ++ rest)
+front_parts limit initial buffer taken_from taken_to is more may = by_end initial.has_ended refl
   where
     last : List ℕ
-    last = take (front.end - front.at) (drop front.at buffer)
+    last = take (initial.end - initial.at) (drop initial.at buffer)
 
-    by_end : (b : Bool) → front.has_ended ≡ b
+    by_end : (b : Bool) → initial.has_ended ≡ b
         → (rest : List (List ℕ)) × (lines ((is.text ++ last) ++ more) ≡ lines is.text ++ rest)
     by_end false goes_on = (
       lines (last ++ more),
@@ -134,31 +134,31 @@ front_parts limit front buffer taken_from taken_to is more may = by_end front.ha
     )
     by_end true ended =
         let at_end = is.ended ended in
-        let nothing : front.end - front.at ≡ 0 = omega (arith, at_end.1) in (
+        let nothing : initial.end - initial.at ≡ 0 = omega (arith, at_end.1) in (
           [],
           ap (λ (bytes : List ℕ). lines ((is.text ++ last) ++ bytes)) (may at_end.0)
               ∙ ap (λ (bytes : List ℕ). lines bytes)
               (append-nil (is.text ++ last)
-              ∙ ap (λ k. is.text ++ take k (drop front.at buffer)) nothing
+              ∙ ap (λ k. is.text ++ take k (drop initial.at buffer)) nothing
               ∙ append-nil is.text)
               ∙ sym (append-nil (lines is.text)),
         )
 
 -- the reply to the graph was cut short
-pub greeting_cut : (limit : ℕ) (terms : Terms) (front : Front) (buffer : List ℕ)
+pub greeting_cut : (limit : ℕ) (terms : Terms) (initial : InitialGraph) (buffer : List ℕ)
     (taken_from taken_to given_from given_to : Option (List ℕ))
-    → HasFront limit front buffer taken_from taken_to
-    → WritesPrefix (IsAnswerIn terms (content_of front.graph) absent) given_from given_to
+    → HasInitialGraph limit initial buffer taken_from taken_to
+    → WritesPrefix (IsAnswerIn terms (content_of initial.graph) absent) given_from given_to
     → IsCutSession terms taken_from taken_to given_from given_to
-greeting_cut limit terms front buffer taken_from taken_to given_from given_to has cut = record {
-  text = has.text ++ take (front.end - front.at) (drop front.at buffer);
+greeting_cut limit terms initial buffer taken_from taken_to given_from given_to has cut = record {
+  text = has.text ++ take (initial.end - initial.at) (drop initial.at buffer);
   taken = has.taken;
   given = inr
       (λ more may.
-      let parts = front_parts limit front buffer taken_from taken_to has more may in
+      let parts = front_parts limit initial buffer taken_from taken_to has more may in
       record {
-        front = has.text;
-        graph = content_of front.graph;
+        initial = has.text;
+        graph = content_of initial.graph;
         is_graph = has.is_graph;
         rest = parts.0;
         parts = parts.1;
@@ -167,25 +167,25 @@ greeting_cut limit terms front buffer taken_from taken_to given_from given_to ha
         end = parts.0;
         requests = (refl, refl);
         replied =
-            first_cut (IsAnswerIn terms (content_of front.graph) absent)
-            (AreAllReplies terms (content_of front.graph) []) given_from given_to
+            first_cut (IsAnswerIn terms (content_of initial.graph) absent)
+            (AreAllReplies terms (content_of initial.graph) []) given_from given_to
             (λ text is. (is.greeting, is.later, is.greets, is.written)) cut;
       });
 }
 
 -- the replies to requests were cut short
 pub session_cut : AnswerTextsByLinesAreUnique
-    → (limit : ℕ) (terms : Terms) (front : Front) (buffer : List ℕ)
+    → (limit : ℕ) (terms : Terms) (initial : InitialGraph) (buffer : List ℕ)
     (taken_from between taken_to given_from middle given_to : Option (List ℕ))
-    → HasFront limit front buffer taken_from between → front.has_ended ≡ false
-    → Writes (IsAnswerIn terms (content_of front.graph) absent) given_from middle
-    → IsCutConversation terms (content_of front.graph) front.line
-    (take (front.end - front.at) (drop front.at buffer)) between taken_to middle given_to
+    → HasInitialGraph limit initial buffer taken_from between → initial.has_ended ≡ false
+    → Writes (IsAnswerIn terms (content_of initial.graph) absent) given_from middle
+    → IsCutConversation terms (content_of initial.graph) initial.line
+    (take (initial.end - initial.at) (drop initial.at buffer)) between taken_to middle given_to
     → IsCutSession terms taken_from taken_to given_from given_to
-session_cut law limit terms front buffer taken_from between taken_to given_from middle given_to has goes_on writes
+session_cut law limit terms initial buffer taken_from between taken_to given_from middle given_to has goes_on writes
     conversed =
-    let heard = take (front.end - front.at) (drop front.at buffer) in
-    let graph = content_of front.graph in
+    let heard = take (initial.end - initial.at) (drop initial.at buffer) in
+    let graph = content_of initial.graph in
     let more = conversed.more in
     record {
       text = has.text ++ (heard ++ more);
@@ -196,7 +196,7 @@ session_cut law limit terms front buffer taken_from between taken_to given_from 
           (λ later may.
           let cut = conversed.cut later may in
           record {
-            front = has.text;
+            initial = has.text;
             graph = graph;
             is_graph = has.is_graph;
             rest = lines (heard ++ (more ++ later));

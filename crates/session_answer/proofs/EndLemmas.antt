@@ -15,10 +15,10 @@ use Rattle.job_reader.specs.Request.{IsOfSystem}
 use Rattle.job_answer.specs.Choices.{fault_of_reading}
 use Rattle.job_answer.specs.Outcome.{IsWritingFault}
 use Rattle.request_reader.specs.Requests.{AreShort}
-use Rattle.session_answer.specs.declared.graph_front.Front.{Front}
-use Rattle.session_answer.specs.Conversations.{HasFront}
+use Rattle.session_answer.specs.declared.initial_graph.InitialGraph.{InitialGraph}
+use Rattle.session_answer.specs.Conversations.{HasInitialGraph}
 use Rattle.session_answer.specs.Cuts.{EndsAfterGraph, EndsBy, EndsShort, IsFaultOfGraph, MayFollow}
-use Rattle.session_answer.proofs.FrontLemmas.{IsFed}
+use Rattle.session_answer.proofs.InitialGraphLemmas.{IsFed}
 
 -- a fault of writing says nothing of the text
 pub writing_ends : (limit : ℕ) (taken_from taken_to : Option (List ℕ)) (kind : Fault) → IsWritingFault kind
@@ -75,21 +75,21 @@ ends_short n first heard more taken_from taken_to fault.Spawn takes ended is = i
 ends_short n first heard more taken_from taken_to fault.Write takes ended is = is
 
 -- after a graph
-pub after_graph_ends : (limit : ℕ) (front : Front) (buffer : List ℕ) (taken_from between taken_to : Option (List ℕ))
+pub after_graph_ends : (limit : ℕ) (initial : InitialGraph) (buffer : List ℕ) (taken_from between taken_to : Option (List ℕ))
     (kind : Fault)
-    → limit ≤ 2 ^ 36 → HasFront limit front buffer taken_from between → front.has_ended ≡ false
-    → EndsAfterGraph front.graph.n front.line (take (front.end - front.at) (drop front.at buffer)) between taken_to kind
+    → limit ≤ 2 ^ 36 → HasInitialGraph limit initial buffer taken_from between → initial.has_ended ≡ false
+    → EndsAfterGraph initial.graph.n initial.line (take (initial.end - initial.at) (drop initial.at buffer)) between taken_to kind
     → EndsBy limit taken_from taken_to kind
-after_graph_ends limit front buffer taken_from between taken_to fault.Read low has goes_on is = tt
-after_graph_ends limit front buffer taken_from between taken_to fault.TooLong low has goes_on is =
-    let before = has.text ++ take (front.end - front.at) (drop front.at buffer) in
+after_graph_ends limit initial buffer taken_from between taken_to fault.Read low has goes_on is = tt
+after_graph_ends limit initial buffer taken_from between taken_to fault.TooLong low has goes_on is =
+    let before = has.text ++ take (initial.end - initial.at) (drop initial.at buffer) in
     record {
       bytes = before ++ is.bytes;
       taken = Consumes-trans taken_from between taken_to before is.bytes has.taken is.taken;
       many = omega (arith, low, is.many, length-append before is.bytes);
     }
-after_graph_ends limit front buffer taken_from between taken_to (fault.Text line kind) low has goes_on is =
-    let heard = take (front.end - front.at) (drop front.at buffer) in
+after_graph_ends limit initial buffer taken_from between taken_to (fault.Text line kind) low has goes_on is =
+    let heard = take (initial.end - initial.at) (drop initial.at buffer) in
     let more = is.0 in
     inr (record {
       text = has.text ++ (heard ++ more);
@@ -99,22 +99,22 @@ after_graph_ends limit front buffer taken_from between taken_to (fault.Text line
             (Consumes-trans taken_from between taken_to (has.text ++ heard) more has.taken is.1.taken);
         ended = is.1.ended;
       };
-      front = has.text;
-      graph = content_of front.graph;
+      initial = has.text;
+      graph = content_of initial.graph;
       is_graph = has.is_graph;
       rest = lines (heard ++ more);
       parts = has.joined goes_on (heard ++ more);
       outcomes = is.2.0.0;
       short =
-          subst (λ first. AreShort front.graph.n first (lines (heard ++ more)) is.2.0.0 line) (has.number goes_on)
+          subst (λ first. AreShort initial.graph.n first (lines (heard ++ more)) is.2.0.0 line) (has.number goes_on)
           is.2.0.1;
       kind_is = is.2.1;
     })
-after_graph_ends limit front buffer taken_from between taken_to fault.NoAsk low has goes_on is = is
-after_graph_ends limit front buffer taken_from between taken_to fault.NoSources low has goes_on is = is
-after_graph_ends limit front buffer taken_from between taken_to fault.Memory low has goes_on is = tt
-after_graph_ends limit front buffer taken_from between taken_to fault.Spawn low has goes_on is = tt
-after_graph_ends limit front buffer taken_from between taken_to fault.Write low has goes_on is = tt
+after_graph_ends limit initial buffer taken_from between taken_to fault.NoAsk low has goes_on is = is
+after_graph_ends limit initial buffer taken_from between taken_to fault.NoSources low has goes_on is = is
+after_graph_ends limit initial buffer taken_from between taken_to fault.Memory low has goes_on is = tt
+after_graph_ends limit initial buffer taken_from between taken_to fault.Spawn low has goes_on is = tt
+after_graph_ends limit initial buffer taken_from between taken_to fault.Write low has goes_on is = tt
 
 -- each of so many reads took a byte at least
 pub record TakesEach (count : ℕ) (before after : Option (List ℕ)) : Type 0 where
@@ -148,44 +148,44 @@ graph_fault_ends limit before after text fault.Write takes says = absurd (says [
 
 -- the fault was found in what was read last, or before it
 pub open_ends : (old job : JobReader) (limit left : ℕ) (before between after : Option (List ℕ)) (buffer : List ℕ)
-    (at count : ℕ) (result : Result Front Fault)
+    (at count : ℕ) (result : Result InitialGraph Fault)
     → limit ≤ 2 ^ 36 → IsFed old limit left before between → Consumes between after (take count buffer)
     → count ≤ length buffer → count ≤ left → at ≤ count → Reads old job (take at (take count buffer))
     → ((text more : List ℕ) → HasRead job text → IfErr result (IsFaultOfGraph (text ++ more)))
     → IfErr result (EndsBy limit before after)
-open_ends old job limit left before between after buffer at count (Ok front) low fed takes room few place reads says = tt
+open_ends old job limit left before between after buffer at count (Ok initial) low fed takes room few place reads says = tt
 open_ends old job limit left before between after buffer at count (Err kind) low fed takes room few place reads says =
     let came = take count buffer in
-    let front = take at came in
+    let initial = take at came in
     let rest = drop at came in
     let fed_now = length-take-le at came (omega (arith, place, length-take-le count buffer room)) in
-    let read : HasRead job (fed.text ++ front) =
+    let read : HasRead job (fed.text ++ initial) =
     reads fed.text fed.read (omega (arith, low, fed.count, fed_now, place, few)) in
-    let all : fed.text ++ came ≡ (fed.text ++ front) ++ rest =
-    ap (λ bytes. fed.text ++ bytes) (sym (take-append-drop at came)) ∙ sym (append_assoc fed.text front rest) in
+    let all : fed.text ++ came ≡ (fed.text ++ initial) ++ rest =
+    ap (λ bytes. fed.text ++ bytes) (sym (take-append-drop at came)) ∙ sym (append_assoc fed.text initial rest) in
     graph_fault_ends limit before after (fed.text ++ came) kind
     (Consumes-trans before between after fed.text came fed.taken takes)
     (λ more may.
     subst (λ bytes. IsFaultOfGraph bytes kind)
-    (sym (ap (λ bytes. bytes ++ more) all ∙ append_assoc (fed.text ++ front) rest more))
-    (says (fed.text ++ front) (rest ++ more) read))
+    (sym (ap (λ bytes. bytes ++ more) all ∙ append_assoc (fed.text ++ initial) rest more))
+    (says (fed.text ++ initial) (rest ++ more) read))
 
 -- it was found by threads
-pub whole_ends : (job : JobReader) (limit left : ℕ) (before after : Option (List ℕ)) (result : Result Front Fault)
+pub whole_ends : (job : JobReader) (limit left : ℕ) (before after : Option (List ℕ)) (result : Result InitialGraph Fault)
     → IsFed job limit left before after
     → ((text more : List ℕ) → HasRead job text → IfErr result (IsFaultOfGraph (text ++ more)))
     → IfErr result (EndsBy limit before after)
-whole_ends job limit left before after (Ok front) fed says = tt
+whole_ends job limit left before after (Ok initial) fed says = tt
 whole_ends job limit left before after (Err kind) fed says =
     graph_fault_ends limit before after fed.text kind fed.taken (λ more may. says fed.text more fed.read)
 
 -- the input has ended
 pub ended_ends : (job : JobReader) (limit left : ℕ) (before between after : Option (List ℕ)) (buffer : List ℕ) (count : ℕ)
-    (result : Result Front Fault)
+    (result : Result InitialGraph Fault)
     → IsFed job limit left before between → Consumes between after (take count buffer) → count ≡ 0 → IsAtEnd after
     → ((text : List ℕ) → HasRead job text → IfErr result (IsFaultOfGraph text))
     → IfErr result (EndsBy limit before after)
-ended_ends job limit left before between after buffer count (Ok front) fed takes none ended says = tt
+ended_ends job limit left before between after buffer count (Ok initial) fed takes none ended says = tt
 ended_ends job limit left before between after buffer count (Err kind) fed takes none ended says =
     let nothing : fed.text ++ take count buffer ≡ fed.text =
     ap (λ k. fed.text ++ take k buffer) none ∙ append-nil fed.text in

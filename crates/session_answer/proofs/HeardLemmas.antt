@@ -56,12 +56,12 @@ take_split (suc at) count (b ∷ bs) =
 pub taken_line : (bytes : List ℕ) (at end : ℕ) → at ≤ end → end < length bytes → slice_index bytes end ≡ 10
     → take at bytes ++ (take (end - at) (drop at bytes) ++ 10 ∷ []) ≡ take (end + 1) bytes
 taken_line bytes at end before inside feed =
-    let front : take end bytes ≡ take at bytes ++ take (end - at) (drop at bytes) =
+    let initial : take end bytes ≡ take at bytes ++ take (end - at) (drop at bytes) =
     ap (λ k. take k bytes) (omega (arith, before)) ∙ take_split at (end - at) bytes in
     let last : take 1 (drop end bytes) ≡ 10 ∷ [] =
     ap (λ rest. take 1 rest) (drop_next bytes end inside) ∙ ap (λ b. b ∷ []) feed in
     sym (append_assoc (take at bytes) (take (end - at) (drop at bytes)) (10 ∷ []))
-    ∙ ap (λ (some : List ℕ). some ++ 10 ∷ []) (sym front)
+    ∙ ap (λ (some : List ℕ). some ++ 10 ∷ []) (sym initial)
     ∙ ap (λ (some : List ℕ). take end bytes ++ some) (sym last)
     ∙ sym (take_split end 1 bytes)
 

@@ -1,6 +1,6 @@
 pub mod ReplyLemmas
 pub mod HeardLemmas
-pub mod FrontLemmas
+pub mod InitialGraphLemmas
 pub mod WholeLemmas
 pub mod CutLemmas
 pub mod CutSessions

@@ -19,12 +19,12 @@ use Rattle.job_answer.proofs.Facts.{along-kind, appends-then}
 use Rattle.session_answer.specs.Conversations.{Replies, graph_of}
 use Rattle.session_answer.specs.Terms.{Terms}
 use Rattle.session_answer.specs.Replies.{AreReplies, HoldsGraph, HoldsKind, IsAnswerIn, IsAskedIn, IsGrownReply, IsReplyFor, IsReplyTo}
-use Rattle.session_answer.specs.Replies.{IsRequestWithin, IsTold, added_line, graph_after, grown_by}
+use Rattle.session_answer.specs.Replies.{IsRequestWithin, IsReplied, added_line, graph_after, grown_by}
 use Rattle.session_answer.specs.Replies.{out_of_memory}
 use Rattle.session_answer.specs.declared.kind_graph.KindGraph.{KindGraph}
 use Rattle.session_answer.specs.declared.session.Session.{Session}
-use Rattle.session_answer.specs.declared.kind_graph.Told.{Told}
-use Rattle.session_answer.specs.declared.kind_graph.Told.TheVariants as told
+use Rattle.session_answer.specs.declared.kind_graph.ReplyOutcome.{ReplyOutcome}
+use Rattle.session_answer.specs.declared.kind_graph.ReplyOutcome.TheVariants as reply_outcome
 
 -- no bytes are given
 pub no_bytes : (bytes : Option (List ℕ)) → Appends bytes bytes []
@@ -58,11 +58,11 @@ pub replies_both : (terms : Terms) (graph : Content) (some more : List Outcome)
     → AreReplies terms graph some text → AreReplies terms (graph_of graph some) more next
     → AreReplies terms graph (some ++ more) (text ++ next)
 replies_both terms graph [] more text next none replied =
-    subst (λ (front : List ℕ). AreReplies terms graph more (front ++ next)) (sym none) replied
+    subst (λ (initial : List ℕ). AreReplies terms graph more (initial ++ next)) (sym none) replied
 replies_both terms graph (outcome ∷ some) more text next (first, rest, parts, reply, later) replied = (
   first,
   rest ++ next,
-  ap (λ (front : List ℕ). front ++ next) parts ∙ append_assoc first rest next,
+  ap (λ (initial : List ℕ). initial ++ next) parts ∙ append_assoc first rest next,
   reply,
   replies_both terms (graph_after graph outcome) some more rest next later replied,
 )
@@ -81,43 +81,43 @@ replies_then terms graph some more between session first second third one two = 
 
 -- ---- whether a reply was given
 
-pub told_whole : (t : Told) (P Q : Type 0) → t ≡ told.Whole → IsTold t P Q → P
-told_whole t P Q is what = subst (λ x. IsTold x P Q) is what
+pub reply_written : (t : ReplyOutcome) (P Q : Type 0) → t ≡ reply_outcome.Written → IsReplied t P Q → P
+reply_written t P Q is what = subst (λ x. IsReplied x P Q) is what
 
-pub told_nothing : (t : Told) (P Q : Type 0) → t ≡ told.Nothing → IsTold t P Q → Q
-told_nothing t P Q is what = subst (λ x. IsTold x P Q) is what
+pub reply_not_started : (t : ReplyOutcome) (P Q : Type 0) → t ≡ reply_outcome.NotStarted → IsReplied t P Q → Q
+reply_not_started t P Q is what = subst (λ x. IsReplied x P Q) is what
 
-pub told_weaker : (t : Told) (P Q R S : Type 0) → (P → R) → (Q → S) → IsTold t P Q → IsTold t R S
-told_weaker told.Whole P Q R S f g what = f what
-told_weaker told.Nothing P Q R S f g what = g what
+pub replied_weaker : (t : ReplyOutcome) (P Q R S : Type 0) → (P → R) → (Q → S) → IsReplied t P Q → IsReplied t R S
+replied_weaker reply_outcome.Written P Q R S f g what = f what
+replied_weaker reply_outcome.NotStarted P Q R S f g what = g what
 
 pub if_ok : {T E : Type 0} (P Q : T → Type 0) (r : Result T E) → ((x : T) → P x → Q x) → IfOk r P → IfOk r Q
 if_ok P Q (Ok x) weaker is = weaker x is
 if_ok P Q (Err fault) weaker is = tt
 
 -- what a request comes to: its reply was given, or nothing
-pub reply_told : {E : Type 0} (terms : Terms) (graph : Content) (outcome : Outcome)
-    (session : Session) (before after : Option (List ℕ)) (result : Result Told E)
+pub replied_once : {E : Type 0} (terms : Terms) (graph : Content) (outcome : Outcome)
+    (session : Session) (before after : Option (List ℕ)) (result : Result ReplyOutcome E)
     → IfOk result
-    (λ t. IsTold t (Writes (IsReplyFor terms graph outcome) before after) (Appends before after []))
-    → IfOk result (λ t. IsTold t (HoldsGraph (graph_after graph outcome) session) (HoldsGraph graph session))
+    (λ t. IsReplied t (Writes (IsReplyFor terms graph outcome) before after) (Appends before after []))
+    → IfOk result (λ t. IsReplied t (HoldsGraph (graph_after graph outcome) session) (HoldsGraph graph session))
     → IfOk result
     (λ t.
-    IsTold t (Replies terms graph (outcome ∷ []) session before after)
+    IsReplied t (Replies terms graph (outcome ∷ []) session before after)
     (Replies terms graph [] session before after))
-reply_told terms graph outcome session before after (Ok told.Whole) written holds = record {
+replied_once terms graph outcome session before after (Ok reply_outcome.Written) written holds = record {
   text = written.text;
   replied = (written.text, [], sym (append-nil written.text), written.is_text, refl);
   written = written.appended;
   holds = holds;
 }
-reply_told terms graph outcome session before after (Ok told.Nothing) none holds = record {
+replied_once terms graph outcome session before after (Ok reply_outcome.NotStarted) none holds = record {
   text = [];
   replied = refl;
   written = none;
   holds = holds;
 }
-reply_told terms graph outcome session before after (Err fault) written holds = tt
+replied_once terms graph outcome session before after (Err fault) written holds = tt
 
 -- the reply to a question
 pub plain_reply : (terms : Terms) (graph asked : Content) (text : List ℕ)
@@ -158,10 +158,10 @@ pub refused_reply : (terms : Terms) (graph : Content) (line : ℕ) (session : Se
     (before after : Option (List ℕ))
     → HoldsGraph graph session → Appends before after (refusal_text line out_of_memory)
     → Replies terms graph (no_memory line ∷ []) session before after
-refused_reply terms graph line session before after holds told = record {
+refused_reply terms graph line session before after holds reply = record {
   text = refusal_text line out_of_memory;
   replied = (refusal_text line out_of_memory, [], sym (append-nil (refusal_text line out_of_memory)), refl, refl);
-  written = told;
+  written = reply;
   holds = holds;
 }
 

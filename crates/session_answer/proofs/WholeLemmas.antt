@@ -12,8 +12,8 @@ use Rattle.job_answer.specs.Bytes.{Writes}
 use Rattle.job_answer.specs.declared.fault.Fault.{Fault}
 use Rattle.job_answer.proofs.Facts.{appends-then}
 use Rattle.session_answer.specs.declared.conversation.Conversation.{Conversation}
-use Rattle.session_answer.specs.declared.graph_front.Front.{Front}
-use Rattle.session_answer.specs.Conversations.{AreAnswered, HasConversed, HasFront, HasHeard, IsAnsweredSession, IsKeptOf}
+use Rattle.session_answer.specs.declared.initial_graph.InitialGraph.{InitialGraph}
+use Rattle.session_answer.specs.Conversations.{AreAnswered, HasConversed, HasInitialGraph, HasHeard, IsAnsweredSession, IsKeptOf}
 use Rattle.session_answer.specs.Terms.{Terms}
 use Rattle.session_answer.specs.Replies.{HoldsGraph, IsAnswerIn}
 use Rattle.session_answer.proofs.ReplyLemmas.{no_bytes}
@@ -88,26 +88,26 @@ begins_heard terms graph first conversation written outside none requests vertic
 }
 
 -- the input ends with the graph
-pub session_ended : (limit : ℕ) (terms : Terms) (front : Front) (buffer : List ℕ)
+pub session_ended : (limit : ℕ) (terms : Terms) (initial : InitialGraph) (buffer : List ℕ)
     (taken_from taken_to given_from given_to : Option (List ℕ))
-    → HasFront limit front buffer taken_from taken_to → front.has_ended ≡ true
-    → Writes (IsAnswerIn terms (content_of front.graph) absent) given_from given_to
+    → HasInitialGraph limit initial buffer taken_from taken_to → initial.has_ended ≡ true
+    → Writes (IsAnswerIn terms (content_of initial.graph) absent) given_from given_to
     → IsAnsweredSession limit terms taken_from taken_to given_from given_to
-session_ended limit terms front buffer taken_from taken_to given_from given_to has ended writes =
+session_ended limit terms initial buffer taken_from taken_to given_from given_to has ended writes =
     let last = has.ended ended in
-    let nothing : front.end - front.at ≡ 0 = omega (arith, last.1) in
+    let nothing : initial.end - initial.at ≡ 0 = omega (arith, last.1) in
     record {
       text = has.text;
       whole = record {
         taken =
             subst (λ bytes. Consumes taken_from taken_to bytes)
-            (ap (λ k. has.text ++ take k (drop front.at buffer)) nothing ∙ append-nil has.text) has.taken;
+            (ap (λ k. has.text ++ take k (drop initial.at buffer)) nothing ∙ append-nil has.text) has.taken;
         ended = last.0;
       };
       replies = writes.text;
       session = record {
-        front = has.text;
-        graph = content_of front.graph;
+        initial = has.text;
+        graph = content_of initial.graph;
         is_graph = has.is_graph;
         rest = [];
         parts = sym (append-nil (lines has.text));
@@ -124,19 +124,19 @@ session_ended limit terms front buffer taken_from taken_to given_from given_to h
     }
 
 -- requests come after it
-pub session_whole : {T : Type 0} (limit : ℕ) (terms : Terms) (front : Front) (buffer : List ℕ)
+pub session_whole : {T : Type 0} (limit : ℕ) (terms : Terms) (initial : InitialGraph) (buffer : List ℕ)
     (taken_from between taken_to given_from middle given_to : Option (List ℕ)) (result : Result T Fault)
-    → HasFront limit front buffer taken_from between → front.has_ended ≡ false
-    → Writes (IsAnswerIn terms (content_of front.graph) absent) given_from middle
+    → HasInitialGraph limit initial buffer taken_from between → initial.has_ended ≡ false
+    → Writes (IsAnswerIn terms (content_of initial.graph) absent) given_from middle
     → OnOk result
-    (HasConversed terms (content_of front.graph) front.line
-    (take (front.end - front.at) (drop front.at buffer)) between taken_to middle given_to)
+    (HasConversed terms (content_of initial.graph) initial.line
+    (take (initial.end - initial.at) (drop initial.at buffer)) between taken_to middle given_to)
     → OnOk result (IsAnsweredSession limit terms taken_from taken_to given_from given_to)
-session_whole limit terms front buffer taken_from between taken_to given_from middle given_to (Err fault) has goes_on
+session_whole limit terms initial buffer taken_from between taken_to given_from middle given_to (Err fault) has goes_on
     writes conversed = tt
-session_whole limit terms front buffer taken_from between taken_to given_from middle given_to (Ok done) has goes_on
+session_whole limit terms initial buffer taken_from between taken_to given_from middle given_to (Ok done) has goes_on
     writes conversed =
-    let heard = take (front.end - front.at) (drop front.at buffer) in
+    let heard = take (initial.end - initial.at) (drop initial.at buffer) in
     let more = conversed.more in
     record {
       text = has.text ++ (heard ++ more);
@@ -148,15 +148,15 @@ session_whole limit terms front buffer taken_from between taken_to given_from mi
       };
       replies = writes.text ++ conversed.answered.replies;
       session = record {
-        front = has.text;
-        graph = content_of front.graph;
+        initial = has.text;
+        graph = content_of initial.graph;
         is_graph = has.is_graph;
         rest = lines (heard ++ more);
         parts = has.joined goes_on (heard ++ more);
         outcomes = conversed.answered.outcomes;
         requests =
             subst
-            (λ first. AreRequests front.graph.n first (lines (heard ++ more)) conversed.answered.outcomes)
+            (λ first. AreRequests initial.graph.n first (lines (heard ++ more)) conversed.answered.outcomes)
             (has.number goes_on) conversed.answered.requests;
         greeting = writes.text;
         greets = writes.is_text;

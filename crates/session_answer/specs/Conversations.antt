@@ -10,7 +10,7 @@ use Rattle.request_reader.specs.Reading.{HasRequests, vertices_of}
 use Rattle.request_reader.specs.Requests.{Outcome, AreRequests}
 use Rattle.session_answer.specs.Terms.{Terms}
 use Rattle.session_answer.specs.declared.conversation.Conversation.{Conversation}
-use Rattle.session_answer.specs.declared.graph_front.Front.{Front}
+use Rattle.session_answer.specs.declared.initial_graph.InitialGraph.{InitialGraph}
 use Rattle.session_answer.specs.declared.session.Session.{Session}
 use Rattle.session_answer.specs.Replies.{AreKept, AreReplies, HoldsGraph, IsSession, graph_after, vertices_in}
 
@@ -36,7 +36,7 @@ pub record HasRepliedTo (terms : Terms) (graph : Content) (first : ℕ)
   pub replied : Replies terms graph outcomes conversation.session before after
 
 -- what is so of every session: the reader of requests has read some lines, and knows how many vertices there are
-pub record IsKept (conversation : Conversation) : Type 0 where
+pub record IsConsistent (conversation : Conversation) : Type 0 where
   pub kept : AreKept conversation.session
   pub first : ℕ
   pub ls : List (List ℕ)
@@ -79,14 +79,14 @@ pub record HasConversed (terms : Terms) (graph : Content) (first : ℕ) (heard :
 
 -- A graph was read, within the limit, and of the bytes that were taken those in the buffer come after it. Or the input
 -- has ended.
-pub record HasFront (limit : ℕ) (front : Front) (buffer : List ℕ) (before after : Option (List ℕ)) : Type 0 where
+pub record HasInitialGraph (limit : ℕ) (initial : InitialGraph) (buffer : List ℕ) (before after : Option (List ℕ)) : Type 0 where
   pub text : List ℕ
   pub few : length text ≤ limit
-  pub is_graph : IsGraphText text (content_of front.graph)
-  pub number : front.has_ended ≡ false → front.line ≡ length (lines text) + 1
-  pub joined : front.has_ended ≡ false → (more : List ℕ) → lines (text ++ more) ≡ lines text ++ lines more
-  pub taken : Consumes before after (text ++ take (front.end - front.at) (drop front.at buffer))
-  pub ended : front.has_ended ≡ true → IsAtEnd after × (front.end ≡ front.at)
+  pub is_graph : IsGraphText text (content_of initial.graph)
+  pub number : initial.has_ended ≡ false → initial.line ≡ length (lines text) + 1
+  pub joined : initial.has_ended ≡ false → (more : List ℕ) → lines (text ++ more) ≡ lines text ++ lines more
+  pub taken : Consumes before after (text ++ take (initial.end - initial.at) (drop initial.at buffer))
+  pub ended : initial.has_ended ≡ true → IsAtEnd after × (initial.end ≡ initial.at)
 
 -- the whole text was taken, it is that of a session, whose graph is within the limit, and exactly its replies were given
 pub record IsAnsweredSession (limit : ℕ) (terms : Terms) (taken_from taken_to given_from given_to : Option (List ℕ)) : Type 0 where
@@ -94,5 +94,5 @@ pub record IsAnsweredSession (limit : ℕ) (terms : Terms) (taken_from taken_to 
   pub whole : TakesWhole taken_from taken_to text
   pub replies : List ℕ
   pub session : IsSession terms text replies
-  pub few : length session.front ≤ limit
+  pub few : length session.initial ≤ limit
   pub written : Appends given_from given_to replies

@@ -75,15 +75,15 @@ pub record AreAllReplies (terms : Terms) (graph : Content) (outcomes : List Outc
 -- graph and to these requests was given, and nothing else.
 pub record IsSessionBegun (terms : Terms) (text : List ℕ)
     (before after : Option (List ℕ)) : Type 0 where
-  pub front : List ℕ
+  pub initial : List ℕ
   pub graph : Content
-  pub is_graph : IsGraphText front graph
+  pub is_graph : IsGraphText initial graph
   pub rest : List (List ℕ)
-  pub parts : lines text ≡ lines front ++ rest
+  pub parts : lines text ≡ lines initial ++ rest
   pub outcomes : List Outcome
   pub next : ℕ
   pub end : List (List ℕ)
-  pub requests : AreRequestsTo graph.n next end (length (lines front) + 1) rest outcomes
+  pub requests : AreRequestsTo graph.n next end (length (lines initial) + 1) rest outcomes
   pub replied : WritesPrefix (AreAllReplies terms graph outcomes) before after
 
 -- This text was taken. Nothing was given; or whatever follows, all of it begins with a graph and some requests, and a
@@ -120,13 +120,13 @@ pub record IsFaultyGraph (taken_from taken_to : Option (List ℕ)) (line : ℕ) 
 pub record IsShortSession (taken_from taken_to : Option (List ℕ)) (line : ℕ) (kind : LineKind) : Type 0 where
   pub text : List ℕ
   pub whole : TakesWhole taken_from taken_to text
-  pub front : List ℕ
+  pub initial : List ℕ
   pub graph : Content
-  pub is_graph : IsGraphText front graph
+  pub is_graph : IsGraphText initial graph
   pub rest : List (List ℕ)
-  pub parts : lines text ≡ lines front ++ rest
+  pub parts : lines text ≡ lines initial ++ rest
   pub outcomes : List Outcome
-  pub short : AreShort graph.n (length (lines front) + 1) rest outcomes line
+  pub short : AreShort graph.n (length (lines initial) + 1) rest outcomes line
   pub kind_is : kind ≡ TooFew
 
 -- What the fault says with which a session ends. A fault of the text is that of the graph, or of the last request.

@@ -20,8 +20,8 @@ use Rattle.job_answer.specs.Outcome.{is_unasked}
 use Rattle.job_answer.specs.Within.{IsAnswerTextBy}
 use Rattle.session_answer.specs.declared.kind_graph.KindGraph.{KindGraph}
 use Rattle.session_answer.specs.declared.session.Session.{Session}
-use Rattle.session_answer.specs.declared.kind_graph.Told.{Told}
-use Rattle.session_answer.specs.declared.kind_graph.Told.TheVariants as told
+use Rattle.session_answer.specs.declared.kind_graph.ReplyOutcome.{ReplyOutcome}
+use Rattle.session_answer.specs.declared.kind_graph.ReplyOutcome.TheVariants as reply_outcome
 use Rattle.session_answer.specs.Terms.{Terms, lines_for, terms_by}
 
 -- ---- the reply to a request that is whole
@@ -102,9 +102,9 @@ IsRequestWithin n (request.Wrong line what) = ⊤
 IsRequestWithin n (request.NoMemory line) = ⊤
 
 -- what is so where a reply was given whole, and what where nothing was given nor done
-abbrev pub IsTold : Told → Type 0 → Type 0 → Type 0
-IsTold told.Whole p q = p
-IsTold told.Nothing p q = q
+abbrev pub IsReplied : ReplyOutcome → Type 0 → Type 0 → Type 0
+IsReplied reply_outcome.Written p q = p
+IsReplied reply_outcome.NotStarted p q = q
 
 -- the request is whole
 abbrev pub IsAsked : Request → Type 0
@@ -159,13 +159,13 @@ AreReplies terms graph (outcome ∷ outcomes) text =
 
 -- The text is that of a graph and then of requests, and these are the replies to the graph and to each of them.
 pub record IsSession (terms : Terms) (text replies : List ℕ) : Type 0 where
-  pub front : List ℕ
+  pub initial : List ℕ
   pub graph : Content
-  pub is_graph : IsGraphText front graph
+  pub is_graph : IsGraphText initial graph
   pub rest : List (List ℕ)
-  pub parts : lines text ≡ lines front ++ rest
+  pub parts : lines text ≡ lines initial ++ rest
   pub outcomes : List Outcome
-  pub requests : AreRequests graph.n (length (lines front) + 1) rest outcomes
+  pub requests : AreRequests graph.n (length (lines initial) + 1) rest outcomes
   pub greeting : List ℕ
   pub greets : IsAnswerIn terms graph absent greeting
   pub later : List ℕ

@@ -2,13 +2,13 @@
 
 ghost use Rattle.std.specs.Prelude.{◌<◌, ◌≤◌, ◌^◌, ℕ, List, [], Option, IfErr, IfOk, OnErr, OnOk, length};
 ghost use Rattle.dimacs_text.specs.Jobs.{content_of, Content, IsWithinLimits};
-ghost use Rattle.session_answer.specs.Conversations.{HasConversed, HasHeard, IsAnsweredSession, IsKept};
+ghost use Rattle.session_answer.specs.Conversations.{HasConversed, HasHeard, IsAnsweredSession, IsConsistent};
 ghost use Rattle.session_answer.specs.Cuts.{EndsAfterGraph, EndsBy, IsCutConversation, IsCutSession};
 ghost use Rattle.session_answer.specs.Replies.{AreKept, HoldsGraph, vertices_in};
 ghost use Rattle.session_answer.specs.Terms.{Terms, terms_of};
 
 use crate::conversation::Conversation;
-use crate::graph_front::{Front, read_front, read_some};
+use crate::initial_graph::{InitialGraph, read_initial_graph, read_some};
 use crate::session::Session;
 use dimacs_text::Ask;
 use job_answer::laws::answer_texts_by_lines_are_unique;
@@ -23,7 +23,7 @@ use std::thread::Threads;
 use std::time::Clock;
 
 /// The most bytes of a read.
-const ROOM: usize = 1 << 16;
+const MAX_READ_BYTES: usize = 1 << 16;
 
 /// Reads a graph, and replies to it and to each request after it as soon as its last line has come, up to the end of
 /// what the reader gives. A fault of the graph ends it at once; one of a request is replied to in one line.
@@ -55,7 +55,7 @@ pub fn answer_session<H: Threads + Wait + Clock + Sync, R: Read, W: Write, G: Ga
         asked: &asked,
         gate,
     };
-    let mut buffer = vec![in alloc; 0; ROOM]?;
+    let mut buffer = vec![in alloc; 0; MAX_READ_BYTES]?;
     answer_by(&context, reader, writer, &mut buffer)
 }
 
@@ -78,9 +78,9 @@ fn answer_by<H: Threads + Wait + Clock + Sync, R: Read, W: Write, G: Gate + Sync
     answer_texts_by_lines_are_unique();
     let threads = context.asked.settings.workers as usize;
     let (rt, alloc) = (context.rt, context.alloc);
-    let front = read_front(rt, alloc, reader, buffer, context.asked.limit, threads)?;
-    let (at, end, has_ended, line) = (front.at, front.end, front.has_ended, front.line);
-    let mut session = Session::open(rt, alloc, front.graph, threads)?;
+    let initial = read_initial_graph(rt, alloc, reader, buffer, context.asked.limit, threads)?;
+    let (at, end, has_ended, line) = (initial.at, initial.end, initial.has_ended, initial.line);
+    let mut session = Session::open(rt, alloc, initial.graph, threads)?;
     session.answer(context, writer, &Ask::Absent, &mut None)?;
     if has_ended {
         return Ok(());
@@ -93,7 +93,7 @@ fn answer_by<H: Threads + Wait + Clock + Sync, R: Read, W: Write, G: Gate + Sync
 /// Begins the conversation about a graph. The next line has this number.
 fn open_conversation(alloc: Global, session: Session, line: u64) -> Conversation
     requires kept { AreKept session }
-    ensures kept { IsKept result }
+    ensures kept { IsConsistent result }
     ensures heard { (terms : Terms) (graph : Content) (written : Option (List ℕ)) → HoldsGraph graph session
         → HasHeard terms graph line result [] written written }
 {
@@ -115,7 +115,7 @@ fn converse<H: Threads + Wait + Clock + Sync, R: Read, W: Write, G: Gate + Sync>
     buffer: &mut [u8],
     conversation: &mut Conversation,
 ) -> Result<(), Fault>
-    requires kept { IsKept conversation.old }
+    requires kept { IsConsistent conversation.old }
     requires room { 0 < length buffer.old }
     ensures conversed { (graph : Content) (first : ℕ) (heard : List ℕ) (before : Option (List ℕ))
         → HasHeard (terms_of context.now.asked.now) graph first conversation.old

@@ -11,13 +11,13 @@ ghost use Rattle.answer_lines.specs.Lines.{refusal_text};
 ghost use Rattle.request_reader.specs.Reading.{outcomes_in, last_of, vertices_of, HasRequests, IsRefusedLast};
 ghost use Rattle.request_reader.specs.Requests.{Outcome, no_memory};
 ghost use Rattle.std.specs.Io.KnownBytes.{Appends};
-ghost use Rattle.session_answer.specs.Conversations.{AreAnswered, HasHeard, HasRepliedTo, IsKept, IsKeptOf, Replies};
+ghost use Rattle.session_answer.specs.Conversations.{AreAnswered, HasHeard, HasRepliedTo, IsConsistent, IsKeptOf, Replies};
 ghost use Rattle.session_answer.specs.Cuts.{AreCutAfterBytes, AreCutAfterLines, AreRepliesCut, EndsShort};
-ghost use Rattle.session_answer.specs.Replies.{AreKept, AreReplies, HoldsGraph, IsAskedIn, IsRequestWithin, IsTold};
+ghost use Rattle.session_answer.specs.Replies.{AreKept, AreReplies, HoldsGraph, IsAskedIn, IsRequestWithin, IsReplied};
 ghost use Rattle.session_answer.specs.Replies.{out_of_memory, vertices_in};
 ghost use Rattle.session_answer.specs.Terms.{terms_of};
 
-use crate::kind_graph::Told;
+use crate::kind_graph::ReplyOutcome;
 use crate::session::{NO_MEMORY, Session, refuse};
 use dimacs_text::{LineKind, begins_comment};
 use job_answer::laws::answer_texts_by_lines_are_unique;
@@ -53,7 +53,7 @@ impl Conversation {
         writer: &mut W,
         bytes: &[u8],
     ) -> Result<(), Fault>
-        requires kept { IsKept self.old }
+        requires kept { IsConsistent self.old }
         ensures heard { (graph : Content) (first : ℕ) (heard : List ℕ) (before : Option (List ℕ))
             → HasHeard (terms_of context.now.asked.now) graph first self.old heard
             before (W.contents writer.old)
@@ -64,7 +64,7 @@ impl Conversation {
             before (W.contents writer.old)
             → OnErr result (AreCutAfterBytes (terms_of context.now.asked.now) graph
             first (heard ++ bytes.now) before (W.contents writer.new)) }
-        ensures kept { OnOk result (IsKept self.new) }
+        ensures kept { OnOk result (IsConsistent self.new) }
         ensures kinds { IfErr result IsWritingFault }
     {
         answer_texts_by_lines_are_unique();
@@ -103,7 +103,7 @@ impl Conversation {
         writer: &mut W,
         rest: &[u8],
     ) -> Result<(), Fault>
-        requires kept { IsKept self.old }
+        requires kept { IsConsistent self.old }
         requires no_feed { HasNoFeed rest.now 0 (length rest.now) }
         ensures heard { (graph : Content) (first : ℕ) (heard : List ℕ) (before : Option (List ℕ))
             → HasHeard (terms_of context.now.asked.now) graph first self.old heard
@@ -115,7 +115,7 @@ impl Conversation {
             before (W.contents writer.old)
             → OnErr result (AreCutAfterBytes (terms_of context.now.asked.now) graph
             first (heard ++ rest.now ++ 10 ∷ []) before (W.contents writer.new)) }
-        ensures kept { OnOk result (IsKept self.new) }
+        ensures kept { OnOk result (IsConsistent self.new) }
         ensures kinds { IfErr result IsWritingFault }
     {
         if self.in_comment {
@@ -150,7 +150,7 @@ impl Conversation {
         writer: &mut W,
         rest: &[u8],
     ) -> Result<(), Fault>
-        requires kept { IsKept self.old }
+        requires kept { IsConsistent self.old }
         requires outside { self.old.in_comment ≡ false }
         requires no_feed { HasNoFeed rest.now 0 (length rest.now) }
         ensures heard { (graph : Content) (first : ℕ) (heard : List ℕ) (before : Option (List ℕ))
@@ -163,7 +163,7 @@ impl Conversation {
             before (W.contents writer.old)
             → OnErr result (AreCutAfterBytes (terms_of context.now.asked.now) graph
             first (heard ++ rest.now ++ 10 ∷ []) before (W.contents writer.new)) }
-        ensures kept { OnOk result (IsKept self.new) }
+        ensures kept { OnOk result (IsConsistent self.new) }
         ensures kinds { IfErr result IsWritingFault }
     {
         answer_texts_by_lines_are_unique();
@@ -179,7 +179,7 @@ impl Conversation {
         writer: &mut W,
         line: &[u8],
     ) -> Result<(), Fault>
-        requires kept { IsKept self.old }
+        requires kept { IsConsistent self.old }
         ensures replied { (graph : Content) (first : ℕ) (ls : List (List ℕ)) (before : Option (List ℕ))
             → HasRepliedTo (terms_of context.now.asked.now) graph first self.old ls
             before (W.contents writer.old)
@@ -190,18 +190,18 @@ impl Conversation {
             before (W.contents writer.old)
             → OnErr result (AreCutAfterLines (terms_of context.now.asked.now) graph
             first (ls ++ line.now ∷ []) before (W.contents writer.new)) }
-        ensures kept { OnOk result (IsKept self.new) }
+        ensures kept { OnOk result (IsConsistent self.new) }
         ensures unfinished { self.new.unfinished ≡ self.old.unfinished }
         ensures in_comment { self.new.in_comment ≡ self.old.in_comment }
         ensures kinds { IfErr result IsWritingFault }
     {
         answer_texts_by_lines_are_unique();
         let events = self.requests.read(line);
-        let Told::Whole = self.reply(context, writer, events.ended)? else {
+        let ReplyOutcome::Written = self.reply(context, writer, events.ended)? else {
             // What ends before the line asks nothing.
             return Err(Fault::Memory);
         };
-        let Told::Whole = self.reply(context, writer, events.completed)? else {
+        let ReplyOutcome::Written = self.reply(context, writer, events.completed)? else {
             return self.refuse_last(context.alloc, writer);
         };
         Ok(())
@@ -212,7 +212,7 @@ impl Conversation {
         ensures requests { (first : ℕ) (all : List (List ℕ)) (outcomes : List Outcome)
             → IsRefusedLast self.old.requests first all outcomes
             → HasRequests self.new.requests first all (outcomes ++ no_memory (last_of self.old.requests) ∷ []) }
-        ensures told { OnOk result (Appends (W.contents writer.old) (W.contents writer.new)
+        ensures reply { OnOk result (Appends (W.contents writer.old) (W.contents writer.new)
             (refusal_text (last_of self.old.requests) out_of_memory)) }
         ensures cut { OnErr result (GivesPrefix (W.contents writer.old) (W.contents writer.new)
             (refusal_text (last_of self.old.requests) out_of_memory)) }
@@ -232,16 +232,16 @@ impl Conversation {
         context: &Context<'_, H, G>,
         writer: &mut W,
         request: Option<Request>,
-    ) -> Result<Told, Fault>
+    ) -> Result<ReplyOutcome, Fault>
         requires kept { AreKept self.old.session }
         requires within { IfSome request (IsRequestWithin (vertices_in self.old.session)) }
         ensures replied { (graph : Content) → HoldsGraph graph self.old.session
-            → IfOk result (λ told. IsTold told
+            → IfOk result (λ reply. IsReplied reply
             (Replies (terms_of context.now.asked.now) graph (outcomes_in request)
             self.new.session (W.contents writer.old) (W.contents writer.new))
             (Replies (terms_of context.now.asked.now) graph [] self.new.session
             (W.contents writer.old) (W.contents writer.new))) }
-        ensures asked { IfOk result (λ told. IsTold told ⊤ (IsAskedIn request)) }
+        ensures asked { IfOk result (λ reply. IsReplied reply ⊤ (IsAskedIn request)) }
         ensures cut { (graph : Content) → HoldsGraph graph self.old.session
             → OnErr result (WritesPrefix (AreReplies (terms_of context.now.asked.now)
             graph (outcomes_in request)) (W.contents writer.old) (W.contents writer.new)) }
@@ -254,7 +254,7 @@ impl Conversation {
         ensures kinds { IfErr result IsWritingFault }
     {
         match request {
-            None => Ok(Told::Whole),
+            None => Ok(ReplyOutcome::Written),
             Some(request) => { self.session.reply(context, writer, request, &mut self.kept) },
         }
     }
@@ -265,7 +265,7 @@ impl Conversation {
         context: &Context<'_, H, G>,
         writer: &mut W,
     ) -> Result<(), Fault>
-        requires kept { IsKept self.old }
+        requires kept { IsConsistent self.old }
         ensures replied { (graph : Content) (first : ℕ) (heard : List ℕ) (before : Option (List ℕ))
             → HasHeard (terms_of context.now.asked.now) graph first self.old heard
             before (W.contents writer.old)
@@ -295,7 +295,7 @@ impl Conversation {
         context: &Context<'_, H, G>,
         writer: &mut W,
     ) -> Result<(), Fault>
-        requires kept { IsKept self.old }
+        requires kept { IsConsistent self.old }
         ensures answered { (graph : Content) (first : ℕ) (heard : List ℕ) (before : Option (List ℕ))
             → HasHeard (terms_of context.now.asked.now) graph first self.old heard
             before (W.contents writer.old)

@@ -7,7 +7,7 @@ ghost use Rattle.job_answer.specs.Bytes.{Writes, WritesPrefix};
 ghost use Rattle.job_answer.specs.Graphs.{AreGraphs};
 ghost use Rattle.job_answer.specs.Outcome.{IsWritingFault};
 ghost use Rattle.job_answer.specs.declared.asked.Answer.TheVariants.{Distances};
-ghost use Rattle.session_answer.specs.Replies.{HoldsKind, IsAnswerIn, IsBodyIn, IsTold, grown_by};
+ghost use Rattle.session_answer.specs.Replies.{HoldsKind, IsAnswerIn, IsBodyIn, IsReplied, grown_by};
 ghost use Rattle.session_answer.specs.Terms.{terms_of};
 
 use crate::terms::lines_for;
@@ -32,13 +32,13 @@ use std::time::Clock;
 /// megabytes. No reply depends on it.
 const FEW_WORDS: usize = 1 << 16;
 
-/// The outcome of a request.
+/// The outcome of the reply to a request.
 #[derive(Clone, Copy, Debug, PartialEq, Eq)]
-pub(crate) enum Told {
-    /// Its reply was given whole.
-    Whole,
-    /// Memory was refused before the first byte of its reply: nothing was given, and nothing is done.
-    Nothing,
+pub(crate) enum ReplyOutcome {
+    /// The reply was written in full.
+    Written,
+    /// Memory was refused before the first byte of the reply: nothing was given, and nothing is done.
+    NotStarted,
 }
 
 /// The network of a kind of labels, grown by all arcs that were added.
@@ -120,11 +120,11 @@ impl KindGraph {
         writer: &mut W,
         ask: &Ask,
         kept: &mut Option<Workspace>,
-    ) -> Result<Told, Fault>
+    ) -> Result<ReplyOutcome, Fault>
         requires graphs { AreGraphs self.now.graphs }
         requires within { IsQuestionWithin self.now.graphs.network.n (question_of ask.now) }
         ensures answered { (graph : Content) → HoldsKind context.now.asked.now.answer graph self.now
-            → IfOk result (λ told. IsTold told (Writes (IsAnswerIn (terms_of context.now.asked.now) graph
+            → IfOk result (λ reply. IsReplied reply (Writes (IsAnswerIn (terms_of context.now.asked.now) graph
             (question_of ask.now)) (W.contents writer.old) (W.contents writer.new))
             (Appends (W.contents writer.old) (W.contents writer.new) [])) }
         ensures cut { (graph : Content) → HoldsKind context.now.asked.now.answer graph self.now
@@ -135,15 +135,15 @@ impl KindGraph {
         answer_texts_by_lines_are_unique();
         if !self.is_short(context, ask) {
             self.answer(context, writer, ask, kept)?;
-            return Ok(Told::Whole);
+            return Ok(ReplyOutcome::Written);
         }
         let text = match self.answer_text(context, ask, kept) {
             Ok(text) => text,
             Err(Fault::Spawn) => return Err(Fault::Spawn),
-            Err(_) => return Ok(Told::Nothing),
+            Err(_) => return Ok(ReplyOutcome::NotStarted),
         };
         write_whole(writer, &text)?;
-        Ok(Told::Whole)
+        Ok(ReplyOutcome::Written)
     }
 
     /// Makes the text of an answer and of how large the graph is.

@@ -12,7 +12,7 @@
 
 mod answering;
 mod conversation;
-mod graph_front;
+mod initial_graph;
 mod kind_graph;
 mod session;
 mod terms;

@@ -9,10 +9,10 @@ ghost use Rattle.job_answer.specs.Outcome.{IsWritingFault};
 ghost use Rattle.job_answer.specs.declared.asked.Answer.{Answer};
 ghost use Rattle.request_reader.specs.Reading.{outcome_of};
 ghost use Rattle.session_answer.specs.Replies.{AreKept, HoldsGraph, HoldsKind, IsAnswerIn, IsAsked, IsBeside, IsGrownReply};
-ghost use Rattle.session_answer.specs.Replies.{IsReplyFor, IsRequestWithin, IsTold, graph_after, grown_by, vertices_in};
+ghost use Rattle.session_answer.specs.Replies.{IsReplyFor, IsRequestWithin, IsReplied, graph_after, grown_by, vertices_in};
 ghost use Rattle.session_answer.specs.Terms.{terms_of};
 
-use crate::kind_graph::{KindGraph, Told};
+use crate::kind_graph::{KindGraph, ReplyOutcome};
 use crate::terms::asked_by;
 use answer_lines::{put_grown, put_refusal};
 use dimacs_text::{Ask, Job};
@@ -72,20 +72,20 @@ impl Session {
         writer: &mut W,
         request: Request,
         kept: &mut Option<Workspace>,
-    ) -> Result<Told, Fault>
+    ) -> Result<ReplyOutcome, Fault>
         requires kept { AreKept self.old }
         requires within { IsRequestWithin (vertices_in self.old) request }
         ensures reply { (graph : Content) → HoldsGraph graph self.old
-            → IfOk result (λ told. IsTold told (Writes (IsReplyFor (terms_of context.now.asked.now) graph
+            → IfOk result (λ reply. IsReplied reply (Writes (IsReplyFor (terms_of context.now.asked.now) graph
             (outcome_of request)) (W.contents writer.old) (W.contents writer.new))
             (Appends (W.contents writer.old) (W.contents writer.new) [])) }
-        ensures asked { IfOk result (λ told. IsTold told ⊤ (IsAsked request)) }
+        ensures asked { IfOk result (λ reply. IsReplied reply ⊤ (IsAsked request)) }
         ensures cut { (graph : Content) → HoldsGraph graph self.old
             → OnErr result (WritesPrefix (IsReplyFor (terms_of context.now.asked.now) graph
             (outcome_of request)) (W.contents writer.old) (W.contents writer.new)) }
         // The graph has the arcs that were added from then on.
         ensures graph { (graph : Content) → HoldsGraph graph self.old
-            → IfOk result (λ told. IsTold told (HoldsGraph (graph_after graph (outcome_of request)) self.new)
+            → IfOk result (λ reply. IsReplied reply (HoldsGraph (graph_after graph (outcome_of request)) self.new)
             (HoldsGraph graph self.new)) }
         ensures kept { OnOk result (AreKept self.new) }
         ensures vertices { OnOk result (vertices_in self.new ≡ vertices_in self.old) }
@@ -94,11 +94,11 @@ impl Session {
         match request {
             Request::Wrong { line, kind } => {
                 refuse(context.alloc, writer, line, kind.words())?;
-                Ok(Told::Whole)
+                Ok(ReplyOutcome::Written)
             }
             Request::NoMemory { line } => {
                 refuse(context.alloc, writer, line, NO_MEMORY)?;
-                Ok(Told::Whole)
+                Ok(ReplyOutcome::Written)
             }
             Request::Asked { job, head } => {
                 let Job { ask, added, .. } = job;
@@ -124,11 +124,11 @@ impl Session {
         writer: &mut W,
         ask: &Ask,
         kept: &mut Option<Workspace>,
-    ) -> Result<Told, Fault>
+    ) -> Result<ReplyOutcome, Fault>
         requires kept { AreKept self.old }
         requires within { IsQuestionWithin (vertices_in self.old) (question_of ask.now) }
         ensures answered { (graph : Content) → HoldsGraph graph self.old
-            → IfOk result (λ told. IsTold told (Writes (IsAnswerIn (terms_of context.now.asked.now) graph
+            → IfOk result (λ reply. IsReplied reply (Writes (IsAnswerIn (terms_of context.now.asked.now) graph
             (question_of ask.now)) (W.contents writer.old) (W.contents writer.new))
             (Appends (W.contents writer.old) (W.contents writer.new) [])) }
         ensures cut { (graph : Content) → HoldsGraph graph self.old
@@ -145,12 +145,12 @@ impl Session {
             return self.weights.reply_asked(context, writer, ask, kept);
         }
         let Ok(mut graph) = self.taken(context) else {
-            return Ok(Told::Nothing);
+            return Ok(ReplyOutcome::NotStarted);
         };
         graph.prepare(context.alloc, answer, kept);
-        let told = graph.reply_asked(context, writer, ask, kept);
+        let reply = graph.reply_asked(context, writer, ask, kept);
         self.put(answer, graph);
-        told
+        reply
     }
 
     /// Writes what is asked, and how large the graph is, by the network of the kind that is asked for.
@@ -244,29 +244,29 @@ impl Session {
         arcs: &[ArcRec],
         ask: &Ask,
         kept: &mut Option<Workspace>,
-    ) -> Result<Told, Fault>
+    ) -> Result<ReplyOutcome, Fault>
         requires kept { AreKept self.old }
         requires within { IsQuestionWithin (vertices_in self.old) (question_of ask.now) }
         requires added { IsAddedWithin (vertices_in self.old) (Some arcs.now) }
         ensures reply { (graph : Content) → HoldsGraph graph self.old
-            → IfOk result (λ told. IsTold told (Writes (IsGrownReply (terms_of context.now.asked.now) graph
+            → IfOk result (λ reply. IsReplied reply (Writes (IsGrownReply (terms_of context.now.asked.now) graph
             arcs.now (question_of ask.now)) (W.contents writer.old) (W.contents writer.new))
             (Appends (W.contents writer.old) (W.contents writer.new) [])) }
         ensures cut { (graph : Content) → HoldsGraph graph self.old
             → OnErr result (WritesPrefix (IsGrownReply (terms_of context.now.asked.now) graph arcs.now
             (question_of ask.now)) (W.contents writer.old) (W.contents writer.new)) }
         ensures graph { (graph : Content) → HoldsGraph graph self.old
-            → IfOk result (λ told. IsTold told (HoldsGraph (grown_by graph (Some arcs.now)) self.new)
+            → IfOk result (λ reply. IsReplied reply (HoldsGraph (grown_by graph (Some arcs.now)) self.new)
             (HoldsGraph graph self.new)) }
         ensures kept { OnOk result (AreKept self.new) }
         ensures vertices { OnOk result (vertices_in self.new ≡ vertices_in self.old) }
         ensures kinds { IfErr result IsWritingFault }
     {
-        let Told::Whole = self.grow(context, writer, arcs)? else {
-            return Ok(Told::Nothing);
+        let ReplyOutcome::Written = self.grow(context, writer, arcs)? else {
+            return Ok(ReplyOutcome::NotStarted);
         };
         self.answer(context, writer, ask, kept)?;
-        Ok(Told::Whole)
+        Ok(ReplyOutcome::Written)
     }
 
     /// Adds arcs to the graph, and writes how many they are. If memory is refused, nothing is done.
@@ -275,15 +275,15 @@ impl Session {
         context: &Context<'_, H, G>,
         writer: &mut W,
         arcs: &[ArcRec],
-    ) -> Result<Told, Fault>
+    ) -> Result<ReplyOutcome, Fault>
         requires kept { AreKept self.old }
         requires within { IsAddedWithin (vertices_in self.old) (Some arcs.now) }
         ensures graph { (graph : Content) → HoldsGraph graph self.old
-            → IfOk result (λ told. IsTold told (HoldsGraph (grown_by graph (Some arcs.now)) self.new)
+            → IfOk result (λ reply. IsReplied reply (HoldsGraph (grown_by graph (Some arcs.now)) self.new)
             (HoldsGraph graph self.new)) }
         ensures kept { AreKept self.new }
         ensures vertices { vertices_in self.new ≡ vertices_in self.old }
-        ensures told { IfOk result (λ told. IsTold told
+        ensures reply { IfOk result (λ reply. IsReplied reply
             (Appends (W.contents writer.old) (W.contents writer.new) (grown_text (length arcs.now)))
             (Appends (W.contents writer.old) (W.contents writer.new) [])) }
         ensures cut { OnErr result (GivesPrefix (W.contents writer.old) (W.contents writer.new)
@@ -293,17 +293,17 @@ impl Session {
         // The line is made first: once the graph has grown no memory is asked for up to the first byte.
         let mut line = Vec::new(context.alloc);
         let Ok(()) = put_grown(&mut line, arcs.len() as u32) else {
-            return Ok(Told::Nothing);
+            return Ok(ReplyOutcome::NotStarted);
         };
         // The networks of the other kinds are made again when they are asked for, so there is room for the new one.
         self.levels = None;
         self.components = None;
         let Ok(grown) = self.grown(context, arcs) else {
-            return Ok(Told::Nothing);
+            return Ok(ReplyOutcome::NotStarted);
         };
         *self = grown;
         write_whole(writer, &line)?;
-        Ok(Told::Whole)
+        Ok(ReplyOutcome::Written)
     }
 
     /// Makes the network with more arcs, and that of the kind that is asked for.
@@ -340,7 +340,7 @@ pub(crate) fn refuse<W: Write>(
     line: u64,
     words: &str,
 ) -> Result<(), Fault>
-    ensures told { OnOk result (Appends (W.contents writer.old) (W.contents writer.new) (refusal_text line words.now)) }
+    ensures reply { OnOk result (Appends (W.contents writer.old) (W.contents writer.new) (refusal_text line words.now)) }
     ensures cut { OnErr result (GivesPrefix (W.contents writer.old) (W.contents writer.new)
         (refusal_text line words.now)) }
     ensures kinds { IfErr result IsWritingFault }

@@ -12,36 +12,36 @@ pub returns-then-has_ended-clause-answered : goal.returns-then-has_ended-clause-
 returns-then-has_ended-clause-answered g c =
     let asked = c.args.context.now.asked.now in
     let terms = terms_of asked in
-    let front = c.in_ok-front.front in
-    session_ended asked.limit terms front c.read_front.new.buffer
-    (g.R.Read.remaining c.args.reader.now) (g.R.Read.remaining c.read_front.new.reader)
-    (g.W.Write.contents c.args.writer.now) (g.W.Write.contents c.answer.new.writer) c.in_ok-front.ensures.front
-    c.if-has_ended.true (c.in_ok-answer.ensures.answered (content_of front.graph) c.in_ok-session.ensures.holds)
+    let initial = c.in_ok-initial.initial in
+    session_ended asked.limit terms initial c.read_initial_graph.new.buffer
+    (g.R.Read.remaining c.args.reader.now) (g.R.Read.remaining c.read_initial_graph.new.reader)
+    (g.W.Write.contents c.args.writer.now) (g.W.Write.contents c.answer.new.writer) c.in_ok-initial.ensures.initial
+    c.if-has_ended.true (c.in_ok-answer.ensures.answered (content_of initial.graph) c.in_ok-session.ensures.holds)
 
 pub returns-clause-answered : goal.returns-clause-answered
 returns-clause-answered g c =
     let asked = c.args.context.now.asked.now in
     let terms = terms_of asked in
-    let front = c.in_ok-front.front in
+    let initial = c.in_ok-initial.initial in
     let written = g.W.Write.contents c.answer.new.writer in
-    session_whole asked.limit terms front c.read_front.new.buffer
-    (g.R.Read.remaining c.args.reader.now) (g.R.Read.remaining c.read_front.new.reader)
+    session_whole asked.limit terms initial c.read_initial_graph.new.buffer
+    (g.R.Read.remaining c.args.reader.now) (g.R.Read.remaining c.read_initial_graph.new.reader)
     (g.R.Read.remaining c.converse.new.reader) (g.W.Write.contents c.args.writer.now) written
-    (g.W.Write.contents c.converse.new.writer) c.converse.result c.in_ok-front.ensures.front c.if-has_ended.false
-    (c.in_ok-answer.ensures.answered (content_of front.graph) c.in_ok-session.ensures.holds)
-    (c.converse.ensures.conversed (content_of front.graph) front.line (take (front.end - front.at) (drop front.at c.read_front.new.buffer))
+    (g.W.Write.contents c.converse.new.writer) c.converse.result c.in_ok-initial.ensures.initial c.if-has_ended.false
+    (c.in_ok-answer.ensures.answered (content_of initial.graph) c.in_ok-session.ensures.holds)
+    (c.converse.ensures.conversed (content_of initial.graph) initial.line (take (initial.end - initial.at) (drop initial.at c.read_initial_graph.new.buffer))
     written
-    (c.in_ok-take.ensures.heard (content_of front.graph) front.line [] written
-    (c.open_conversation-conversation.ensures.heard terms (content_of front.graph) written
-    (c.in_ok-answer.ensures.graph (content_of front.graph) c.in_ok-session.ensures.holds))))
+    (c.in_ok-take.ensures.heard (content_of initial.graph) initial.line [] written
+    (c.open_conversation-conversation.ensures.heard terms (content_of initial.graph) written
+    (c.in_ok-answer.ensures.graph (content_of initial.graph) c.in_ok-session.ensures.holds))))
 
-pub returns-in_err-front-clause-cut : goal.returns-in_err-front-clause-cut
-returns-in_err-front-clause-cut g c =
+pub returns-in_err-initial-clause-cut : goal.returns-in_err-initial-clause-cut
+returns-in_err-initial-clause-cut g c =
     let asked = c.args.context.now.asked.now in
     let terms = terms_of asked in
     on_err
     (nothing_cut terms (g.R.Read.remaining c.args.reader.now)
-    (g.R.Read.remaining c.read_front.new.reader) (g.W.Write.contents c.args.writer.now) c.in_err-front.ensures.cut)
+    (g.R.Read.remaining c.read_initial_graph.new.reader) (g.W.Write.contents c.args.writer.now) c.in_err-initial.ensures.cut)
     c.from_residual.result
 
 pub returns-in_err-session-clause-cut : goal.returns-in_err-session-clause-cut
@@ -50,93 +50,93 @@ returns-in_err-session-clause-cut g c =
     let terms = terms_of asked in
     on_err
     (nothing_cut terms (g.R.Read.remaining c.args.reader.now)
-    (g.R.Read.remaining c.read_front.new.reader) (g.W.Write.contents c.args.writer.now)
-    (record { bytes = _; taken = c.in_ok-front.ensures.front.taken }))
+    (g.R.Read.remaining c.read_initial_graph.new.reader) (g.W.Write.contents c.args.writer.now)
+    (record { bytes = _; taken = c.in_ok-initial.ensures.initial.taken }))
     c.from_residual-in_err-session.result
 
 pub returns-in_err-answer-clause-cut : goal.returns-in_err-answer-clause-cut
 returns-in_err-answer-clause-cut g c =
     let asked = c.args.context.now.asked.now in
     let terms = terms_of asked in
-    let front = c.in_ok-front.front in
+    let initial = c.in_ok-initial.initial in
     on_err
-    (greeting_cut asked.limit terms front c.read_front.new.buffer
-    (g.R.Read.remaining c.args.reader.now) (g.R.Read.remaining c.read_front.new.reader)
-    (g.W.Write.contents c.args.writer.now) (g.W.Write.contents c.answer.new.writer) c.in_ok-front.ensures.front
-    (c.in_err-answer.ensures.cut (content_of front.graph) c.in_ok-session.ensures.holds))
+    (greeting_cut asked.limit terms initial c.read_initial_graph.new.buffer
+    (g.R.Read.remaining c.args.reader.now) (g.R.Read.remaining c.read_initial_graph.new.reader)
+    (g.W.Write.contents c.args.writer.now) (g.W.Write.contents c.answer.new.writer) c.in_ok-initial.ensures.initial
+    (c.in_err-answer.ensures.cut (content_of initial.graph) c.in_ok-session.ensures.holds))
     c.from_residual-in_err-answer.result
 
 pub returns-in_err-take-clause-cut : goal.returns-in_err-take-clause-cut
 returns-in_err-take-clause-cut g c =
     let asked = c.args.context.now.asked.now in
     let terms = terms_of asked in
-    let front = c.in_ok-front.front in
-    let graph = content_of front.graph in
-    let heard = take (front.end - front.at) (drop front.at c.read_front.new.buffer) in
+    let initial = c.in_ok-initial.initial in
+    let graph = content_of initial.graph in
+    let heard = take (initial.end - initial.at) (drop initial.at c.read_initial_graph.new.buffer) in
     let written = g.W.Write.contents c.answer.new.writer in
-    let taken = g.R.Read.remaining c.read_front.new.reader in
+    let taken = g.R.Read.remaining c.read_initial_graph.new.reader in
     on_err
     (session_cut c.answer_texts_by_lines_are_unique.ensures asked.limit terms
-    front c.read_front.new.buffer (g.R.Read.remaining c.args.reader.now) taken taken
-    (g.W.Write.contents c.args.writer.now) written (g.W.Write.contents c.take.new.writer) c.in_ok-front.ensures.front
+    initial c.read_initial_graph.new.buffer (g.R.Read.remaining c.args.reader.now) taken taken
+    (g.W.Write.contents c.args.writer.now) written (g.W.Write.contents c.take.new.writer) c.in_ok-initial.ensures.initial
     c.if-has_ended.false (c.in_ok-answer.ensures.answered graph c.in_ok-session.ensures.holds)
-    (first_heard_cut terms graph front.line heard taken written
+    (first_heard_cut terms graph initial.line heard taken written
     (g.W.Write.contents c.take.new.writer)
-    (c.in_err-take.ensures.cut graph front.line [] written (c.open_conversation-conversation.ensures.heard terms (content_of front.graph) written
-    (c.in_ok-answer.ensures.graph (content_of front.graph) c.in_ok-session.ensures.holds)))))
+    (c.in_err-take.ensures.cut graph initial.line [] written (c.open_conversation-conversation.ensures.heard terms (content_of initial.graph) written
+    (c.in_ok-answer.ensures.graph (content_of initial.graph) c.in_ok-session.ensures.holds)))))
     c.from_residual-in_err-take.result
 
 pub returns-clause-cut : goal.returns-clause-cut
 returns-clause-cut g c =
     let asked = c.args.context.now.asked.now in
     let terms = terms_of asked in
-    let front = c.in_ok-front.front in
-    let graph = content_of front.graph in
-    let heard = take (front.end - front.at) (drop front.at c.read_front.new.buffer) in
+    let initial = c.in_ok-initial.initial in
+    let graph = content_of initial.graph in
+    let heard = take (initial.end - initial.at) (drop initial.at c.read_initial_graph.new.buffer) in
     let written = g.W.Write.contents c.answer.new.writer in
     on_err_weaker c.converse.result
     (λ cut.
     session_cut c.answer_texts_by_lines_are_unique.ensures asked.limit terms
-    front c.read_front.new.buffer (g.R.Read.remaining c.args.reader.now) (g.R.Read.remaining c.read_front.new.reader)
+    initial c.read_initial_graph.new.buffer (g.R.Read.remaining c.args.reader.now) (g.R.Read.remaining c.read_initial_graph.new.reader)
     (g.R.Read.remaining c.converse.new.reader) (g.W.Write.contents c.args.writer.now) written
-    (g.W.Write.contents c.converse.new.writer) c.in_ok-front.ensures.front c.if-has_ended.false
+    (g.W.Write.contents c.converse.new.writer) c.in_ok-initial.ensures.initial c.if-has_ended.false
     (c.in_ok-answer.ensures.answered graph c.in_ok-session.ensures.holds) cut)
-    (c.converse.ensures.cut graph front.line heard written
-    (c.in_ok-take.ensures.heard graph front.line [] written (c.open_conversation-conversation.ensures.heard terms (content_of front.graph) written
-    (c.in_ok-answer.ensures.graph (content_of front.graph) c.in_ok-session.ensures.holds))))
+    (c.converse.ensures.cut graph initial.line heard written
+    (c.in_ok-take.ensures.heard graph initial.line [] written (c.open_conversation-conversation.ensures.heard terms (content_of initial.graph) written
+    (c.in_ok-answer.ensures.graph (content_of initial.graph) c.in_ok-session.ensures.holds))))
 
-pub returns-in_err-front-clause-says : goal.returns-in_err-front-clause-says
-returns-in_err-front-clause-says g c =
+pub returns-in_err-initial-clause-says : goal.returns-in_err-initial-clause-says
+returns-in_err-initial-clause-says g c =
     let p = err_from_is_err_and c.from_residual.result c.from_residual.ensures.1 in
-    rw (p.1, p.2) c.in_err-front.ensures.says
+    rw (p.1, p.2) c.in_err-initial.ensures.says
 
 pub returns-in_err-answer-clause-says : goal.returns-in_err-answer-clause-says
 returns-in_err-answer-clause-says g c =
     let p = err_from_is_err_and c.from_residual-in_err-answer.result c.from_residual-in_err-answer.ensures.1 in
     rw (p.1, p.2)
     (writing_ends c.args.context.now.asked.now.limit (g.R.Read.remaining c.args.reader.now)
-    (g.R.Read.remaining c.read_front.new.reader) c.in_err-answer.field-0.0 c.in_err-answer.ensures.kinds)
+    (g.R.Read.remaining c.read_initial_graph.new.reader) c.in_err-answer.field-0.0 c.in_err-answer.ensures.kinds)
 
 pub returns-in_err-take-clause-says : goal.returns-in_err-take-clause-says
 returns-in_err-take-clause-says g c =
     let p = err_from_is_err_and c.from_residual-in_err-take.result c.from_residual-in_err-take.ensures.1 in
     rw (p.1, p.2)
     (writing_ends c.args.context.now.asked.now.limit (g.R.Read.remaining c.args.reader.now)
-    (g.R.Read.remaining c.read_front.new.reader) c.in_err-take.field-0.0 c.in_err-take.ensures.kinds)
+    (g.R.Read.remaining c.read_initial_graph.new.reader) c.in_err-take.field-0.0 c.in_err-take.ensures.kinds)
 
 pub returns-clause-says : goal.returns-clause-says
 returns-clause-says g c =
     let asked = c.args.context.now.asked.now in
     let terms = terms_of asked in
-    let front = c.in_ok-front.front in
-    let graph = content_of front.graph in
-    let heard = take (front.end - front.at) (drop front.at c.read_front.new.buffer) in
+    let initial = c.in_ok-initial.initial in
+    let graph = content_of initial.graph in
+    let heard = take (initial.end - initial.at) (drop initial.at c.read_initial_graph.new.buffer) in
     let written = g.W.Write.contents c.answer.new.writer in
     IfErr-weaker c.converse.result _ _
     (λ fault says.
-    after_graph_ends asked.limit front c.read_front.new.buffer (g.R.Read.remaining c.args.reader.now)
-    (g.R.Read.remaining c.read_front.new.reader) (g.R.Read.remaining c.converse.new.reader) fault c.requires.limit
-    c.in_ok-front.ensures.front c.if-has_ended.false says)
-    (c.converse.ensures.says graph front.line heard written
-    (c.in_ok-take.ensures.heard graph front.line [] written (c.open_conversation-conversation.ensures.heard terms (content_of front.graph) written
-    (c.in_ok-answer.ensures.graph (content_of front.graph) c.in_ok-session.ensures.holds))))
+    after_graph_ends asked.limit initial c.read_initial_graph.new.buffer (g.R.Read.remaining c.args.reader.now)
+    (g.R.Read.remaining c.read_initial_graph.new.reader) (g.R.Read.remaining c.converse.new.reader) fault c.requires.limit
+    c.in_ok-initial.ensures.initial c.if-has_ended.false says)
+    (c.converse.ensures.says graph initial.line heard written
+    (c.in_ok-take.ensures.heard graph initial.line [] written (c.open_conversation-conversation.ensures.heard terms (content_of initial.graph) written
+    (c.in_ok-answer.ensures.graph (content_of initial.graph) c.in_ok-session.ensures.holds))))

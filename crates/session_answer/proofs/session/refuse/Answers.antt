@@ -13,7 +13,7 @@ returns-clause-cut g c =
     let line : c.deref.result.now ≡ refusal_text c.args.line c.args.words.now =
     c.deref.ensures.value
     ∙ c.in_ok-put_refusal.ensures.ok
-    ∙ ap (λ front. front ++ refusal_text c.args.line c.args.words.now) c.new-text.ensures.items in
+    ∙ ap (λ initial. initial ++ refusal_text c.args.line c.args.words.now) c.new-text.ensures.items in
     subst
     (λ (bytes : List ℕ).
     OnErr c.write_whole.result

@@ -4,14 +4,14 @@ use Rattle.request_reader.specs.Reading.{outcome_of}
 use Rattle.session_answer.specs.Terms.{terms_of}
 use Rattle.session_answer.specs.Replies.{AreReplies, IsReplyFor}
 use Rattle.session_answer.proofs.CutLemmas.{first_cut}
-use Rattle.session_answer.proofs.ReplyLemmas.{reply_told}
+use Rattle.session_answer.proofs.ReplyLemmas.{replied_once}
 use Rattle.session_answer.proofs.conversation.Conversation.reply.Goals as goal
 
 pub returns-in-Some-clause-replied : goal.returns-in-Some-clause-replied
 returns-in-Some-clause-replied g c graph holds =
     let terms = terms_of c.args.context.now.asked.now in
     rw c.in-Some.is
-    (reply_told terms graph (outcome_of c.in-Some.request) _ _ _ c.reply.result (c.reply.ensures.reply graph holds)
+    (replied_once terms graph (outcome_of c.in-Some.request) _ _ _ c.reply.result (c.reply.ensures.reply graph holds)
     (c.reply.ensures.graph graph holds))
 
 pub returns-in-Some-clause-cut : goal.returns-in-Some-clause-cut

@@ -1,13 +1,13 @@
 use Rattle.std.proofs.Common.{◌-◌, ◌≤◌, ◌++◌, ℕ, List, Option, length, take}
 use Rattle.dimacs_text.specs.Jobs.{Content}
 use Rattle.session_answer.specs.Terms.{terms_of}
-use Rattle.session_answer.specs.Conversations.{HasHeard, IsKept}
+use Rattle.session_answer.specs.Conversations.{HasHeard, IsConsistent}
 use Rattle.session_answer.proofs.conversation.Conversation.take.Given as goal
 
 abbrev pub invariant-loop-end : goal.invariant-loop-end
 invariant-loop-end g l = record {
   inside : l.at ≤ length l.bytes;
-  kept : IsKept l.self;
+  kept : IsConsistent l.self;
   heard : (graph : Content) (first : ℕ) (heard : List ℕ) (before : Option (List ℕ))
       → HasHeard (terms_of l.context.asked.now) graph first l.initial.self heard before
       (g.W.Write.contents l.initial.writer)

@@ -7,7 +7,7 @@ use Rattle.session_answer.specs.Replies.{AreKept, vertices_in}
 use Rattle.session_answer.specs.Conversations.{graph_of}
 use Rattle.session_answer.specs.Replies.{AreReplies, HoldsGraph}
 use Rattle.session_answer.proofs.CutLemmas.{after_cut, cut_after_lines, front_cut, nothing_cut, on_err, refusal_cut}
-use Rattle.session_answer.proofs.ReplyLemmas.{refusable_last, refused_reply, replies_then, told_nothing, told_whole}
+use Rattle.session_answer.proofs.ReplyLemmas.{refusable_last, refused_reply, replies_then, reply_not_started, reply_written}
 use Rattle.session_answer.proofs.conversation.Conversation.take_line.Goals as goal
 
 pub returns-clause-replied : goal.returns-clause-replied
@@ -15,10 +15,10 @@ returns-clause-replied g c graph first ls before is =
     let terms = terms_of c.args.context.now.asked.now in
     let events = c.read-events.result in
     let so_far = graph_of graph is.outcomes in
-    let cut = told_whole _ _ _ c.in-Whole.is (c.in_ok-reply.ensures.replied so_far is.replied.holds) in
+    let cut = reply_written _ _ _ c.in-Written.is (c.in_ok-reply.ensures.replied so_far is.replied.holds) in
     let same = c.in_ok-reply-2.ensures.requests ∙ c.in_ok-reply.ensures.requests in
     let found =
-    told_whole _ _ _ c.in-Whole-2.is
+    reply_written _ _ _ c.in-Written-2.is
     (c.in_ok-reply-2.ensures.replied (graph_of so_far (outcomes_in events.ended)) cut.holds) in
     record {
       outcomes = is.outcomes ++ outcomes_of events;
@@ -52,7 +52,7 @@ returns-in_default-clause-cut g c graph first ls before is =
     let law = c.answer_texts_by_lines_are_unique.ensures in
     let events = c.read-events.result in
     let so_far = graph_of graph is.outcomes in
-    let none = told_nothing _ _ _ c.in_default.is (c.in_ok-reply.ensures.replied so_far is.replied.holds) in
+    let none = reply_not_started _ _ _ c.in_default.is (c.in_ok-reply.ensures.replied so_far is.replied.holds) in
     cut_after_lines law terms graph first c.read-events.new.self (ls ++ c.args.line.now ∷ [])
     (is.outcomes ++ outcomes_of events) before _ (c.read-events.ensures.requests first ls is.outcomes is.requests)
     (c.read-events.ensures.vertices ∙ is.vertices)
@@ -65,7 +65,7 @@ returns-in_err-reply-2-clause-cut g c graph first ls before is =
     let law = c.answer_texts_by_lines_are_unique.ensures in
     let events = c.read-events.result in
     let so_far = graph_of graph is.outcomes in
-    let cut = told_whole _ _ _ c.in-Whole.is (c.in_ok-reply.ensures.replied so_far is.replied.holds) in
+    let cut = reply_written _ _ _ c.in-Written.is (c.in_ok-reply.ensures.replied so_far is.replied.holds) in
     let both = outcomes_of events in
     on_err
     (cut_after_lines law terms graph first c.read-events.new.self (ls ++ c.args.line.now ∷ [])
@@ -84,14 +84,14 @@ returns-in_default-2-clause-replied g c graph first ls before is =
     let after = graph_of so_far (outcomes_in events.ended) in
     let all = ls ++ c.args.line.now ∷ [] in
     let refusal = no_memory (last_of c.reply-2.new.self.requests) ∷ [] in
-    let cut = told_whole _ _ _ c.in-Whole.is (c.in_ok-reply.ensures.replied so_far is.replied.holds) in
-    let none = told_nothing _ _ _ c.in_default-2.is (c.in_ok-reply-2.ensures.replied after cut.holds) in
-    let asked = told_nothing _ _ _ c.in_default-2.is c.in_ok-reply-2.ensures.asked in
+    let cut = reply_written _ _ _ c.in-Written.is (c.in_ok-reply.ensures.replied so_far is.replied.holds) in
+    let none = reply_not_started _ _ _ c.in_default-2.is (c.in_ok-reply-2.ensures.replied after cut.holds) in
+    let asked = reply_not_started _ _ _ c.in_default-2.is c.in_ok-reply-2.ensures.asked in
     let same = c.in_ok-reply-2.ensures.requests ∙ c.in_ok-reply.ensures.requests in
     let last =
     refusable_last events.completed c.read-events.new.self first all (is.outcomes ++ outcomes_in events.ended) asked
     (c.read-events.ensures.refusable first ls is.outcomes is.requests) in
-    let told =
+    let reply =
     c.refuse_last.ensures.requests first all (is.outcomes ++ outcomes_in events.ended)
     (subst (λ reader. IsRefusedLast reader first all (is.outcomes ++ outcomes_in events.ended)) (sym same) last) in
     on_ok_weaker c.refuse_last.result
@@ -99,7 +99,7 @@ returns-in_default-2-clause-replied g c graph first ls before is =
       outcomes = is.outcomes ++ (outcomes_in events.ended ++ refusal);
       requests =
           subst (λ outcomes. HasRequests c.refuse_last.new.self.requests first all outcomes)
-          (append_assoc is.outcomes (outcomes_in events.ended) refusal) told;
+          (append_assoc is.outcomes (outcomes_in events.ended) refusal) reply;
       vertices =
           c.refuse_last.ensures.vertices ∙ ap (λ reader. vertices_of reader) same ∙ c.read-events.ensures.vertices
           ∙ is.vertices;
@@ -110,7 +110,7 @@ returns-in_default-2-clause-replied g c graph first ls before is =
           (refused_reply terms after (last_of c.reply-2.new.self.requests) c.refuse_last.new.self.session _ _
           (subst (λ session. HoldsGraph after session) (sym c.refuse_last.ensures.session) none.holds) given)));
     })
-    c.refuse_last.ensures.told
+    c.refuse_last.ensures.reply
 
 pub returns-in_default-2-clause-cut : goal.returns-in_default-2-clause-cut
 returns-in_default-2-clause-cut g c graph first ls before is =
@@ -121,14 +121,14 @@ returns-in_default-2-clause-cut g c graph first ls before is =
     let after = graph_of so_far (outcomes_in events.ended) in
     let all = ls ++ c.args.line.now ∷ [] in
     let refusal = no_memory (last_of c.reply-2.new.self.requests) ∷ [] in
-    let cut = told_whole _ _ _ c.in-Whole.is (c.in_ok-reply.ensures.replied so_far is.replied.holds) in
-    let none = told_nothing _ _ _ c.in_default-2.is (c.in_ok-reply-2.ensures.replied after cut.holds) in
-    let asked = told_nothing _ _ _ c.in_default-2.is c.in_ok-reply-2.ensures.asked in
+    let cut = reply_written _ _ _ c.in-Written.is (c.in_ok-reply.ensures.replied so_far is.replied.holds) in
+    let none = reply_not_started _ _ _ c.in_default-2.is (c.in_ok-reply-2.ensures.replied after cut.holds) in
+    let asked = reply_not_started _ _ _ c.in_default-2.is c.in_ok-reply-2.ensures.asked in
     let same = c.in_ok-reply-2.ensures.requests ∙ c.in_ok-reply.ensures.requests in
     let last =
     refusable_last events.completed c.read-events.new.self first all (is.outcomes ++ outcomes_in events.ended) asked
     (c.read-events.ensures.refusable first ls is.outcomes is.requests) in
-    let told =
+    let reply =
     c.refuse_last.ensures.requests first all (is.outcomes ++ outcomes_in events.ended)
     (subst (λ reader. IsRefusedLast reader first all (is.outcomes ++ outcomes_in events.ended)) (sym same) last) in
     on_err_weaker c.refuse_last.result
@@ -136,7 +136,7 @@ returns-in_default-2-clause-cut g c graph first ls before is =
     cut_after_lines law terms graph first c.refuse_last.new.self.requests all
     (is.outcomes ++ (outcomes_in events.ended ++ refusal)) before _
     (subst (λ outcomes. HasRequests c.refuse_last.new.self.requests first all outcomes)
-    (append_assoc is.outcomes (outcomes_in events.ended) refusal) told)
+    (append_assoc is.outcomes (outcomes_in events.ended) refusal) reply)
     (c.refuse_last.ensures.vertices ∙ ap (λ reader. vertices_of reader) same ∙ c.read-events.ensures.vertices ∙ is.vertices)
     (after_cut law terms graph is.outcomes (outcomes_in events.ended ++ refusal) c.args.self.now.session before _ _
     is.replied
@@ -150,7 +150,7 @@ returns-in_default-2-clause-kept g c =
     let kept = c.requires.kept in
     let events = c.read-events.result in
     let all = kept.ls ++ c.args.line.now ∷ [] in
-    let asked = told_nothing _ _ _ c.in_default-2.is c.in_ok-reply-2.ensures.asked in
+    let asked = reply_not_started _ _ _ c.in_default-2.is c.in_ok-reply-2.ensures.asked in
     let same = c.in_ok-reply-2.ensures.requests ∙ c.in_ok-reply.ensures.requests in
     let last =
     refusable_last events.completed c.read-events.new.self kept.first all (kept.outcomes ++ outcomes_in events.ended) asked
@@ -169,4 +169,4 @@ returns-in_default-2-clause-kept g c =
           c.refuse_last.ensures.vertices ∙ ap (λ reader. vertices_of reader) same ∙ c.read-events.ensures.vertices
           ∙ kept.vertices ∙ sym (ap (λ session. vertices_in session) c.refuse_last.ensures.session ∙ n);
     })
-    c.refuse_last.ensures.told
+    c.refuse_last.ensures.reply

@@ -15,7 +15,7 @@ returns-clause-answered g c graph holds =
     let ready : bytes ≡ ready_text graph.n (length graph.arcs) =
     c.deref.ensures.value
     ∙ c.in_ok-put_ready.ensures.ok
-    ∙ ap₂ (λ front line. front ++ line) c.new-ready.ensures.items
+    ∙ ap₂ (λ initial line. initial ++ line) c.new-ready.ensures.items
     (ap₂ ready_text (c.n.ensures.vertices ∙ holds.network.vertices) holds.count) in
     on_ok_weaker c.write_whole.result
     (λ sent. record {
@@ -55,7 +55,7 @@ returns-clause-cut g c graph holds =
     let ready : bytes ≡ ready_text graph.n (length graph.arcs) =
     c.deref.ensures.value
     ∙ c.in_ok-put_ready.ensures.ok
-    ∙ ap₂ (λ front line. front ++ line) c.new-ready.ensures.items
+    ∙ ap₂ (λ initial line. initial ++ line) c.new-ready.ensures.items
     (ap₂ ready_text (c.n.ensures.vertices ∙ holds.network.vertices) holds.count) in
     on_err_weaker c.write_whole.result
     (λ cut.

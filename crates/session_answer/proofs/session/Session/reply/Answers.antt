@@ -2,7 +2,7 @@ use Rattle.std.proofs.Common.{ap, subst}
 use Rattle.dimacs_text.specs.Jobs.{added_of, content_of}
 use Rattle.session_answer.specs.Replies.{IsAnswerIn, IsGrownReply}
 use Rattle.session_answer.specs.Terms.{Terms, terms_by, terms_of}
-use Rattle.session_answer.proofs.ReplyLemmas.{grown_reply, if_ok, plain_reply, told_weaker}
+use Rattle.session_answer.proofs.ReplyLemmas.{grown_reply, if_ok, plain_reply, replied_weaker}
 use Rattle.session_answer.proofs.session.Session.reply.Goals as goal
 
 pub returns-in-None-clause-reply : goal.returns-in-None-clause-reply
@@ -12,7 +12,7 @@ returns-in-None-clause-reply g c graph holds =
     rw c.in-Asked.is
     (if_ok _ _ c.reply_asked.result
     (λ t what.
-    told_weaker t _ _ _ _
+    replied_weaker t _ _ _ _
     (λ written. record {
       text = written.text;
       is_text =
@@ -30,7 +30,7 @@ returns-clause-reply g c graph holds =
     rw c.in-Asked.is
     (if_ok _ _ c.reply_grown.result
     (λ t what.
-    told_weaker t _ _ _ _
+    replied_weaker t _ _ _ _
     (λ written. record {
       text = written.text;
       is_text =

@@ -5,7 +5,7 @@ use Rattle.job_answer.proofs.Facts.{appends-then}
 use Rattle.session_answer.specs.Terms.{terms_of}
 use Rattle.session_answer.specs.Replies.{IsAnswerIn, grown_by}
 use Rattle.session_answer.proofs.CutLemmas.{first_cut, on_err, only_cut, second_cut}
-use Rattle.session_answer.proofs.ReplyLemmas.{told_whole}
+use Rattle.session_answer.proofs.ReplyLemmas.{reply_written}
 use Rattle.session_answer.proofs.session.Session.reply_grown.Goals as goal
 
 pub returns-in_err-grow-clause-cut : goal.returns-in_err-grow-clause-cut
@@ -23,8 +23,8 @@ returns-in_err-answer-clause-cut g c graph holds =
     let after = grown_by graph (Some c.args.arcs.now) in
     on_err
     (second_cut (IsAnswerIn terms after question) _ (grown_text (length c.args.arcs.now)) _ _ _
-    (λ text is. (is.0, is.1, is.2)) (told_whole _ _ _ c.in-Whole.is c.in_ok-grow.ensures.told)
-    (c.in_err-answer.ensures.cut after (told_whole _ _ _ c.in-Whole.is (c.in_ok-grow.ensures.graph graph holds))))
+    (λ text is. (is.0, is.1, is.2)) (reply_written _ _ _ c.in-Written.is c.in_ok-grow.ensures.reply)
+    (c.in_err-answer.ensures.cut after (reply_written _ _ _ c.in-Written.is (c.in_ok-grow.ensures.graph graph holds))))
     c.from_residual-in_err-answer.result
 
 pub returns-clause-reply : goal.returns-clause-reply
@@ -32,12 +32,12 @@ returns-clause-reply g c graph holds =
     let line = grown_text (length c.args.arcs.now) in
     let after = grown_by graph (Some c.args.arcs.now) in
     let written =
-    c.in_ok-answer.ensures.answered after (told_whole _ _ _ c.in-Whole.is (c.in_ok-grow.ensures.graph graph holds)) in
+    c.in_ok-answer.ensures.answered after (reply_written _ _ _ c.in-Written.is (c.in_ok-grow.ensures.graph graph holds)) in
     record {
       text = line ++ written.text;
       is_text = (written.text, written.is_text, refl);
       appended =
-          appends-then _ _ _ line written.text (told_whole _ _ _ c.in-Whole.is c.in_ok-grow.ensures.told)
+          appends-then _ _ _ line written.text (reply_written _ _ _ c.in-Written.is c.in_ok-grow.ensures.reply)
           written.appended;
     }
 

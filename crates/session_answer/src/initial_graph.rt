@@ -8,7 +8,7 @@ ghost use Rattle.dimacs_text.specs.Lines.{lines};
 ghost use Rattle.dimacs_text.specs.Reading.{HasRead};
 ghost use Rattle.std.specs.Io.KnownBytes.{ReadConsumes};
 ghost use Rattle.dimacs_text.specs.Jobs.{absent, content_of, IsWithinLimits};
-ghost use Rattle.session_answer.specs.Conversations.{HasFront};
+ghost use Rattle.session_answer.specs.Conversations.{HasInitialGraph};
 ghost use Rattle.session_answer.specs.Cuts.{EndsBy, IsFaultOfGraph, TakesSome};
 
 use dimacs_text::{Ask, Job, JobReader, TextFault};
@@ -21,7 +21,7 @@ use std::time::Clock;
 
 /// A graph, and what comes after it.
 #[derive(Drop)]
-pub(crate) struct Front {
+pub(crate) struct InitialGraph {
     pub(crate) graph: Job,
     /// The number of the next line.
     pub(crate) line: u64,
@@ -36,20 +36,20 @@ pub(crate) struct Front {
 /// Reads a graph by single reads, and no more than `limit` bytes. A fault of the graph is found as soon as its line has
 /// come. While many arcs are missing several threads read in larger pieces, of bytes that surely are the graph's; there
 /// a fault is found a few pieces later.
-pub(crate) fn read_front<H: Threads + Clock + Sync, R: Read>(
+pub(crate) fn read_initial_graph<H: Threads + Clock + Sync, R: Read>(
     rt: &H,
     alloc: Global,
     reader: &mut R,
     buffer: &mut [u8],
     limit: u64,
     threads: usize,
-) -> Result<Front, Fault>
+) -> Result<InitialGraph, Fault>
     requires limit { limit ≤ 2 ^ 36 }
     requires room { 0 < length buffer.old }
-    ensures places { IfOk result (λ front. (front.at ≤ front.end) × (front.end ≤ length buffer.new)) }
-    ensures front { IfOk result (λ front.
-        HasFront limit front buffer.new (R.remaining reader.old) (R.remaining reader.new)) }
-    ensures limits { IfOk result (λ front. IsWithinLimits (content_of front.graph)) }
+    ensures places { IfOk result (λ initial. (initial.at ≤ initial.end) × (initial.end ≤ length buffer.new)) }
+    ensures initial { IfOk result (λ initial.
+        HasInitialGraph limit initial buffer.new (R.remaining reader.old) (R.remaining reader.new)) }
+    ensures limits { IfOk result (λ initial. IsWithinLimits (content_of initial.graph)) }
     ensures cut { OnErr result (TakesSome (R.remaining reader.old) (R.remaining reader.new)) }
     ensures says { IfErr result (EndsBy limit (R.remaining reader.old) (R.remaining reader.new)) }
 {
@@ -58,7 +58,7 @@ pub(crate) fn read_front<H: Threads + Clock + Sync, R: Read>(
     for _ in 0..u64::MAX {
         let count = read_some(reader, buffer)?;
         if count == 0 {
-            return ended_front(job);
+            return ended_initial_graph(job);
         }
         if count > left {
             return Err(Fault::TooLong);
@@ -66,12 +66,12 @@ pub(crate) fn read_front<H: Threads + Clock + Sync, R: Read>(
         left -= count;
         let at = job.feed_graph(&buffer[..count])?;
         if is_over(&job, at, count) {
-            return open_front(job, at, count);
+            return open_initial_graph(job, at, count);
         }
         let more = read_arcs_from(rt, alloc, reader, &mut job, left, threads)?;
         left -= more;
         if job.is_refused() {
-            return open_front(job, 0, 0);
+            return open_initial_graph(job, 0, 0);
         }
     }
     Err(Fault::TooLong)
@@ -87,20 +87,20 @@ fn is_over(job: &JobReader, fed: usize, came: usize) -> bool
 }
 
 /// The graph that was read. Of the bytes that were read last, those from one place up to another come after it.
-fn open_front(job: JobReader, at: usize, end: usize) -> Result<Front, Fault>
+fn open_initial_graph(job: JobReader, at: usize, end: usize) -> Result<InitialGraph, Fault>
     requires over { IsGraphOver job }
-    ensures places { IfOk result (λ front. (front.at ≡ at) × (front.end ≡ end) × (front.has_ended ≡ false)) }
-    ensures limits { (text : List ℕ) → HasRead job text → IfOk result (λ front. IsWithinLimits (content_of front.graph)) }
+    ensures places { IfOk result (λ initial. (initial.at ≡ at) × (initial.end ≡ end) × (initial.has_ended ≡ false)) }
+    ensures limits { (text : List ℕ) → HasRead job text → IfOk result (λ initial. IsWithinLimits (content_of initial.graph)) }
     ensures graph { (text : List ℕ) → HasRead job text
-        → IfOk result (λ front. IsGraphText text (content_of front.graph)) }
-    ensures next { (text : List ℕ) → HasRead job text → IfOk result (λ front. front.line ≡ length (lines text) + 1) }
+        → IfOk result (λ initial. IsGraphText text (content_of initial.graph)) }
+    ensures next { (text : List ℕ) → HasRead job text → IfOk result (λ initial. initial.line ≡ length (lines text) + 1) }
     ensures joined { (text more : List ℕ) → HasRead job text
-        → IfOk result (λ front. lines (text ++ more) ≡ lines text ++ lines more) }
+        → IfOk result (λ initial. lines (text ++ more) ≡ lines text ++ lines more) }
     ensures says { (text more : List ℕ) → HasRead job text → IfErr result (IsFaultOfGraph (text ++ more)) }
 {
     match job.finish_graph() {
         Err(fault) => Err(fault_of(fault)),
-        Ok((graph, line)) => Ok(Front {
+        Ok((graph, line)) => Ok(InitialGraph {
             graph,
             line,
             at,
@@ -111,17 +111,17 @@ fn open_front(job: JobReader, at: usize, end: usize) -> Result<Front, Fault>
 }
 
 /// The graph of an input that ends there.
-fn ended_front(job: JobReader) -> Result<Front, Fault>
-    ensures places { IfOk result (λ front. (front.at ≡ 0) × (front.end ≡ 0) × (front.has_ended ≡ true)) }
-    ensures limits { (text : List ℕ) → HasRead job text → IfOk result (λ front. IsWithinLimits (content_of front.graph)) }
+fn ended_initial_graph(job: JobReader) -> Result<InitialGraph, Fault>
+    ensures places { IfOk result (λ initial. (initial.at ≡ 0) × (initial.end ≡ 0) × (initial.has_ended ≡ true)) }
+    ensures limits { (text : List ℕ) → HasRead job text → IfOk result (λ initial. IsWithinLimits (content_of initial.graph)) }
     ensures graph { (text : List ℕ) → HasRead job text
-        → IfOk result (λ front. IsGraphText text (content_of front.graph)) }
+        → IfOk result (λ initial. IsGraphText text (content_of initial.graph)) }
     ensures says { (text : List ℕ) → HasRead job text → IfErr result (IsFaultOfGraph text) }
 {
     let line = job.next_line();
     match job.finish() {
         Err(fault) => Err(fault_of(fault)),
-        Ok(graph) if is_graph(&graph) => Ok(Front {
+        Ok(graph) if is_graph(&graph) => Ok(InitialGraph {
             graph,
             line,
             at: 0,

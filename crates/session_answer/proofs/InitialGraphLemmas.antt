@@ -10,9 +10,9 @@ use Rattle.dimacs_text.specs.Jobs.{content_of, IsWithinLimits}
 use Rattle.dimacs_text.specs.Lines.{lines}
 use Rattle.dimacs_text.specs.Reading.{HasRead, Reads}
 use Rattle.job_answer.specs.declared.fault.Fault.{Fault}
-use Rattle.session_answer.specs.declared.graph_front.Front.{Front}
+use Rattle.session_answer.specs.declared.initial_graph.InitialGraph.{InitialGraph}
 use Rattle.job_reader.specs.Pieces.{Feeds}
-use Rattle.session_answer.specs.Conversations.{HasFront}
+use Rattle.session_answer.specs.Conversations.{HasInitialGraph}
 
 -- the reader of the graph has read all that was taken, and `left` bytes may still come
 pub record IsFed (job : JobReader) (limit left : ℕ) (before after : Option (List ℕ)) : Type 0 where
@@ -59,16 +59,16 @@ split_last text buffer at count low =
 
 -- the input ends after the graph
 pub ended_has : (job : JobReader) (limit left : ℕ) (before between after : Option (List ℕ)) (buffer : List ℕ) (count : ℕ)
-    (result : Result Front Fault)
+    (result : Result InitialGraph Fault)
     → IsFed job limit left before between → Consumes between after (take count buffer) → count ≡ 0 → IsAtEnd after
-    → IfOk result (λ front. (front.at ≡ 0) × (front.end ≡ 0) × (front.has_ended ≡ true))
-    → ((text : List ℕ) → HasRead job text → IfOk result (λ front. IsGraphText text (content_of front.graph)))
-    → IfOk result (λ front. HasFront limit front buffer before after)
+    → IfOk result (λ initial. (initial.at ≡ 0) × (initial.end ≡ 0) × (initial.has_ended ≡ true))
+    → ((text : List ℕ) → HasRead job text → IfOk result (λ initial. IsGraphText text (content_of initial.graph)))
+    → IfOk result (λ initial. HasInitialGraph limit initial buffer before after)
 ended_has job limit left before between after buffer count (Err fault) fed takes none ended places graph = tt
-ended_has job limit left before between after buffer count (Ok front) fed takes none ended places graph =
-    let zero : front.end - front.at ≡ count = omega (arith, places.0, places.1, none) in
-    let nothing : take (front.end - front.at) (drop front.at buffer) ≡ take count buffer =
-    ap (λ k. take k (drop front.at buffer)) (zero ∙ none) ∙ sym (ap (λ k. take k buffer) none) in
+ended_has job limit left before between after buffer count (Ok initial) fed takes none ended places graph =
+    let zero : initial.end - initial.at ≡ count = omega (arith, places.0, places.1, none) in
+    let nothing : take (initial.end - initial.at) (drop initial.at buffer) ≡ take count buffer =
+    ap (λ k. take k (drop initial.at buffer)) (zero ∙ none) ∙ sym (ap (λ k. take k buffer) none) in
     record {
       text = fed.text;
       few = omega (arith, fed.count);
@@ -83,25 +83,25 @@ ended_has job limit left before between after buffer count (Ok front) fed takes 
 
 -- the graph ends within what was read last, or right after it
 pub open_has : (old job : JobReader) (limit left : ℕ) (before between after : Option (List ℕ)) (buffer : List ℕ)
-    (at count : ℕ) (result : Result Front Fault)
+    (at count : ℕ) (result : Result InitialGraph Fault)
     → limit ≤ 2 ^ 36 → IsFed old limit left before between → Consumes between after (take count buffer)
     → count ≤ length buffer → count ≤ left → at ≤ count → Reads old job (take at (take count buffer))
-    → IfOk result (λ front. (front.at ≡ at) × (front.end ≡ count) × (front.has_ended ≡ false))
-    → ((text : List ℕ) → HasRead job text → IfOk result (λ front. IsGraphText text (content_of front.graph)))
-    → ((text : List ℕ) → HasRead job text → IfOk result (λ front. front.line ≡ length (lines text) + 1))
+    → IfOk result (λ initial. (initial.at ≡ at) × (initial.end ≡ count) × (initial.has_ended ≡ false))
+    → ((text : List ℕ) → HasRead job text → IfOk result (λ initial. IsGraphText text (content_of initial.graph)))
+    → ((text : List ℕ) → HasRead job text → IfOk result (λ initial. initial.line ≡ length (lines text) + 1))
     → ((text more : List ℕ) → HasRead job text
-    → IfOk result (λ front. lines (text ++ more) ≡ lines text ++ lines more))
-    → IfOk result (λ front. HasFront limit front buffer before after)
+    → IfOk result (λ initial. lines (text ++ more) ≡ lines text ++ lines more))
+    → IfOk result (λ initial. HasInitialGraph limit initial buffer before after)
 open_has old job limit left before between after buffer at count (Err fault) low fed takes room few place reads places
     graph next joined = tt
-open_has old job limit left before between after buffer at count (Ok front) low fed takes room few place reads places
+open_has old job limit left before between after buffer at count (Ok initial) low fed takes room few place reads places
     graph next joined =
     let text = fed.text ++ take at (take count buffer) in
     let came = length-take-le count buffer room in
     let fed_now = length-take-le at (take count buffer) (omega (arith, place, came)) in
     let short : length (take at (take count buffer)) ≤ left = omega (arith, fed_now, place, few) in
     let read : HasRead job text = reads fed.text fed.read (omega (arith, low, fed.count, short)) in
-    let last : take (front.end - front.at) (drop front.at buffer) ≡ take (count - at) (drop at buffer) =
+    let last : take (initial.end - initial.at) (drop initial.at buffer) ≡ take (count - at) (drop at buffer) =
     ap₂ (λ k j. take (k - j) (drop j buffer)) places.1 places.0 in
     record {
       text = text;
@@ -117,18 +117,18 @@ open_has old job limit left before between after buffer at count (Ok front) low 
     }
 
 -- what is so of a reader's text is so of what it gives
-pub by_text : (job : JobReader) (limit left : ℕ) (before after : Option (List ℕ)) (result : Result Front Fault)
+pub by_text : (job : JobReader) (limit left : ℕ) (before after : Option (List ℕ)) (result : Result InitialGraph Fault)
     → IsFed job limit left before after
-    → ((text : List ℕ) → HasRead job text → IfOk result (λ front. IsWithinLimits (content_of front.graph)))
-    → IfOk result (λ front. IsWithinLimits (content_of front.graph))
+    → ((text : List ℕ) → HasRead job text → IfOk result (λ initial. IsWithinLimits (content_of initial.graph)))
+    → IfOk result (λ initial. IsWithinLimits (content_of initial.graph))
 by_text job limit left before after result fed within = within fed.text fed.read
 
 pub open_within : (old job : JobReader) (limit left : ℕ) (before between : Option (List ℕ)) (buffer : List ℕ)
-    (at count : ℕ) (result : Result Front Fault)
+    (at count : ℕ) (result : Result InitialGraph Fault)
     → limit ≤ 2 ^ 36 → IsFed old limit left before between → count ≤ length buffer → count ≤ left → at ≤ count
     → Reads old job (take at (take count buffer))
-    → ((text : List ℕ) → HasRead job text → IfOk result (λ front. IsWithinLimits (content_of front.graph)))
-    → IfOk result (λ front. IsWithinLimits (content_of front.graph))
+    → ((text : List ℕ) → HasRead job text → IfOk result (λ initial. IsWithinLimits (content_of initial.graph)))
+    → IfOk result (λ initial. IsWithinLimits (content_of initial.graph))
 open_within old job limit left before between buffer at count result low fed room few place reads within =
     let came = length-take-le count buffer room in
     let fed_now = length-take-le at (take count buffer) (omega (arith, place, came)) in
@@ -146,18 +146,18 @@ fed_by_threads old new limit left count before between after low fed feeds =
 
 -- the graph ends right after what was fed
 pub whole_has : (job : JobReader) (limit left : ℕ) (before after : Option (List ℕ)) (buffer : List ℕ)
-    (result : Result Front Fault)
+    (result : Result InitialGraph Fault)
     → IsFed job limit left before after
-    → IfOk result (λ front. (front.at ≡ 0) × (front.end ≡ 0) × (front.has_ended ≡ false))
-    → ((text : List ℕ) → HasRead job text → IfOk result (λ front. IsGraphText text (content_of front.graph)))
-    → ((text : List ℕ) → HasRead job text → IfOk result (λ front. front.line ≡ length (lines text) + 1))
+    → IfOk result (λ initial. (initial.at ≡ 0) × (initial.end ≡ 0) × (initial.has_ended ≡ false))
+    → ((text : List ℕ) → HasRead job text → IfOk result (λ initial. IsGraphText text (content_of initial.graph)))
+    → ((text : List ℕ) → HasRead job text → IfOk result (λ initial. initial.line ≡ length (lines text) + 1))
     → ((text more : List ℕ) → HasRead job text
-    → IfOk result (λ front. lines (text ++ more) ≡ lines text ++ lines more))
-    → IfOk result (λ front. HasFront limit front buffer before after)
+    → IfOk result (λ initial. lines (text ++ more) ≡ lines text ++ lines more))
+    → IfOk result (λ initial. HasInitialGraph limit initial buffer before after)
 whole_has job limit left before after buffer (Err fault) fed places graph next joined = tt
-whole_has job limit left before after buffer (Ok front) fed places graph next joined =
-    let nothing : take (front.end - front.at) (drop front.at buffer) ≡ [] =
-    ap (λ k. take (k - front.at) (drop front.at buffer)) places.1
+whole_has job limit left before after buffer (Ok initial) fed places graph next joined =
+    let nothing : take (initial.end - initial.at) (drop initial.at buffer) ≡ [] =
+    ap (λ k. take (k - initial.at) (drop initial.at buffer)) places.1
     ∙ ap (λ k. take (0 - k) (drop k buffer)) places.0 in
     record {
       text = fed.text;

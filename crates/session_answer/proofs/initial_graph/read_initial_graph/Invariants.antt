@@ -1,6 +1,6 @@
 use Rattle.std.proofs.Common.{◌+◌, ◌≤◌, ◌<◌, length}
-use Rattle.session_answer.proofs.FrontLemmas.{IsFed}
-use Rattle.session_answer.proofs.graph_front.read_front.Given as goal
+use Rattle.session_answer.proofs.InitialGraphLemmas.{IsFed}
+use Rattle.session_answer.proofs.initial_graph.read_initial_graph.Given as goal
 
 abbrev pub invariant-loop : goal.invariant-loop
 invariant-loop g l = record {

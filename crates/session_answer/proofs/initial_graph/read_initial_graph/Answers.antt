@@ -5,42 +5,42 @@ use Rattle.std.proofs.KnownBytes.{Keeps-refl}
 use Rattle.session_answer.proofs.CutLemmas.{on_err}
 use Rattle.session_answer.proofs.CutSessions.{fed_more, fed_some, fed_then}
 use Rattle.session_answer.proofs.EndLemmas.{ended_ends, long_ends, open_ends, system_ends, whole_ends}
-use Rattle.session_answer.proofs.FrontLemmas.{by_text, ended_has, fed_by_threads, fed_came, open_has, open_within, whole_has}
-use Rattle.session_answer.proofs.graph_front.read_front.Goals as goal
+use Rattle.session_answer.proofs.InitialGraphLemmas.{by_text, ended_has, fed_by_threads, fed_came, open_has, open_within, whole_has}
+use Rattle.session_answer.proofs.initial_graph.read_initial_graph.Goals as goal
 
-pub returns-then-count-eq0-clause-front : goal.returns-then-count-eq0-clause-front
-returns-then-count-eq0-clause-front g c =
+pub returns-then-count-eq0-clause-initial : goal.returns-then-count-eq0-clause-initial
+returns-then-count-eq0-clause-initial g c =
     ended_has c.loop.job c.args.limit c.loop.left (g.R.Read.remaining c.args.reader.now)
     (g.R.Read.remaining c.loop.reader) (g.R.Read.remaining c.read_some.new.reader) c.read_some.new.buffer
-    c.in_ok-count.count c.ended_front.result c.loop.invariant.fed c.in_ok-count.ensures.bytes.0 c.if-count-eq0.true
-    (c.in_ok-count.ensures.bytes.1 c.if-count-eq0.true (grind (arith, c.loop.invariant.room, c.read_some.auto.buffer))) c.ended_front.ensures.places c.ended_front.ensures.graph
+    c.in_ok-count.count c.ended_initial_graph.result c.loop.invariant.fed c.in_ok-count.ensures.bytes.0 c.if-count-eq0.true
+    (c.in_ok-count.ensures.bytes.1 c.if-count-eq0.true (grind (arith, c.loop.invariant.room, c.read_some.auto.buffer))) c.ended_initial_graph.ensures.places c.ended_initial_graph.ensures.graph
 
 pub returns-then-count-eq0-clause-limits : goal.returns-then-count-eq0-clause-limits
 returns-then-count-eq0-clause-limits g c =
     by_text c.loop.job c.args.limit c.loop.left (g.R.Read.remaining c.args.reader.now)
-    (g.R.Read.remaining c.loop.reader) c.ended_front.result c.loop.invariant.fed c.ended_front.ensures.limits
+    (g.R.Read.remaining c.loop.reader) c.ended_initial_graph.result c.loop.invariant.fed c.ended_initial_graph.ensures.limits
 
-pub returns-then-is_over-clause-front : goal.returns-then-is_over-clause-front
-returns-then-is_over-clause-front g c =
+pub returns-then-is_over-clause-initial : goal.returns-then-is_over-clause-initial
+returns-then-is_over-clause-initial g c =
     open_has c.loop.job c.feed_graph.new.self c.args.limit c.loop.left (g.R.Read.remaining c.args.reader.now)
     (g.R.Read.remaining c.loop.reader) (g.R.Read.remaining c.read_some.new.reader) c.read_some.new.buffer
-    c.in_ok-at.at c.in_ok-count.count c.open_front.result c.requires.limit c.loop.invariant.fed
+    c.in_ok-at.at c.in_ok-count.count c.open_initial_graph.result c.requires.limit c.loop.invariant.fed
     c.in_ok-count.ensures.bytes.0 c.in_ok-count.ensures.count c.if-count-left.false
     (let came = length-take-le c.in_ok-count.count c.read_some.new.buffer c.in_ok-count.ensures.count in
     omega (arith, came, c.in_ok-at.ensures.place))
     c.in_ok-at.ensures.reads
-    c.open_front.ensures.places c.open_front.ensures.graph c.open_front.ensures.next c.open_front.ensures.joined
+    c.open_initial_graph.ensures.places c.open_initial_graph.ensures.graph c.open_initial_graph.ensures.next c.open_initial_graph.ensures.joined
 
 pub returns-then-is_over-clause-limits : goal.returns-then-is_over-clause-limits
 returns-then-is_over-clause-limits g c =
     open_within c.loop.job c.feed_graph.new.self c.args.limit c.loop.left (g.R.Read.remaining c.args.reader.now)
     (g.R.Read.remaining c.loop.reader) c.read_some.new.buffer
-    c.in_ok-at.at c.in_ok-count.count c.open_front.result c.requires.limit c.loop.invariant.fed
+    c.in_ok-at.at c.in_ok-count.count c.open_initial_graph.result c.requires.limit c.loop.invariant.fed
     c.in_ok-count.ensures.count c.if-count-left.false
     (let came = length-take-le c.in_ok-count.count c.read_some.new.buffer c.in_ok-count.ensures.count in
     omega (arith, came, c.in_ok-at.ensures.place))
     c.in_ok-at.ensures.reads
-    c.open_front.ensures.limits
+    c.open_initial_graph.ensures.limits
 
 pub loop-preserved : goal.loop-preserved
 loop-preserved g c =
@@ -66,11 +66,11 @@ loop-preserved g c =
       room = grind (arith, c.loop.invariant.room, c.read_some.auto.buffer);
     }
 
-pub returns-then-is_refused-clause-front : goal.returns-then-is_refused-clause-front
-returns-then-is_refused-clause-front g c =
+pub returns-then-is_refused-clause-initial : goal.returns-then-is_refused-clause-initial
+returns-then-is_refused-clause-initial g c =
     whole_has c.read_arcs_from.new.job c.args.limit (c.loop.left - c.in_ok-count.count - c.in_ok-more.more)
     (g.R.Read.remaining c.args.reader.now)
-    (g.R.Read.remaining c.read_arcs_from.new.reader) c.read_some.new.buffer c.open_front-then-is_refused.result
+    (g.R.Read.remaining c.read_arcs_from.new.reader) c.read_some.new.buffer c.open_initial_graph-then-is_refused.result
     (fed_by_threads c.feed_graph.new.self c.read_arcs_from.new.job c.args.limit (c.loop.left - c.in_ok-count.count)
     c.in_ok-more.more (g.R.Read.remaining c.args.reader.now) (g.R.Read.remaining c.read_some.new.reader)
     (g.R.Read.remaining c.read_arcs_from.new.reader) c.requires.limit
@@ -80,14 +80,14 @@ returns-then-is_refused-clause-front g c =
     c.in_ok-count.ensures.count (omega (arith, c.if-count-left.false))
     c.in_ok-at.ensures.reads (c.is_over.ensures.fed c.if-is_over.false))
     c.in_ok-more.ensures.feeds)
-    c.open_front-then-is_refused.ensures.places c.open_front-then-is_refused.ensures.graph c.open_front-then-is_refused.ensures.next
-    c.open_front-then-is_refused.ensures.joined
+    c.open_initial_graph-then-is_refused.ensures.places c.open_initial_graph-then-is_refused.ensures.graph c.open_initial_graph-then-is_refused.ensures.next
+    c.open_initial_graph-then-is_refused.ensures.joined
 
 pub returns-then-is_refused-clause-limits : goal.returns-then-is_refused-clause-limits
 returns-then-is_refused-clause-limits g c =
     by_text c.read_arcs_from.new.job c.args.limit (c.loop.left - c.in_ok-count.count - c.in_ok-more.more)
     (g.R.Read.remaining c.args.reader.now)
-    (g.R.Read.remaining c.read_arcs_from.new.reader) c.open_front-then-is_refused.result
+    (g.R.Read.remaining c.read_arcs_from.new.reader) c.open_initial_graph-then-is_refused.result
     (fed_by_threads c.feed_graph.new.self c.read_arcs_from.new.job c.args.limit (c.loop.left - c.in_ok-count.count)
     c.in_ok-more.more (g.R.Read.remaining c.args.reader.now) (g.R.Read.remaining c.read_some.new.reader)
     (g.R.Read.remaining c.read_arcs_from.new.reader) c.requires.limit
@@ -97,7 +97,7 @@ returns-then-is_refused-clause-limits g c =
     c.in_ok-count.ensures.count (omega (arith, c.if-count-left.false))
     c.in_ok-at.ensures.reads (c.is_over.ensures.fed c.if-is_over.false))
     c.in_ok-more.ensures.feeds)
-    c.open_front-then-is_refused.ensures.limits
+    c.open_initial_graph-then-is_refused.ensures.limits
 
 pub returns-in_err-more-clause-cut : goal.returns-in_err-more-clause-cut
 returns-in_err-more-clause-cut g c =
@@ -117,7 +117,7 @@ returns-then-is_refused-clause-cut g c =
     (g.R.Read.remaining c.read_arcs_from.new.reader)
     (take c.in_ok-count.count c.read_some.new.buffer) c.in_ok-more.ensures.feeds.text c.loop.invariant.fed
     c.in_ok-count.ensures.bytes.0 c.in_ok-more.ensures.feeds.taken)
-    c.open_front-then-is_refused.result
+    c.open_initial_graph-then-is_refused.result
 
 pub returns-in_err-count-clause-cut : goal.returns-in_err-count-clause-cut
 returns-in_err-count-clause-cut g c =
@@ -133,7 +133,7 @@ returns-then-count-eq0-clause-cut g c =
     (fed_more c.loop.job c.args.limit c.loop.left (g.R.Read.remaining c.args.reader.now)
     (g.R.Read.remaining c.loop.reader) (g.R.Read.remaining c.read_some.new.reader)
     (take c.in_ok-count.count c.read_some.new.buffer) c.loop.invariant.fed c.in_ok-count.ensures.bytes.0)
-    c.ended_front.result
+    c.ended_initial_graph.result
 
 pub returns-then-count-left-clause-cut : goal.returns-then-count-left-clause-cut
 returns-then-count-left-clause-cut g c =
@@ -155,7 +155,7 @@ returns-then-is_over-clause-cut g c =
     (fed_more c.loop.job c.args.limit c.loop.left (g.R.Read.remaining c.args.reader.now)
     (g.R.Read.remaining c.loop.reader) (g.R.Read.remaining c.read_some.new.reader)
     (take c.in_ok-count.count c.read_some.new.buffer) c.loop.invariant.fed c.in_ok-count.ensures.bytes.0)
-    c.open_front.result
+    c.open_initial_graph.result
 
 pub returns-clause-cut : goal.returns-clause-cut
 returns-clause-cut g c =
@@ -172,9 +172,9 @@ pub returns-then-count-eq0-clause-says : goal.returns-then-count-eq0-clause-says
 returns-then-count-eq0-clause-says g c =
     ended_ends c.loop.job c.args.limit c.loop.left (g.R.Read.remaining c.args.reader.now)
     (g.R.Read.remaining c.loop.reader) (g.R.Read.remaining c.read_some.new.reader) c.read_some.new.buffer
-    c.in_ok-count.count c.ended_front.result c.loop.invariant.fed c.in_ok-count.ensures.bytes.0 c.if-count-eq0.true
+    c.in_ok-count.count c.ended_initial_graph.result c.loop.invariant.fed c.in_ok-count.ensures.bytes.0 c.if-count-eq0.true
     (c.in_ok-count.ensures.bytes.1 c.if-count-eq0.true (grind (arith, c.loop.invariant.room, c.read_some.auto.buffer)))
-    c.ended_front.ensures.says
+    c.ended_initial_graph.ensures.says
 
 pub returns-then-count-left-clause-says : goal.returns-then-count-left-clause-says
 returns-then-count-left-clause-says g c =
@@ -187,11 +187,11 @@ pub returns-then-is_over-clause-says : goal.returns-then-is_over-clause-says
 returns-then-is_over-clause-says g c =
     open_ends c.loop.job c.feed_graph.new.self c.args.limit c.loop.left (g.R.Read.remaining c.args.reader.now)
     (g.R.Read.remaining c.loop.reader) (g.R.Read.remaining c.read_some.new.reader) c.read_some.new.buffer
-    c.in_ok-at.at c.in_ok-count.count c.open_front.result c.requires.limit c.loop.invariant.fed
+    c.in_ok-at.at c.in_ok-count.count c.open_initial_graph.result c.requires.limit c.loop.invariant.fed
     c.in_ok-count.ensures.bytes.0 c.in_ok-count.ensures.count c.if-count-left.false
     (let came = length-take-le c.in_ok-count.count c.read_some.new.buffer c.in_ok-count.ensures.count in
     omega (arith, came, c.in_ok-at.ensures.place))
-    c.in_ok-at.ensures.reads c.open_front.ensures.says
+    c.in_ok-at.ensures.reads c.open_initial_graph.ensures.says
 
 pub returns-in_err-more-clause-says : goal.returns-in_err-more-clause-says
 returns-in_err-more-clause-says g c =
@@ -204,7 +204,7 @@ pub returns-then-is_refused-clause-says : goal.returns-then-is_refused-clause-sa
 returns-then-is_refused-clause-says g c =
     whole_ends c.read_arcs_from.new.job c.args.limit (c.loop.left - c.in_ok-count.count - c.in_ok-more.more)
     (g.R.Read.remaining c.args.reader.now) (g.R.Read.remaining c.read_arcs_from.new.reader)
-    c.open_front-then-is_refused.result
+    c.open_initial_graph-then-is_refused.result
     (fed_by_threads c.feed_graph.new.self c.read_arcs_from.new.job c.args.limit (c.loop.left - c.in_ok-count.count)
     c.in_ok-more.more (g.R.Read.remaining c.args.reader.now) (g.R.Read.remaining c.read_some.new.reader)
     (g.R.Read.remaining c.read_arcs_from.new.reader) c.requires.limit
@@ -214,7 +214,7 @@ returns-then-is_refused-clause-says g c =
     c.in_ok-count.ensures.count (omega (arith, c.if-count-left.false))
     c.in_ok-at.ensures.reads (c.is_over.ensures.fed c.if-is_over.false))
     c.in_ok-more.ensures.feeds)
-    c.open_front-then-is_refused.ensures.says
+    c.open_initial_graph-then-is_refused.ensures.says
 
 pub returns-clause-says : goal.returns-clause-says
 returns-clause-says g c = absurd (omega (arith, c.requires.limit, c.loop.invariant.often, c.loop-test.false))

@@ -1,4 +1,4 @@
-use Rattle.session_answer.proofs.graph_front.ended_front.Goals as goal
+use Rattle.session_answer.proofs.initial_graph.ended_initial_graph.Goals as goal
 
 pub returns-in-Ok-clause-limits : goal.returns-in-Ok-clause-limits
 returns-in-Ok-clause-limits c text read = c.in-Ok.ensures.within text read

@@ -1,5 +1,5 @@
 use Rattle.std.proofs.Common.{◌++◌}
-use Rattle.session_answer.proofs.graph_front.open_front.Goals as goal
+use Rattle.session_answer.proofs.initial_graph.open_initial_graph.Goals as goal
 
 pub returns-in-Err-clause-says : goal.returns-in-Err-clause-says
 returns-in-Err-clause-says c text more read =
