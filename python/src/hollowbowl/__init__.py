@@ -11,6 +11,7 @@ from ._errors import (
     GraphChanged,
     NoPath,
     NoVertex,
+    NotKept,
     OutOfMemory,
     OutOfStep,
     ProgramMissing,
@@ -19,7 +20,8 @@ from ._errors import (
     Timeout,
     WrongProcess,
 )
-from ._graph import Graph, Totals
+from ._graph import Graph
+from ._measures import Totals
 from ._numbers import INF
 
 __all__ = [
@@ -32,6 +34,7 @@ __all__ = [
     "GraphChanged",
     "NoPath",
     "NoVertex",
+    "NotKept",
     "OutOfMemory",
     "OutOfStep",
     "ProgramMissing",

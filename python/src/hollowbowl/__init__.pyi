@@ -1,9 +1,18 @@
 # The public names of the package and their types. Rows are numpy arrays if numpy is there, and else arrays of the
-# standard library, so their type is left open.
-from collections.abc import Hashable, Iterable, Iterator, Sequence
+# standard library, so their type is left open. A cost is an int, but a float of a graph with a scale.
+from collections.abc import Callable, Hashable, Iterable, Iterator
+from decimal import Decimal
+from fractions import Fraction
 from os import PathLike
 from types import TracebackType
-from typing import Any, NamedTuple
+from typing import Any, Literal, NamedTuple, overload
+
+_Number = float | Decimal | Fraction
+_Cost = int | Any
+_Seconds = float | None
+_Workers = int | str | None
+# It is called with how many items are done, and of how many.
+_Progress = Callable[[int, int], object] | None
 
 INF: int
 __version__: str
@@ -11,91 +20,124 @@ __commit__: str | None
 
 class Totals(NamedTuple):
     reached: int
-    sum: int
-    greatest: int
+    sum: _Cost
+    greatest: _Cost
     farthest: Any
 
 class Graph:
     def __init__(
-        self,
-        tails: Iterable[int],
-        heads: Iterable[int],
-        weights: Iterable[float],
-        n: int | None = None,
-        *,
-        workers: int | str | None = None,
-        names: Iterable[Hashable] | None = None,
-        keep: bool = True,
+        self, tails: Iterable[int], heads: Iterable[int], weights: Iterable[_Number], n: int | None = None, *,
+        scale: int | None = None, workers: _Workers = None, names: Iterable[Hashable] | None = None, keep: bool = True,
     ) -> None: ...
     @classmethod
     def from_edges(
-        cls,
-        edges: Iterable[tuple[Any, Any, float]],
-        *,
-        nodes: Iterable[Hashable] = (),
-        workers: int | str | None = None,
-        keep: bool = True,
+        cls, edges: Iterable[tuple[Any, Any, _Number]], *, nodes: Iterable[Hashable] = (), scale: int | None = None,
+        workers: _Workers = None, keep: bool = True,
     ) -> Graph: ...
     @classmethod
-    def from_gr(cls, path: str | PathLike[str], *, workers: int | str | None = None, keep: bool = True) -> Graph: ...
+    def from_gr(
+        cls, path: str | PathLike[str], *, scale: int | None = None, workers: _Workers = None, keep: bool = True
+    ) -> Graph: ...
+    @classmethod
+    def from_columns(
+        cls, table: Any, source: Any = "source", target: Any = "target", weight: Any = "weight", *,
+        nodes: Iterable[Hashable] = (), scale: int | None = None, workers: _Workers = None, keep: bool = True,
+    ) -> Graph: ...
     @classmethod
     def from_pandas(
-        cls,
-        frame: Any,
-        source: str = "source",
-        target: str = "target",
-        weight: str = "weight",
-        *,
-        nodes: Iterable[Hashable] = (),
-        workers: int | str | None = None,
-        keep: bool = True,
+        cls, frame: Any, source: Any = "source", target: Any = "target", weight: Any = "weight", *,
+        nodes: Iterable[Hashable] = (), scale: int | None = None, workers: _Workers = None, keep: bool = True,
     ) -> Graph: ...
     @classmethod
     def from_networkx(
-        cls, other: Any, weight: str = "weight", *, workers: int | str | None = None, keep: bool = True
+        cls, other: Any, weight: str = "weight", *, scale: int | None = None, workers: _Workers = None,
+        keep: bool = True,
+    ) -> Graph: ...
+    @classmethod
+    def from_scipy(
+        cls, matrix: Any, *, scale: int | None = None, workers: _Workers = None, keep: bool = True
     ) -> Graph: ...
     @property
     def n(self) -> int: ...
     @property
     def m(self) -> int: ...
     @property
+    def version(self) -> int: ...
+    @property
     def names(self) -> tuple[Any, ...] | None: ...
+    @property
+    def scale(self) -> int | None: ...
+    @property
+    def is_closed(self) -> bool: ...
+    def __len__(self) -> int: ...
+    def __bool__(self) -> bool: ...
+    def __contains__(self, vertex: object) -> bool: ...
     def __iter__(self) -> Iterator[Any]: ...
     def __enter__(self) -> Graph: ...
     def __exit__(self, *_: BaseException | type[BaseException] | TracebackType | None) -> None: ...
+    def restart(self, *, timeout: _Seconds = None) -> None: ...
     def close(self) -> None: ...
+    def add(
+        self, tails: Iterable[Any], heads: Iterable[Any], weights: Iterable[_Number], *, timeout: _Seconds = None
+    ) -> None: ...
+    def distance(
+        self, source: Any, target: Any, *, hops: bool = False, whole: bool = False, timeout: _Seconds = None
+    ) -> _Cost: ...
+    def has_path(self, source: Any, target: Any, *, timeout: _Seconds = None) -> bool: ...
     def distances(
-        self, sources: Any, *, hops: bool = False, dtype: Any = None, timeout: float | None = None
+        self, sources: Any, *, hops: bool = False, dtype: Any = None, whole: bool = False, timeout: _Seconds = None,
+        progress: _Progress = None,
     ) -> Any: ...
-    def levels(self, sources: Any, *, dtype: Any = None, timeout: float | None = None) -> Any: ...
-    def within(
-        self, source: Any, cost: float, *, hops: bool = False, timeout: float | None = None
-    ) -> tuple[Any, Any]: ...
-    def components(self, *, timeout: float | None = None) -> Any: ...
-    def totals(self, sources: Any, *, hops: bool = False, timeout: float | None = None) -> Any: ...
-    def distance(self, source: Any, target: Any, *, hops: bool = False, timeout: float | None = None) -> int: ...
+    def levels(
+        self, sources: Any, *, dtype: Any = None, timeout: _Seconds = None, progress: _Progress = None
+    ) -> Any: ...
+    def rows(
+        self, sources: Any, *, hops: bool = False, dtype: Any = None, whole: bool = False, timeout: _Seconds = None,
+        progress: _Progress = None,
+    ) -> Iterator[tuple[Any, Any]]: ...
     def matrix(
-        self,
-        sources: Sequence[Any],
-        targets: Sequence[Any],
-        *,
-        hops: bool = False,
-        dtype: Any = None,
-        timeout: float | None = None,
+        self, sources: Iterable[Any], targets: Iterable[Any], *, hops: bool = False, dtype: Any = None,
+        whole: bool = False, timeout: _Seconds = None, progress: _Progress = None,
     ) -> Any: ...
     def pairs(
-        self,
-        sources: Sequence[Any],
-        targets: Sequence[Any],
-        *,
-        hops: bool = False,
-        dtype: Any = None,
-        timeout: float | None = None,
+        self, sources: Iterable[Any], targets: Iterable[Any], *, hops: bool = False, dtype: Any = None,
+        whole: bool = False, timeout: _Seconds = None, progress: _Progress = None,
     ) -> Any: ...
-    def path(self, source: Any, target: Any, *, hops: bool = False, timeout: float | None = None) -> list[Any]: ...
-    def add(
-        self, tails: Iterable[Any], heads: Iterable[Any], weights: Iterable[float], *, timeout: float | None = None
-    ) -> None: ...
+    def within(
+        self, source: Any, cost: _Number, *, hops: bool = False, whole: bool = False, timeout: _Seconds = None
+    ) -> tuple[Any, Any]: ...
+    def within_many(
+        self, sources: Any, cost: _Number, *, hops: bool = False, whole: bool = False, timeout: _Seconds = None,
+        progress: _Progress = None,
+    ) -> Iterator[tuple[Any, Any, Any]]: ...
+    def path(self, source: Any, target: Any, *, hops: bool = False, timeout: _Seconds = None) -> list[Any]: ...
+    def distance_and_path(
+        self, source: Any, target: Any, *, hops: bool = False, whole: bool = False, timeout: _Seconds = None
+    ) -> tuple[_Cost, list[Any]]: ...
+    @overload
+    def paths(
+        self, pairs: Iterable[tuple[Any, Any]], *, hops: bool = False, missing: Literal["raise"] = "raise",
+        timeout: _Seconds = None, progress: _Progress = None,
+    ) -> Iterator[list[Any]]: ...
+    @overload
+    def paths(
+        self, pairs: Iterable[tuple[Any, Any]], *, hops: bool = False, missing: None, timeout: _Seconds = None,
+        progress: _Progress = None,
+    ) -> Iterator[list[Any] | None]: ...
+    def totals(
+        self, sources: Any, *, hops: bool = False, whole: bool = False, timeout: _Seconds = None,
+        progress: _Progress = None,
+    ) -> Any: ...
+    def closeness(
+        self, sources: Any = None, *, hops: bool = False, timeout: _Seconds = None, progress: _Progress = None
+    ) -> Any: ...
+    def eccentricity(
+        self, sources: Any = None, *, hops: bool = False, dtype: Any = None, whole: bool = False,
+        timeout: _Seconds = None, progress: _Progress = None,
+    ) -> Any: ...
+    def components(self, *, timeout: _Seconds = None) -> Any: ...
+    def component_count(self, *, timeout: _Seconds = None) -> int: ...
+    def component_of(self, vertex: Any, *, timeout: _Seconds = None) -> list[Any]: ...
 
 class Error(Exception): ...
 
@@ -113,6 +155,7 @@ class BadGraph(Error, ValueError):
     words: str
 
 class GraphChanged(Error, RuntimeError): ...
+class NotKept(Error, RuntimeError): ...
 
 class Refused(Error, ValueError):
     words: str

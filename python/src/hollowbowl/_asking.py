@@ -10,7 +10,7 @@ from ._errors import OutOfStep
 from ._text import MOST_ITEMS
 
 # How many items the first request of a form has, and how many seconds one should take.
-_FIRST = {"pairs": 4096}
+_FIRST = {"pairs": 4096, "walks": 256}
 _FEW = 16
 _SECONDS = 0.25
 
@@ -21,15 +21,21 @@ class Sizes:
     def __init__(self):
         self._sizes = {}
 
+    def size(self, kind, form):
+        """The size of the next request of a kind and form."""
+        return self._sizes.get((kind, form)) or _FIRST.get(form, _FEW)
+
     def of(self, question):
-        """The size of the next request."""
-        size = self._sizes.get((question.kind, question.form)) or _FIRST.get(question.form, _FEW)
+        """The size of the next request of a question, which ends at its steps if it can."""
+        size = self.size(question.kind, question.form)
         return size // question.step * question.step or size
 
-    def learn(self, question, count, seconds):
-        """Takes in how long the reply to a request took."""
-        if count:
-            wanted = int(count * _SECONDS / max(seconds, 1e-6))
+    def learn(self, question, count, seconds, length):
+        """Takes in how long the reply to a request took, and how long it is."""
+        share = min(_SECONDS / max(seconds, 1e-6), question.most_bytes / max(length, 1))
+        # A request of few items that was quick tells nothing of one that is full.
+        if count and (share < 1 or count >= self.of(question)):
+            wanted = int(count * share)
             self._sizes[question.kind, question.form] = min(max(wanted, count // 4, 1), count * 4, MOST_ITEMS)
 
 
@@ -60,13 +66,14 @@ def ask(process, session, question, sizes, exchange):
     while part is not None:
         following = _Part(question, part.last, sizes) if part.last < question.count else None
         body, end = _in_words(question.read, process, part)
-        sizes.learn(question, part.last - part.first, part.seconds())
+        sizes.learn(question, part.last - part.first, part.seconds(), len(body or b""))
         session.end_of(process, end, part.request)
         if following is not None and exchange.is_left:
             following = None
         if following is not None:
             following.send(process)
         _in_words(question.take, body, part)
+        exchange.step(part.last, question.count)
         part = following
 
 

@@ -62,7 +62,14 @@ class BadGraph(Error, ValueError):
 
 
 class GraphChanged(Error, RuntimeError):
-    """The file of the graph differs from what was read of it at first, so that no other program can begin with it."""
+    """The file of the graph differs from what was read of it at first, so that no other program can begin with it.
+
+    Also where arcs are added while `rows` and its kin are on their way.
+    """
+
+
+class NotKept(Error, RuntimeError):
+    """The graph was made with `keep=False`, so no other program can begin with it."""
 
 
 class Refused(Error, ValueError):

@@ -1,5 +1,7 @@
 """The arcs of graphs that others have made, as tails, heads, weights and the names of vertices."""
 
+from ._numbers import numpy
+
 
 def edges(given, nodes):
     """Those of edges `(tail, head, weight)`, whose ends are names; `nodes` are names that come before these."""
@@ -25,3 +27,36 @@ def networkx(other, weight):
         arcs += [(head, tail, size) for tail, head, size in arcs]
     tails, heads, weights = zip(*arcs) if arcs else ((), (), ())
     return tails, heads, weights, names
+
+
+def columns(table, source, target, weight):
+    """The edges of a table's rows, by the names of its columns."""
+    try:
+        found = [_entries(table[name]) for name in (source, target, weight)]
+    except TypeError:
+        raise TypeError(f"table is {table!r}, which has no columns {source!r}, {target!r} and {weight!r}") from None
+    if not len(found[0]) == len(found[1]) == len(found[2]):
+        raise ValueError("{} sources, {} targets and {} weights".format(*map(len, found)))
+    return zip(*found)
+
+
+def _entries(column):
+    """The entries of a column as a list of Python's own, which can be names."""
+    for name in ("to_pylist", "tolist", "to_list"):
+        if hasattr(column, name):
+            return getattr(column, name)()
+    return list(column)
+
+
+def scipy(matrix):
+    """Those of a sparse matrix, with the number of vertices in place of names."""
+    if not hasattr(matrix, "tocsr"):
+        raise TypeError(f"matrix is {matrix!r}, which is no sparse matrix of scipy")
+    if len(matrix.shape) != 2 or matrix.shape[0] != matrix.shape[1]:
+        raise ValueError(f"matrix has the shape {matrix.shape}, where a square one is wanted")
+    rows = matrix.tocsr()
+    if not rows.has_canonical_format:
+        rows = rows.copy()
+        rows.sum_duplicates()
+    n = rows.shape[0]
+    return numpy.repeat(numpy.arange(n), numpy.diff(rows.indptr)), rows.indices, rows.data, n

@@ -1,53 +1,44 @@
-"""A directed graph that the program keeps, and what can be asked of it."""
+"""A directed graph that the program keeps: how it is made, changes and ends."""
 
-from typing import Hashable, NamedTuple
-
-from . import _from, _questions
-from ._errors import NoPath, fault_of
+from . import _from
+from ._changes import Addition
+from ._columns import as_column, as_weights, most_of
+from ._costs import Costs
 from ._kept import Columns, File
+from ._measures import Measures
 from ._names import Names
-from ._numbers import INF, MOST_VERTICES, MOST_WEIGHT, as_bound, as_column, as_floats, as_options, as_rows
-from ._numbers import as_seconds, is_float, most_of, whole
-from ._questions import DISTANCES, LEVELS
+from ._numbers import MOST_VERTICES, as_options, as_scale, as_seconds, whole
+from ._paths import Paths
 from ._wire import Wire
 
 
-class Totals(NamedTuple):
-    """What the least costs from a source come to."""
-
-    #: How many vertices a walk reaches, the source among them.
-    reached: int
-    #: The sum of their costs.
-    sum: int
-    #: The greatest of their costs.
-    greatest: int
-    #: The vertex that has it; of several the one that comes first.
-    farthest: Hashable
-
-
-class Graph:
+class Graph(Costs, Paths, Measures):
     """A directed graph with whole-number weights from 0 to 2**32 - 1, kept by the program `obim_query`.
 
     Vertices are numbers from 0, or the names that `from_edges` and its kin were given. Threads may ask at the same
     time; one question is answered after another. A graph belongs to the process that made it. It is closed by `close`,
     by leaving a `with`, or once nothing refers to it.
 
-    With `hops=True` the cost of a walk is the number of its arcs. A call that takes longer than `timeout` seconds is a
-    Timeout; what was asked goes on.
+    With `scale=100` weights and costs are decimals, of which a hundred make a whole number; costs are floats then, and
+    with `whole=True` the whole numbers. With `hops=True` the cost of a walk is the number of its arcs.
+
+    A call that takes longer than `timeout` seconds is a Timeout; what was asked goes on. `progress` is a function of
+    (done, all), which is called some four times a second.
 
     >>> with Graph([0, 0, 1], [1, 2, 2], [7, 20, 6]) as graph:
     ...     graph.distance(0, 2), graph.path(0, 2)
     (13, [0, 1, 2])
     """
 
-    def __init__(self, tails, heads, weights, n=None, *, workers=None, names=None, keep=True):
+    def __init__(self, tails, heads, weights, n=None, *, scale=None, workers=None, names=None, keep=True):
         """The graph of these arcs among `n` vertices; without `n` up to the greatest that an arc has.
 
         With `keep=False` Python keeps no arcs, so no other program can begin if this one is killed.
         """
+        self._scale = as_scale(scale)
         tails = as_column("tails", tails, MOST_VERTICES - 1)
         heads = as_column("heads", heads, MOST_VERTICES - 1)
-        weights = as_column("weights", weights, MOST_WEIGHT)
+        weights = as_weights(weights, self._scale)
         _check_lengths(tails, heads, weights)
         least = max(most_of(tails), most_of(heads)) + 1
         count = least if n is None else whole(n)
@@ -57,39 +48,60 @@ class Graph:
         self._begin(Columns(count, tails, heads, weights), workers, keep)
 
     @classmethod
-    def from_edges(cls, edges, *, nodes=(), workers=None, keep=True):
+    def from_edges(cls, edges, *, nodes=(), scale=None, workers=None, keep=True):
         """The graph of edges `(tail, head, weight)` whose ends are any hashable names, in the order in which they come.
 
         `nodes` are names that come before these, as of vertices without edges.
         """
         tails, heads, weights, names = _from.edges(edges, nodes)
-        return cls(tails, heads, weights, len(names), workers=workers, names=names, keep=keep)
+        return cls(tails, heads, weights, len(names), scale=scale, workers=workers, names=names, keep=keep)
 
     @classmethod
-    def from_gr(cls, path, *, workers=None, keep=True):
+    def from_gr(cls, path, *, scale=None, workers=None, keep=True):
         """The graph of a file in the `.gr` format, whose vertices count from 1: vertex 0 here is 1 there.
 
         A file that ends with `.gz` is unpacked. What is more than a graph, as a job with queries, is a BadGraph. The
         file is read again where another program has to begin; if it has changed by then, that is a GraphChanged.
+        `scale` says by what its weights were multiplied.
         """
         graph = cls.__new__(cls)
+        graph._scale = as_scale(scale)
         graph._begin(File(path), workers, keep)
         graph._names = Names(graph._wire.state.session.n)
         return graph
 
     @classmethod
-    def from_pandas(
-        cls, frame, source="source", target="target", weight="weight", *, nodes=(), workers=None, keep=True
+    def from_columns(
+        cls, table, source="source", target="target", weight="weight", *, nodes=(), scale=None, workers=None, keep=True
     ):
-        """The graph of a DataFrame's rows, as `networkx.from_pandas_edgelist` takes it; of `nodes` see `from_edges`."""
-        edges = zip(frame[source], frame[target], frame[weight])
-        return cls.from_edges(edges, nodes=nodes, workers=workers, keep=keep)
+        """The graph of a table's rows, by the names of its columns; of `nodes` see `from_edges`.
+
+        A table is anything with `table[name]`: a DataFrame of pandas or polars, a table of Arrow, lists by name.
+        """
+        edges = _from.columns(table, source, target, weight)
+        return cls.from_edges(edges, nodes=nodes, scale=scale, workers=workers, keep=keep)
 
     @classmethod
-    def from_networkx(cls, other, weight="weight", *, workers=None, keep=True):
+    def from_pandas(
+        cls, frame, source="source", target="target", weight="weight", *, nodes=(), scale=None, workers=None, keep=True
+    ):
+        """The graph of a DataFrame's rows (`from_columns`), as `networkx.from_pandas_edgelist` takes it."""
+        return cls.from_columns(frame, source, target, weight, nodes=nodes, scale=scale, workers=workers, keep=keep)
+
+    @classmethod
+    def from_networkx(cls, other, weight="weight", *, scale=None, workers=None, keep=True):
         """The graph of a networkx graph, in which an edge without a weight has 1. Undirected edges go both ways."""
         tails, heads, weights, names = _from.networkx(other, weight)
-        return cls(tails, heads, weights, len(names), workers=workers, names=names, keep=keep)
+        return cls(tails, heads, weights, len(names), scale=scale, workers=workers, names=names, keep=keep)
+
+    @classmethod
+    def from_scipy(cls, matrix, *, scale=None, workers=None, keep=True):
+        """The graph of a sparse matrix of scipy: an arc for each entry that is stored, from its row to its column.
+
+        A stored zero is an arc of weight 0. Entries of one place are added up first, as scipy means them.
+        """
+        tails, heads, weights, n = _from.scipy(matrix)
+        return cls(tails, heads, weights, n, scale=scale, workers=workers, keep=keep)
 
     def _begin(self, kept, workers, keep):
         try:
@@ -107,123 +119,52 @@ class Graph:
 
     @property
     def n(self):
-        """How many vertices there are."""
+        """The number of vertices."""
         return self._names.n
 
     @property
     def m(self):
-        """How many arcs there are, those that were added among them."""
-        self._wire.check()
-        return self._wire.state.session.m
+        """The number of arcs, those that were added among them."""
+        return self._wire.m
+
+    @property
+    def version(self):
+        """A number that grows with each change of the arcs."""
+        return self._wire.version
 
     @property
     def names(self):
         """The names of the vertices, in the order of rows, as a tuple; None where vertices are numbers."""
         return self._names.names
 
+    @property
+    def scale(self):
+        """The number by which weights were multiplied; None if they are whole numbers."""
+        return self._scale
+
+    @property
+    def is_closed(self):
+        """True once nothing is answered any more: after `close` or an OutOfStep, and if another program can't begin."""
+        return self._wire.is_ended()
+
+    def __len__(self):
+        return self.n
+
+    def __bool__(self):
+        """A graph is true, even without vertices: so `if graph` asks whether there is one."""
+        return True
+
+    def __contains__(self, vertex):
+        return self._names.has(vertex)
+
     def __iter__(self):
         """The vertices, in the order of rows: `distances(graph)` has a row for each."""
         return iter(range(self.n) if self.names is None else self.names)
 
-    def __enter__(self):
-        return self
+    def __repr__(self):
+        return f"<Graph of {self.n} vertices{self._wire.shown()}>"
 
-    def __exit__(self, *_):
-        self.close()
-
-    def close(self):
-        """Ends the program. Whatever is asked from then on, or waits, is a Closed."""
-        self._wire.close()
-
-    def __reduce_ex__(self, _):
-        raise TypeError("a Graph is a running program, which can't be copied: make one in each process, of its arcs")
-
-    # ---- costs
-
-    def distances(self, sources, *, hops=False, dtype=None, timeout=None):
-        """The least costs from each of the sources to all vertices: a row for each, 2**64 - 1 where no walk leads.
-
-        A single source gives a single row. Rows are numpy arrays of uint64 if numpy is there, and else `array('Q')`.
-        With `dtype=float` they are of floats, with `inf` where no walk leads.
-        """
-        are_floats = is_float(dtype)
-        is_one, places = self._names.one_or_several("sources", sources)
-        rows = self._ask(_questions.Rows(_kind(hops), places, self.n), timeout).rows
-        rows = as_floats(rows) if are_floats else rows
-        return rows[0] if is_one else rows
-
-    def levels(self, sources, *, dtype=None, timeout=None):
-        """As `distances`, the fewest arcs of a walk in place of the least cost."""
-        return self.distances(sources, hops=True, dtype=dtype, timeout=timeout)
-
-    def within(self, source, cost, *, hops=False, timeout=None):
-        """The vertices that cost at most `cost` from the source, in rising order, and the cost of each: two arrays.
-
-        The source is solved no further, so a small bound in a large graph takes little. Arrays are as in `distances`;
-        vertices with names come as a list of these.
-        """
-        question = _questions.Near(_kind(hops), self._names.place("source", source), as_bound(cost))
-        vertices, costs = self._ask(question, timeout).found
-        return vertices if self.names is None else [self.names[place] for place in vertices], costs
-
-    def components(self, *, timeout=None):
-        """For each vertex the place of the least vertex that arcs join to it, whichever way they point: a row."""
-        return self._ask(_questions.Components(self.n), timeout).labels
-
-    def totals(self, sources, *, hops=False, timeout=None):
-        """For each of the sources what the costs from it come to; a single source gives a single one.
-
-        Of n vertices that are all reached the closeness of a source is (n - 1) / sum, and its eccentricity is greatest.
-        """
-        is_one, places = self._names.one_or_several("sources", sources)
-        question = self._ask(_questions.Totals(_kind(hops), places), timeout)
-        found = [Totals(*numbers, self._names.name(place)) for *numbers, place in question.found]
-        return found[0] if is_one else found
-
-    def distance(self, source, target, *, hops=False, timeout=None):
-        """The least cost of a walk from the source to the target; NoPath if there is none."""
-        ends = [self._names.place("source", source)], [self._names.place("target", target)]
-        cost = int(self._ask(_questions.Matrix(_kind(hops), *ends), timeout).costs[0])
-        if cost == INF:
-            raise fault_of(NoPath, source, target)
-        return cost
-
-    def matrix(self, sources, targets, *, hops=False, dtype=None, timeout=None):
-        """The least costs from each source to each target: a row for each source, 2**64 - 1 where no walk leads.
-
-        With `dtype=float` costs are floats, with `inf` where no walk leads.
-        """
-        are_floats = is_float(dtype)
-        sources, targets = self._names.places("sources", sources), self._names.places("targets", targets)
-        costs = self._ask(_questions.Matrix(_kind(hops), sources, targets), timeout).costs
-        rows = as_rows(costs, len(sources), len(targets))
-        return as_floats(rows) if are_floats else rows
-
-    def pairs(self, sources, targets, *, hops=False, dtype=None, timeout=None):
-        """The least cost from each source to the target at its place: a row, 2**64 - 1 where no walk leads.
-
-        With `dtype=float` costs are floats, with `inf` where no walk leads.
-        """
-        are_floats = is_float(dtype)
-        sources, targets = self._names.places("sources", sources), self._names.places("targets", targets)
-        if len(sources) != len(targets):
-            raise ValueError(f"{len(sources)} sources and {len(targets)} targets")
-        costs = self._ask(_questions.Pairs(_kind(hops), sources, targets), timeout).costs
-        return as_floats(as_rows(costs, 1, len(costs)))[0] if are_floats else costs
-
-    def path(self, source, target, *, hops=False, timeout=None):
-        """The vertices of a walk of least cost, with as few arcs as one can have; NoPath if there is none."""
-        ends = self._names.place("source", source), self._names.place("target", target)
-        vertices = self._ask(_questions.Walk(_kind(hops), *ends), timeout).vertices
-        if vertices is None:
-            raise fault_of(NoPath, source, target)
-        return [self._names.name(place) for place in vertices]
-
-    def _ask(self, question, timeout):
-        self._wire.ask("ask", question, seconds=as_seconds(timeout))
-        return question
-
-    # ---- arcs that are added
+    # ---- changes, each of which moves `m` and `version`
 
     def add(self, tails, heads, weights, *, timeout=None):
         """Adds arcs between vertices that are there. If one is refused, none is added.
@@ -233,14 +174,36 @@ class Graph:
         columns = [
             self._names.places("tails", tails),
             self._names.places("heads", heads),
-            as_column("weights", weights, MOST_WEIGHT),
+            as_weights(weights, self._scale),
         ]
         _check_lengths(*columns)
-        self._wire.ask("add", columns, seconds=as_seconds(timeout))
+        self._change(Addition(columns), timeout)
 
+    def _change(self, change, timeout):
+        self._wire.ask("change", change, seconds=as_seconds(timeout))
 
-def _kind(hops):
-    return LEVELS if hops else DISTANCES
+    # ---- its end
+
+    def restart(self, *, timeout=None):
+        """Kills the program, whatever it does, and begins another with the graph as it is now.
+
+        Whoever waits for an answer of the first has an Ended, and an `add` that it had not done is lost. With
+        `keep=False` that is a NotKept.
+        """
+        self._wire.restart(as_seconds(timeout))
+
+    def close(self):
+        """Ends the program. Whatever is asked from then on, or waits, is a Closed."""
+        self._wire.close()
+
+    def __enter__(self):
+        return self
+
+    def __exit__(self, *_):
+        self.close()
+
+    def __reduce_ex__(self, _):
+        raise TypeError("a Graph is a running program, which can't be copied: make one in each process, of its arcs")
 
 
 def _check_lengths(tails, heads, weights):

@@ -23,6 +23,9 @@ class Columns:
         self.m = len(tails)
         self._columns = (tails, heads, weights)
 
+    def check(self):
+        """Goes on: columns stay what they are."""
+
     def pieces(self):
         """The text of the graph, in pieces of bytes."""
         return graph_text(self.n, *self._columns)

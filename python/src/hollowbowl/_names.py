@@ -2,8 +2,9 @@
 
 from operator import index
 
+from ._columns import column
 from ._errors import NoVertex, fault_of
-from ._numbers import column, numpy
+from ._numbers import numpy
 
 
 class Names:
@@ -20,6 +21,18 @@ class Names:
     def name(self, place):
         """The vertex at a place."""
         return place if self.names is None else self.names[place]
+
+    def several(self, places):
+        """The vertices at some places: as they are, or a list of names."""
+        return places if self.names is None else [self.names[place] for place in places]
+
+    def has(self, vertex):
+        """Tells whether there is such a vertex."""
+        try:
+            self.place("vertex", vertex)
+        except (TypeError, NoVertex):
+            return False
+        return True
 
     def place(self, argument, vertex):
         """The place of a vertex. TypeError if it is none by its type, NoVertex if there is no such."""

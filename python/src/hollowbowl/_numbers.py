@@ -1,4 +1,4 @@
-"""Numbers as the program takes them: whole ones up to a limit, in arrays of numpy where that is there."""
+"""Numbers as the program takes and gives them: whole ones up to a limit, and rows of labels, as floats too."""
 
 import threading
 from array import array
@@ -17,6 +17,9 @@ MOST_VERTICES = 2**28
 MOST_WEIGHT = 2**32 - 1
 MOST_WORKERS = 64
 
+# A float is a whole number up to here.
+_EXACT = 2**53
+
 
 def whole(value):
     """A number that is whole, as an int; None for anything else."""
@@ -30,11 +33,11 @@ def whole(value):
         return None
 
 
-def as_bound(cost):
-    """A cost as a whole number; ValueError if it is none."""
-    number = whole(cost)
-    if number is None or not 0 <= number < INF:
-        raise ValueError(f"the cost is {cost!r}, which is no whole number from 0 to {INF - 1}")
+def as_scale(scale):
+    """A scale as an int, or None; ValueError if it is no number of parts that a weight can have."""
+    number = None if scale is None else whole(scale)
+    if scale is not None and (number is None or not 1 <= number <= MOST_WEIGHT):
+        raise ValueError(f"scale is {scale!r}, where a whole number from 1 to {MOST_WEIGHT} is wanted")
     return number
 
 
@@ -55,66 +58,6 @@ def as_options(workers):
     if number is None or (number != "auto" and not 1 <= number <= MOST_WORKERS):
         raise ValueError(f"workers is {workers!r}, where a whole number from 1 to {MOST_WORKERS}, or 'auto', is wanted")
     return ["--workers", str(number)]
-
-
-def as_column(name, values, most):
-    """The values as whole numbers from 0 to `most`, of 4 bytes each; ValueError names the first that is none."""
-    if isinstance(values, (set, frozenset)):
-        raise ValueError(f"{name} is a set, which has no order")
-    try:
-        return _as_list(name, values, most) if numpy is None else _as_numpy(name, values, most)
-    except TypeError:
-        raise ValueError(f"{name} is {values!r}, which is no list of numbers") from None
-
-
-def column(numbers):
-    """Whole numbers that were looked at, of 4 bytes each."""
-    return array("I", numbers) if numpy is None else numpy.array(numbers, dtype=numpy.uint32)
-
-
-def most_of(numbers):
-    """The greatest of a column; -1 if it is empty."""
-    return int(max(numbers) if numpy is None else numbers.max()) if len(numbers) else -1
-
-
-def _as_list(name, values, most):
-    found = array("I")
-    for place, value in enumerate(values):
-        number = whole(value)
-        if number is None or not 0 <= number <= most:
-            raise _none_such(name, place, value, most)
-        found.append(number)
-    return found
-
-
-def _none_such(name, place, value, most):
-    return ValueError(f"{name}[{place}] is {value!r}, which is no whole number from 0 to {most}")
-
-
-def _as_numpy(name, values, most):
-    if not (hasattr(values, "__array__") or isinstance(values, (list, tuple, range, array))):
-        values = list(values)
-    if numpy.ma.isMaskedArray(values):
-        if numpy.ma.is_masked(values):
-            place = int(numpy.argmax(numpy.ma.getmaskarray(values).ravel()))
-            raise ValueError(f"{name}[{place}] is masked, and no whole number from 0 to {most}")
-        values = values.data
-    try:
-        given = numpy.asarray(values)
-    except ValueError:
-        # A list whose entries differ in length is no array.
-        return numpy.array(_as_list(name, list(values), most), dtype=numpy.uint32)
-    if given.ndim != 1:
-        raise ValueError(f"{name} has {given.ndim} dimensions and not 1")
-    if given.dtype.kind not in "biuf":
-        return numpy.array(_as_list(name, list(values), most), dtype=numpy.uint32)
-    good = (given >= 0) & (given <= most)
-    if given.dtype.kind == "f":
-        good &= given == numpy.floor(given)
-    if not good.all():
-        place = int(numpy.argmin(good))
-        raise _none_such(name, place, given[place], most)
-    return given.astype(numpy.uint32)
 
 
 def labels_for(count):
@@ -148,13 +91,43 @@ def is_float(dtype):
     raise ValueError(f"dtype is {dtype!r}: labels are whole numbers (None) or float")
 
 
-def as_floats(rows):
-    """Rows of labels as floats. Those of numpy stay where they are, since a float has as many bytes."""
+def labels_of(numbers):
+    """A row of labels of these numbers."""
+    return array("Q", numbers) if numpy is None else numpy.array(numbers, dtype=numpy.uint64)
+
+
+def floats_of(numbers):
+    """A row of floats of these numbers."""
+    return array("d", numbers) if numpy is None else numpy.array(numbers, dtype=numpy.float64)
+
+
+def as_cost(label, divisor):
+    """A label as a cost: the float next to label / divisor, `inf` where no walk leads; the label without a divisor."""
+    if divisor is None:
+        return label
+    return float("inf") if label == INF else label / divisor
+
+
+def as_floats(labels, divisor=1):
+    """A row of labels as floats (`as_cost`). That of numpy stays where it is, since a float has as many bytes."""
     if numpy is None:
-        return [array("d", (float("inf") if label == INF else label for label in row)) for row in rows]
-    floats = rows.view(numpy.float64)
-    for labels, row in zip(rows, floats):
-        far = labels == INF
-        row[:] = labels.astype(numpy.float64)
-        row[far] = numpy.inf
+        return array("d", (as_cost(label, divisor) for label in labels))
+    floats = labels.view(numpy.float64)
+    is_far = labels == INF
+    # Of larger labels a float alone is not exact.
+    large = numpy.flatnonzero((labels > _EXACT) & ~is_far)
+    costs = [label / divisor for label in labels[large].tolist()]
+    floats[:] = labels.astype(numpy.float64)
+    floats /= divisor
+    floats[large] = costs
+    floats[is_far] = numpy.inf
     return floats
+
+
+def as_float_rows(rows, divisor=1):
+    """Rows of labels as rows of floats."""
+    if numpy is None:
+        return [as_floats(row, divisor) for row in rows]
+    for row in rows:
+        as_floats(row, divisor)
+    return rows.view(numpy.float64)

@@ -1,15 +1,16 @@
 """What can be asked, each as requests of some of its items and what is read of their replies.
 
 A question has a `kind`, which says what a walk costs, a `form` whose requests take alike long an item, a `count` of
-items and a `step`: requests are cut at multiples of it where they can. `request` makes the text for the items from
-`first` up to `last`; `read` gives what came in reply and its last line, and `take` looks at what came.
+items and a `step`: requests are cut at multiples of it where they can. `most_bytes` bounds the text of a reply.
+`request` makes the text for the items from `first` up to `last`; `read` gives what came in reply and its last line, and
+`take` looks at what came.
 
 Requests name all that they ask, so no option of the program changes what it answers.
 """
 
 from ._errors import OutOfStep
-from ._numbers import labels_for, numpy, rows_for
-from ._text import components_in, near_in, pair_costs, pairs_text, sources_text, totals_in, walk_of
+from ._numbers import labels_for, numpy
+from ._text import components_in, near_in, pair_costs, pairs_text, sources_text, totals_in, walks_in
 
 #: The kinds: costs are sums of weights, or numbers of arcs.
 DISTANCES, LEVELS = b"distances", b"levels"
@@ -20,6 +21,7 @@ class Question:
 
     form = "one"
     step = count = 1
+    most_bytes = 1 << 40
 
     def read(self, process, first, last):
         return process.text()
@@ -30,21 +32,21 @@ class Rows(Question):
 
     form = "rows"
 
-    def __init__(self, kind, sources, n):
+    def __init__(self, kind, sources, rows):
         self.kind = kind
         self.count = len(sources)
-        self.rows = rows_for(len(sources), n)
-        self._sources = sources
+        self.rows = rows
+        self.sources = sources
 
     def request(self, first, last):
-        return sources_text(self.kind + b" raw ss", self._sources[first:last])
+        return sources_text(self.kind + b" raw ss", self.sources[first:last])
 
     def read(self, process, first, last):
         for place in range(first, last):
             line = process.line()
             if place == first and line.startswith(b"e"):
                 return None, line
-            if line != b"s %d\n" % (int(self._sources[place]) + 1):
+            if line != b"s %d\n" % (int(self.sources[place]) + 1):
                 raise OutOfStep("a row is that of another source")
             process.fill(self.rows[place])
         return None, process.line()
@@ -112,32 +114,62 @@ class Matrix(Pairs):
         return [self._sources[row] for row, _ in ends], [self._targets[place] for _, place in ends]
 
 
-class Walk(Question):
-    """The walk between two vertices; `vertices` has it, or None if there is none."""
+class Walks(Pairs):
+    """The walk from each source to the target at its place; `found` has the cost and the vertices of each."""
 
-    def __init__(self, kind, source, target):
+    form = "walks"
+    # Vertices take some six times as much memory as their text.
+    most_bytes = 1 << 22
+
+    def __init__(self, kind, sources, targets):
         self.kind = kind
-        self._source, self._target = source, target
+        self.count = len(sources)
+        self.found = []
+        self._sources, self._targets = sources, targets
 
     def request(self, first, last):
-        return pairs_text(self.kind + b" walk", [self._source], [self._target])
+        return pairs_text(self.kind + b" walk", *self._ends(first, last))
 
     def take(self, body, first, last):
-        self.vertices = walk_of(body, self._source, self._target)
+        self.found.extend(walks_in(body, *self._ends(first, last)))
+
+
+class SortedWalks(Walks):
+    """As `Walks`, asked source by source: a source is solved once for all of its targets."""
+
+    def __init__(self, kind, sources, targets):
+        if numpy is not None:
+            self._order = numpy.argsort(sources, kind="stable")
+            super().__init__(kind, sources[self._order], targets[self._order])
+        else:
+            self._order = sorted(range(len(sources)), key=sources.__getitem__)
+            super().__init__(kind, [sources[each] for each in self._order], [targets[each] for each in self._order])
+
+    def in_order(self):
+        """The source, the target and the vertices of each walk, in the order that was given."""
+        walks = [None] * self.count
+        for place, source, target, (_, vertices) in zip(self._order, self._sources, self._targets, self.found):
+            walks[place] = int(source), int(target), vertices
+        return walks
 
 
 class Near(Question):
-    """The vertices within a bound of a source, and their costs; `found` has both."""
+    """The vertices within a bound of each source, and their costs; `found` has both for each."""
 
-    def __init__(self, kind, source, bound):
+    form = "near"
+    most_bytes = 1 << 24
+
+    def __init__(self, kind, sources, bound):
         self.kind = kind
-        self._source, self._bound = source, bound
+        self.count = len(sources)
+        self.found = []
+        self.sources, self._bound = sources, bound
 
     def request(self, first, last):
-        return sources_text(self.kind + b" each within %d" % self._bound, [self._source])
+        return sources_text(self.kind + b" each within %d" % self._bound, self.sources[first:last])
 
     def take(self, body, first, last):
-        self.found = near_in(body, self._source)
+        self.found.extend(near_in(body, self.sources[first:last]))
 
 
 class Components(Question):

@@ -2,11 +2,12 @@
 
 import re
 
-from ._errors import BadGraph, Ended, Error, GraphChanged, OutOfMemory, OutOfStep, ProgramTooOld, Refused
+from ._changes import Addition
+from ._errors import BadGraph, Ended, Error, GraphChanged, NotKept, OutOfMemory, OutOfStep, ProgramTooOld, Refused
 from ._kept import Added, File
 from ._marked import GOES_ON, MarkedText
 from ._process import Process, bad_graph, program
-from ._text import MOST_ITEMS, arcs_text
+from ._text import MOST_ITEMS
 
 # How long a program that closed its pipes may take to end by itself, and so to have a status of its own.
 _MOMENT = 1
@@ -24,6 +25,8 @@ class Session:
     def __init__(self, kept, options, is_kept, why):
         """None yet. `why` gives the fault of a graph that has ended, and None before."""
         self.n, self.m = getattr(kept, "n", None), getattr(kept, "m", None)
+        #: The number of changes that were made.
+        self.version = 0
         #: The arcs that were added, in their order.
         self.added = Added()
         self._kept = kept
@@ -37,10 +40,21 @@ class Session:
     # ---- for any thread
 
     def kill(self):
-        """Kills the program."""
+        """Kills the program, if there is one, and gives it."""
         process = self._process
         if process is not None:
             process.kill()
+        return process
+
+    def has_ended(self):
+        """Tells whether the program has ended and no other begins."""
+        return self._last is not None
+
+    def check_kept(self):
+        """Goes on if another program can begin."""
+        if not self._is_kept:
+            raise NotKept("the graph was made with keep=False, so no other program can begin with it")
+        self._kept.check()
 
     def let_go(self):
         """Closes this process's ends of the pipes, and the file."""
@@ -68,6 +82,12 @@ class Session:
             if not self._is_kept:
                 self._kept.close()
         return self._process
+
+    def restart(self, process):
+        """Begins another program in place of this one, if it is the one that is there."""
+        if self._process is process:
+            self._drop()
+        self.process()
 
     def end(self):
         """Ends the program, and closes the file."""
@@ -117,8 +137,7 @@ class Session:
         self._probe(process)
         m = self._kept.m
         for columns in self.added.parts(MOST_ITEMS):
-            m += len(columns[0])
-            self._add(process, columns, m)
+            m += self._make(process, Addition(columns), m)
 
     def _probe(self, process):
         process.write(_PROBE)
@@ -153,29 +172,32 @@ class Session:
         lines = [line for line in (wrong.line, self._kept.section_line()) if line is not None]
         return BadGraph(wrong.path, min(lines, default=None), GOES_ON)
 
-    # ---- arcs that are added
+    # ---- changes
 
-    def add(self, columns):
-        """Adds arcs."""
-        for first in range(0, len(columns[0]) or 1, MOST_ITEMS):
-            part = [column[first : first + MOST_ITEMS] for column in columns]
-            m = self.m + len(part[0])
+    def change(self, change):
+        """Makes a change, a request at a time. Only here `m` and `version` move, once the program has answered."""
+        for first in range(0, change.count or 1, MOST_ITEMS):
+            part = change.part(first, first + MOST_ITEMS)
             self.process()
             try:
-                self.in_step(self._add, part, m)
+                more = self.in_step(self._make, part, self.m)
             except OutOfMemory:
                 raise OutOfMemory(added=first) from None
             if self._is_kept:
-                self.added.append(part)
-            self.m = m
+                part.keep(self.added)
+            if part.count:
+                self.m, self.version = self.m + more, self.version + 1
 
-    def _add(self, process, columns, m):
-        request = arcs_text(*columns)
+    def _make(self, process, change, m):
+        """Makes a change of a graph with m arcs, and gives how many it has more then."""
+        request = change.request()
         process.write(request)
         body, line = process.text()
-        self.end_of(process, line, request, m)
-        if body != b"g %d\n" % len(columns[0]):
-            raise OutOfStep("arcs were added by another reply")
+        if line.startswith(b"e"):
+            raise self._fault_of(process, line, request)
+        more = change.more(body)
+        self.end_of(process, line, request, m + more)
+        return more
 
     # ---- the ends of replies
 

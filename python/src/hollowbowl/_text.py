@@ -104,23 +104,35 @@ def pair_costs(body, sources, targets):
     return array("Q", [INF if word == b"inf" else int(word) for word in words[3::4]])
 
 
-def walk_of(body, source, target):
-    """The vertices of the walk in the lines of a pair; None if no walk leads."""
-    lines = body.split(b"\n")
-    words = lines[0].split()
-    _is(words[:3] == [b"q", b"%d" % (source + 1), b"%d" % (target + 1)] and lines[-1] == b"")
-    if words[3] == b"inf":
-        _is(len(lines) == 2)
-        return None
-    letter, end, cost, *walk = lines[1].split()
-    _is(letter == b"w" and end == words[2] and cost == words[3] and walk[0] == words[1] and walk[-1] == words[2])
-    return [int(word) - 1 for word in walk]
+def walks_in(body, sources, targets):
+    """The cost and the vertices of the walk of each of these pairs; 2**64 - 1 and None where no walk leads."""
+    lines = iter(body.split(b"\n"))
+    found = []
+    for source, target in zip(_ints(sources), _ints(targets)):
+        first, last = b"%d" % (source + 1), b"%d" % (target + 1)
+        letter, *ends, cost = next(lines, b"").split()
+        _is(letter == b"q" and ends == [first, last])
+        if cost == b"inf":
+            found.append((INF, None))
+            continue
+        letter, end, again, *walk = next(lines, b"").split()
+        _is(letter == b"w" and end == last and again == cost and walk[0] == first and walk[-1] == last)
+        found.append((int(cost), [int(word) - 1 for word in walk]))
+    _is(list(lines) == [b""])
+    return found
 
 
-def near_in(body, source):
-    """The vertices and costs in the block of a source."""
-    head, lines = body.split(b"\n", 1)
-    _is(head == b"s %d" % (source + 1))
+def near_in(body, sources):
+    """The vertices and costs in the block of each of these sources."""
+    blocks = body.split(b"s ")
+    _is(blocks[0] == b"" and len(blocks) == len(sources) + 1)
+    for block, source in zip(blocks[1:], _ints(sources)):
+        head, lines = block.split(b"\n", 1)
+        _is(head == b"%d" % (source + 1))
+        yield _near(lines)
+
+
+def _near(lines):
     if numpy is not None:
         rows = _numbers(lines.translate(None, b"d"), 2)
         return rows[:, 0] - numpy.uint64(1), rows[:, 1].copy()

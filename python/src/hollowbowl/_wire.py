@@ -11,26 +11,13 @@ import threading
 import weakref
 
 from ._asking import Sizes, ask
-from ._errors import Closed, Error, OutOfStep, Timeout, WrongProcess
+from ._errors import Closed, Error, OutOfStep, WrongProcess
+from ._exchange import Exchange
 from ._process import beginning
 from ._session import Session
 
 # How long `close` waits for the thread. It ends at once, but where foreign code has kept an end of a pipe.
 _PATIENCE = 10
-
-
-class Exchange:
-    """What is to be done by the thread, a function of the state, and what came of it."""
-
-    __slots__ = ("work", "fault", "done", "is_left")
-
-    def __init__(self, work):
-        self.work = work
-        self.fault = None
-        #: Whether its caller has gone.
-        self.is_left = False
-        self.done = threading.Lock()
-        self.done.acquire()
 
 
 class State:
@@ -46,7 +33,7 @@ class State:
         self.over.acquire()
         self.thread = None
         self._pid = os.getpid()
-        self._sizes = Sizes()
+        self.sizes = Sizes()
 
     # ---- for any thread
 
@@ -82,7 +69,7 @@ class State:
                 exchange = self.todo.get()
                 if exchange is not None:
                     self._do(exchange)
-                    exchange.done.release()
+                    exchange.finish()
                 # What was asked and answered shall not live on until the next question.
                 del exchange
         finally:
@@ -116,7 +103,7 @@ class State:
                 return
             if exchange is not None:
                 exchange.fault = self.why()
-                exchange.done.release()
+                exchange.finish()
 
     # ---- exchanges
 
@@ -128,11 +115,15 @@ class State:
         """Asks a question, unless its caller has gone before."""
         if not exchange.is_left:
             self.session.process()
-            self.session.in_step(ask, self.session, question, self._sizes, exchange)
+            self.session.in_step(ask, self.session, question, self.sizes, exchange)
 
-    def add(self, columns, exchange):
-        """Adds arcs, whether or not their caller waits."""
-        self.session.add(columns)
+    def change(self, change, exchange):
+        """Makes a change, whether or not its caller waits."""
+        self.session.change(change)
+
+    def restart(self, process, exchange):
+        """Begins another program in place of one that was killed."""
+        self.session.restart(process)
 
 
 class Wire:
@@ -150,23 +141,54 @@ class Wire:
         if os.getpid() != self._pid:
             raise WrongProcess(f"the graph is that of process {self._pid}: make one in each process")
 
-    def ask(self, work, *words, seconds=-1):
-        """Has the thread do some work, and waits for it. A caller that goes away leaves the rest undone."""
+    @property
+    def m(self):
+        """The number of arcs."""
         self.check()
-        exchange = Exchange(lambda state, exchange: getattr(state, work)(*words, exchange))
+        return self.state.session.m
+
+    @property
+    def version(self):
+        """The number of changes that were made."""
+        self.check()
+        return self.state.session.version
+
+    def is_ended(self):
+        """Tells whether nothing is answered any more."""
+        self.check()
+        return self.state.ended is not None or self.state.session.has_ended()
+
+    def shown(self):
+        """The number of arcs in words, and whose they are; in the child of a fork too."""
+        if os.getpid() != self._pid:
+            return f", of process {self._pid}"
+        return f" and {self.m} arcs" + (", closed" if self.is_ended() else "")
+
+    def send(self, exchange):
+        """Has the thread do an exchange, which is to be waited for."""
+        self.check()
+        self.state.put(exchange)
+
+    def ask(self, work, *words, seconds=-1, progress=None):
+        """Has the thread do some work, and waits for it. A caller that goes away leaves the rest undone."""
+        exchange = Exchange(lambda state, exchange: getattr(state, work)(*words, exchange), progress is not None)
         try:
-            self.state.put(exchange)
-            if not exchange.done.acquire(timeout=seconds):
-                raise Timeout(f"no answer came within {seconds:g} s")
+            self.send(exchange)
+            exchange.wait(seconds, progress)
         except BaseException:
             exchange.is_left = True
+            # The fault's traceback has this frame.
+            exchange = None
             raise
-        if exchange.fault is not None:
-            try:
-                raise exchange.fault
-            finally:
-                # The fault's traceback has this frame.
-                exchange = None
+
+    def restart(self, seconds):
+        """Kills the program, whatever it does, and begins another."""
+        self.check()
+        fault = self.state.why()
+        if fault is not None:
+            raise fault
+        self.state.session.check_kept()
+        self.ask("restart", self.state.session.kill(), seconds=seconds)
 
     def close(self):
         """Ends the program and waits for that; nothing in the child of a fork."""

@@ -1,0 +1,42 @@
+"""What all questions of a graph stand on: its vertices, its program, and the unit of its costs."""
+
+from ._numbers import as_seconds, is_float
+from ._questions import DISTANCES, LEVELS
+from ._stream import Stream
+from ._text import MOST_ITEMS
+
+
+class Asked:
+    """A graph as far as it is asked."""
+
+    # _names    its vertices
+    # _wire     the way to its program
+    # _scale    what weights were multiplied by; None if they are whole numbers
+
+    def _ask(self, question, timeout, progress=None):
+        """Asks a question, which has the answer then."""
+        self._wire.ask("ask", question, seconds=as_seconds(timeout), progress=_as_function(progress))
+        return question
+
+    def _each(self, kind, form, count, make, answers, timeout, progress, most=MOST_ITEMS):
+        """The answers for so many items in turn (`Stream`), by requests of a kind and form, of `most` items each."""
+        sizes = self._wire.state.sizes
+        stream = Stream(self._wire, count, lambda: min(sizes.size(kind, form), most), make, answers)
+        return stream.each(as_seconds(timeout), _as_function(progress))
+
+    def _divisor(self, hops, dtype=None, whole=False):
+        """What labels are divided by to be costs, which are floats then; None where they are costs as they are."""
+        are_floats = is_float(dtype)
+        divisor = None if hops or whole else self._scale
+        return 1 if divisor is None and are_floats else divisor
+
+
+def kind_of(hops):
+    """The kind of labels: the least costs, or the fewest arcs."""
+    return LEVELS if hops else DISTANCES
+
+
+def _as_function(progress):
+    if progress is not None and not callable(progress):
+        raise TypeError(f"progress is {progress!r}, which is no function of (done, all)")
+    return progress

@@ -1,0 +1,117 @@
+"""The costs of walks: between two vertices, from some to all, and within a bound."""
+
+from ._asked import Asked, kind_of
+from ._columns import as_bound
+from ._errors import NoPath, fault_of
+from ._numbers import INF, as_float_rows, as_floats, as_rows, labels_for, rows_for
+from ._questions import Matrix, Near, Pairs, Rows
+
+# How many bytes of rows a request of `rows` has, if it has more than one row.
+_BYTES = 1 << 26
+
+
+class Costs(Asked):
+    """A graph as far as costs are asked of it."""
+
+    def distance(self, source, target, *, hops=False, whole=False, timeout=None):
+        """The least cost of a walk from the source to the target; NoPath if there is none."""
+        label = self._label(source, target, hops, timeout)
+        if label == INF:
+            raise fault_of(NoPath, source, target)
+        return label if hops or whole or self._scale is None else label / self._scale
+
+    def has_path(self, source, target, *, timeout=None):
+        """Tells whether a walk leads from the source to the target."""
+        return self._label(source, target, False, timeout) != INF
+
+    def _label(self, source, target, hops, timeout):
+        ends = [self._names.place("source", source)], [self._names.place("target", target)]
+        return int(self._ask(Matrix(kind_of(hops), *ends), timeout).costs[0])
+
+    def distances(self, sources, *, hops=False, dtype=None, whole=False, timeout=None, progress=None):
+        """The least costs from each of the sources to all vertices: a row for each, 2**64 - 1 where no walk leads.
+
+        A single source gives a single row. Rows are numpy arrays of uint64 if numpy is there, and else `array('Q')`.
+        With `dtype=float`, and of a graph with a scale, they are of floats, with `inf` where no walk leads.
+        """
+        divisor = self._divisor(hops, dtype, whole)
+        is_one, places = self._names.one_or_several("sources", sources)
+        question = Rows(kind_of(hops), places, rows_for(len(places), self._names.n))
+        rows = self._ask(question, timeout, progress).rows
+        rows = rows if divisor is None else as_float_rows(rows, divisor)
+        return rows[0] if is_one else rows
+
+    def levels(self, sources, *, dtype=None, timeout=None, progress=None):
+        """As `distances`, the fewest arcs of a walk in place of the least cost."""
+        return self.distances(sources, hops=True, dtype=dtype, timeout=timeout, progress=progress)
+
+    def rows(self, sources, *, hops=False, dtype=None, whole=False, timeout=None, progress=None):
+        """Gives (source, row) for each of the sources in turn, with rows as in `distances`.
+
+        Rows of two requests are in memory at a time, each of a quarter of a second and 64 MiB at most. If arcs come
+        before the last row, the next is a GraphChanged.
+        """
+        divisor, kind, n = self._divisor(hops, dtype, whole), kind_of(hops), self._names.n
+        _, places = self._names.one_or_several("sources", sources)
+
+        def make(first, last):
+            return Rows(kind, places[first:last], [labels_for(n) for _ in range(first, last)])
+
+        def answers(question):
+            rows = question.rows[::-1]
+            question.rows = None
+            for place in question.sources:
+                labels = rows.pop()
+                yield self._names.name(int(place)), labels if divisor is None else as_floats(labels, divisor)
+
+        most = max(1, _BYTES // max(8 * n, 1))
+        return self._each(kind, Rows.form, len(places), make, answers, timeout, progress, most)
+
+    def matrix(self, sources, targets, *, hops=False, dtype=None, whole=False, timeout=None, progress=None):
+        """The least costs from each source to each target: a row for each source, as in `distances`."""
+        divisor = self._divisor(hops, dtype, whole)
+        sources, targets = self._names.places("sources", sources), self._names.places("targets", targets)
+        costs = self._ask(Matrix(kind_of(hops), sources, targets), timeout, progress).costs
+        rows = as_rows(costs, len(sources), len(targets))
+        return rows if divisor is None else as_float_rows(rows, divisor)
+
+    def pairs(self, sources, targets, *, hops=False, dtype=None, whole=False, timeout=None, progress=None):
+        """The least cost from each source to the target at its place: a row, as in `distances`."""
+        divisor = self._divisor(hops, dtype, whole)
+        sources, targets = self._names.places("sources", sources), self._names.places("targets", targets)
+        if len(sources) != len(targets):
+            raise ValueError(f"{len(sources)} sources and {len(targets)} targets")
+        costs = self._ask(Pairs(kind_of(hops), sources, targets), timeout, progress).costs
+        return costs if divisor is None else as_floats(costs, divisor)
+
+    def within(self, source, cost, *, hops=False, whole=False, timeout=None):
+        """The vertices that cost at most `cost` from the source, in rising order, and the cost of each: two arrays.
+
+        The source is solved no further, so a small bound in a large graph takes little. Arrays are as in `distances`;
+        vertices with names come as a list of these.
+        """
+        places = [self._names.place("source", source)]
+        question = self._ask(Near(kind_of(hops), places, self._bound(cost, hops)), timeout)
+        return self._near(question.found[0], self._divisor(hops, None, whole))
+
+    def within_many(self, sources, cost, *, hops=False, whole=False, timeout=None, progress=None):
+        """Gives (source, vertices, costs) for each of the sources in turn, as `within` and by requests as `rows`."""
+        divisor, kind, bound = self._divisor(hops, None, whole), kind_of(hops), self._bound(cost, hops)
+        _, places = self._names.one_or_several("sources", sources)
+
+        def make(first, last):
+            return Near(kind, places[first:last], bound)
+
+        def answers(question):
+            for place, found in zip(question.sources, question.found):
+                yield (self._names.name(int(place)), *self._near(found, divisor))
+
+        return self._each(kind, Near.form, len(places), make, answers, timeout, progress)
+
+    def _bound(self, cost, hops):
+        return as_bound(cost, None if hops else self._scale)
+
+    def _near(self, found, divisor):
+        vertices, labels = found
+        costs = labels if divisor is None else as_floats(labels, divisor)
+        return self._names.several(vertices), costs
