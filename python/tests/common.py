@@ -154,6 +154,11 @@ def interrupt(*_):
     raise KeyboardInterrupt
 
 
+def each_of(call, *words, **names):
+    """All that a call gives one after another."""
+    return list(call(*words, **names))
+
+
 def every_question(graph):
     """Each kind of question, and the change; each takes a time to wait."""
     for costs in ({}, {"hops": True}):
@@ -166,8 +171,17 @@ def every_question(graph):
         yield partial(graph.matrix, [0], [1], **costs)
         yield partial(graph.pairs, [0], [1], **costs)
         yield partial(graph.path, 0, 1, **costs)
+        yield partial(graph.distance_and_path, 0, 1, **costs)
+        yield partial(graph.closeness, 0, **costs)
+        yield partial(graph.eccentricity, **costs)
+        yield partial(each_of, graph.rows, [0], **costs)
+        yield partial(each_of, graph.paths, [(0, 1)], **costs)
+        yield partial(each_of, graph.within_many, [0], 9, **costs)
+    yield partial(graph.has_path, 0, 1)
     yield partial(graph.levels, 0)
     yield graph.components
+    yield graph.component_count
+    yield partial(graph.component_of, 0)
     yield partial(graph.add, [0], [1], [1])
 
 

@@ -13,7 +13,7 @@ import unittest
 from common import Case, children, every_question, ints, is_alive, the_program, threads, waits_for
 from fake import Fake, fake
 
-from hollowbowl import INF, Closed, Ended, Graph, ProgramMissing, Refused
+from hollowbowl import INF, Closed, Ended, Graph, GraphChanged, ProgramMissing, Refused
 
 ARC = ([0], [1], [7])
 
@@ -180,7 +180,11 @@ class Ends(Case):
             def ask():
                 barrier.wait()
                 for question in every_question(graph):
-                    question()
+                    try:
+                        question()
+                    except GraphChanged:
+                        # Another thread has added an arc.
+                        continue
 
             askers = [threading.Thread(target=ask) for _ in range(8)]
             for each in askers:

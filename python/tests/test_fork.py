@@ -92,10 +92,17 @@ class Forks(Case):
             "add": lambda: graph.add([0], [1], [1]),
             "m": lambda: graph.m,
             "components": lambda: graph.components(),
+            "rows": lambda: graph.rows([0]),
+            "restart": lambda: graph.restart(),
+            "is_closed": lambda: graph.is_closed,
         }
         for name, call in calls.items():
             self.assertIn("WrongProcess: the graph is that of process", self.in_child(call), name)
         self.assertEqual(self.in_child(lambda: (graph.n, graph.close())), f"({N}, None)")
+        self.assertEqual(self.in_child(lambda: (graph, len(graph), 5 in graph)), f"(<Graph of {N} vertices, of process {os.getpid()}>, {N}, True)")
+        paths = graph.paths([(0, 5)] * 9)
+        self.assertEqual(next(paths)[-1], 5)
+        self.assertIn("WrongProcess", self.in_child(lambda: next(paths)))
         self.assertEqual((graph.distance(0, 5), graph.m), (5, N - 1))
 
     def test_while_another_thread_asks(self):

@@ -12,7 +12,7 @@ from unittest import mock
 from common import Case, columns, costs_from, drawn, every_question, interrupt, ints, is_alive, levels_from, the_program, totals_of, waits_for, whole
 
 import hollowbowl
-from hollowbowl import Ended, Graph, Timeout
+from hollowbowl import INF, Ended, Graph, Timeout
 
 
 class Interrupts(Case):
@@ -82,6 +82,48 @@ class Interrupts(Case):
             for wrong in (-1, float("nan"), "1", 1j):
                 with self.assertRaisesRegex(ValueError, "^timeout is "):
                     graph.distance(0, 1, timeout=wrong)
+
+    def test_in_streams(self):
+        n, arcs = drawn(7, 60)
+        wanted = [costs_from(n, arcs, source) for source in range(n)]
+        pairs = [(0, target) for target in range(n) if wanted[0][target] < INF] * 9
+        with Graph(*columns(arcs), n) as graph, mock.patch.object(hollowbowl._asking.Sizes, "size", lambda *_: 2):
+            paths = list(graph.paths(pairs))
+            number = the_program()
+            for make in (lambda: graph.rows(range(n)), lambda: graph.paths(pairs), lambda: graph.within_many(range(n), 9)):
+                for taken in (0, 1, 2, 3, 5):
+                    stream = make()
+                    for _ in range(taken):
+                        next(stream)
+                    # The next request may have been answered by then, but not the one after it.
+                    go_on = self.stopped()
+                    self.interrupted_after(0.05, lambda stream=stream: list(stream))
+                    go_on()
+                    self.assertEqual(list(stream), [])
+                    self.assertEqual((graph.path(*pairs[-1]), ints(graph.distances(0))), (paths[-1], wanted[0]))
+            self.assertEqual((the_program(), list(graph.paths(pairs))), (number, paths))
+
+    def test_alarms_in_streams(self):
+        n, arcs = drawn(8, 40)
+        wanted = [costs_from(n, arcs, source) for source in range(n)]
+        pairs = [(source, target) for source in range(0, n, 3) for target in range(n) if wanted[source][target] < INF]
+        wrong = []
+        with Graph(*columns(arcs), n) as graph, mock.patch.object(hollowbowl._asking.Sizes, "size", lambda *_: 3):
+            paths = [graph.path(*ends) for ends in pairs]
+            number = the_program()
+
+            def ask(draw):
+                first = draw.randrange(n)
+                for source, row in graph.rows(range(first, min(first + 8, n)), progress=lambda *_: None):
+                    if ints(row) != wanted[source]:
+                        wrong.append(source)
+                first = draw.randrange(len(pairs))
+                if list(graph.paths(pairs[first : first + 8])) != paths[first : first + 8]:
+                    wrong.append(first)
+
+            cut, _ = self.alarmed(2, ask)
+            self.assertGreater(cut, 10)
+            self.assertEqual((wrong, list(graph.paths(pairs)), the_program()), ([], paths, number))
 
     def test_of_another_thread(self):
         with Graph([0], [1], [3]) as graph:

@@ -285,10 +285,10 @@ class Text(unittest.TestCase):
     """The functions that make and read text."""
 
     def test_text_in_pieces(self):
-        from hollowbowl import _numbers, _text
+        from hollowbowl import _columns, _text
 
         for count in (8, 100):
-            parts = [_numbers.as_column("x", [*range(k, k + count)], 2**32 - 1) for k in (1, 95, 4294967190)]
+            parts = [_columns.as_column("x", [*range(k, k + count)], 2**32 - 1) for k in (1, 95, 4294967190)]
             wanted = "".join(f"a {k + 2} {k + 96} {k + 4294967190}\n" for k in range(count)).encode()
             for chunk in (3, 65, 1000):
                 with mock.patch.object(_text, "_CHUNK", chunk):
@@ -297,7 +297,8 @@ class Text(unittest.TestCase):
     def test_large_numbers(self):
         from hollowbowl import _text
 
-        vertices, costs = _text.near_in(b"s 1\nd 1 0\nd 2 9007199254740993\nd 3 18446744073709551614\n", 0)
+        body = b"s 1\nd 1 0\nd 2 9007199254740993\nd 3 18446744073709551614\n"
+        vertices, costs = next(_text.near_in(body, [0]))
         self.assertEqual((ints(vertices), ints(costs)), ([0, 1, 2], [0, 2**53 + 1, INF - 1]))
         labels = _text.components_in(b"k 1 1\nk 2 16777219\n", 2)
         self.assertEqual(ints(labels), [0, 16777218])
@@ -306,9 +307,9 @@ class Text(unittest.TestCase):
             self.assertEqual(ints(_text.pair_costs(body, [0] * count, [1, 2] * (count // 2))), [2**53 + 1, INF] * (count // 2))
 
     def test_columns_are_small(self):
-        from hollowbowl import _numbers
+        from hollowbowl import _columns
 
-        self.assertEqual(memoryview(_numbers.as_column("x", [1, 2], 9)).nbytes, 8)
+        self.assertEqual(memoryview(_columns.as_column("x", [1, 2], 9)).nbytes, 8)
 
     def test_faults_can_be_pickled(self):
         made = [
@@ -317,6 +318,7 @@ class Text(unittest.TestCase):
             hollowbowl.NoVertex("a", 3),
             hollowbowl.BadGraph("a.gr", 3, "unknown line"),
             hollowbowl.GraphChanged("x"),
+            hollowbowl.NotKept("x"),
             hollowbowl.Refused("out of range", "s 3"),
             hollowbowl.OutOfMemory("out of memory", 7),
             hollowbowl.Ended(-9, ""),

@@ -1,8 +1,12 @@
 """The stub of the package beside what it has: names, the parameters of functions, and what exceptions derive from."""
 
 import ast
+import importlib.util
 import inspect
 import os
+import subprocess
+import sys
+import tempfile
 import unittest
 
 import hollowbowl
@@ -33,21 +37,77 @@ class Stub(unittest.TestCase):
     def test_classes(self):
         for name, stub in self.classes.items():
             real = getattr(hollowbowl, name)
-            bases = ["tuple" if base.id == "NamedTuple" else base.id for base in stub.bases] or ["object"]
-            self.assertEqual(bases, [base.__name__ for base in real.__bases__])
+            bases = ["tuple" if base.id == "NamedTuple" else base.id for base in stub.bases]
+            # What a graph is made of is no part of what the package has.
+            public = [base for base in real.__bases__ if base is not object and base.__name__ not in ("Costs", "Paths", "Measures")]
+            self.assertEqual(bases, [base.__name__ for base in public])
 
     def test_functions(self):
-        stubs = {each.name: each for each in self.classes["Graph"].body if isinstance(each, ast.FunctionDef)}
-        public = {name for name, value in vars(hollowbowl.Graph).items() if not name.startswith("_")}
+        stubs = {}
+        for each in self.classes["Graph"].body:
+            if isinstance(each, ast.FunctionDef):
+                stubs.setdefault(each.name, []).append(each)
+        public = {name for name in dir(hollowbowl.Graph) if not name.startswith("_")}
         self.assertEqual({name for name in stubs if not name.startswith("_")}, public)
         for name in ["__init__", *public]:
             real = inspect.getattr_static(hollowbowl.Graph, name)
             if isinstance(real, property):
                 continue
             real = inspect.signature(getattr(real, "__func__", real)).parameters
-            names, defaults = parameters(stubs[name])
-            self.assertEqual(names, list(real), name)
-            self.assertEqual(defaults, {each for each, of in real.items() if of.default is not of.empty}, name)
+            found = [parameters(stub) for stub in stubs[name]]
+            for names, _ in found:
+                self.assertEqual(names, list(real), name)
+            defaults = {each for each, of in real.items() if of.default is not of.empty}
+            self.assertEqual(set().union(*(have for _, have in found)), defaults, name)
+
+
+RIGHT = """
+from fractions import Fraction
+from hollowbowl import INF, Graph, NoPath, NotKept, Totals
+graph = Graph([0], [1], [Fraction(1, 2)], scale=10, names=("a", "b"))
+cost: float = graph.distance("a", "b")
+label: int = graph.distance("a", "b", whole=True)
+both: tuple[float, list[str]] = graph.distance_and_path("a", "b")
+for vertex, row in graph.rows(graph, progress=lambda done, count: None):
+    print(vertex, row)
+for walk in graph.paths([("a", "b")]):
+    print(len(walk))
+for other in graph.paths([("a", "b")], missing=None):
+    print(other is None)
+is_there: bool = "a" in graph and graph.has_path("a", "b")
+count: int = len(graph) + graph.version + graph.component_count()
+totals: Totals = graph.totals("a")
+graph.restart(timeout=1.0)
+"""
+WRONG = (
+    "graph.distance('a')",
+    "graph.paths([('a', 'b')], missing='skip')",
+    "graph.rows(graph, progress=5)",
+    "Graph([0], [1], ['7'])",
+    "graph.version = 3",
+    "path: str = graph.path('a', 'b')",
+)
+
+
+@unittest.skipIf(importlib.util.find_spec("mypy") is None, "no mypy")
+class Checker(unittest.TestCase):
+    """The stub as a type checker takes it."""
+
+    def faults(self, text):
+        """The numbers of the lines that have a fault."""
+        folder = os.path.dirname(os.path.dirname(STUB))
+        with tempfile.TemporaryDirectory() as work:
+            path = os.path.join(work, "typed.py")
+            with open(path, "w", encoding="utf-8") as file:
+                file.write(text)
+            command = [sys.executable, "-m", "mypy", "--strict", "--no-error-summary", "--cache-dir", work, path]
+            done = subprocess.run(command, env={**os.environ, "MYPYPATH": folder}, capture_output=True, timeout=120, text=True)
+        self.assertEqual(done.stderr, "")
+        return sorted({int(line.split(":")[1]) for line in done.stdout.splitlines()})
+
+    def test_right_and_wrong_lines(self):
+        first = RIGHT.count("\n") + 1
+        self.assertEqual(self.faults(RIGHT + "\n".join(WRONG)), list(range(first, first + len(WRONG))))
 
 
 if __name__ == "__main__":

@@ -1,0 +1,128 @@
+"""Graphs of tables and of sparse matrices."""
+
+import unittest
+from array import array
+
+from common import Case, columns, components_of, drawn, ints, numpy, optional, pandas, scipy
+
+from hollowbowl import INF, Graph
+
+sparse, polars, pyarrow = optional("scipy.sparse"), optional("polars"), optional("pyarrow")
+
+TABLE = {"source": ["a", "a", "b"], "target": ["b", "c", "c"], "weight": [7, 20, 6]}
+
+
+class Tables(Case):
+    """Anything with columns by name."""
+
+    def check(self, table, *words, **names):
+        """The graph of such a table answers as that of the rows."""
+        with Graph.from_columns(table, *words, **names) as graph:
+            self.assertEqual((graph.names, graph.m), (("a", "b", "c"), 3))
+            self.assertEqual((graph.path("a", "c"), ints(graph.distances("a"))), (["a", "b", "c"], [0, 7, 13]))
+
+    def test_dictionaries(self):
+        self.check(TABLE)
+        self.check({name: iter(column) for name, column in TABLE.items()})
+        self.check({**TABLE, "weight": array("d", TABLE["weight"])})
+        self.check(dict(zip("xyz", TABLE.values())), "x", "y", "z")
+        self.check(dict(enumerate(TABLE.values())), source=0, target=1, weight=2)
+        with Graph.from_columns({**TABLE, "source": [1, 1, 2], "target": [2, 3, 3]}, nodes=[0]) as graph:
+            self.assertEqual((graph.names, graph.distance(1, 3)), ((0, 1, 2, 3), 13))
+        with Graph.from_columns({name: [] for name in TABLE}) as graph:
+            self.assertEqual((graph.n, graph.m), (0, 0))
+
+    def test_faults(self):
+        for table, kind, words in (
+            ({"source": [], "target": []}, KeyError, "weight"),
+            ({**TABLE, "weight": [7, 20]}, ValueError, "^3 sources, 3 targets and 2 weights"),
+            ({**TABLE, "weight": [7, float("nan"), 6]}, ValueError, r"^weights\[1\] is nan"),
+            ({**TABLE, "source": ["a", [], "b"]}, TypeError, r"^edges\[1\] is \(\[\], 'c', 20\)"),
+            ([("a", "b", 7)], TypeError, "^table is .*, which has no columns 'source', 'target' and 'weight'"),
+            (None, TypeError, "^table is None"),
+        ):
+            with self.assertRaisesRegex(kind, words):
+                Graph.from_columns(table)
+
+    @unittest.skipIf(pandas is None, "no pandas")
+    def test_pandas(self):
+        frame = pandas.DataFrame(TABLE, index=[5, 3, 9])
+        self.check(frame)
+        self.check(frame.astype({"source": "category", "weight": "Int64"}))
+        with Graph.from_pandas(frame=frame, scale=10) as graph:
+            self.assertEqual(graph.distance("a", "c"), 13.0)
+        with self.assertRaises(KeyError):
+            Graph.from_pandas(frame, weight="cost")
+        frame["weight"] = [0.7, None, 0.6]
+        with self.assertRaisesRegex(ValueError, r"^weights\[1\] is nan, which times 10 "):
+            Graph.from_columns(frame, scale=10)
+
+    @unittest.skipIf(numpy is None, "no numpy")
+    def test_numpy(self):
+        self.check({name: numpy.array(column) for name, column in TABLE.items()})
+        self.check(numpy.array([*zip(*TABLE.values())], dtype=[("source", "U1"), ("target", "U1"), ("weight", "i8")]))
+
+    @unittest.skipIf(polars is None, "no polars")
+    def test_polars(self):
+        self.check(polars.DataFrame(TABLE))
+
+    @unittest.skipIf(pyarrow is None, "no pyarrow")
+    def test_arrow(self):
+        self.check(pyarrow.table(TABLE))
+
+
+@unittest.skipIf(scipy is None, "no scipy")
+class Matrices(Case):
+    """Sparse matrices of scipy."""
+
+    def test_kinds(self):
+        tails, heads, weights = [0, 0, 1], [1, 2, 2], [7, 20, 6]
+        matrix = sparse.coo_matrix((weights, (tails, heads)), shape=(4, 4))
+        for form in ("csr", "csc", "coo", "lil", "dok", "bsr", "dia"):
+            for kind in ("i4", "u8", "f8"):
+                with self.subTest(form=form, kind=kind), Graph.from_scipy(matrix.astype(kind).asformat(form)) as graph:
+                    self.assertEqual((graph.n, ints(graph.distances(0))), (4, [0, 7, 13, INF]))
+        with Graph.from_scipy(sparse.csr_array(matrix) * 0.01, scale=100) as graph:
+            self.assertEqual(graph.distance(0, 2), 0.13)
+        with Graph.from_scipy(matrix.astype(bool)) as graph:
+            self.assertEqual(ints(graph.distances(0)), [0, 1, 1, INF])
+        with Graph.from_scipy(sparse.csr_matrix((3, 3))) as graph:
+            self.assertEqual((graph.n, graph.m), (3, 0))
+
+    def test_entries(self):
+        # Of one place they are added up, and a stored zero is an arc.
+        several = sparse.coo_matrix(([3, 4, 0], ([0, 0, 1], [1, 1, 2])), shape=(3, 3))
+        unsorted = sparse.csr_matrix(([4, 0, 3], [1, 2, 1], [0, 3, 3, 3]), shape=(3, 3))
+        for matrix, wanted in ((several, [0, 7, 7]), (several.tocsr(), [0, 7, 7]), (unsorted, [0, 7, 0])):
+            with Graph.from_scipy(matrix) as graph:
+                self.assertEqual((graph.m, ints(graph.distances(0))), (2, wanted))
+        self.assertEqual(unsorted.nnz, 3)
+
+    def test_faults(self):
+        for matrix, kind, words in (
+            (sparse.csr_matrix((2, 3)), ValueError, r"^matrix has the shape \(2, 3\)"),
+            (sparse.csr_matrix([[0, 1.5], [0, 0]]), ValueError, r"^weights\[0\] is 1.5, .*: scale=10 would do$"),
+            (sparse.csr_matrix([[0, -1], [0, 0]]), ValueError, r"^weights\[0\] is -1, "),
+            (sparse.csr_matrix([[0, 1j], [0, 0]]), ValueError, r"^weights\[0\] is 1j, "),
+            (numpy.eye(2), TypeError, "^matrix is array(?s:.*), which is no sparse matrix of scipy$"),
+            (None, TypeError, "^matrix is None"),
+        ):
+            with self.assertRaisesRegex(kind, words):
+                Graph.from_scipy(matrix)
+
+    def test_beside_scipy(self):
+        for seed in range(20):
+            n, arcs = drawn(seed)
+            arcs = [(tail, head, weight + 1) for tail, head, weight in {arc[:2]: arc for arc in arcs}.values()]
+            tails, heads, weights = columns(arcs)
+            matrix = sparse.coo_matrix((weights, (tails, heads)), shape=(n, n), dtype="f8")
+            wanted = scipy.dijkstra(matrix)
+            with Graph.from_scipy(matrix) as graph:
+                self.assertTrue((graph.distances(graph, dtype=float) == wanted).all())
+                count, labels = scipy.connected_components(matrix, connection="weak")
+                self.assertEqual((graph.component_count(), len(set(labels.tolist()))), (count, count))
+                self.assertEqual(ints(graph.components()), components_of(n, arcs))
+
+
+if __name__ == "__main__":
+    unittest.main()
