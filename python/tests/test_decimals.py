@@ -33,6 +33,7 @@ WEIGHTS = [
     (FAR, 100, None),
     (7, 100, 700),
     (True, 100, 100),
+    (42949673, 100, None),
     (2**70, 100, None),
     (Decimal("0.10"), 10, 1),
     (Decimal("0.01"), 10, None),
@@ -84,6 +85,10 @@ class Weights(unittest.TestCase):
         # The float of 4 bytes next to 0.1 is no double next to it.
         with self.assertRaisesRegex(ValueError, r"^weights\[1\] is 0.10000000149"):
             _columns.as_weights(numpy.array([0.5, 0.1], dtype="f"), 10)
+        tenth = numpy.longdouble("0.1")
+        if tenth != 0.1:
+            with self.assertRaisesRegex(ValueError, r"^weights\[0\] is "):
+                _columns.as_weights(numpy.array([tenth]), 10)
         for code in "bBhHiIlLqQ":
             self.assertEqual(ints(_columns.as_weights(numpy.array([1, 0], dtype=code), 100)), [100, 0])
         with self.assertRaisesRegex(ValueError, r"^weights\[1\] is 18446744073709551615, which times 2 "):

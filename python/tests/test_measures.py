@@ -139,6 +139,10 @@ class Restart(Case):
             rows = graph.rows([0, 1])
             graph.restart()
             self.assertEqual(len(list(rows)), 2)
+            # One that has begun since is left as it is.
+            number = the_program()
+            graph._wire.state.session.restart(None)
+            self.assertEqual(the_program(), number)
 
     def test_while_a_question_is_under_way(self):
         came = []

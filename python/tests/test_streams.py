@@ -158,6 +158,19 @@ class Changes(Case):
         del rows
         self.assertTrue(waits_for(lambda: not threads()))
 
+    def test_left(self):
+        # The cost is how many requests there were, with a row each in parts of one.
+        body = (
+            "count = 0\nwhile words := sys.stdin.buffer.readline().split():\n    read()\n    count += 1\n"
+            "    say(b's 1\\n' + bytes(16) if b'raw' in words else b'q 1 2 %d\\n' % count, b'r 2 1\\n')\n"
+        )
+        with fake(body), Graph([0], [1], [7]) as graph, by_requests_of(1000):
+            with mock.patch.object(hollowbowl._asking.Sizes, "of", lambda self, question: 1):
+                rows = graph.rows([0] * 3000)
+                next(rows)
+                rows.close()
+                self.assertLess(graph.distance(0, 1), 1900)
+
     def test_closed(self):
         graph = Graph(*WORKED)
         with by_requests_of(1):

@@ -14,7 +14,7 @@ import unittest
 from common import Case, children, columns, components_of, costs_from, descriptors, interrupt, ints, levels_from, threads, totals_of, waits_for, whole
 
 import hollowbowl
-from hollowbowl import INF, Ended, Graph, NoPath, NoVertex, WrongProcess
+from hollowbowl import INF, Ended, Graph, GraphChanged, NoPath, NoVertex, WrongProcess
 
 PROCESSES, THREADS, QUESTIONS, VERTICES = 4, 8, 2000, 30
 
@@ -77,6 +77,11 @@ def question(graph, draw):
             (lambda: tuple(graph.totals(source, hops=True)), lambda arcs: totals_of(levels_from(VERTICES, arcs, source))),
             (lambda: whole(graph.matrix([source], few, hops=True)), lambda arcs: [[levels_from(VERTICES, arcs, source)[each] for each in few]]),
             (distance, lambda arcs: costs_from(VERTICES, arcs, source)[target]),
+            (lambda: [ints(row) for _, row in graph.rows(few)], lambda arcs: [costs_from(VERTICES, arcs, each) for each in few]),
+            (
+                lambda: [path is None for path in graph.paths([(source, each) for each in few], missing=None)],
+                lambda arcs: [costs_from(VERTICES, arcs, source)[each] == INF for each in few],
+            ),
         ]
     )
 
@@ -110,7 +115,7 @@ class One:
             before = self.states.last_seen()
             try:
                 found = ask()
-            except Ended as fault:
+            except (Ended, GraphChanged) as fault:
                 self.seen.add(type(fault).__name__)
                 continue
             except BaseException:

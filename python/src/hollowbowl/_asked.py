@@ -15,14 +15,15 @@ class Asked:
 
     def _ask(self, question, timeout, progress=None):
         """Asks a question, which has the answer then."""
-        self._wire.ask("ask", question, seconds=as_seconds(timeout), progress=_as_function(progress))
+        progress = None if progress is None else _as_function(progress)
+        self._wire.ask("ask", question, seconds=as_seconds(timeout), progress=progress)
         return question
 
     def _each(self, kind, form, count, make, answers, timeout, progress, most=MOST_ITEMS):
         """The answers for so many items in turn (`Stream`), by requests of a kind and form, of `most` items each."""
         sizes = self._wire.state.sizes
         stream = Stream(self._wire, count, lambda: min(sizes.size(kind, form), most), make, answers)
-        return stream.each(as_seconds(timeout), _as_function(progress))
+        return stream.each(as_seconds(timeout), None if progress is None else _as_function(progress))
 
     def _divisor(self, hops, dtype=None, whole=False):
         """What labels are divided by to be costs, which are floats then; None where they are costs as they are."""
@@ -37,6 +38,6 @@ def kind_of(hops):
 
 
 def _as_function(progress):
-    if progress is not None and not callable(progress):
+    if not callable(progress):
         raise TypeError(f"progress is {progress!r}, which is no function of (done, all)")
     return progress

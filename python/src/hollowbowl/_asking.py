@@ -32,11 +32,12 @@ class Sizes:
 
     def learn(self, question, count, seconds, length):
         """Takes in how long the reply to a request took, and how long it is."""
-        share = min(_SECONDS / max(seconds, 1e-6), question.most_bytes / max(length, 1))
+        is_quick = seconds < _SECONDS and length < question.most_bytes
         # A request of few items that was quick tells nothing of one that is full.
-        if count and (share < 1 or count >= self.of(question)):
-            wanted = int(count * share)
-            self._sizes[question.kind, question.form] = min(max(wanted, count // 4, 1), count * 4, MOST_ITEMS)
+        if not count or (is_quick and count < self.of(question)):
+            return
+        wanted = int(count * min(_SECONDS / max(seconds, 1e-6), question.most_bytes / max(length, 1)))
+        self._sizes[question.kind, question.form] = min(max(wanted, count // 4, 1), count * 4, MOST_ITEMS)
 
 
 class _Part:

@@ -53,8 +53,6 @@ class Stream:
                 for _ in range(count):
                     self._check()
                     yield next(answers)
-                # They are let go before the request after the next is made.
-                answers = None
         finally:
             if waiting is not None:
                 waiting.is_left = True

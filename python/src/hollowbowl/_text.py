@@ -46,6 +46,9 @@ def lines_text(letter, columns, first_numbers):
         if numpy is not None and len(part[0]) > _MANY:
             numbers = [numpy.asarray(column, dtype=numpy.uint32) for column in part]
             yield _numpy_text(letter, [column + numpy.uint32(more) for column, more in zip(numbers, first_numbers)])
+        elif len(part[0]) == 1:
+            numbers = [int(column[0]) + more for column, more in zip(part, first_numbers)]
+            yield f"{letter} {' '.join(map(str, numbers))}\n".encode("ascii")
         else:
             form = letter + " %d" * len(part) + "\n"
             counted = [[number + more for number in _ints(column)] for column, more in zip(part, first_numbers)]

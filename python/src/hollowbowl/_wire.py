@@ -171,9 +171,10 @@ class Wire:
 
     def ask(self, work, *words, seconds=-1, progress=None):
         """Has the thread do some work, and waits for it. A caller that goes away leaves the rest undone."""
+        self.check()
         exchange = Exchange(lambda state, exchange: getattr(state, work)(*words, exchange), progress is not None)
         try:
-            self.send(exchange)
+            self.state.put(exchange)
             exchange.wait(seconds, progress)
         except BaseException:
             exchange.is_left = True
