@@ -32,6 +32,21 @@ class Tables(Case):
         with Graph.from_columns({name: [] for name in TABLE}) as graph:
             self.assertEqual((graph.n, graph.m), (0, 0))
 
+    def test_columns_of_other_kinds(self):
+        class Column:
+            """Entries that are no names themselves, as those of Arrow are objects of its own."""
+
+            def __init__(self, entries):
+                self.entries = entries
+
+            def __iter__(self):
+                raise AssertionError("not these entries")
+
+        arrow = type("Arrow", (Column,), {"to_pylist": lambda self: self.entries})
+        polar = type("Polar", (Column,), {"to_list": lambda self: self.entries})
+        for kind in (arrow, polar):
+            self.check({name: kind(column) for name, column in TABLE.items()})
+
     def test_faults(self):
         for table, kind, words in (
             ({"source": [], "target": []}, KeyError, "weight"),
