@@ -1,6 +1,7 @@
 -- The texts of an answer. Vertices, which are counted from 0, stand as their number plus 1.
 use Rattle.std.specs.Prelude.{ℕ, ◌+◌, ◌-◌, ◌==◌, List, [], ◌∷◌, ◌++◌, codes, decimal, if◌then◌else◌}
 use Rattle.std.specs.Prelude.{◌/◌, ◌%◌, nat_lt, length, slice_index}
+use Rattle.route_walks.specs.declared.graph.ArcRec.{ArcRec}
 use Rattle.route_walks.specs.declared.graph.TheConstants.{INF}
 
 -- 's V'
@@ -30,6 +31,21 @@ pair_text s t label = pair_line s t (cost_text label)
 -- 'g K': how many arcs were added, which is the number itself and no vertex
 abbrev pub grown_text : ℕ → List ℕ
 grown_text k = codes "g " ++ decimal k ++ codes "\n"
+
+-- 'x K': how many arcs were removed
+abbrev pub removed_text : ℕ → List ℕ
+removed_text k = codes "x " ++ decimal k ++ codes "\n"
+
+-- 'a U V W': an arc
+abbrev pub arc_text : ArcRec → List ℕ
+arc_text arc =
+    codes "a "
+    ++ decimal (arc.tail + 1)
+    ++ codes " "
+    ++ decimal (arc.head + 1)
+    ++ codes " "
+    ++ decimal arc.weight
+    ++ codes "\n"
 
 -- 'r N M': how many vertices and arcs a graph has, which are the numbers themselves
 abbrev pub ready_text : ℕ → ℕ → List ℕ

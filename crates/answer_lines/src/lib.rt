@@ -20,7 +20,9 @@ mod totals;
 mod walks;
 
 pub use groups::{put_components, put_distances, put_labels};
-pub use lines::{put_grown, put_label, put_pair, put_ready, put_refusal, put_source};
+pub use lines::{
+    put_arc, put_grown, put_label, put_pair, put_ready, put_refusal, put_removed, put_source,
+};
 pub use raw::put_raw;
 pub use totals::{Totals, put_totals};
 pub use walks::put_walk;

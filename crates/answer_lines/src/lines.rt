@@ -1,10 +1,11 @@
 //! One line at a time, made before it is appended.
 
 ghost use Rattle.std.specs.Prelude.{◌≡◌, ◌<◌, ◌++◌, codes, decimal, OnOk, OnErr};
-ghost use Rattle.answer_lines.specs.Lines.{grown_text, label_text, pair_text, ready_text, refusal_text, source_text};
+ghost use Rattle.answer_lines.specs.Lines.{arc_text, grown_text, label_text, pair_text, ready_text, refusal_text};
+ghost use Rattle.answer_lines.specs.Lines.{removed_text, source_text};
 
 use crate::digits::{MAX_LINE_BYTES, put_byte, put_cost, put_number, put_start};
-use route_walks::{MAX_VERTICES, Memory};
+use route_walks::{ArcRec, MAX_VERTICES, Memory};
 
 /// Appends the line `s V` of a source.
 pub fn put_source(out: &mut Vec<u8>, s: u32) -> Result<(), Memory>
@@ -60,6 +61,36 @@ pub fn put_grown(out: &mut Vec<u8>, k: u32) -> Result<(), Memory>
     let mut line = [0u8; MAX_LINE_BYTES];
     let end = put_byte(&mut line, MAX_LINE_BYTES, b'\n');
     let start = put_start(&mut line, end, b'g', u64::from(k));
+    out.extend_from_slice(&line[start..])?;
+    Ok(())
+}
+
+/// Appends the line `x K` for `k` removed arcs.
+pub fn put_removed(out: &mut Vec<u8>, k: u64) -> Result<(), Memory>
+    ensures ok { OnOk result (out.new.items ≡ out.old.items ++ removed_text k) }
+    ensures err { OnErr result (out.new.items ≡ out.old.items) }
+{
+    let mut line = [0u8; MAX_LINE_BYTES];
+    let end = put_byte(&mut line, MAX_LINE_BYTES, b'\n');
+    let start = put_start(&mut line, end, b'x', k);
+    out.extend_from_slice(&line[start..])?;
+    Ok(())
+}
+
+/// Appends the line `a U V W` of an arc.
+pub fn put_arc(out: &mut Vec<u8>, arc: ArcRec) -> Result<(), Memory>
+    requires tail { arc.tail < MAX_VERTICES }
+    requires head { arc.head < MAX_VERTICES }
+    ensures ok { OnOk result (out.new.items ≡ out.old.items ++ arc_text arc) }
+    ensures err { OnErr result (out.new.items ≡ out.old.items) }
+{
+    let mut line = [0u8; MAX_LINE_BYTES];
+    let end = put_byte(&mut line, MAX_LINE_BYTES, b'\n');
+    let end = put_number(&mut line, end, u64::from(arc.weight));
+    let end = put_byte(&mut line, end, b' ');
+    let end = put_number(&mut line, end, u64::from(arc.head) + 1);
+    let end = put_byte(&mut line, end, b' ');
+    let start = put_start(&mut line, end, b'a', u64::from(arc.tail) + 1);
     out.extend_from_slice(&line[start..])?;
     Ok(())
 }

@@ -104,6 +104,9 @@ head_says n head_form.Sources fs = in_form_says (Head Sources) (numbers_within (
 head_says n head_form.Pairs fs = in_form_says (Head Pairs) (numbers_within (limits n (Head Pairs)) fs) refl
 head_says n head_form.Walk fs = in_form_says (Head Pairs) (numbers_within (limits n (Head Pairs)) fs) refl
 head_says n head_form.Added fs = in_form_says (Head Added) (numbers_within (limits n (Head Added)) fs) refl
+head_says n head_form.Removed fs = in_form_says (Head Pairs) (numbers_within (limits n (Head Pairs)) fs) refl
+head_says n head_form.Replaced fs = in_form_says (Head Added) (numbers_within (limits n (Head Added)) fs) refl
+head_says n head_form.Listed fs = in_form_says (Head Pairs) (numbers_within (limits n (Head Pairs)) fs) refl
 
 pub section_says : (n : ℕ) (line : List ℕ) → begins_section line ≡ true → SaysSection (reading_after n line)
 section_says n line is =

@@ -4,7 +4,7 @@ use Rattle.std.proofs.Common.{refl, sym, ap}
 use Rattle.std.specs.Option.{option_or}
 use Rattle.route_walks.specs.declared.graph.TheConstants.{INF}
 use Rattle.dimacs_text.specs.declared.head.HeadForm.{HeadForm}
-use Rattle.dimacs_text.specs.declared.head.HeadForm.TheVariants.{Sources, Within, Pairs, Walk, Added}
+use Rattle.dimacs_text.specs.declared.head.HeadForm.TheVariants.{Sources, Within, Pairs, Walk, Added, Removed, Replaced, Listed}
 use Rattle.dimacs_text.specs.declared.head.HeadKind.{HeadKind}
 use Rattle.dimacs_text.specs.declared.head.HeadLines.{HeadLines}
 use Rattle.dimacs_text.specs.declared.head.SectionHead.{SectionHead}
@@ -47,6 +47,9 @@ form_bound Sources fs = tt
 form_bound Pairs fs = tt
 form_bound Walk fs = tt
 form_bound Added fs = tt
+form_bound Removed fs = tt
+form_bound Replaced fs = tt
+form_bound Listed fs = tt
 
 line_within : (line : List ℕ) → IfSome (head_of line) IsHeadWithin
 unfolding head_of

@@ -71,6 +71,12 @@ numbered_within n head_form.Walk fs r e =
     form_within n (Head Pairs) fs (numbers_within (limits n (Head Pairs)) fs) r refl e
 numbered_within n head_form.Added fs r e =
     form_within n (Head Added) fs (numbers_within (limits n (Head Added)) fs) r refl e
+numbered_within n head_form.Removed fs r e =
+    form_within n (Head Pairs) fs (numbers_within (limits n (Head Pairs)) fs) r refl e
+numbered_within n head_form.Replaced fs r e =
+    form_within n (Head Added) fs (numbers_within (limits n (Head Added)) fs) r refl e
+numbered_within n head_form.Listed fs r e =
+    form_within n (Head Pairs) fs (numbers_within (limits n (Head Pairs)) fs) r refl e
 
 line_within : (n : ℕ) (l : List ℕ) (r : Record) (b : Bool) (head : Option (SectionHead × List (List ℕ)))
     → cond b (section_reading n head) (fields_reading n (fields (without_cr l))) ≡ Ok (Some r)

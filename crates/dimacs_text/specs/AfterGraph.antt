@@ -51,6 +51,9 @@ head_reading n form.Sources fs = in_form (Head Sources) (numbers_within (limits 
 head_reading n form.Pairs fs = in_form (Head Pairs) (numbers_within (limits n (Head Pairs)) fs)
 head_reading n form.Walk fs = in_form (Head Pairs) (numbers_within (limits n (Head Pairs)) fs)
 head_reading n form.Added fs = in_form (Head Added) (numbers_within (limits n (Head Added)) fs)
+head_reading n form.Removed fs = in_form (Head Pairs) (numbers_within (limits n (Head Pairs)) fs)
+head_reading n form.Replaced fs = in_form (Head Added) (numbers_within (limits n (Head Added)) fs)
+head_reading n form.Listed fs = in_form (Head Pairs) (numbers_within (limits n (Head Pairs)) fs)
 
 -- what a section line says. One that has no head is unknown
 abbrev pub section_reading : ℕ → Option (SectionHead × List (List ℕ)) → Reading
@@ -77,6 +80,9 @@ bound_of form.Sources fs = None
 bound_of form.Pairs fs = None
 bound_of form.Walk fs = None
 bound_of form.Added fs = None
+bound_of form.Removed fs = None
+bound_of form.Replaced fs = None
+bound_of form.Listed fs = None
 
 abbrev pub with_bound : Option (SectionHead × List (List ℕ)) → Option SectionHead
 with_bound None = None

@@ -4,7 +4,7 @@ use Rattle.std.specs.Prelude.{Option, Some, None, codes, bytes_eq, if◌then◌e
 use Rattle.dimacs_text.specs.declared.form.Section.{Section}
 use Rattle.dimacs_text.specs.declared.form.Section.TheVariants as section
 use Rattle.dimacs_text.specs.declared.head.HeadForm.{HeadForm}
-use Rattle.dimacs_text.specs.declared.head.HeadForm.TheVariants.{Sources, Within, Pairs, Walk, Added}
+use Rattle.dimacs_text.specs.declared.head.HeadForm.TheVariants.{Sources, Within, Pairs, Walk, Added, Removed, Replaced, Listed}
 use Rattle.dimacs_text.specs.declared.head.HeadKind.{HeadKind}
 use Rattle.dimacs_text.specs.declared.head.HeadKind.TheVariants.{Distances, Levels, Components}
 use Rattle.dimacs_text.specs.declared.head.HeadLines.{HeadLines}
@@ -61,6 +61,12 @@ form_word f =
     then Some Walk
     else if bytes_eq f (codes "add")
     then Some Added
+    else if bytes_eq f (codes "cut")
+    then Some Removed
+    else if bytes_eq f (codes "set")
+    then Some Replaced
+    else if bytes_eq f (codes "arcs")
+    then Some Listed
     else None
 
 -- the word that a first field is, and the fields after it; or all of them
@@ -78,6 +84,9 @@ word_in table (f ∷ fs) = taken (table f) f fs
 abbrev pub takes_kind : HeadForm → Option HeadKind → Option HeadLines → Bool
 takes_kind form None lines = true
 takes_kind Added (Some kind) lines = false
+takes_kind Removed (Some kind) lines = false
+takes_kind Replaced (Some kind) lines = false
+takes_kind Listed (Some kind) lines = false
 takes_kind Sources (Some Components) None = true
 takes_kind Sources (Some Components) (Some word) = false
 takes_kind Pairs (Some Components) None = true
@@ -106,6 +115,9 @@ takes_lines Pairs (Some Raw) = false
 takes_lines Pairs (Some Totals) = false
 takes_lines Walk (Some word) = false
 takes_lines Added (Some word) = false
+takes_lines Removed (Some word) = false
+takes_lines Replaced (Some word) = false
+takes_lines Listed (Some word) = false
 
 abbrev pub fits : Option HeadKind → Option HeadLines → HeadForm → Bool
 fits kind lines form = takes_kind form kind lines && takes_lines form lines
@@ -139,3 +151,6 @@ section_of Within = section.Sources
 section_of Pairs = section.Pairs
 section_of Walk = section.Pairs
 section_of Added = section.Added
+section_of Removed = section.Pairs
+section_of Replaced = section.Added
+section_of Listed = section.Pairs

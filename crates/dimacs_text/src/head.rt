@@ -49,6 +49,12 @@ pub enum HeadForm {
     Walk,
     /// `add K`: K arcs that are added to the graph.
     Added,
+    /// `cut K`: K pairs, between which all arcs are removed.
+    Removed,
+    /// `set K`: K arcs, which replace those between the same two vertices.
+    Replaced,
+    /// `arcs K`: K pairs, between which the arcs are asked for.
+    Listed,
 }
 
 /// The head of a section that can follow a graph.
@@ -74,6 +80,9 @@ impl HeadForm {
             HeadForm::Pairs => Section::Pairs,
             HeadForm::Walk => Section::Pairs,
             HeadForm::Added => Section::Added,
+            HeadForm::Removed => Section::Pairs,
+            HeadForm::Replaced => Section::Added,
+            HeadForm::Listed => Section::Pairs,
         }
     }
 }
@@ -154,6 +163,15 @@ fn form_word(field: &[u8]) -> Option<HeadForm>
     if field == b"add".as_slice() {
         return Some(HeadForm::Added);
     }
+    if field == b"cut".as_slice() {
+        return Some(HeadForm::Removed);
+    }
+    if field == b"set".as_slice() {
+        return Some(HeadForm::Replaced);
+    }
+    if field == b"arcs".as_slice() {
+        return Some(HeadForm::Listed);
+    }
     None
 }
 
@@ -210,7 +228,8 @@ fn fits(kind: Option<HeadKind>, lines: Option<HeadLines>, form: HeadForm) -> boo
             None | Some(HeadLines::Each | HeadLines::Walks)
         ),
         (_, HeadForm::Walk) => lines.is_none(),
-        (_, HeadForm::Added) => kind.is_none() && lines.is_none(),
+        (_, HeadForm::Added | HeadForm::Removed | HeadForm::Replaced | HeadForm::Listed) =>
+            kind.is_none() && lines.is_none(),
     }
 }
 

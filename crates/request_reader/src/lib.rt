@@ -1,8 +1,8 @@
 //! The requests after a graph, or the wrong line of one.
 //!
-//! A request is a section after a graph: of sources (`p aux sp ss K` and K lines), of sources within a bound (`within
-//! COST K`), of pairs (`p2p`), of pairs with walks (`walk`), or of added arcs (`add`). Words before the form name the kind
-//! of labels and the lines of the answer.
+//! A request is a section after a graph. It asks for sources (`p aux sp ss K` and K lines), also within a bound (`within
+//! COST K`), or for pairs (`p2p`, `walk`). Others change the graph (`add`, `cut`, `set`) or list its arcs (`arcs`). Words
+//! before the form name the kind of labels and the lines of the answer.
 //!
 //! `RequestReader` takes the lines one by one. For each it returns the outcome: a request that is whole with it, or one
 //! that is refused at it.

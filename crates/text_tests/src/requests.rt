@@ -9,7 +9,7 @@ use std::test::Fail;
 /// Lines from line 2 on, the outcome of each request, and the line past the last if the last request lacks lines.
 type Row = (&'static [&'static str], &'static str, Option<u64>);
 
-const ROWS: [Row; 46] = [
+const ROWS: [Row; 50] = [
     // Sections of each kind, and the empty one.
     (
         &["p aux sp ss 2", "s 1", "s 2"],
@@ -29,6 +29,21 @@ const ROWS: [Row; 46] = [
     (
         &["p aux sp add 1", "a 1 2 4"],
         "Absent Some(1) Added\n",
+        None,
+    ),
+    (
+        &["p aux sp cut 2", "q 1 2", "q 2 2", "p aux sp cut 0"],
+        "Pairs([(0, 1), (1, 1)]) None Removed\nPairs([]) None Removed\n",
+        None,
+    ),
+    (
+        &["p aux sp set 1", "a 1 2 4"],
+        "Absent Some(1) Replaced\n",
+        None,
+    ),
+    (
+        &["p aux sp arcs 1", "q 2 1"],
+        "Pairs([(1, 0)]) None Listed\n",
         None,
     ),
     (&["p aux sp p2p 0"], "Pairs([]) None Pairs\n", None),
@@ -130,6 +145,22 @@ const ROWS: [Row; 46] = [
     (
         &[" p aux\tsp  walks p2p 1\r", "q 2 1"],
         "Pairs([(1, 0)]) None Walks Pairs\n",
+        None,
+    ),
+    // Changes and listings take no words, and their own letter.
+    (
+        &[
+            "p aux sp levels cut 0",
+            "p aux sp each set 0",
+            "p aux sp walks arcs 0",
+            "p aux sp cut 1",
+            "a 1 2 4",
+            "p aux sp set 1",
+            "q 1 2",
+            "p aux sp cut 1048577",
+        ],
+        "e 2 unknown line\ne 3 unknown line\ne 4 unknown line\ne 6 misplaced line\n\
+         e 8 misplaced line\ne 9 out of range\n",
         None,
     ),
     // Words in another order, one that doesn't go with the form, and no form.

@@ -8,8 +8,8 @@ use crate::texts::readers::{NOTHING, ONE_ARC};
 use crate::texts::several::large;
 use crate::texts::{GRAPH, SHORT, assert_added, assert_job, assert_pairs, joined};
 use answer_lines::{
-    Totals, put_components, put_distances, put_grown, put_label, put_labels, put_pair, put_raw,
-    put_ready, put_refusal, put_source, put_totals, put_walk,
+    Totals, put_arc, put_components, put_distances, put_grown, put_label, put_labels, put_pair,
+    put_raw, put_ready, put_refusal, put_removed, put_source, put_totals, put_walk,
 };
 use dimacs_text::{
     ExplainedFault, Job, JobReader, LineKind, Parts, ReadAhead, RequestDraft, TextFault, read_job,
@@ -43,6 +43,8 @@ enum Line {
     Walk,
     Pair,
     Grown,
+    Removed,
+    Arc,
     Ready,
     Refusal,
     Raw,
@@ -66,6 +68,8 @@ fn put(out: &mut Vec<u8>, line: Line) -> Result<(), Memory> {
         Line::Walk => put_walk(out, 15, &WALK),
         Line::Pair => put_pair(out, 0, 5, INF),
         Line::Grown => put_grown(out, 1),
+        Line::Removed => put_removed(out, 4294967296),
+        Line::Arc => put_arc(out, ArcRec::new(0, 268435455, 4294967295)),
         Line::Ready => put_ready(out, 268435456, 1074790400),
         Line::Refusal => put_refusal(out, 17, "out of range"),
         Line::Raw => put_raw(out, &[0, 258]),
@@ -374,6 +378,17 @@ fn of_put_walk(rt: HostRuntime) -> Result<(), Fail> {
 #[test]
 fn of_put_pair(rt: HostRuntime) -> Result<(), Fail> {
     expect_put(&rt, rt.alloc(), Line::Pair, "c\nq 1 6 inf\n")
+}
+
+#[test]
+fn of_put_removed(rt: HostRuntime) -> Result<(), Fail> {
+    expect_put(&rt, rt.alloc(), Line::Removed, "c\nx 4294967296\n")
+}
+
+#[test]
+fn of_put_arc(rt: HostRuntime) -> Result<(), Fail> {
+    let line = "c\na 1 268435456 4294967295\n";
+    expect_put(&rt, rt.alloc(), Line::Arc, line)
 }
 
 #[test]
