@@ -1,7 +1,7 @@
 //! The networks of an answer: of a job's arcs, and with the added ones.
 
 ghost use Rattle.std.specs.Prelude.{◌≡◌, ◌≤◌, ◌^◌, List, None, length, IfOk, IfSome, ℕ};
-ghost use Rattle.least_costs.specs.Network.{IsNetworkOf};
+ghost use Rattle.least_costs.specs.Network.{HasArcs, IsNetworkOf, arcs_of};
 ghost use Rattle.least_costs.specs.declared.cost.Cost.TheVariants.{Weight};
 ghost use Rattle.route_walks.specs.declared.graph.ArcRec.{ArcRec};
 ghost use Rattle.route_walks.specs.declared.graph.TheConstants.{MAX_VERTICES};
@@ -47,6 +47,7 @@ pub fn graphs_for<H: Threads + Sync>(
     ensures graphs { IfOk result (AreGraphsFor answer n arcs.items
         (growth_from (arcs_for answer) arcs.items (added_of added))) }
     ensures network { IfOk result (λ graphs. IsNetworkOf n (cost_for answer) arcs.items graphs.network) }
+    ensures arcs { IfOk result (λ graphs. HasArcs (arcs_of (cost_for answer) arcs.items) graphs.network) }
     ensures grown { IfOk result (λ graphs. added ≡ None → graphs.grown ≡ None) }
 {
     networks_grow();

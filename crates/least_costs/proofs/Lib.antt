@@ -1,4 +1,6 @@
 pub mod Networks
+pub mod BetweenLemmas
+pub mod SameRows
 pub mod Starts
 pub mod Unreached
 pub mod LeastWalks

@@ -1,12 +1,12 @@
 -- What is so of the arcs along which costs are least, and of a network that grows.
-use Rattle.std.proofs.Common.{◌≡◌, ◌∙◌, ℕ, ◌<◌, ◌^◌, List, [], ◌∷◌, ◌++◌, sym, subst, arith, refl}
+use Rattle.std.proofs.Common.{◌≡◌, ◌∙◌, ℕ, ◌*◌, ◌<◌, ◌^◌, List, [], ◌∷◌, ◌++◌, length, sym, subst, arith, refl}
 use Rattle.std.specs.List.{All, Contains}
 use Rattle.std.proofs.lemmas.List.Elements.{All-cons, All-contains, All-contains_itself, All-head, All-map}
 use Rattle.std.proofs.lemmas.List.Elements.{All-nil, All-tail, All-weaker}
 use Rattle.route_walks.proofs.Facts.{both_ways-append, same_arcs-grown, same_arcs-sym, same_arcs-trans}
 use Rattle.route_walks.proofs.Facts.{unit_weights-append}
 use Rattle.route_walks.specs.declared.graph.ArcRec.{ArcRec}
-use Rattle.route_walks.specs.Operators.{against, along, unit_weight}
+use Rattle.route_walks.specs.Operators.{against, along, both_ways, unit_weight}
 use Rattle.route_walks.specs.Walk.{HaveSameArcs, IsArcBelow, IsGraph}
 use Rattle.least_costs.specs.declared.cost.Cost.{Cost}
 use Rattle.least_costs.specs.declared.cost.Cost.TheVariants.{Weight, One, FreeBothWays}
@@ -42,6 +42,11 @@ graph-along n FreeBothWays (arc ∷ arcs) graph =
     All-cons (IsArcBelow n) (along arc) (against arc ∷ rest) here
     (All-cons (IsArcBelow n) (against arc) rest (here.1, here.0)
     (graph-along n FreeBothWays arcs (All-tail (IsArcBelow n) arc arcs graph)))
+
+-- each arc counts twice where it is free both ways
+pub both_ways-length : (arcs : List ArcRec) → length (both_ways arcs) ≡ 2 * length arcs
+both_ways-length [] = refl
+both_ways-length (arc ∷ arcs) = omega (arith, both_ways-length arcs)
 
 arcs_of-append : (kind : Cost) (arcs added : List ArcRec)
     → arcs_of kind (arcs ++ added) ≡ arcs_of kind arcs ++ arcs_of kind added

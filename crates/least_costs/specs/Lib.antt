@@ -1,5 +1,6 @@
 pub mod Near
 pub mod Network
+pub mod Between
 pub mod Faults
 pub mod Costs
 pub mod Walks

@@ -30,6 +30,7 @@
 #![tactic(auto)]
 
 mod below;
+mod between;
 mod budget;
 mod cost;
 mod costs;

@@ -1,16 +1,18 @@
 //! The arcs along which costs are least.
 
-ghost use Rattle.std.specs.Prelude.{◌≡◌, ◌+◌, ◌≤◌, ◌<◌, ◌^◌, ◌↔◌, ◌++◌, length, All};
+ghost use Rattle.std.specs.Prelude.{◌≡◌, ◌+◌, ◌≤◌, ◌<◌, ◌^◌, ◌↔◌, ◌++◌, length, filter, All};
 ghost use Rattle.std.specs.Prelude.{IfErr, IfNone, IfOk, IfSome, IsTrue, List, ℕ};
 ghost use Rattle.route_walks.specs.declared.graph.ArcRec.{ArcRec};
 ghost use Rattle.least_costs.specs.declared.cost.Cost.TheVariants.{Weight};
-ghost use Rattle.csr_graph.specs.Graph.{IsInRows};
+ghost use Rattle.csr_graph.specs.Graph.{HaveSameRows, IsInRows};
 ghost use Rattle.near_labels.specs.Meeting.{IsReversed};
 ghost use Rattle.route_walks.specs.Operators.{unit_weights};
 ghost use Rattle.route_walks.specs.Walk.{IsArcBelow, IsGraph, HaveSameArcs};
 ghost use Rattle.least_costs.specs.Faults.{IsFirstOutside, IsNetworkFault, IsGrowthFault};
-ghost use Rattle.least_costs.specs.Network.{AreLight, GrowsTo, IsNetwork, IsNetworkOf, arcs_of, graph_of};
+ghost use Rattle.least_costs.specs.Network.{AreLight, GrowsTo, HasArcs, IsNetwork, IsNetworkOf, arcs_of, graph_of};
+ghost use Rattle.least_costs.specs.Network.{leads_between, without};
 
+use crate::between::{list_between, remove_between};
 use crate::cost::Cost;
 use crate::fault::NetworkFault;
 use csr_graph::Csr;
@@ -56,6 +58,7 @@ impl Network {
         threads: usize,
     ) -> Result<Network, NetworkFault>
         ensures network { IfOk result (IsNetworkOf n cost arcs.items) }
+        ensures arcs { IfOk result (HasArcs (arcs_of cost arcs.items)) }
         ensures fault { IfErr result (IsNetworkFault n arcs.items) }
     {
         if n > MAX_VERTICES {
@@ -91,22 +94,76 @@ impl Network {
         ensures added { IfOk result (λ grown. grown.added ≡ arcs_of self.now.cost added.now) }
         ensures fault { IfErr result (IsGrowthFault self.now added.now) }
     {
-        let cost = self.cost;
+        let added = self.along(alloc, added)?;
+        let rows = changed_rows(rt, alloc, &self.rows, &[], &added, threads)?;
+        Ok(Network {
+            rows,
+            reversed: None,
+            cost: self.cost,
+            added,
+        })
+    }
+
+    /// Makes the network without the arcs that lead from the first vertex of a pair to the second, and with more arcs,
+    /// by the same cost. All other arcs stay. The added arcs come last in each row. Shares nothing with this one, and
+    /// needs a list of all arcs for a while.
+    ///
+    /// # Errors
+    ///
+    /// An end of an added arc is no vertex, there are too many arcs before any is removed, or memory was refused.
+    pub fn changed<H: Threads + Sync>(
+        &self,
+        rt: &H,
+        alloc: Global,
+        removed: &[(u32, u32)],
+        added: &[ArcRec],
+        threads: usize,
+    ) -> Result<Network, NetworkFault>
+        ensures arcs { (arcs : List ArcRec) → HasArcs arcs self.now
+            → IfOk result (HasArcs (without removed.now arcs ++ arcs_of self.now.cost added.now)) }
+        ensures network { (n : ℕ) (arcs : List ArcRec) → IsNetworkOf n Weight arcs self.now
+            → IfOk result (IsNetworkOf n Weight (without removed.now arcs ++ added.now)) }
+        ensures vertices { IfOk result (λ net. net.n ≡ self.now.n) }
+        ensures fault { IfErr result (IsGrowthFault self.now added.now) }
+    {
+        let added = self.along(alloc, added)?;
+        let rows = changed_rows(rt, alloc, &self.rows, removed, &added, threads)?;
+        Ok(Network {
+            rows,
+            reversed: None,
+            cost: self.cost,
+            added: Vec::new(alloc),
+        })
+    }
+
+    /// Returns the arcs that lead from one vertex to another, in the order in which they were given.
+    pub fn arcs_between(&self, alloc: Global, tail: u32, head: u32) -> Result<Vec<ArcRec>, Memory>
+        requires { tail < self.now.n }
+        ensures arcs { (arcs : List ArcRec) → HasArcs arcs self.now
+            → IfOk result (λ found. found.items ≡ filter (λ arc. leads_between arc (tail, head)) arcs) }
+        ensures ends { IfOk result (λ found. IsGraph self.now.n found.items) }
+    {
+        let found = list_between(alloc, &self.rows, tail, head)?;
+        Ok(found)
+    }
+
+    /// Returns the arcs along which costs are least of some that are to be added.
+    fn along(&self, alloc: Global, added: &[ArcRec]) -> Result<Vec<ArcRec>, NetworkFault>
+        ensures exact { IfOk result (λ along. along.items ≡ arcs_of self.now.cost added.now) }
+        ensures ends { IfOk result (λ along. IsGraph self.now.n along.items) }
+        ensures light { IfOk result (λ along. AreLight along.items) }
+        ensures count { IfOk result (λ along. length self.now.arcs + length along.items ≤ MAX_ARCS) }
+        ensures fault { IfErr result (IsGrowthFault self.now added.now) }
+    {
         match first_outside(self.rows.n(), added) {
             Some(place) => return Err(NetworkFault::Outside(place)),
             None => {}
         }
-        let added = arcs_along(alloc, cost, added)?;
-        if self.rows.arc_count().saturating_add(added.len()) > MAX_ARCS {
+        let along = arcs_along(alloc, self.cost, added)?;
+        if self.rows.arc_count().saturating_add(along.len()) > MAX_ARCS {
             return Err(NetworkFault::Arcs);
         }
-        let rows = grown_rows(rt, alloc, &self.rows, &added, threads)?;
-        Ok(Network {
-            rows,
-            reversed: None,
-            cost,
-            added,
-        })
+        Ok(along)
     }
 
     /// Makes the network of the same arcs, each of which costs what `cost` says: for a network in which each costs its
@@ -210,6 +267,8 @@ fn rows_of<H: Threads + Sync>(
     ensures vertices { IfOk result (λ rows. rows.n ≡ n) }
     ensures in_rows { IfOk result IsInRows }
     ensures arcs { IfOk result (λ rows. HaveSameArcs rows.arcs (arcs_of cost arcs.items)) }
+    ensures rows { IfOk result (λ rows. HaveSameRows n rows.arcs (arcs_of cost arcs.items)) }
+    ensures count { IfOk result (λ rows. length rows.arcs ≡ length (arcs_of cost arcs.items)) }
 {
     match cost {
         Cost::Weight => Csr::build_from(rt, alloc, n, arcs, threads),
@@ -241,22 +300,27 @@ fn arcs_along(alloc: Global, cost: Cost, arcs: &[ArcRec]) -> Result<Vec<ArcRec>,
     }
 }
 
-/// The rows of the arcs of some rows and of added ones.
-fn grown_rows<H: Threads + Sync>(
+/// Returns the rows without the arcs between these pairs, and with the added arcs.
+fn changed_rows<H: Threads + Sync>(
     rt: &H,
     alloc: Global,
     rows: &Csr,
+    removed: &[(u32, u32)],
     added: &[ArcRec],
     threads: usize,
 ) -> Result<Csr, Memory>
     requires ends { IsGraph rows.now.n added.now }
     requires count { length rows.now.arcs + length added.now ≤ MAX_ARCS }
-    ensures vertices { IfOk result (λ grown. grown.n ≡ rows.now.n) }
+    ensures vertices { IfOk result (λ changed. changed.n ≡ rows.now.n) }
     ensures in_rows { IfOk result IsInRows }
-    ensures arcs { IfOk result (λ grown. HaveSameArcs grown.arcs (rows.now.arcs ++ added.now)) }
+    ensures arcs { IfOk result
+        (λ changed. HaveSameArcs changed.arcs (without removed.now rows.now.arcs ++ added.now)) }
+    ensures rows { IfOk result
+        (λ changed. HaveSameRows rows.now.n changed.arcs (without removed.now rows.now.arcs ++ added.now)) }
 {
     let n = rows.n();
     let mut arcs = rows.arcs(alloc)?;
+    remove_between(alloc, &mut arcs, removed)?;
     arcs.extend_from_slice(added)?;
     Csr::build_from(rt, alloc, n, arcs, threads)
 }

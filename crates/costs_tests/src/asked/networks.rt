@@ -154,6 +154,80 @@ fn costs_after_an_arc_is_added(rt: HostRuntime) -> Result<(), Fail> {
     Ok(())
 }
 
+/// Pairs between which arcs are removed, arcs that are then added, and the costs from vertex 0.
+type Changed = (
+    &'static [(u32, u32)],
+    &'static [ArcRec],
+    &'static [Option<u64>],
+);
+
+const CHANGED: [Changed; 7] = [
+    (
+        &[],
+        &[],
+        &[Some(0), Some(10), Some(10), Some(12), Some(10), Some(15)],
+    ),
+    // One of two ways to vertex 1, and the only one to vertex 3.
+    (
+        &[(4, 1)],
+        &[],
+        &[Some(0), Some(17), Some(10), Some(19), Some(10), Some(22)],
+    ),
+    (
+        &[(1, 3)],
+        &[],
+        &[Some(0), Some(10), Some(10), None, Some(10), Some(30)],
+    ),
+    // A pair without arcs, one that is turned, and one that is named twice.
+    (
+        &[(3, 5), (5, 3), (3, 5), (2, 0)],
+        &[],
+        &[Some(0), Some(10), Some(10), Some(12), Some(10), Some(30)],
+    ),
+    // An arc replaced by a longer one, and by several.
+    (
+        &[(0, 2)],
+        &arcs![(0, 2, 30)],
+        &[Some(0), Some(17), Some(19), Some(19), Some(19), Some(22)],
+    ),
+    (
+        &[(3, 5)],
+        &arcs![(3, 5, 9), (3, 5, 1), (3, 5, 7)],
+        &[Some(0), Some(10), Some(10), Some(12), Some(10), Some(13)],
+    ),
+    (
+        &[],
+        &SHORTER,
+        &[Some(0), Some(10), Some(10), Some(12), Some(10), Some(4)],
+    ),
+];
+
+#[test]
+fn costs_after_arcs_are_removed(rt: HostRuntime) -> Result<(), Fail> {
+    let alloc = rt.alloc();
+    let network = six(&rt, alloc)?;
+    for (row, &(removed, added, want)) in CHANGED.iter().enumerate() {
+        let changed = network.changed(&rt, alloc, removed, added, 2)?;
+        expect_row(&rt, alloc, row, &changed, Start::At(0), want)?;
+    }
+    Ok(())
+}
+
+#[test]
+fn arcs_between_two_vertices(rt: HostRuntime) -> Result<(), Fail> {
+    let alloc = rt.alloc();
+    let network = six(&rt, alloc)?;
+    assert!(rt; network.arcs_between(alloc, 3, 5)?.as_slice() == arcs![(3, 5, 3)].as_slice());
+    assert!(rt; network.arcs_between(alloc, 5, 3)?.is_empty());
+    let more = arcs![(3, 5, 9), (3, 2, 4), (3, 5, 1)];
+    let changed = network.changed(&rt, alloc, &[(3, 2)], &more, 2)?;
+    let found = changed.arcs_between(alloc, 3, 5)?;
+    assert!(rt; found.as_slice() == arcs![(3, 5, 3), (3, 5, 9), (3, 5, 1)].as_slice());
+    let found = changed.arcs_between(alloc, 3, 2)?;
+    assert!(rt; found.as_slice() == arcs![(3, 2, 4)].as_slice());
+    Ok(())
+}
+
 const OUTSIDE: [ArcRec; 3] = arcs![(0, 1, 7), (1, 2, 7), (2, 0, 7)];
 
 const OUTSIDE_OF_SIX: [ArcRec; 1] = arcs![(0, 6, 1)];
@@ -182,6 +256,8 @@ fn faults_of_networks(rt: HostRuntime) -> Result<(), Fail> {
     }
     let grown = six(&rt, alloc)?.with_arcs(&rt, alloc, &OUTSIDE_OF_SIX, 1);
     assert!(rt; grown.err() == Some(NetworkFault::Outside(0)));
+    let changed = six(&rt, alloc)?.changed(&rt, alloc, &[(0, 6)], &OUTSIDE_OF_SIX, 1);
+    assert!(rt; changed.err() == Some(NetworkFault::Outside(0)));
     Ok(())
 }
 

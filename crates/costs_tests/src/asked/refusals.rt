@@ -12,7 +12,7 @@ use least_costs::{
     Start, Unwatched, WarmPool, Workers, Workspace,
 };
 use obim_engine::{Goal, OpenGate};
-use route_walks::{ArcRec, EXAMPLE_ARCS, Memory, arcs, refusable};
+use route_walks::{ArcRec, EXAMPLE_ARCS, Memory, arcs, refusable, tried_again};
 use std::alloc::Global;
 use std::process::Abort;
 use std::sync::Wait;
@@ -75,6 +75,31 @@ fn of_network_with_arcs(rt: HostRuntime) -> Result<(), Fail> {
     let network = six(&rt, rt.alloc())?;
     let grown = grown_again(&rt, rt.alloc(), &network)?;
     assert!(rt; grown.n() == 6);
+    Ok(())
+}
+
+#[test]
+fn of_network_changed(rt: HostRuntime) -> Result<(), Fail> {
+    let alloc = rt.alloc();
+    let network = six(&rt, alloc)?;
+    let pairs = [(0, 5), (3, 5)];
+    let changed = match refusable!(alloc, network.changed(&rt, alloc, &pairs, &SHORTER, 2)) {
+        Ok(changed) => changed,
+        Err(fault) => {
+            assert!(rt; fault == NetworkFault::Memory);
+            network.changed(&rt, alloc, &pairs, &SHORTER, 2)?
+        }
+    };
+    assert!(rt; changed.n() == 6);
+    Ok(())
+}
+
+#[test]
+fn of_network_arcs_between(rt: HostRuntime) -> Result<(), Fail> {
+    let alloc = rt.alloc();
+    let network = six(&rt, alloc)?;
+    let found = tried_again!(rt, alloc, Memory, network.arcs_between(alloc, 3, 5));
+    assert!(rt; found.len() == 1);
     Ok(())
 }
 

@@ -3,6 +3,7 @@ use Rattle.std.proofs.Common.{◌≡◌, ◌∙◌, ◌++◌, length, drop, take
 use Rattle.std.proofs.lemmas.List.Elements.{All-map}
 use Rattle.route_walks.specs.Operators.{unit_weight, unit_weights}
 use Rattle.route_walks.specs.Walk.{IsArcBelow}
+use Rattle.least_costs.proofs.Networks.{both_ways-length}
 use Rattle.least_costs.proofs.network.rows_of.Goals as goal
 
 pub build_from-requires-in-One-clause-ends : goal.build_from-requires-in-One-clause-ends
@@ -25,3 +26,7 @@ returns-in-One-clause-arcs g c =
 
 pub returns-in-FreeBothWays-clause-arcs : goal.returns-in-FreeBothWays-clause-arcs
 returns-in-FreeBothWays-clause-arcs g c = rw c.in-FreeBothWays.is c.build_both_ways.ensures.arcs
+
+pub returns-in-FreeBothWays-clause-count : goal.returns-in-FreeBothWays-clause-count
+returns-in-FreeBothWays-clause-count g c =
+    rw (c.in-FreeBothWays.is, both_ways-length c.args.arcs.items) c.build_both_ways.ensures.places

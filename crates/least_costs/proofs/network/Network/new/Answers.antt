@@ -2,7 +2,7 @@ use Rattle.std.proofs.Common.{◌<◌, ◌^◌, subst, sym}
 use Rattle.std.proofs.lemmas.List.Elements.{All-nil}
 use Rattle.route_walks.specs.declared.graph.ArcRec.{ArcRec}
 use Rattle.route_walks.specs.Walk.{IsArcBelow, IsGraph}
-use Rattle.least_costs.proofs.Networks.{light-along, over-same}
+use Rattle.least_costs.proofs.Networks.{graph-along, light-along, over-same}
 use Rattle.least_costs.proofs.network.Network.new.Goals as goal
 
 pub invariant_of-result : goal.invariant_of-result
@@ -20,3 +20,12 @@ invariant_of-result g c =
       };
       turned = tt;
     }
+
+pub returns-clause-arcs : goal.returns-clause-arcs
+returns-clause-arcs g c = record {
+  ends =
+      rw c.in_ok-rows.ensures.vertices
+      (graph-along c.args.n c.args.cost c.args.arcs.items (rw c.deref.ensures.value at c.in-None.ensures.none));
+  rows = rw c.in_ok-rows.ensures.vertices c.in_ok-rows.ensures.rows;
+  count = c.in_ok-rows.ensures.count;
+}
