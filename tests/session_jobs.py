@@ -40,8 +40,11 @@ WORDS = {
     "p2p": (KINDS, ["each", "walks"]),
     "walk": (KINDS[:2], []),
     "add": ([], []),
+    "cut": ([], []),
+    "set": ([], []),
+    "arcs": ([], []),
 }
-LETTERS = {"ss": "s", "within": "s", "p2p": "q", "walk": "q", "add": "a"}
+LETTERS = {"ss": "s", "within": "s", "p2p": "q", "walk": "q", "add": "a", "cut": "q", "set": "a", "arcs": "q"}
 
 
 def draw_request(draw, n):
@@ -91,10 +94,17 @@ def job_reply(program, session, n, arcs, request):
     workers, answer, _ = session
     _, _, form, _, rows = request
     graph = lambda of: f"p sp {n} {len(of)}\n" + records("a", of)
-    if form == "add":
-        arcs = arcs + rows
+    if form == "arcs":
+        listed = [arc for row in rows for arc in arcs if arc[:2] == row]
+        return f"{records('a', listed)}r {n} {len(arcs)}\n", arcs
+    if form in ("add", "cut", "set"):
+        removed = {row[:2] for row in rows} if form != "add" else set()
+        left = [arc for arc in arcs if arc[:2] not in removed]
+        lines = f"x {len(arcs) - len(left)}\n" if form != "add" else ""
+        lines += f"g {len(rows)}\n" if form != "cut" else ""
+        arcs = left + (rows if form != "cut" else [])
         block = run(program, ["--workers", workers, "--answer", answer], graph(arcs))[0] if answer == "components" else ""
-        return f"g {len(rows)}\n{block}r {n} {len(arcs)}\n", arcs
+        return f"{lines}{block}r {n} {len(arcs)}\n", arcs
     section = {"walk": "p2p", "within": "ss"}.get(form, form)
     text = graph(arcs) + f"p aux sp {section} {len(rows)}\n" + records(LETTERS[form], rows)
     output, error, status = run(program, job_options(*session, request), text)
@@ -112,7 +122,7 @@ def draw_wrong(draw, n, request, line):
         text = f"p aux sp {head} {len(rows) + 1}\n" + records(letter, rows) + outside
         return text, f"e {line + len(rows) + 1} out of range\n"
     # No form takes both words of a kind, or words in another order; the records that follow are passed by.
-    unknown = draw.choice(["levels distances ss", "raw levels ss", "totals p2p", "walks walk", "levels add", "nearest"])
+    unknown = draw.choice(["levels distances ss", "raw levels ss", "totals p2p", "walks walk", "levels add", "each cut", "raw arcs", "nearest"])
     if draw.randrange(2):
         return f"p aux sp {unknown} {len(rows)}\n" + records(letter, rows), f"e {line} unknown line\n"
     return f"p aux sp {head} {len(rows)} 1\n", f"e {line} wrong number of fields\n"

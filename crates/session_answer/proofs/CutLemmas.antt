@@ -5,7 +5,7 @@ use Rattle.std.proofs.lemmas.List.{append-nil}
 use Rattle.std.specs.Prelude.{Result, Ok, Err, OnErr}
 use Rattle.std.specs.Io.KnownBytes.{Appends}
 use Rattle.answer_lines.specs.Lines.{ready_text, refusal_text}
-use Rattle.dimacs_text.specs.Jobs.{Content, Question}
+use Rattle.dimacs_text.specs.Jobs.{Content, Question, absent}
 use Rattle.dimacs_text.specs.Lines.{lines}
 use Rattle.request_reader.proofs.Facts.{begins_with}
 use Rattle.request_reader.specs.Reading.{HasRequests, vertices_of}
@@ -19,8 +19,11 @@ use Rattle.job_answer.specs.Within.{AnswerTextsByLinesAreUnique}
 use Rattle.session_answer.specs.Conversations.{HasHeard, HasRepliedTo, Replies, graph_of}
 use Rattle.session_answer.specs.Cuts.{AreCutAfterBytes, AreCutAfterLines, AreRepliesCut}
 use Rattle.session_answer.specs.Terms.{Terms, lines_for, terms_by}
-use Rattle.session_answer.specs.Replies.{AreReplies, IsAnswerIn, IsBodyIf, IsBodyIn, IsReplyFor, IsReplyTo}
-use Rattle.session_answer.specs.Replies.{added_line, graph_after, grown_by, job_of, out_of_memory}
+use Rattle.session_answer.specs.Replies.{AreReplies, IsAnswerIn, IsBodyIf, IsBodyIn, IsReplyBy, IsReplyFor, IsReplyTo}
+use Rattle.session_answer.specs.Replies.{graph_after, job_of, out_of_memory}
+use Rattle.dimacs_text.specs.declared.head.HeadForm.{HeadForm}
+use Rattle.dimacs_text.specs.declared.head.HeadForm.TheVariants.{Sources, Within, Pairs, Walk, Added, Removed, Replaced, Listed}
+use Rattle.session_answer.specs.Changes.{ChangeSeen, change_by, change_text, changed_by}
 use Rattle.session_answer.specs.declared.conversation.Conversation.{Conversation}
 use Rattle.session_answer.specs.declared.session.Session.{Session}
 use Rattle.session_answer.proofs.ReplyLemmas.{no_bytes}
@@ -127,18 +130,30 @@ module _ (law : AnswerTextsByLinesAreUnique) (terms : Terms) where
       (one_body graph question one.body two.body one.is_body two.is_body)
       ∙ sym two.written
 
-  one_reply : (graph asked : Content) → IsOneText (IsReplyTo terms graph asked)
-  one_reply graph asked first second one two =
+  one_reply : (graph : Content) (change : ChangeSeen) (question : Question)
+      → IsOneText (IsReplyTo terms graph change question)
+  one_reply graph change question first second one two =
       one.written
-      ∙ ap (λ (answer : List ℕ). added_line asked.added ++ answer)
-      (one_answer (grown_by graph asked.added) asked.question one.answer two.answer one.is_answer two.is_answer)
+      ∙ ap (λ (answer : List ℕ). change_text change graph.arcs ++ answer)
+      (one_answer (changed_by graph change) question one.answer two.answer one.is_answer two.is_answer)
       ∙ sym two.written
+
+one_reply_by : AnswerTextsByLinesAreUnique → (form : HeadForm) (terms : Terms) (graph job : Content)
+    → IsOneText (IsReplyBy form terms graph job)
+one_reply_by law Sources terms graph job = one_reply law terms graph (change_by Sources job) job.question
+one_reply_by law Within terms graph job = one_reply law terms graph (change_by Within job) job.question
+one_reply_by law Pairs terms graph job = one_reply law terms graph (change_by Pairs job) job.question
+one_reply_by law Walk terms graph job = one_reply law terms graph (change_by Walk job) job.question
+one_reply_by law Added terms graph job = one_reply law terms graph (change_by Added job) job.question
+one_reply_by law Removed terms graph job = one_reply law terms graph (change_by Removed job) absent
+one_reply_by law Replaced terms graph job = one_reply law terms graph (change_by Replaced job) job.question
+one_reply_by law Listed terms graph job = λ first second one two. one ∙ sym two
 
 module _ (law : AnswerTextsByLinesAreUnique) (terms : Terms) where
   one_reply_for : (graph : Content) (outcome : Outcome)
       → IsOneText (IsReplyFor terms graph outcome)
   one_reply_for graph (whole job head) first second one two =
-      one_reply law (terms_by head terms) graph job first second one two
+      one_reply_by law head.form (terms_by head terms) graph job first second one two
   one_reply_for graph (wrong line what) first second one two = one ∙ sym two
   one_reply_for graph (no_memory line) first second one two = one ∙ sym two
 

@@ -2,10 +2,9 @@
 use Rattle.std.proofs.Common.{◌≡◌, ◌∙◌, ℕ, List, [], ◌∷◌, ◌++◌, Option, Some, None, refl, sym, ap, subst, append_assoc}
 use Rattle.std.proofs.lemmas.List.{append-nil}
 use Rattle.std.specs.Io.KnownBytes.{Appends}
-use Rattle.std.specs.Prelude.{IfOk, IfSome, Result, Ok, Err}
-use Rattle.route_walks.specs.declared.graph.ArcRec.{ArcRec}
+use Rattle.std.specs.Prelude.{◌↔◌, IfOk, IfSome, Result, Ok, Err}
 use Rattle.answer_lines.specs.Lines.{refusal_text}
-use Rattle.dimacs_text.specs.Jobs.{Content, content_of, IsAddedWithin, IsQuestionWithin}
+use Rattle.dimacs_text.specs.Jobs.{Content, Question, content_of, IsAddedWithin, IsQuestionWithin}
 use Rattle.least_costs.specs.Network.{IsNetwork}
 use Rattle.request_reader.specs.Reading.{IsAskedWithin, IsRefusable, IsRefusedLast}
 use Rattle.request_reader.specs.Requests.{Outcome, no_memory}
@@ -17,9 +16,12 @@ use Rattle.job_answer.specs.Graphs.{AreGraphsFor, GrowAlike, GrowsInto, growth_o
 use Rattle.job_answer.specs.Bytes.{Writes}
 use Rattle.job_answer.proofs.Facts.{along-kind, appends-then}
 use Rattle.session_answer.specs.Conversations.{Replies, graph_of}
+use Rattle.dimacs_text.specs.declared.head.HeadForm.{HeadForm}
+use Rattle.dimacs_text.specs.declared.head.HeadForm.TheVariants.{Sources, Within, Pairs, Walk, Added, Removed, Replaced, Listed}
+use Rattle.session_answer.specs.Changes.{ChangeSeen, change_by, question_by}
 use Rattle.session_answer.specs.Terms.{Terms}
-use Rattle.session_answer.specs.Replies.{AreReplies, HoldsGraph, HoldsKind, IsAnswerIn, IsAskedIn, IsGrownReply, IsReplyFor, IsReplyTo}
-use Rattle.session_answer.specs.Replies.{IsRequestWithin, IsReplied, added_line, graph_after, grown_by}
+use Rattle.session_answer.specs.Replies.{AreReplies, HoldsGraph, HoldsKind, IsAnswerIn, IsAskedIn, IsReplyBy, IsReplyFor, IsReplyTo}
+use Rattle.session_answer.specs.Replies.{IsRequestWithin, IsReplied, graph_after}
 use Rattle.session_answer.specs.Replies.{out_of_memory}
 use Rattle.session_answer.specs.declared.kind_graph.KindGraph.{KindGraph}
 use Rattle.session_answer.specs.declared.session.Session.{Session}
@@ -119,29 +121,59 @@ replied_once terms graph outcome session before after (Ok reply_outcome.NotStart
 }
 replied_once terms graph outcome session before after (Err fault) written holds = tt
 
--- the reply to a question
-pub plain_reply : (terms : Terms) (graph asked : Content) (text : List ℕ)
-    → asked.added ≡ None → IsAnswerIn terms graph asked.question text
-    → IsReplyTo terms graph asked text
-plain_reply terms graph asked text none is =
-    let here : IsAnswerIn terms (grown_by graph None) asked.question text =
-    record { body = is.body; is_body = is.is_body; written = is.written } in
-    record {
-      answer = text;
-      is_answer = subst (λ added. IsAnswerIn terms (grown_by graph added) asked.question text) (sym none) here;
-      written = ap (λ added. added_line added ++ text) (sym none);
-    }
+-- the reply to a question alone
+pub plain_reply : (terms : Terms) (graph : Content) (question : Question) (text : List ℕ)
+    → IsAnswerIn terms graph question text
+    ↔ IsReplyTo terms graph (record { removed = None; added = None }) question text
+plain_reply terms graph question text = (
+  λ is. record {
+    answer = text;
+    is_answer = record { body = is.body; is_body = is.is_body; written = is.written };
+    written = refl;
+  },
+  λ is. record {
+    body = is.is_answer.body;
+    is_body = is.is_answer.is_body;
+    written = is.written ∙ is.is_answer.written;
+  },
+)
 
--- the reply to added arcs
-pub grown_reply : (terms : Terms) (graph asked : Content) (arcs : List ArcRec)
-    (text : List ℕ)
-    → asked.added ≡ Some arcs → IsGrownReply terms graph arcs asked.question text
-    → IsReplyTo terms graph asked text
-grown_reply terms graph asked arcs text some is = record {
-  answer = is.0;
-  is_answer = subst (λ added. IsAnswerIn terms (grown_by graph added) asked.question is.0) (sym some) is.1;
-  written = is.2 ∙ ap (λ added. added_line added ++ is.0) (sym some);
-}
+-- the reply to a request that lists no arcs
+reply_same : (form : HeadForm) (terms : Terms) (graph job : Content) (text : List ℕ) → (form ≡ Listed → ⊥)
+    → IsReplyTo terms graph (change_by form job) (question_by form job.question) text
+    ↔ IsReplyBy form terms graph job text
+reply_same Sources terms graph job text other = (λ is. is, λ is. is)
+reply_same Within terms graph job text other = (λ is. is, λ is. is)
+reply_same Pairs terms graph job text other = (λ is. is, λ is. is)
+reply_same Walk terms graph job text other = (λ is. is, λ is. is)
+reply_same Added terms graph job text other = (λ is. is, λ is. is)
+reply_same Removed terms graph job text other = (λ is. is, λ is. is)
+reply_same Replaced terms graph job text other = (λ is. is, λ is. is)
+reply_same Listed terms graph job text other = absurd (other refl)
+
+pub reply_by : (form : HeadForm) (terms given : Terms) (graph job : Content) (change : ChangeSeen) (question : Question)
+    (text : List ℕ) → (form ≡ Listed → ⊥)
+    → given ≡ terms → change ≡ change_by form job → question ≡ question_by form job.question
+    → IsReplyTo given graph change question text
+    ↔ IsReplyBy form terms graph job text
+reply_by form terms given graph job change question text other a b c =
+    subst (λ (t : Terms). IsReplyTo t graph change question text ↔ IsReplyBy form terms graph job text) (sym a)
+    (subst (λ (x : ChangeSeen). IsReplyTo terms graph x question text ↔ IsReplyBy form terms graph job text) (sym b)
+    (subst
+    (λ (q : Question). IsReplyTo terms graph (change_by form job) q text ↔ IsReplyBy form terms graph job text) (sym c)
+    (reply_same form terms graph job text other)))
+
+-- the arcs that it adds are within the limits
+pub change_within : (form : HeadForm) (n : ℕ) (job : Content) → IsAddedWithin n job.added
+    → IsAddedWithin n (change_by form job).added
+change_within Sources n job is = is
+change_within Within n job is = is
+change_within Pairs n job is = is
+change_within Walk n job is = is
+change_within Added n job is = is
+change_within Removed n job is = is
+change_within Replaced n job is = is
+change_within Listed n job is = tt
 
 -- a request that is whole can be refused in place of that
 pub refusable_last : (request : Option Request) (reader : RequestReader) (first : ℕ) (all : List (List ℕ))

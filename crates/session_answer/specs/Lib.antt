@@ -1,4 +1,5 @@
 pub mod Terms
+pub mod Changes
 pub mod Replies
 pub mod Conversations
 pub mod Cuts

@@ -1,9 +1,12 @@
 -- The replies to the requests that follow a graph, and to the graph.
-use Rattle.std.specs.Prelude.{◌≡◌, ℕ, ◌+◌, Bool, true, false, List, [], ◌∷◌, ◌++◌, length, Option, Some, None, codes, ⊤, IfSome}
+use Rattle.std.specs.Prelude.{◌≡◌, ℕ, ◌+◌, Bool, true, false, List, [], ◌∷◌, ◌++◌, length, filter, flat_map}
+use Rattle.std.specs.Prelude.{Option, Some, None, codes, ⊤, IfSome}
 use Rattle.route_walks.specs.declared.graph.ArcRec.{ArcRec}
-use Rattle.answer_lines.specs.Lines.{grown_text, ready_text, refusal_text}
+use Rattle.answer_lines.specs.Lines.{arc_text, ready_text, refusal_text}
 use Rattle.dimacs_text.specs.AfterGraph.{IsHeadWithin}
 use Rattle.dimacs_text.specs.Faults.{words_of}
+use Rattle.dimacs_text.specs.declared.head.HeadForm.{HeadForm}
+use Rattle.dimacs_text.specs.declared.head.HeadForm.TheVariants as form
 use Rattle.dimacs_text.specs.Jobs.{Content, Question, absent, content_of}
 use Rattle.dimacs_text.specs.Jobs.{IsAddedWithin, IsQuestionWithin}
 use Rattle.dimacs_text.specs.GraphTexts.{IsGraphText}
@@ -15,16 +18,17 @@ use Rattle.job_answer.specs.declared.asked.Answer.{Answer}
 use Rattle.job_answer.specs.declared.asked.Answer.TheVariants as answer
 use Rattle.job_answer.specs.declared.asked.Lines.{Lines}
 use Rattle.job_answer.specs.Graphs.{AreGraphs, cost_for}
-use Rattle.least_costs.specs.Network.{IsNetworkOf}
+use Rattle.least_costs.specs.Network.{HasArcs, IsNetworkOf, leads_between}
 use Rattle.job_answer.specs.Outcome.{is_unasked}
 use Rattle.job_answer.specs.Within.{IsAnswerTextBy}
+use Rattle.session_answer.specs.Changes.{ChangeSeen, change_by, change_text, changed_by, pairs_of}
 use Rattle.session_answer.specs.declared.kind_graph.KindGraph.{KindGraph}
 use Rattle.session_answer.specs.declared.session.Session.{Session}
 use Rattle.session_answer.specs.declared.kind_graph.ReplyOutcome.{ReplyOutcome}
 use Rattle.session_answer.specs.declared.kind_graph.ReplyOutcome.TheVariants as reply_outcome
 use Rattle.session_answer.specs.Terms.{Terms, lines_for, terms_by}
 
--- ---- the reply to a request that is whole
+-- ---- the answer to a question
 
 -- the job of a graph and a question
 abbrev pub job_of : Content → Question → Content
@@ -46,32 +50,33 @@ pub record IsAnswerIn (terms : Terms) (graph : Content) (question : Question) (t
   pub is_body : IsBodyIn terms graph question body
   pub written : text ≡ body ++ ready_text graph.n (length graph.arcs)
 
--- the arcs of a graph, and those that are added
-abbrev pub with_added : List ArcRec → Option (List ArcRec) → List ArcRec
-with_added arcs None = arcs
-with_added arcs (Some more) = arcs ++ more
+-- ---- the reply to a request that is whole
 
--- the graph after a request: it has the arcs that the request adds
-abbrev pub grown_by : Content → Option (List ArcRec) → Content
-grown_by graph added = record graph { arcs = with_added graph.arcs added }
-
--- 'g K', if arcs are added
-abbrev pub added_line : Option (List ArcRec) → List ℕ
-added_line None = []
-added_line (Some arcs) = grown_text (length arcs)
-
--- The reply to a request: how many arcs it adds, and the answer to its question in the graph with them.
-pub record IsReplyTo (terms : Terms) (graph asked : Content) (text : List ℕ) : Type 0 where
+-- How a request changes the graph, and the answer to its question in the graph after it.
+pub record IsReplyTo (terms : Terms) (graph : Content) (change : ChangeSeen) (question : Question) (text : List ℕ)
+    : Type 0 where
   pub answer : List ℕ
-  pub is_answer : IsAnswerIn terms (grown_by graph asked.added) asked.question answer
-  pub written : text ≡ added_line asked.added ++ answer
+  pub is_answer : IsAnswerIn terms (changed_by graph change) question answer
+  pub written : text ≡ change_text change graph.arcs ++ answer
 
--- the same for arcs that are added and a question
-abbrev pub IsGrownReply : Terms → Content → List ArcRec → Question → List ℕ → Type 0
-IsGrownReply terms graph arcs question text =
-    (answer : List ℕ)
-    × IsAnswerIn terms (grown_by graph (Some arcs)) question answer
-    × (text ≡ grown_text (length arcs) ++ answer)
+-- the lines of the arcs that lead between a pair
+abbrev pub between_text : List ArcRec → ℕ × ℕ → List ℕ
+between_text arcs pair = flat_map arc_text (filter (λ arc. leads_between arc pair) arcs)
+
+-- the arcs between pairs, and then how large the graph is
+abbrev pub listing_text : Content → List (ℕ × ℕ) → List ℕ
+listing_text graph pairs = flat_map (between_text graph.arcs) pairs ++ ready_text graph.n (length graph.arcs)
+
+-- the reply to a request of a form
+abbrev pub IsReplyBy : HeadForm → Terms → Content → Content → List ℕ → Type 0
+IsReplyBy form.Sources terms graph job text = IsReplyTo terms graph (change_by form.Sources job) job.question text
+IsReplyBy form.Within terms graph job text = IsReplyTo terms graph (change_by form.Within job) job.question text
+IsReplyBy form.Pairs terms graph job text = IsReplyTo terms graph (change_by form.Pairs job) job.question text
+IsReplyBy form.Walk terms graph job text = IsReplyTo terms graph (change_by form.Walk job) job.question text
+IsReplyBy form.Added terms graph job text = IsReplyTo terms graph (change_by form.Added job) job.question text
+IsReplyBy form.Removed terms graph job text = IsReplyTo terms graph (change_by form.Removed job) absent text
+IsReplyBy form.Replaced terms graph job text = IsReplyTo terms graph (change_by form.Replaced job) job.question text
+IsReplyBy form.Listed terms graph job text = text ≡ listing_text graph (pairs_of job.question)
 
 -- ---- the reply to any request, and the graph after it
 
@@ -82,13 +87,13 @@ out_of_memory = codes "out of memory"
 -- A request that is whole is answered. One that is wrong is refused in a line, and so is one for which memory was
 -- refused, while it was read or for its reply.
 abbrev pub IsReplyFor : Terms → Content → Outcome → List ℕ → Type 0
-IsReplyFor terms graph (whole job head) text = IsReplyTo (terms_by head terms) graph job text
+IsReplyFor terms graph (whole job head) text = IsReplyBy head.form (terms_by head terms) graph job text
 IsReplyFor terms graph (wrong line what) text = text ≡ refusal_text line (words_of what)
 IsReplyFor terms graph (no_memory line) text = text ≡ refusal_text line out_of_memory
 
 -- the graph after a request
 abbrev pub graph_after : Content → Outcome → Content
-graph_after graph (whole job head) = grown_by graph job.added
+graph_after graph (whole job head) = changed_by graph (change_by head.form job)
 graph_after graph (wrong line what) = graph
 graph_after graph (no_memory line) = graph
 
@@ -127,6 +132,7 @@ pub record HoldsKind (kind : Answer) (graph : Content) (kept : KindGraph) : Type
 -- the network of weights, and those of the other kinds that were made
 pub record HoldsGraph (graph : Content) (session : Session) : Type 0 where
   pub weights : HoldsKind answer.Distances graph session.weights
+  pub arcs : HasArcs graph.arcs session.weights.graphs.network
   pub levels : IfSome session.levels (HoldsKind answer.Levels graph)
   pub components : IfSome session.components (HoldsKind answer.Components graph)
 

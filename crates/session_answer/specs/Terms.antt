@@ -38,6 +38,9 @@ word_for form.Within lines = lines
 word_for form.Pairs lines = lines
 word_for form.Walk lines = Some word.Walks
 word_for form.Added lines = lines
+word_for form.Removed lines = lines
+word_for form.Replaced lines = lines
+word_for form.Listed lines = lines
 
 -- The lines that a word names, within the bound of the head if it has one. Without a word they are those of the session,
 -- whose own bound gives way to that of the head.

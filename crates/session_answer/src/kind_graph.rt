@@ -1,15 +1,19 @@
 //! The network of one kind of labels, and the answers in it.
 
-ghost use Rattle.std.specs.Prelude.{◌≡◌, [], Some, IfErr, IfOk, OnErr, OnOk};
+ghost use Rattle.std.specs.Prelude.{◌≡◌, [], All, IfErr, IfOk, OnErr, OnOk};
 ghost use Rattle.std.specs.Io.KnownBytes.{Appends};
-ghost use Rattle.dimacs_text.specs.Jobs.{Content, IsAddedWithin, IsQuestionWithin, question_of};
-ghost use Rattle.job_answer.specs.Bytes.{Writes, WritesPrefix};
+ghost use Rattle.dimacs_text.specs.Jobs.{Content, IsPairWithin, IsQuestionWithin, question_of};
+ghost use Rattle.least_costs.specs.Network.{HasArcs};
+ghost use Rattle.job_answer.specs.Bytes.{GivesPrefix, Writes, WritesPrefix};
 ghost use Rattle.job_answer.specs.Graphs.{AreGraphs};
 ghost use Rattle.job_answer.specs.Outcome.{IsWritingFault};
 ghost use Rattle.job_answer.specs.declared.asked.Answer.TheVariants.{Distances};
-ghost use Rattle.session_answer.specs.Replies.{HoldsKind, IsAnswerIn, IsBodyIn, IsReplied, grown_by};
+ghost use Rattle.session_answer.specs.Replies.{HoldsKind, IsAnswerIn, IsBodyIn, IsReplied, listing_text};
+ghost use Rattle.session_answer.specs.Changes.{change_seen, changed_by, pairs_of};
 ghost use Rattle.session_answer.specs.Terms.{terms_of};
 
+use crate::change::{Change, pairs_of};
+use crate::listing::put_listed;
 use crate::terms::lines_for;
 use answer_lines::put_ready;
 use dimacs_text::Ask;
@@ -19,9 +23,8 @@ use job_answer::{
     write_whole,
 };
 use least_costs::Workspace;
-use least_costs::laws::networks_grow;
 use obim_engine::Gate;
-use route_walks::{ArcRec, Memory};
+use route_walks::Memory;
 use std::alloc::Global;
 use std::io::Write;
 use std::sync::Wait;
@@ -41,11 +44,11 @@ pub(crate) enum ReplyOutcome {
     NotStarted,
 }
 
-/// The network of a kind of labels, grown by all arcs that were added.
+/// The network of a kind of labels, after all changes.
 #[derive(Drop)]
 pub(crate) struct KindGraph {
     pub(crate) graphs: Graphs,
-    /// The number of arcs that were read, those that were added among them.
+    /// The number of arcs of the graph.
     pub(crate) arcs: usize,
 }
 
@@ -69,27 +72,32 @@ impl KindGraph {
         })
     }
 
-    /// Makes the network with more arcs.
-    pub(crate) fn grown<H: Threads + Sync, G>(
+    /// Makes the network after a change.
+    pub(crate) fn changed<H: Threads + Sync, G>(
         &self,
         context: &Context<'_, H, G>,
-        arcs: &[ArcRec],
+        change: &Change,
     ) -> Result<KindGraph, Memory>
-        requires within { IsAddedWithin self.now.graphs.network.n (Some arcs.now) }
         ensures holds { (graph : Content) → HoldsKind Distances graph self.now
-            → IfOk result (HoldsKind Distances (grown_by graph (Some arcs.now))) }
+            → HasArcs graph.arcs self.now.graphs.network
+            → IfOk result (HoldsKind Distances (changed_by graph (change_seen change.now))) }
+        ensures arcs { (graph : Content) → HoldsKind Distances graph self.now
+            → HasArcs graph.arcs self.now.graphs.network
+            → IfOk result (λ kept. HasArcs (changed_by graph (change_seen change.now)).arcs kept.graphs.network) }
         ensures are { IfOk result (λ kept. AreGraphs kept.graphs) }
         ensures vertices { IfOk result (λ kept. kept.graphs.network.n ≡ self.now.graphs.network.n) }
     {
-        networks_grow();
-        let Some(count) = self.arcs.checked_add(arcs.len()) else {
-            return Err(Memory);
-        };
+        let (removed, added) = (change.removed(), change.added());
         let threads = context.asked.settings.workers as usize;
         let (rt, alloc) = (context.rt, context.alloc);
-        let Ok(network) = self.graphs.network.with_arcs(rt, alloc, arcs, threads) else {
+        let Ok(network) = self
+            .graphs
+            .network
+            .changed(rt, alloc, removed, added, threads)
+        else {
             return Err(Memory);
         };
+        let count = network.rows().arc_count();
         // Whatever network it is, its ends are vertices.
         let _ = network.n();
         Ok(KindGraph {
@@ -144,6 +152,45 @@ impl KindGraph {
         };
         write_whole(writer, &text)?;
         Ok(ReplyOutcome::Written)
+    }
+
+    /// Replies with the arcs between the pairs of a question. If memory is refused, nothing is given.
+    pub(crate) fn reply_listed<W: Write>(
+        &self,
+        alloc: Global,
+        writer: &mut W,
+        ask: Ask,
+    ) -> Result<ReplyOutcome, Fault>
+        requires within { IsQuestionWithin self.now.graphs.network.n (question_of ask) }
+        ensures listed { (graph : Content) → HoldsKind Distances graph self.now
+            → HasArcs graph.arcs self.now.graphs.network
+            → IfOk result (λ outcome. IsReplied outcome (Appends (W.contents writer.old) (W.contents writer.new)
+            (listing_text graph (pairs_of (question_of ask))))
+            (Appends (W.contents writer.old) (W.contents writer.new) [])) }
+        ensures cut { (graph : Content) → HoldsKind Distances graph self.now
+            → HasArcs graph.arcs self.now.graphs.network
+            → OnErr result (GivesPrefix (W.contents writer.old) (W.contents writer.new)
+            (listing_text graph (pairs_of (question_of ask)))) }
+        ensures kinds { IfErr result IsWritingFault }
+    {
+        let pairs = pairs_of(alloc, ask);
+        let Ok(text) = self.listing(alloc, &pairs) else {
+            return Ok(ReplyOutcome::NotStarted);
+        };
+        write_whole(writer, &text)?;
+        Ok(ReplyOutcome::Written)
+    }
+
+    /// Makes the lines of the arcs between pairs, and of how large the graph is.
+    fn listing(&self, alloc: Global, pairs: &[(u32, u32)]) -> Result<Vec<u8>, Memory>
+        requires within { All (IsPairWithin self.now.graphs.network.n) pairs.now }
+        ensures { (graph : Content) → HoldsKind Distances graph self.now → HasArcs graph.arcs self.now.graphs.network
+            → IfOk result (λ text. text.items ≡ listing_text graph pairs.now) }
+    {
+        let mut text = Vec::new(alloc);
+        put_listed(alloc, &mut text, &self.graphs.network, pairs)?;
+        put_ready(&mut text, self.graphs.network.n(), self.arcs as u64)?;
+        Ok(text)
     }
 
     /// Makes the text of an answer and of how large the graph is.

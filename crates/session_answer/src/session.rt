@@ -1,27 +1,29 @@
 //! The graph of a session, and the reply to one request.
 
-ghost use Rattle.std.specs.Prelude.{◌≡◌, [], Some, ⊤, length, IfErr, IfOk, IfSome, OnErr, OnOk};
+ghost use Rattle.std.specs.Prelude.{◌≡◌, [], Some, ⊤, IfErr, IfOk, IfSome, OnErr, OnOk};
 ghost use Rattle.std.specs.Io.KnownBytes.{Appends};
-ghost use Rattle.answer_lines.specs.Lines.{grown_text, refusal_text};
+ghost use Rattle.answer_lines.specs.Lines.{refusal_text};
 ghost use Rattle.dimacs_text.specs.Jobs.{Content, content_of, question_of, IsAddedWithin, IsQuestionWithin, IsWithinLimits};
 ghost use Rattle.job_answer.specs.Bytes.{GivesPrefix, Writes, WritesPrefix};
 ghost use Rattle.job_answer.specs.Outcome.{IsWritingFault};
 ghost use Rattle.job_answer.specs.declared.asked.Answer.{Answer};
 ghost use Rattle.request_reader.specs.Reading.{outcome_of};
-ghost use Rattle.session_answer.specs.Replies.{AreKept, HoldsGraph, HoldsKind, IsAnswerIn, IsAsked, IsBeside, IsGrownReply};
-ghost use Rattle.session_answer.specs.Replies.{IsReplyFor, IsRequestWithin, IsReplied, graph_after, grown_by, vertices_in};
+ghost use Rattle.session_answer.specs.Replies.{AreKept, HoldsGraph, HoldsKind, IsAnswerIn, IsAsked, IsBeside};
+ghost use Rattle.session_answer.specs.Replies.{IsReplyFor, IsReplyTo, IsRequestWithin, IsReplied, graph_after, vertices_in};
+ghost use Rattle.session_answer.specs.Changes.{change_seen, change_text, changed_by};
 ghost use Rattle.session_answer.specs.Terms.{terms_of};
 
+use crate::change::Change;
 use crate::kind_graph::{KindGraph, ReplyOutcome};
 use crate::terms::asked_by;
-use answer_lines::{put_grown, put_refusal};
-use dimacs_text::{Ask, Job};
+use answer_lines::put_refusal;
+use dimacs_text::{Ask, HeadForm, Job};
 use job_answer::laws::answer_texts_by_lines_are_unique;
 use job_answer::{Answer, Context, Fault, graphs_for, write_whole};
 use least_costs::Workspace;
 use obim_engine::Gate;
 use request_reader::Request;
-use route_walks::{ArcRec, Memory};
+use route_walks::Memory;
 use std::alloc::Global;
 use std::io::Write;
 use std::sync::Wait;
@@ -102,6 +104,12 @@ impl Session {
             }
             Request::Asked { job, head } => {
                 let Job { ask, added, .. } = job;
+                if matches!(head.form, HeadForm::Listed) {
+                    return self.weights.reply_listed(context.alloc, writer, ask);
+                }
+                let Ok((change, ask)) = Change::of(context.alloc, head.form, ask, added) else {
+                    return Ok(ReplyOutcome::NotStarted);
+                };
                 let asked = asked_by(head, context.asked);
                 let context = Context {
                     rt: context.rt,
@@ -109,10 +117,10 @@ impl Session {
                     asked: &asked,
                     gate: context.gate,
                 };
-                match added {
-                    None => self.reply_asked(&context, writer, &ask, kept),
-                    Some(arcs) => self.reply_grown(&context, writer, &arcs, &ask, kept),
+                if change.is_none() {
+                    return self.reply_asked(&context, writer, &ask, kept);
                 }
+                self.reply_changed(&context, writer, &change, &ask, kept)
             }
         }
     }
@@ -236,91 +244,89 @@ impl Session {
         }
     }
 
-    /// Adds arcs to the graph, and replies how many they are and to what is asked.
-    fn reply_grown<H: Threads + Wait + Clock + Sync, W: Write, G: Gate + Sync>(
+    /// Changes the graph, and replies how many arcs that removes and adds, and to what is asked.
+    fn reply_changed<H: Threads + Wait + Clock + Sync, W: Write, G: Gate + Sync>(
         &mut self,
         context: &Context<'_, H, G>,
         writer: &mut W,
-        arcs: &[ArcRec],
+        change: &Change,
         ask: &Ask,
         kept: &mut Option<Workspace>,
     ) -> Result<ReplyOutcome, Fault>
         requires kept { AreKept self.old }
         requires within { IsQuestionWithin (vertices_in self.old) (question_of ask.now) }
-        requires added { IsAddedWithin (vertices_in self.old) (Some arcs.now) }
+        requires added { IsAddedWithin (vertices_in self.old) (change_seen change.now).added }
         ensures reply { (graph : Content) → HoldsGraph graph self.old
-            → IfOk result (λ reply. IsReplied reply (Writes (IsGrownReply (terms_of context.now.asked.now) graph
-            arcs.now (question_of ask.now)) (W.contents writer.old) (W.contents writer.new))
+            → IfOk result (λ reply. IsReplied reply (Writes (IsReplyTo (terms_of context.now.asked.now) graph
+            (change_seen change.now) (question_of ask.now)) (W.contents writer.old) (W.contents writer.new))
             (Appends (W.contents writer.old) (W.contents writer.new) [])) }
         ensures cut { (graph : Content) → HoldsGraph graph self.old
-            → OnErr result (WritesPrefix (IsGrownReply (terms_of context.now.asked.now) graph arcs.now
+            → OnErr result (WritesPrefix (IsReplyTo (terms_of context.now.asked.now) graph (change_seen change.now)
             (question_of ask.now)) (W.contents writer.old) (W.contents writer.new)) }
         ensures graph { (graph : Content) → HoldsGraph graph self.old
-            → IfOk result (λ reply. IsReplied reply (HoldsGraph (grown_by graph (Some arcs.now)) self.new)
+            → IfOk result (λ reply. IsReplied reply (HoldsGraph (changed_by graph (change_seen change.now)) self.new)
             (HoldsGraph graph self.new)) }
         ensures kept { OnOk result (AreKept self.new) }
         ensures vertices { OnOk result (vertices_in self.new ≡ vertices_in self.old) }
         ensures kinds { IfErr result IsWritingFault }
     {
-        let ReplyOutcome::Written = self.grow(context, writer, arcs)? else {
+        let ReplyOutcome::Written = self.change(context, writer, change)? else {
             return Ok(ReplyOutcome::NotStarted);
         };
         self.answer(context, writer, ask, kept)?;
         Ok(ReplyOutcome::Written)
     }
 
-    /// Adds arcs to the graph, and writes how many they are. If memory is refused, nothing is done.
-    fn grow<H: Threads + Sync, W: Write, G>(
+    /// Changes the graph, and writes how many arcs that removes and adds. If memory is refused, nothing is done.
+    fn change<H: Threads + Sync, W: Write, G>(
         &mut self,
         context: &Context<'_, H, G>,
         writer: &mut W,
-        arcs: &[ArcRec],
+        change: &Change,
     ) -> Result<ReplyOutcome, Fault>
         requires kept { AreKept self.old }
-        requires within { IsAddedWithin (vertices_in self.old) (Some arcs.now) }
+        requires within { IsAddedWithin (vertices_in self.old) (change_seen change.now).added }
         ensures graph { (graph : Content) → HoldsGraph graph self.old
-            → IfOk result (λ reply. IsReplied reply (HoldsGraph (grown_by graph (Some arcs.now)) self.new)
+            → IfOk result (λ reply. IsReplied reply (HoldsGraph (changed_by graph (change_seen change.now)) self.new)
             (HoldsGraph graph self.new)) }
         ensures kept { AreKept self.new }
         ensures vertices { vertices_in self.new ≡ vertices_in self.old }
-        ensures reply { IfOk result (λ reply. IsReplied reply
-            (Appends (W.contents writer.old) (W.contents writer.new) (grown_text (length arcs.now)))
+        ensures reply { (graph : Content) → HoldsGraph graph self.old → IfOk result (λ reply. IsReplied reply
+            (Appends (W.contents writer.old) (W.contents writer.new) (change_text (change_seen change.now) graph.arcs))
             (Appends (W.contents writer.old) (W.contents writer.new) [])) }
-        ensures cut { OnErr result (GivesPrefix (W.contents writer.old) (W.contents writer.new)
-            (grown_text (length arcs.now))) }
+        ensures cut { (graph : Content) → HoldsGraph graph self.old → OnErr result (GivesPrefix (W.contents writer.old)
+            (W.contents writer.new) (change_text (change_seen change.now) graph.arcs)) }
         ensures kinds { IfErr result IsWritingFault }
     {
-        // The line is made first: once the graph has grown no memory is asked for up to the first byte.
-        let mut line = Vec::new(context.alloc);
-        let Ok(()) = put_grown(&mut line, arcs.len() as u32) else {
-            return Ok(ReplyOutcome::NotStarted);
-        };
         // The networks of the other kinds are made again when they are asked for, so there is room for the new one.
         self.levels = None;
         self.components = None;
-        let Ok(grown) = self.grown(context, arcs) else {
+        let Ok(changed) = self.changed(context, change) else {
             return Ok(ReplyOutcome::NotStarted);
         };
-        *self = grown;
-        write_whole(writer, &line)?;
+        // The lines are made first: once the graph has changed no memory is asked for up to the first byte.
+        let Ok(text) = change.text(context.alloc, self.weights.arcs, changed.weights.arcs) else {
+            return Ok(ReplyOutcome::NotStarted);
+        };
+        *self = changed;
+        write_whole(writer, &text)?;
         Ok(ReplyOutcome::Written)
     }
 
-    /// Makes the network with more arcs, and that of the kind that is asked for.
-    fn grown<H: Threads + Sync, G>(
+    /// Makes the network after a change, and that of the kind that is asked for.
+    fn changed<H: Threads + Sync, G>(
         &self,
         context: &Context<'_, H, G>,
-        arcs: &[ArcRec],
+        change: &Change,
     ) -> Result<Session, Memory>
-        requires within { IsAddedWithin (vertices_in self.now) (Some arcs.now) }
         ensures holds { (graph : Content) → HoldsGraph graph self.now
-            → IfOk result (HoldsGraph (grown_by graph (Some arcs.now))) }
+            → IfOk result (HoldsGraph (changed_by graph (change_seen change.now))) }
         ensures kept { IfOk result AreKept }
         ensures vertices { IfOk result (λ session. vertices_in session ≡ vertices_in self.now) }
     {
         let answer = context.asked.answer;
         let mut session = Session {
-            weights: self.weights.grown(context, arcs)?,
+            weights: self.weights.changed(context, change)?,
             levels: None,
             components: None,
         };
