@@ -5,10 +5,12 @@
 
 from ._errors import (
     BadGraph,
+    ChangeStays,
     Closed,
     Ended,
     Error,
     GraphChanged,
+    NoArc,
     NoPath,
     NoVertex,
     NotKept,
@@ -27,11 +29,13 @@ from ._numbers import INF
 __all__ = [
     "INF",
     "BadGraph",
+    "ChangeStays",
     "Closed",
     "Ended",
     "Error",
     "Graph",
     "GraphChanged",
+    "NoArc",
     "NoPath",
     "NoVertex",
     "NotKept",

@@ -1,6 +1,7 @@
 # The public names of the package and their types. Rows are numpy arrays if numpy is there, and else arrays of the
 # standard library, so their type is left open. A cost is an int, but a float of a graph with a scale.
 from collections.abc import Callable, Hashable, Iterable, Iterator
+from contextlib import AbstractContextManager
 from decimal import Decimal
 from fractions import Fraction
 from os import PathLike
@@ -80,6 +81,24 @@ class Graph:
     def add(
         self, tails: Iterable[Any], heads: Iterable[Any], weights: Iterable[_Number], *, timeout: _Seconds = None
     ) -> None: ...
+    def remove(
+        self, edges: Iterable[tuple[Any, Any]], *, missing: Literal["raise", "ignore"] = "raise",
+        timeout: _Seconds = None,
+    ) -> int: ...
+    def set_weights(
+        self, edges: Iterable[tuple[Any, Any, _Number]], *, missing: Literal["raise", "add"] = "raise",
+        timeout: _Seconds = None,
+    ) -> None: ...
+    def changed(
+        self, *, remove: Iterable[tuple[Any, Any]] = (), set: Iterable[tuple[Any, Any, _Number]] = (),
+        add: Iterable[tuple[Any, Any, _Number]] = (), timeout: _Seconds = None,
+    ) -> AbstractContextManager[Graph]: ...
+    def edges_between(
+        self, pairs: Iterable[tuple[Any, Any]], *, whole: bool = False, timeout: _Seconds = None,
+        progress: _Progress = None,
+    ) -> list[tuple[Any, Any, _Cost]]: ...
+    def has_edge(self, tail: Any, head: Any, *, timeout: _Seconds = None) -> bool: ...
+    def weight(self, tail: Any, head: Any, *, whole: bool = False, timeout: _Seconds = None) -> _Cost: ...
     def distance(
         self, source: Any, target: Any, *, hops: bool = False, whole: bool = False, timeout: _Seconds = None
     ) -> _Cost: ...
@@ -154,7 +173,11 @@ class BadGraph(Error, ValueError):
     line: int | None
     words: str
 
+class NoArc(Error, KeyError):
+    pairs: list[tuple[Any, Any]]
+
 class GraphChanged(Error, RuntimeError): ...
+class ChangeStays(Error, RuntimeError): ...
 class NotKept(Error, RuntimeError): ...
 
 class Refused(Error, ValueError):

@@ -10,7 +10,7 @@ from ._errors import OutOfStep
 from ._text import MOST_ITEMS
 
 # How many items the first request of a form has, and how many seconds one should take.
-_FIRST = {"pairs": 4096, "walks": 256}
+_FIRST = {"pairs": 4096, "arcs": 4096, "walks": 256}
 _FEW = 16
 _SECONDS = 0.25
 

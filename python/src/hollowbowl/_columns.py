@@ -25,10 +25,10 @@ def as_column(name, values, most):
     return found
 
 
-def as_weights(weights, scale):
+def as_weights(weights, scale, which="weights[{}] is"):
     """The weights times the scale, if there is one, as `as_column` gives them.
 
-    The ValueError names the least power of ten that would do as a scale, if one does.
+    The ValueError says which is wrong, and names the least power of ten that would do as a scale, if one does.
     """
     given = _listed("weights", weights, MOST_WEIGHT)
     found, place = _column_of(given, MOST_WEIGHT, scale)
@@ -38,7 +38,7 @@ def as_weights(weights, scale):
     times = "" if scale is None else f"times {scale} "
     power = _least_power(given, place)
     hint = "" if power is None else f": scale={power} would do"
-    raise ValueError(f"weights[{place}] is {value!r}, which {times}is no whole number from 0 to {MOST_WEIGHT}{hint}")
+    raise ValueError(f"{which.format(place)} {value!r}, which {times}is no whole number from 0 to {MOST_WEIGHT}{hint}")
 
 
 def as_bound(cost, scale):

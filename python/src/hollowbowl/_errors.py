@@ -32,6 +32,18 @@ class NoVertex(Error, KeyError, IndexError):
         return f"{self.vertex!r} is none of {self.count} vertices"
 
 
+class NoArc(Error, KeyError):
+    """No arc leads from the first to the second vertex of these `pairs`, where one has to."""
+
+    def __init__(self, pairs):
+        super().__init__(pairs)
+        self.pairs = pairs
+
+    def __str__(self):
+        ends = ", ".join(f"from {tail!r} to {head!r}" for tail, head in self.pairs[:3])
+        return f"no arc leads {ends}{', ..' if len(self.pairs) > 3 else ''}"
+
+
 # What networkx raises for the same.
 _OTHERS = {NoPath: "NetworkXNoPath", NoVertex: "NodeNotFound"}
 
@@ -64,8 +76,12 @@ class BadGraph(Error, ValueError):
 class GraphChanged(Error, RuntimeError):
     """The file of the graph differs from what was read of it at first, so that no other program can begin with it.
 
-    Also where arcs are added while `rows` and its kin are on their way.
+    Also where arcs change while `rows` and its kin are on their way.
     """
+
+
+class ChangeStays(Error, RuntimeError):
+    """There is no memory to put back the arcs that `changed` has changed, so they are as it made them."""
 
 
 class NotKept(Error, RuntimeError):
@@ -88,7 +104,7 @@ class Refused(Error, ValueError):
 
 
 class OutOfMemory(Error, MemoryError):
-    """The program has no memory for the question. Of the arcs of an `add`, `added` are in the graph."""
+    """The program has no memory for the question or change. Of an `add`, `added` arcs are in the graph."""
 
     def __init__(self, words="out of memory", added=0):
         super().__init__(words, added)
@@ -127,7 +143,7 @@ class Closed(Ended):
 
 
 class Timeout(Error, TimeoutError):
-    """No answer came within the time that was given. The question is answered all the same, and an `add` is done."""
+    """No answer came within the time that was given. The question is answered all the same, and a change is made."""
 
 
 class ProgramMissing(Error, FileNotFoundError):
@@ -135,7 +151,7 @@ class ProgramMissing(Error, FileNotFoundError):
 
 
 class ProgramTooOld(Error, RuntimeError):
-    """The program is older than this package: it can't answer several kinds of questions about one graph."""
+    """The program is older than this package: it doesn't know several kinds of questions, or not all changes."""
 
 
 class OutOfStep(Error, RuntimeError):

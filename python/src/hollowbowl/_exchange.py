@@ -10,13 +10,15 @@ from ._errors import Timeout
 class Exchange:
     """Work that is to be done by the thread, a function of its state, and what came of it."""
 
-    __slots__ = ("work", "fault", "is_left", "_done", "_steps")
+    __slots__ = ("work", "fault", "is_left", "caller", "_done", "_steps")
 
     def __init__(self, work, has_steps=False):
         self.work = work
         self.fault = None
         #: Whether its caller has gone.
         self.is_left = False
+        #: The thread that waits for it.
+        self.caller = threading.get_ident()
         self._done = threading.Lock()
         self._done.acquire()
         # How much of the work is done, and at last None.

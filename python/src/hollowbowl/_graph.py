@@ -1,7 +1,7 @@
-"""A directed graph that the program keeps: how it is made, changes and ends."""
+"""A directed graph that the program keeps: how it is made, and how it ends."""
 
 from . import _from
-from ._changes import Addition
+from ._arcs import Arcs, check_lengths
 from ._columns import as_column, as_weights, most_of
 from ._costs import Costs
 from ._kept import Columns, File
@@ -12,7 +12,7 @@ from ._paths import Paths
 from ._wire import Wire
 
 
-class Graph(Costs, Paths, Measures):
+class Graph(Costs, Paths, Measures, Arcs):
     """A directed graph with whole-number weights from 0 to 2**32 - 1, kept by the program `obim_query`.
 
     Vertices are numbers from 0, or the names that `from_edges` and its kin were given. Threads may ask at the same
@@ -39,7 +39,7 @@ class Graph(Costs, Paths, Measures):
         tails = as_column("tails", tails, MOST_VERTICES - 1)
         heads = as_column("heads", heads, MOST_VERTICES - 1)
         weights = as_weights(weights, self._scale)
-        _check_lengths(tails, heads, weights)
+        check_lengths(tails, heads, weights)
         least = max(most_of(tails), most_of(heads)) + 1
         count = least if n is None else whole(n)
         if count is None or not least <= count <= MOST_VERTICES:
@@ -124,7 +124,7 @@ class Graph(Costs, Paths, Measures):
 
     @property
     def m(self):
-        """The number of arcs, those that were added among them."""
+        """The number of arcs by now."""
         return self._wire.m
 
     @property
@@ -164,30 +164,12 @@ class Graph(Costs, Paths, Measures):
     def __repr__(self):
         return f"<Graph of {self.n} vertices{self._wire.shown()}>"
 
-    # ---- changes, each of which moves `m` and `version`
-
-    def add(self, tails, heads, weights, *, timeout=None):
-        """Adds arcs between vertices that are there. If one is refused, none is added.
-
-        After an interrupt all of them are there, or none; of more than 2**20 arcs so many times 2**20.
-        """
-        columns = [
-            self._names.places("tails", tails),
-            self._names.places("heads", heads),
-            as_weights(weights, self._scale),
-        ]
-        _check_lengths(*columns)
-        self._change(Addition(columns), timeout)
-
-    def _change(self, change, timeout):
-        self._wire.ask("change", change, seconds=as_seconds(timeout))
-
     # ---- its end
 
     def restart(self, *, timeout=None):
         """Kills the program, whatever it does, and begins another with the graph as it is now.
 
-        Whoever waits for an answer of the first has an Ended, and an `add` that it had not done is lost. With
+        Whoever waits for an answer of the first has an Ended, and a change that it had not made is lost. With
         `keep=False` that is a NotKept.
         """
         self._wire.restart(as_seconds(timeout))
@@ -204,8 +186,3 @@ class Graph(Costs, Paths, Measures):
 
     def __reduce_ex__(self, _):
         raise TypeError("a Graph is a running program, which can't be copied: make one in each process, of its arcs")
-
-
-def _check_lengths(tails, heads, weights):
-    if not len(tails) == len(heads) == len(weights):
-        raise ValueError(f"{len(tails)} tails, {len(heads)} heads and {len(weights)} weights")

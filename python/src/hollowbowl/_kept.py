@@ -1,11 +1,10 @@
-"""What a graph was made of, and the arcs that were added, kept so that another program can begin with them."""
+"""What a graph was made of, kept so that another program can begin with it."""
 
 import gzip
 import os
 import re
 import stat
 import zlib
-from array import array
 
 from ._errors import BadGraph, GraphChanged
 from ._text import graph_text
@@ -33,23 +32,6 @@ class Columns:
     def close(self):
         """Lets go of the columns."""
         self._columns = None
-
-
-class Added:
-    """Arcs that were added, in their order, 12 bytes each."""
-
-    def __init__(self):
-        self.columns = array("I"), array("I"), array("I")
-
-    def append(self, columns):
-        """Takes in some arcs."""
-        for kept, column in zip(self.columns, columns):
-            kept.frombytes(column.tobytes())
-
-    def parts(self, size):
-        """The columns of so many arcs at a time."""
-        for first in range(0, len(self.columns[0]), size):
-            yield [column[first : first + size] for column in self.columns]
 
 
 class File:

@@ -1,6 +1,7 @@
 """Walks of least cost, as the vertices on them."""
 
 from ._asked import Asked, kind_of
+from ._edges import taken_apart
 from ._errors import NoPath, fault_of
 from ._questions import SortedWalks, Walks
 
@@ -32,7 +33,8 @@ class Paths(Asked):
         if missing is not None and missing != "raise":
             raise ValueError(f"missing is {missing!r}, where 'raise' or None is wanted")
         kind = kind_of(hops)
-        sources, targets = map(self._names.places, ("sources", "targets"), _ends(pairs))
+        ends = taken_apart("pairs", pairs, "(source, target)", True)
+        sources, targets = map(self._names.places, ("sources", "targets"), ends)
 
         def make(first, last):
             return SortedWalks(kind, sources[first:last], targets[first:last])
@@ -44,25 +46,3 @@ class Paths(Asked):
                 yield None if vertices is None else self._names.several(vertices)
 
         return self._each(kind, SortedWalks.form, len(sources), make, answers, timeout, progress)
-
-
-def _ends(pairs):
-    """The sources and the targets of pairs, as two lists."""
-    if isinstance(pairs, (set, frozenset)):
-        raise TypeError("pairs is a set, which has no order")
-    sources, targets = [], []
-    try:
-        each = iter(pairs)
-    except TypeError:
-        raise TypeError(f"pairs is {pairs!r}, which is no list of (source, target)") from None
-    for pair in each:
-        try:
-            if isinstance(pair, (str, bytes)):
-                raise TypeError("a text is one vertex")
-            source, target = pair
-        except (TypeError, ValueError) as fault:
-            kind = TypeError if isinstance(fault, TypeError) else ValueError
-            raise kind(f"pairs[{len(sources)}] is {pair!r}, which is no (source, target): {fault}") from None
-        sources.append(source)
-        targets.append(target)
-    return sources, targets

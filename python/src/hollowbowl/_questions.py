@@ -10,7 +10,7 @@ Requests name all that they ask, so no option of the program changes what it ans
 
 from ._errors import OutOfStep
 from ._numbers import labels_for, numpy
-from ._text import components_in, near_in, pair_costs, pairs_text, sources_text, totals_in, walks_in
+from ._text import arcs_in, components_in, near_in, pair_costs, pairs_text, sources_text, totals_in, walks_in
 
 #: The kinds: costs are sums of weights, or numbers of arcs.
 DISTANCES, LEVELS = b"distances", b"levels"
@@ -170,6 +170,24 @@ class Near(Question):
 
     def take(self, body, first, last):
         self.found.extend(near_in(body, self.sources[first:last]))
+
+
+class Between(Question):
+    """The arcs from each tail to the head at its place; `found` has them in turn."""
+
+    kind, form = b"", "arcs"
+    most_bytes = 1 << 24
+
+    def __init__(self, tails, heads):
+        self.count = len(tails)
+        self.found = []
+        self._tails, self._heads = tails, heads
+
+    def request(self, first, last):
+        return pairs_text(b"arcs", self._tails[first:last], self._heads[first:last])
+
+    def take(self, body, first, last):
+        self.found.extend(arcs_in(body, self._tails[first:last], self._heads[first:last]))
 
 
 class Components(Question):

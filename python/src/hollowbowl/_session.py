@@ -2,9 +2,9 @@
 
 import re
 
-from ._changes import Addition
 from ._errors import BadGraph, Ended, Error, GraphChanged, NotKept, OutOfMemory, OutOfStep, ProgramTooOld, Refused
-from ._kept import Added, File
+from ._kept import File
+from ._log import Log
 from ._marked import GOES_ON, MarkedText
 from ._process import Process, bad_graph, program
 from ._text import MOST_ITEMS
@@ -20,15 +20,15 @@ _FAULT = re.compile(rb"e ([0-9]+) (.+)\n")
 
 
 class Session:
-    """The program that is there, and what another one begins with: what the graph was made of, and added arcs."""
+    """The program that is there, and what another one begins with: what the graph was made of, and its changes."""
 
     def __init__(self, kept, options, is_kept, why):
         """None yet. `why` gives the fault of a graph that has ended, and None before."""
         self.n, self.m = getattr(kept, "n", None), getattr(kept, "m", None)
         #: The number of changes that were made.
         self.version = 0
-        #: The arcs that were added, in their order.
-        self.added = Added()
+        #: What was changed.
+        self.log = Log()
         self._kept = kept
         self._is_kept = is_kept
         self._command = [program(), "--session", *options]
@@ -98,7 +98,7 @@ class Session:
         """Does some work with the program. It goes on after a refusal; after all else a reply may be left of it."""
         try:
             return work(self._process, *words)
-        except (Refused, OutOfMemory):
+        except (Refused, OutOfMemory, ProgramTooOld):
             raise
         except (EOFError, BrokenPipeError):
             raise self._early_end() from None
@@ -127,7 +127,7 @@ class Session:
     # ---- its beginning
 
     def _begin(self, process):
-        """Gives a new program the graph, and the arcs that were added."""
+        """Gives a new program the graph, and makes its changes."""
         if isinstance(self._kept, File):
             self._load(process)
         else:
@@ -136,8 +136,12 @@ class Session:
             self.end_of(process, process.line(), m=self._kept.m)
         self._probe(process)
         m = self._kept.m
-        for columns in self.added.parts(MOST_ITEMS):
-            m += self._make(process, Addition(columns), m)
+        for change in self.log.changes():
+            for part in change.parts(MOST_ITEMS):
+                gone, come = self._make(process, part, m)
+                m += come - gone
+        if m != self.m:
+            raise OutOfStep(f"{m} arcs are there, where {self.m} were")
 
     def _probe(self, process):
         process.write(_PROBE)
@@ -176,28 +180,28 @@ class Session:
 
     def change(self, change):
         """Makes a change, a request at a time. Only here `m` and `version` move, once the program has answered."""
-        for first in range(0, change.count or 1, MOST_ITEMS):
-            part = change.part(first, first + MOST_ITEMS)
+        for part in change.parts(MOST_ITEMS):
             self.process()
             try:
-                more = self.in_step(self._make, part, self.m)
+                gone, come = self.in_step(self._make, part, self.m)
             except OutOfMemory:
-                raise OutOfMemory(added=first) from None
+                raise OutOfMemory(added=change.come) from None
             if self._is_kept:
-                part.keep(self.added)
-            if part.count:
-                self.m, self.version = self.m + more, self.version + 1
+                part.keep(self.log)
+            change.gone, change.come = change.gone + gone, change.come + come
+            if gone or come:
+                self.m, self.version = self.m + come - gone, self.version + 1
 
     def _make(self, process, change, m):
-        """Makes a change of a graph with m arcs, and gives how many it has more then."""
+        """Makes a change of a graph with m arcs, and gives how many went and came."""
         request = change.request()
         process.write(request)
         body, line = process.text()
         if line.startswith(b"e"):
             raise self._fault_of(process, line, request)
-        more = change.more(body)
-        self.end_of(process, line, request, m + more)
-        return more
+        gone, come = change.counts(body)
+        self.end_of(process, line, request, m + come - gone)
+        return gone, come
 
     # ---- the ends of replies
 
@@ -215,4 +219,7 @@ class Session:
         if not 0 <= place < len(records) or not process.is_silent():
             return OutOfStep(f"a reply ends with {line[:60]!r}")
         words = found[2].decode("ascii", "replace")
+        if words == "unknown line" and place == 0:
+            form = records[0].split()[3].decode("ascii")
+            return ProgramTooOld(f"{self._command[0]} is older than this package: its sessions know no {form!r}")
         return OutOfMemory() if words == "out of memory" else Refused(words, records[place].decode("ascii"))

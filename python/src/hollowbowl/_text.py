@@ -21,9 +21,9 @@ def graph_text(n, tails, heads, weights):
     yield from lines_text("a", [tails, heads, weights], (1, 1, 0))
 
 
-def arcs_text(tails, heads, weights):
-    """A request that adds arcs."""
-    return b"p aux sp add %d\n" % len(tails) + b"".join(lines_text("a", [tails, heads, weights], (1, 1, 0)))
+def arcs_text(form, tails, heads, weights):
+    """A section of arcs."""
+    return b"p aux sp %s %d\n" % (form, len(tails)) + b"".join(lines_text("a", [tails, heads, weights], (1, 1, 0)))
 
 
 def sources_text(form, sources):
@@ -105,6 +105,20 @@ def pair_costs(body, sources, targets):
     _is(list(map(int, words[1::4])) == [source + 1 for source in _ints(sources)])
     _is(list(map(int, words[2::4])) == [target + 1 for target in _ints(targets)])
     return array("Q", [INF if word == b"inf" else int(word) for word in words[3::4]])
+
+
+def arcs_in(body, tails, heads):
+    """The arcs in the lines for these pairs, as tuples: of each pair in turn all that there are."""
+    words = body.split()
+    _is(len(words) % 4 == 0 and words[::4] == [b"a"] * (len(words) // 4))
+    found = list(zip(*(map(int, words[place::4]) for place in (1, 2, 3))))
+    pairs, pair = zip(_ints(tails), _ints(heads)), None
+    for place, (tail, head, weight) in enumerate(found):
+        while pair != (tail - 1, head - 1):
+            pair = next(pairs, None)
+            _is(pair is not None)
+        found[place] = (*pair, weight)
+    return found
 
 
 def walks_in(body, sources, targets):
