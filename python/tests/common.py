@@ -18,6 +18,7 @@ from functools import partial
 if os.environ.get("HOLLOWBOWL_NUMPY") == "no":
     sys.modules["numpy"] = None
 
+import hollowbowl
 from hollowbowl import INF
 
 # After so many seconds a test hangs: it says where each thread is.
@@ -159,8 +160,14 @@ def each_of(call, *words, **names):
     return list(call(*words, **names))
 
 
+def within_changed(graph, **names):
+    """Nothing, while there is one arc more."""
+    with graph.changed(add=[(0, 1, 1)], **names):
+        pass
+
+
 def every_question(graph):
-    """Each kind of question, and the change; each takes a time to wait."""
+    """Each kind of question and change; each takes a time to wait. Only the last, an `add`, leaves other arcs."""
     for costs in ({}, {"hops": True}):
         yield partial(graph.distance, 0, 1, **costs)
         yield partial(graph.distances, 0, **costs)
@@ -182,7 +189,71 @@ def every_question(graph):
     yield graph.components
     yield graph.component_count
     yield partial(graph.component_of, 0)
+    yield partial(graph.edges_between, [(0, 1)])
+    yield partial(graph.has_edge, 0, 1)
+    yield partial(graph.remove, [(1, 0)], missing="ignore")
+    yield partial(graph.set_weights, [], missing="add")
+    yield partial(within_changed, graph)
     yield partial(graph.add, [0], [1], [1])
+
+
+class _Ring:
+    """An alarm that interrupts within a `with`, some seconds after it begins."""
+
+    def __init__(self, seconds):
+        self._seconds = seconds
+
+    def __enter__(self):
+        signal.setitimer(signal.ITIMER_REAL, self._seconds)
+
+    def __exit__(self, *_):
+        signal.setitimer(signal.ITIMER_REAL, 0)
+
+
+def alarms(draw, most, seconds=30):
+    """Alarms at random moments, as long as some seconds last."""
+    before = signal.signal(signal.SIGALRM, interrupt)
+    end = time.monotonic() + seconds
+    try:
+        while time.monotonic() < end:
+            yield _Ring(draw.random() * most + 1e-6)
+    finally:
+        signal.signal(signal.SIGALRM, before)
+
+
+def cut_at(place, ask, then=lambda: None):
+    """Whether a call of the package has so many opcodes, or lines; there it is interrupted, in the thread that calls.
+
+    What is to be done then is done while the interrupt is handled.
+    """
+    left = [place]
+    # Python 3.12 tells of lines alone in some frames; before, an exception at a line and its opcode would be two.
+    events = ("opcode",) if sys.version_info < (3, 12) else ("opcode", "line")
+
+    def inner(frame, event, _):
+        frame.f_trace_opcodes = True
+        if event in events:
+            left[0] -= 1
+            if left[0] == 0:
+                raise KeyboardInterrupt
+        return inner
+
+    def outer(frame, *_):
+        if not frame.f_code.co_filename.startswith(os.path.dirname(hollowbowl.__file__)):
+            return None
+        frame.f_trace_opcodes = True
+        return inner
+
+    before = sys.gettrace()
+    sys.settrace(outer)
+    try:
+        ask()
+    except KeyboardInterrupt:
+        sys.settrace(before)
+        then()
+    finally:
+        sys.settrace(before)
+    return left[0] <= 0
 
 
 class Case(unittest.TestCase):

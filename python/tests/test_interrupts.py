@@ -3,13 +3,12 @@
 import os
 import random
 import signal
-import sys
 import threading
 import time
 import unittest
 from unittest import mock
 
-from common import Case, columns, costs_from, drawn, every_question, interrupt, ints, is_alive, levels_from, the_program, totals_of, waits_for, whole
+from common import Case, columns, costs_from, cut_at, drawn, every_question, interrupt, ints, is_alive, levels_from, the_program, totals_of, waits_for, whole
 
 import hollowbowl
 from hollowbowl import INF, Ended, Graph, Timeout
@@ -203,7 +202,7 @@ class Interrupts(Case):
             self.assertGreater(cut, 5)
             # What is in the graph, and its order, is what the package itself keeps for a program that begins later.
             graph.distance(0, 0)
-            there = list(zip(*graph._wire.state.session.added.columns))
+            there = list(zip(*graph._wire.state.session.log.columns))
             left = iter(added)
             self.assertTrue(all(arc in left for arc in there))
             costs = [costs_from(n, arcs + there, source) for source in range(n)]
@@ -217,41 +216,11 @@ class Interrupts(Case):
             place = 0
             while True:
                 place += 1
-                if not self.cut_at(place, lambda: graph.distance(0, 2)):
+                if not cut_at(place, lambda: graph.distance(0, 2)):
                     break
                 for target, cost in enumerate(wanted):
                     self.assertEqual(graph.distance(0, target), cost, place)
         self.assertGreater(place, 20)
-
-    def cut_at(self, place, ask):
-        """Whether a call of the package has so many opcodes, or lines; there it is interrupted, in the thread that calls."""
-        left = [place]
-        # Python 3.12 tells of lines alone in some frames; before, an exception at a line and its opcode would be two.
-        events = ("opcode",) if sys.version_info < (3, 12) else ("opcode", "line")
-
-        def inner(frame, event, _):
-            frame.f_trace_opcodes = True
-            if event in events:
-                left[0] -= 1
-                if left[0] == 0:
-                    raise KeyboardInterrupt
-            return inner
-
-        def outer(frame, *_):
-            if not frame.f_code.co_filename.startswith(os.path.dirname(hollowbowl.__file__)):
-                return None
-            frame.f_trace_opcodes = True
-            return inner
-
-        before = sys.gettrace()
-        sys.settrace(outer)
-        try:
-            ask()
-        except KeyboardInterrupt:
-            pass
-        finally:
-            sys.settrace(before)
-        return left[0] <= 0
 
 
 if __name__ == "__main__":

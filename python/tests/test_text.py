@@ -317,6 +317,8 @@ class Text(unittest.TestCase):
             hollowbowl.NoPath("a", (1, 2)),
             hollowbowl.NoVertex("a", 3),
             hollowbowl.BadGraph("a.gr", 3, "unknown line"),
+            hollowbowl.NoArc([("a", 3)]),
+            hollowbowl.ChangeStays("x"),
             hollowbowl.GraphChanged("x"),
             hollowbowl.NotKept("x"),
             hollowbowl.Refused("out of range", "s 3"),

@@ -39,7 +39,7 @@ class Stub(unittest.TestCase):
             real = getattr(hollowbowl, name)
             bases = ["tuple" if base.id == "NamedTuple" else base.id for base in stub.bases]
             # What a graph is made of is no part of what the package has.
-            public = [base for base in real.__bases__ if base is not object and base.__name__ not in ("Costs", "Paths", "Measures")]
+            public = [base for base in real.__bases__ if base is not object and base.__name__ not in ("Costs", "Paths", "Measures", "Arcs")]
             self.assertEqual(bases, [base.__name__ for base in public])
 
     def test_functions(self):
@@ -77,6 +77,11 @@ for other in graph.paths([("a", "b")], missing=None):
 is_there: bool = "a" in graph and graph.has_path("a", "b")
 count: int = len(graph) + graph.version + graph.component_count()
 totals: Totals = graph.totals("a")
+gone: int = graph.remove([("a", "b")], missing="ignore") + graph.remove([("a", "b")])
+graph.set_weights([("a", "b", 0.5)], missing="add")
+with graph.changed(remove=[("a", "b")], add=[("b", "a", Fraction(1, 2))]) as given:
+    is_edge: bool = given.has_edge("a", "b") or graph.weight("a", "b", whole=True) > 3
+edges: list[tuple[str, str, float]] = graph.edges_between([("a", "b")])
 graph.restart(timeout=1.0)
 """
 WRONG = (
@@ -86,6 +91,8 @@ WRONG = (
     "Graph([0], [1], ['7'])",
     "graph.version = 3",
     "path: str = graph.path('a', 'b')",
+    "graph.remove([('a', 'b', 3)])",
+    "graph.set_weights([('a', 'b', 3)], missing='ignore')",
 )
 
 
