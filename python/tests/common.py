@@ -160,6 +160,11 @@ def each_of(call, *words, **names):
     return list(call(*words, **names))
 
 
+def there(graph):
+    """The arcs of a graph, sorted."""
+    return sorted(graph.edges_between([(tail, head) for tail in graph for head in graph]))
+
+
 def within_changed(graph, **names):
     """Nothing, while there is one arc more."""
     with graph.changed(add=[(0, 1, 1)], **names):

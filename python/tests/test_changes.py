@@ -7,11 +7,11 @@ import unittest
 from decimal import Decimal
 from unittest import mock
 
-from common import Case, columns, components_of, costs_from, ints, levels_from, numpy, the_program, whole
+from common import Case, columns, components_of, costs_from, ints, levels_from, numpy, the_program, there, whole
 from fake import fake
 
 import hollowbowl
-from hollowbowl import Ended, Graph, GraphChanged, NoArc, NoPath, NoVertex, NotKept, OutOfMemory, OutOfStep, ProgramTooOld
+from hollowbowl import Ended, Graph, GraphChanged, NoArc, NoVertex, NotKept, OutOfMemory, OutOfStep, ProgramTooOld
 
 # The last two stand side by side.
 ARCS = [(0, 1, 7), (1, 2, 6), (0, 2, 20), (0, 2, 30)]
@@ -20,11 +20,6 @@ ALL = [(tail, head) for tail in range(4) for head in range(4)]
 
 def graph_of(arcs, n=4, **names):
     return Graph(*columns(arcs), n, **names)
-
-
-def there(graph):
-    """All arcs, sorted."""
-    return sorted(graph.edges_between([(tail, head) for tail in graph for head in graph]))
 
 
 class Changes(Case):

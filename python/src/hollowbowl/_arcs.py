@@ -120,7 +120,7 @@ def check_lengths(tails, heads, weights):
 
 
 def _is_needed(missing, other):
-    """Whether each edge has to be there."""
+    """Tells whether each edge has to be there."""
     if missing not in ("raise", other):
         raise ValueError(f"missing is {missing!r}, where 'raise' or {other!r} is wanted")
     return missing == "raise"

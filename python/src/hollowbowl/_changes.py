@@ -12,7 +12,7 @@ from ._text import arcs_text, pairs_text
 
 
 class _Change:
-    """Items in columns. How many arcs went and came is counted as its parts are made."""
+    """A change, by items in columns. How many arcs went and came is counted as its parts are made."""
 
     def __init__(self, columns):
         self.columns = columns
@@ -24,7 +24,7 @@ class _Change:
             yield type(self)([each[first : first + size] for each in self.columns])
 
     def counts(self, body):
-        """How many arcs went and came by a reply."""
+        """Gives how many arcs went and came by a reply."""
         found = self.reply.fullmatch(body)
         gone, come = [int(each or 0) for each in found.groups()] if found else (0, -1)
         if come != (len(self.columns[0]) if self.brings else 0):
@@ -33,7 +33,7 @@ class _Change:
 
 
 class Addition(_Change):
-    """Arcs that are added: columns of tails, heads and weights."""
+    """The arcs that are added: columns of tails, heads and weights."""
 
     brings = True
     reply = re.compile(rb"()g ([0-9]+)\n")
@@ -48,7 +48,7 @@ class Addition(_Change):
 
 
 class Removal(_Change):
-    """Pairs of vertices, in columns of tails and heads: all arcs of each go."""
+    """The pairs of vertices whose arcs all go: columns of tails and heads."""
 
     brings = False
     reply = re.compile(rb"x ([0-9]+)\n()")
@@ -61,7 +61,7 @@ class Removal(_Change):
 
 
 class Setting(_Change):
-    """Arcs in columns: all arcs between the ends of each go first, and then these come."""
+    """The arcs that come, in columns, once all between the ends of each went."""
 
     brings = True
     reply = re.compile(rb"x ([0-9]+)\ng ([0-9]+)\n")

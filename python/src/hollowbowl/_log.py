@@ -11,7 +11,7 @@ from ._numbers import numpy
 
 
 class Log:
-    """Pairs of vertices whose first arcs are gone, and added arcs in their order, 12 bytes each."""
+    """The pairs of vertices whose first arcs are gone, and added arcs in their order, 12 bytes each."""
 
     def __init__(self):
         self.columns = [array("I"), array("I"), array("I")]

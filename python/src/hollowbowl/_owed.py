@@ -13,10 +13,10 @@ from ._questions import Between
 
 
 class Wanted:
-    """Pairs of vertices and, once the program is asked, the arcs between them."""
+    """The arcs between pairs of vertices, once the program is asked."""
 
     def __init__(self, needed, others=()):
-        """Pairs that need to have an arc, and others."""
+        """Takes pairs that need to have an arc, and others."""
         self._needed = dict.fromkeys(needed)
         self.pairs = list(dict.fromkeys([*self._needed, *others]))
         self.question = Between([tail for tail, _ in self.pairs], [head for _, head in self.pairs])
@@ -30,7 +30,7 @@ class Wanted:
 
 
 class Loan:
-    """Some changes and, once the program is asked what stands there, those that undo them."""
+    """The changes that are made for a while and, once the program is asked what stands there, those that undo them."""
 
     def __init__(self, holder, wake, wanted, changes):
         """`wake` is called once the holder is gone."""

@@ -92,7 +92,7 @@ class Wire:
         self.ask("restart", self.state.session.kill(), seconds=seconds, is_put_off=False)
 
     def waker(self):
-        """A function of anything that has the thread look who waits. It is none of Python, so nothing interrupts it."""
+        """Gives a function that has the thread look who waits; nothing interrupts it, since it is none of Python."""
         return partial(self.state.todo.put, None)
 
     def settle(self, seconds):
