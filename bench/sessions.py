@@ -62,6 +62,8 @@ def large(program, graph, rounds, source, near, far):
     n = int(graph[: graph.index(b"\n")].split()[2])
     draw = random.Random(1)
     some = [draw.randrange(1, n + 1) for _ in range(100)]
+    roads = [line for line in graph.split(b"\n") if line.startswith(b"a ")][: 1_000_000 : 1000]
+    ends = b"".join(b"q %s %s\n" % tuple(road.split()[1:3]) for road in roads)
     requests = {
         "one source": b"p aux sp ss 1\ns %d\n" % source,
         "a pair next door": b"p aux sp p2p 1\nq %d %d\n" % (source, near),
@@ -70,6 +72,9 @@ def large(program, graph, rounds, source, near, far):
         "100 pairs of one source": b"p aux sp p2p 100\n" + b"".join(b"q %d %d\n" % (source, v) for v in some),
         "ten sources": b"p aux sp ss 10\n" + b"".join(b"s %d\n" % v for v in some[:10]),
         "an arc added": b"p aux sp add 1\na %d %d 100000000\n" % (source, far),
+        "1,000 roads listed": b"p aux sp arcs %d\n" % len(roads) + ends,
+        "1,000 roads replaced": b"p aux sp set %d\n" % len(roads) + b"\n".join(roads) + b"\n",
+        "1,000 roads removed": b"p aux sp cut %d\n" % len(roads) + ends,
     }
     for workers in (1, 4):
         before = time.perf_counter()
@@ -78,7 +83,7 @@ def large(program, graph, rounds, source, near, far):
         for name, request in requests.items():
             whole = request.replace(b"walk", b"p2p") if b"walk" in request else request
             asked = best(rounds, lambda: session.ask(request))
-            alone = best(rounds, lambda: job(program, workers, graph + whole)) if b" add " not in request else None
+            alone = best(rounds, lambda: job(program, workers, graph + whole)) if not any(form in request for form in (b" add ", b" arcs ", b" set ", b" cut ")) else None
             beside = f", as a job {alone:.0f} ms, ratio {asked / alone:.2f}" if alone else ""
             print(f"{workers} workers: {name} {asked:.1f} ms{beside}")
         session.close()
