@@ -1,7 +1,7 @@
 //! The program `obim_query`.
 //!
-//! It reads a job from standard input and writes its answer to standard output, by the contracts of `answer` and
-//! `answer_session`. This crate prints help and faults, and returns the status.
+//! It reads a job from standard input and writes its answer, by the contracts of `answer` and `answer_session`. It
+//! prints help and faults, and returns the status.
 #![tactic(auto)]
 
 ghost use Rattle.std.specs.Prelude.{◌≡◌, map};
@@ -128,7 +128,7 @@ fn progress_mode(options: &Options, is_terminal: bool) -> ProgressMode {
     }
 }
 
-/// Answers a job, and returns the status. If the reader of the answer closed the pipe, nothing is printed.
+/// Answers a job, and returns the status. If the pipe of the answer is closed, nothing is printed.
 fn answer_job<H: AllocGlobal + Eprint + Threads + Wait + Clock + Sync, R: Read, W: Write>(
     rt: &H,
     input: &mut Input<R>,
@@ -152,8 +152,8 @@ fn answer_job<H: AllocGlobal + Eprint + Threads + Wait + Clock + Sync, R: Read, 
     }
 }
 
-/// Replies to a graph and its requests, and returns the status. If the reader of the replies closed the pipe, nothing
-/// is printed.
+/// Replies to a graph and its requests, and returns the status. If the pipe of the replies is closed, nothing is
+/// printed.
 fn serve<H: AllocGlobal + Eprint + Threads + Wait + Clock + Sync, R: Read, W: Write>(
     rt: &H,
     input: &mut Input<R>,
@@ -174,7 +174,7 @@ fn serve<H: AllocGlobal + Eprint + Threads + Wait + Clock + Sync, R: Read, W: Wr
     }
 }
 
-/// Answers, with figures and progress if asked for.
+/// Answers, with figures and progress if asked.
 fn reply<H: AllocGlobal + Eprint + Threads + Wait + Clock + Sync, R: Read, W: Write>(
     rt: &H,
     reader: &mut R,
@@ -218,7 +218,7 @@ fn answer_with_figures<H: AllocGlobal + Eprint + Threads + Wait + Clock + Sync, 
     Ok(())
 }
 
-/// Prints a fault and its explanation if asked for, and returns its status. A terminal gets a hint at `--explain`.
+/// Prints a fault, explained if asked, and returns its status. A terminal gets a hint at `--explain`.
 fn print_whole_fault<H: Eprint>(
     rt: &H,
     fault: Fault,
