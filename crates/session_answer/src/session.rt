@@ -85,7 +85,7 @@ impl Session {
         ensures cut { (graph : Content) → HoldsGraph graph self.old
             → OnErr result (WritesPrefix (IsReplyFor (terms_of context.now.asked.now) graph
             (outcome_of request)) (W.contents writer.old) (W.contents writer.new)) }
-        // The graph has the arcs that were added from then on.
+        // A change stays.
         ensures graph { (graph : Content) → HoldsGraph graph self.old
             → IfOk result (λ reply. IsReplied reply (HoldsGraph (graph_after graph (outcome_of request)) self.new)
             (HoldsGraph graph self.new)) }
