@@ -8,6 +8,7 @@ mod gates;
 mod in_short;
 mod pairs;
 mod refusals;
+mod stops;
 mod streams;
 
 use callers::{append_answer, left_after_fault};

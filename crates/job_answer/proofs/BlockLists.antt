@@ -2,12 +2,11 @@
 use Rattle.std.proofs.Common.{◌≡◌, ℕ, ◌+◌, ◌<◌, ◌≤◌, List, [], ◌∷◌, ◌++◌, length, get_or, drop, take}
 use Rattle.std.proofs.Common.{Option, refl, sym, subst, ap, ◌∙◌, append_assoc}
 use Rattle.std.proofs.Math.Seq.{take-add}
-use Rattle.std.proofs.lemmas.List.{append-nil, drop_more, take-append-drop, take_all, take_more}
-use Rattle.job_answer.specs.AnswerText.{AreBlocks, IsOneBlock}
-use Rattle.job_answer.specs.Sinks.{Cuts, Is, Puts}
+use Rattle.std.proofs.lemmas.List.{append-nil, take_all, take_more}
+use Rattle.job_answer.specs.AnswerText.{AreBlocks}
+use Rattle.job_answer.specs.Sinks.{Puts}
 use Rattle.job_answer.specs.declared.sink.Sink.{Sink}
-use Rattle.job_answer.proofs.Sinks.{cuts-first, cuts-nothing, puts-as, puts-then, puts-waiting, second-cut}
-use Rattle.job_answer.proofs.Uniqueness.{blocks-same}
+use Rattle.job_answer.proofs.Sinks.{puts-as, puts-nothing, puts-then}
 
 -- ---- as texts
 
@@ -56,93 +55,42 @@ blocks-split IsBlockOf (query ∷ first) second text all =
 
 module _ {Query W : Type 0} (IsBlockOf : Query → List ℕ → Type 0) (contents : W → Option (List ℕ)) where
   -- no block is put yet
-  pub blocks-none : (old new : Sink W) → new.waiting.now.items ≡ old.waiting.now.items
-      → contents new.writer.now ≡ contents old.writer.now
-      → Puts contents (AreBlocks IsBlockOf []) old new
-  blocks-none old new waits same =
-      puts-as contents (Is []) (AreBlocks IsBlockOf []) old new (λ text is. is)
-      (puts-waiting contents [] old new (waits ∙ sym (append-nil old.waiting.now.items)) same)
+  pub blocks-none : (sink : Sink W) → Puts contents (AreBlocks IsBlockOf []) sink sink
+  blocks-none sink = puts-as contents (λ text is. is) (puts-nothing contents sink)
 
   -- a block more is put
-  pub blocks-more : (queries : List Query) (i : ℕ) (d : Query) (old between new : Sink W) → i < length queries
+  pub blocks-more : (queries : List Query) (i : ℕ) (d : Query) {old between new : Sink W} → i < length queries
       → Puts contents (AreBlocks IsBlockOf (take i queries)) old between
       → Puts contents (IsBlockOf (get_or queries i d)) between new
       → Puts contents (AreBlocks IsBlockOf (take (i + 1) queries)) old new
-  blocks-more queries i d old between new here put more =
-      puts-then contents (AreBlocks IsBlockOf (take i queries)) (IsBlockOf (get_or queries i d))
-      (AreBlocks IsBlockOf (take (i + 1) queries)) old between new
-      (λ a b blocks is.
-      subst (λ (xs : List Query). AreBlocks IsBlockOf xs (a ++ b)) (sym (take_more queries i d here))
-      (blocks-push IsBlockOf (take i queries) (get_or queries i d) a b blocks is))
+  blocks-more queries i d here put more =
+      let query = get_or queries i d in
+      puts-then contents
+      (λ text are.
+      let parts =
+      blocks-split IsBlockOf (take i queries) (query ∷ []) text
+      (subst (λ (xs : List Query). AreBlocks IsBlockOf xs text) (take_more queries i d here) are) in
+      let last = parts.3 in
+      let only : last.0 ≡ parts.1 =
+      sym (append-nil last.0) ∙ sym (last.4 ∙ ap (λ (xs : List ℕ). last.0 ++ xs) last.3) in
+      (parts.0, parts.1, parts.2, subst (IsBlockOf query) only last.2, parts.4))
       put more
 
   -- some blocks more are put
-  pub blocks-on : (queries : List Query) (i count : ℕ) (old between new : Sink W)
+  pub blocks-on : (queries : List Query) (i count : ℕ) {old between new : Sink W}
       → Puts contents (AreBlocks IsBlockOf (take i queries)) old between
       → Puts contents (AreBlocks IsBlockOf (take count (drop i queries))) between new
       → Puts contents (AreBlocks IsBlockOf (take (i + count) queries)) old new
-  blocks-on queries i count old between new put more =
-      puts-then contents (AreBlocks IsBlockOf (take i queries)) (AreBlocks IsBlockOf (take count (drop i queries)))
-      (AreBlocks IsBlockOf (take (i + count) queries)) old between new
-      (λ a b one two.
-      subst (λ (xs : List Query). AreBlocks IsBlockOf xs (a ++ b)) (sym (take-add i count queries))
-      (blocks-append IsBlockOf (take i queries) (take count (drop i queries)) a b one two))
+  blocks-on queries i count put more =
+      puts-then contents
+      (λ text are.
+      blocks-split IsBlockOf (take i queries) (take count (drop i queries)) text
+      (subst (λ (xs : List Query). AreBlocks IsBlockOf xs text) (take-add i count queries) are))
       put more
 
   -- all blocks are put
-  pub blocks-all : (queries : List Query) (i : ℕ) (old new : Sink W) → length queries ≤ i
+  pub blocks-all : (queries : List Query) (i : ℕ) {old new : Sink W} → length queries ≤ i
       → Puts contents (AreBlocks IsBlockOf (take i queries)) old new
       → Puts contents (AreBlocks IsBlockOf queries) old new
-  blocks-all queries i old new past put =
+  blocks-all queries i {old} {new} past put =
       subst (λ (xs : List Query). Puts contents (AreBlocks IsBlockOf xs) old new) (take_all i queries past) put
-
-  module _ (only : IsOneBlock IsBlockOf) (queries : List Query) (i : ℕ) (old new : Sink W) where
-    -- the next block is cut short
-    pub next-cut : (d : Query) → i < length queries → Cuts contents (IsBlockOf (get_or queries i d)) old new
-        → Cuts contents (AreBlocks IsBlockOf (drop i queries)) old new
-    next-cut d here cut =
-        cuts-first contents (IsBlockOf (get_or queries i d)) (AreBlocks IsBlockOf (drop i queries)) old new
-        (λ whole all.
-        let blocks = subst (λ (xs : List Query). AreBlocks IsBlockOf xs whole) (drop_more queries i d here) all in
-        (blocks.0, blocks.1, blocks.2, blocks.4))
-        cut
-
-    -- the text of some of the next blocks is cut short
-    pub text-cut : (count : ℕ) (text : List ℕ) → AreBlocks IsBlockOf (take count (drop i queries)) text
-        → Cuts contents (Is text) old new
-        → Cuts contents (AreBlocks IsBlockOf (drop i queries)) old new
-    text-cut count text blocks cut =
-        let left = drop i queries in
-        cuts-first contents (Is text) (AreBlocks IsBlockOf left) old new
-        (λ whole all.
-        let parts =
-        blocks-split IsBlockOf (take count left) (drop count left) whole
-        (subst (λ (xs : List Query). AreBlocks IsBlockOf xs whole) (sym (take-append-drop count left)) all) in (
-          parts.0,
-          parts.1,
-          blocks-same IsBlockOf only (take count left) parts.0 text parts.2 blocks,
-          parts.4,
-        ))
-        cut
-
-  -- the first blocks are put, and those that are left are cut short
-  pub rest-cut : IsOneBlock IsBlockOf → (queries : List Query) (i : ℕ) (old between new : Sink W)
-      → Puts contents (AreBlocks IsBlockOf (take i queries)) old between
-      → Cuts contents (AreBlocks IsBlockOf (drop i queries)) between new
-      → Cuts contents (AreBlocks IsBlockOf queries) old new
-  rest-cut only queries i old between new put cut =
-      second-cut contents (AreBlocks IsBlockOf (take i queries)) (AreBlocks IsBlockOf (drop i queries))
-      (AreBlocks IsBlockOf queries) old between new (blocks-same IsBlockOf only (take i queries))
-      (λ text all.
-      blocks-split IsBlockOf (take i queries) (drop i queries) text
-      (subst (λ (xs : List Query). AreBlocks IsBlockOf xs text) (sym (take-append-drop i queries)) all))
-      put cut
-
-  -- no more is put
-  pub blocks-stop : IsOneBlock IsBlockOf → (queries : List Query) (i : ℕ) (old between new : Sink W)
-      → contents new.writer.now ≡ contents between.writer.now
-      → Puts contents (AreBlocks IsBlockOf (take i queries)) old between
-      → Cuts contents (AreBlocks IsBlockOf queries) old new
-  blocks-stop only queries i old between new same put =
-      rest-cut only queries i old between new put
-      (cuts-nothing contents (AreBlocks IsBlockOf (drop i queries)) between new same)

@@ -1,7 +1,6 @@
 -- A block, and where the graph grows what comes after it.
-use Rattle.std.proofs.Common.{◌≡◌, ℕ, ◌<◌, ◌∙◌, List, [], ◌++◌, Option, Some, None, true, false, length, get_or}
+use Rattle.std.proofs.Common.{◌≡◌, ℕ, ◌<◌, ◌∙◌, List, ◌++◌, Option, Some, None, true, false, length, get_or}
 use Rattle.std.proofs.Common.{refl, sym, subst, ap, append_assoc}
-use Rattle.std.proofs.lemmas.List.{append-nil}
 use Rattle.least_costs.specs.declared.cost.Cost.{Cost}
 use Rattle.least_costs.specs.Costs.{label_of}
 use Rattle.least_costs.specs.Laws.{CostsAreLabels, NetworksGrow}
@@ -16,7 +15,7 @@ use Rattle.job_answer.specs.declared.graphs.GrownNetwork.{GrownNetwork}
 use Rattle.job_answer.specs.declared.walked_pairs.Walked.{Walked}
 use Rattle.least_costs.specs.declared.start.Start.{Start}
 use Rattle.least_costs.specs.declared.start.Start.TheVariants.{At, Everywhere}
-use Rattle.job_answer.specs.AnswerText.{AreBothTexts, BlocksAreUnique, Growth, IsGrownPair, IsGrownText, IsOneText}
+use Rattle.job_answer.specs.AnswerText.{AreBothTexts, BlocksAreUnique, Growth, IsGrownPair, IsOneText}
 use Rattle.job_answer.specs.AnswerText.{IsPairBlock}
 use Rattle.route_walks.specs.Walk.{HaveSameArcs}
 use Rattle.job_answer.specs.declared.asked.Answer.{Answer}
@@ -52,19 +51,6 @@ module _ (IsTextOf : List ArcRec → List ℕ → Type 0) (arcs : List ArcRec) (
     record { block = both.after; is_block = both.second; written = refl },
     both.written ∙ append_assoc both.before (grown_text growth.count) both.after,
   )
-
--- a text of a graph and of what it grows to begins with that of the graph
-pub grown-begins : (IsTextOf : List ArcRec → List ℕ → Type 0) (arcs : List ArcRec) (growth : Option Growth)
-    (text : List ℕ)
-    → IsGrownText IsTextOf arcs growth text
-    → (a : List ℕ) × (b : List ℕ) × IsTextOf arcs a × (text ≡ a ++ b)
-grown-begins IsTextOf arcs None text is = (text, [], is, sym (append-nil text))
-grown-begins IsTextOf arcs (Some growth) text is = (
-  is.before,
-  grown_text growth.count ++ is.after,
-  is.first,
-  is.written ∙ append_assoc is.before (grown_text growth.count) is.after,
-)
 
 -- a start has only one block
 pub start-one : LinesAreUnique → BlocksAreUnique → (lines : Lines) (n : ℕ) (arcs : List ArcRec) (start : Start)

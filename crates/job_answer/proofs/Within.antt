@@ -1,18 +1,15 @@
 -- Blocks by lines: there is one of each, and within a bound it says what costs no more.
-use Rattle.std.proofs.Common.{◌≡◌, ◌≢◌, ◌∙◌, Bool, true, false, ℕ, ◌+◌, ◌<◌, ◌≤◌, List, [], ◌∷◌, ◌++◌, Option, None}
+use Rattle.std.proofs.Common.{◌≡◌, ◌≢◌, ◌∙◌, Bool, true, false, ℕ, ◌+◌, ◌<◌, List, [], ◌∷◌, ◌++◌, Option, None}
 use Rattle.std.proofs.Common.{length, get_or, slice_index, suc, refl, subst, sym, ap, arith, inl, inr, nat_le, if◌then◌else◌}
-use Rattle.std.specs.List.{All}
 use Rattle.std.proofs.lemmas.Bool.{cases_lt}
 use Rattle.std.proofs.lemmas.Bool.Decides.{nat_tests}
 use Rattle.std.proofs.lemmas.List.{append-nil}
 use Rattle.route_walks.specs.declared.graph.ArcRec.{ArcRec}
-use Rattle.route_walks.specs.declared.graph.TheConstants.{INF, MAX_VERTICES}
+use Rattle.route_walks.specs.declared.graph.TheConstants.{INF}
 use Rattle.route_walks.proofs.Facts.{attained-by_walk, walk-of_attained}
-use Rattle.route_walks.specs.Existence.{LeastLabelsExist}
 use Rattle.route_walks.specs.Label.{AreLeastLabels, InfMeansNoWalk, LeastLabelsAreUnique}
 use Rattle.route_walks.specs.Operators.{seeds_from}
-use Rattle.route_walks.specs.Walk.{IsGraph, cost}
-use Rattle.walk_report.specs.Existence.{HopsAndParentsExist}
+use Rattle.route_walks.specs.Walk.{cost}
 use Rattle.walk_report.specs.Parent.{HopsAndParentsAreUnique}
 use Rattle.walk_report.specs.Printed.{PrintedWalksAreWalks}
 use Rattle.answer_lines.specs.Lines.{cost_text, label_text, source_text}
@@ -24,18 +21,15 @@ use Rattle.job_answer.specs.declared.asked.Answer.{Answer}
 use Rattle.job_answer.specs.declared.asked.Answer.TheVariants.{Distances, Levels, Components}
 use Rattle.job_answer.specs.declared.asked.Lines.{Lines}
 use Rattle.job_answer.specs.declared.asked.Lines.TheVariants as lines
-use Rattle.job_answer.specs.AnswerText.{AreAskedBlocks, AreBlocks, BlocksAreUnique, Growth, IsGrownPair, IsOneBlock}
+use Rattle.job_answer.specs.AnswerText.{AreBlocks, BlocksAreUnique, Growth, IsGrownPair, IsOneBlock}
 use Rattle.job_answer.specs.AnswerText.{IsGrownText, IsOneText, arcs_for, growth_for, vertex_text, walk_line}
 use Rattle.job_answer.specs.Costs.{IsCostText, IsWalkLine, unasked}
-use Rattle.job_answer.specs.Existence.{AskedJobsHaveAnswers, AskedJobsHaveAnswersByLines}
 use Rattle.job_answer.specs.Within.{AnswerTextsByLinesAreUnique, AnswersSayCostsWithin, AreLinesFrom, AreLinesOf}
-use Rattle.job_answer.specs.Outcome.{IsUnasked}
-use Rattle.job_answer.specs.Within.{AreBlocksInShort, AreBlocksWithin, AreLinesBlocks, IsGrownLines, IsLinesBlock}
-use Rattle.job_answer.specs.Within.{IsOfPairs, IsTextBy, IsTextInShort}
+use Rattle.job_answer.specs.Within.{AreBlocksInShort, AreBlocksWithin, IsGrownLines, IsLinesBlock}
+use Rattle.job_answer.specs.Within.{IsTextBy, IsTextInShort}
 use Rattle.job_answer.specs.Within.{LinesAreUnique, SaysCostsWithin, beyond, line_within, lines_within, near}
 use Rattle.job_answer.proofs.Costs.{AreLight, blocks_say, grown_says, label_is_cost, light_all, light_arcs, light_kind}
 use Rattle.job_answer.proofs.Costs.{line_is_walk}
-use Rattle.job_answer.proofs.Existence.{blocks-exist, grown-exists, job-graph, job-grows, labels-exist, walks-exist}
 use Rattle.job_answer.proofs.Uniqueness.{asked-same, blocks-same, grown-same, labels-same, walks-same}
 
 -- ---- there is one
@@ -115,103 +109,6 @@ text-same blocks law kind lines.Totals n arcs growth question =
 pub answer_texts_by_lines_are_unique : BlocksAreUnique → LinesAreUnique → AnswerTextsByLinesAreUnique
 answer_texts_by_lines_are_unique blocks law kind by job =
     text-same blocks law kind by job.n (arcs_for kind job.arcs) (growth_for kind job) job.question
-
--- ---- there is some
-
-module _ (labelled : LeastLabelsExist) (walked : HopsAndParentsExist) (n : ℕ) (few : n ≤ MAX_VERTICES) where
-  within-exists : (walks : Bool) (bound : ℕ) (arcs : List ArcRec) → IsGraph n arcs → (source : ℕ) → source < n
-      → (text : List ℕ) × IsLinesBlock (lines.Within walks bound) n arcs source text
-  within-exists false bound arcs graph source within =
-      let found = labels-exist labelled walked n arcs few graph source within in (
-        source_text source ++ lines_within bound label_text 0 found.0,
-        record { labels = found.0; least = found.1; written = refl },
-      )
-  within-exists true bound arcs graph source within =
-      let (labels, hops, parents, are) = walks-exist labelled walked n arcs few graph source within in (
-        source_text source ++ lines_within bound (vertex_text (slice_index hops) (slice_index parents)) 0 labels,
-        record { labels = labels; hops = hops; parents = parents; walked = are; written = refl },
-      )
-
-  raw-exists : (arcs : List ArcRec) → IsGraph n arcs → (source : ℕ) → source < n
-      → (text : List ℕ) × IsLinesBlock lines.Raw n arcs source text
-  raw-exists arcs graph source within =
-      let found = labels-exist labelled walked n arcs few graph source within in
-      (raw_text source found.0, record { labels = found.0; least = found.1; written = refl })
-
-  totals-exist : (arcs : List ArcRec) → IsGraph n arcs → (source : ℕ) → source < n
-      → (text : List ℕ) × IsLinesBlock lines.Totals n arcs source text
-  totals-exist arcs graph source within =
-      let found = labels-exist labelled walked n arcs few graph source within in
-      (totals_text source found.0, record { labels = found.0; least = found.1; written = refl })
-
--- along each list of arcs each source has a block by some lines
-abbrev HaveBlocks : Lines → ℕ → Type 0
-HaveBlocks by n =
-    (arcs : List ArcRec)
-    → IsGraph n arcs
-    → (source : ℕ)
-    → source < n
-    → (text : List ℕ) × IsLinesBlock by n arcs source text
-
-module _ (labelled : LeastLabelsExist) (walked : HopsAndParentsExist) (kind : Answer) (job : Content)
-    (limits : IsWithinLimits job) where
-  all-exist : (by : Lines) → HaveBlocks by job.n → (sources : List ℕ) → All (λ v. v < job.n) sources
-      → (text : List ℕ) × AreLinesBlocks by job.n (arcs_for kind job.arcs) (growth_for kind job) sources text
-  all-exist by have sources within =
-      blocks-exist (λ v. v < job.n) (IsGrownLines by job.n (arcs_for kind job.arcs) (growth_for kind job))
-      (λ source below.
-      grown-exists job.n (λ along. IsLinesBlock by job.n along source)
-      (λ along ends. have along ends source below)
-      (arcs_for kind job.arcs) (growth_for kind job) (job-graph labelled walked kind job limits)
-      (job-grows labelled walked kind job limits))
-      sources within
-
-  short-exist : (by : Lines) → HaveBlocks by job.n → (question : Question) → IsQuestionWithin job.n question
-      → question ≢ absent
-      → ((text : List ℕ)
-      × AreAskedBlocks false job.n (arcs_for kind job.arcs) (growth_for kind job) question text)
-      → (text : List ℕ) × AreBlocksInShort by job.n (arcs_for kind job.arcs) (growth_for kind job) question text
-  short-exist by have absent within asked plain = absurd (asked refl)
-  short-exist by have (of_pairs pairs) within asked plain = plain
-  short-exist by have (from_sources sources) within asked plain = all-exist by have sources within.1
-
-  sources-exist : (walks : Bool) (bound : ℕ) (question : Question) → IsQuestionWithin job.n question
-      → question ≢ absent → ¬ (IsOfPairs question)
-      → (text : List ℕ)
-      × AreBlocksWithin walks bound job.n (arcs_for kind job.arcs) (growth_for kind job) question text
-  sources-exist walks bound absent within asked sources = absurd (asked refl)
-  sources-exist walks bound (of_pairs pairs) within asked sources = absurd (sources tt)
-  sources-exist walks bound (from_sources all) within asked sources =
-      all-exist (lines.Within walks bound) (within-exists labelled walked job.n limits.vertices walks bound) all within.1
-
-module _ (answers : AskedJobsHaveAnswers) (labelled : LeastLabelsExist) (walked : HopsAndParentsExist) (by : Lines)
-    (have : (n : ℕ) → n ≤ MAX_VERTICES → HaveBlocks by n) (job : Content) (limits : IsWithinLimits job) where
-  text-in-short-exists : (kind : Answer) → ¬ (IsUnasked kind job)
-      → (text : List ℕ) × IsTextInShort kind by job.n (arcs_for kind job.arcs) (growth_for kind job) job.question text
-  text-in-short-exists Distances asked =
-      short-exist labelled walked Distances job limits by (have job.n limits.vertices) job.question limits.question
-      (λ none. asked (record { unasked = none; needed = λ same. cc })) (answers Distances false job limits asked)
-  text-in-short-exists Levels asked =
-      short-exist labelled walked Levels job limits by (have job.n limits.vertices) job.question limits.question
-      (λ none. asked (record { unasked = none; needed = λ same. cc })) (answers Levels false job limits asked)
-  text-in-short-exists Components asked = answers Components false job limits asked
-
-pub asked_jobs_have_answers_by_lines : AskedJobsHaveAnswers → LeastLabelsExist → HopsAndParentsExist
-    → AskedJobsHaveAnswersByLines
-asked_jobs_have_answers_by_lines answers labelled walked kind (lines.Each walks) job limits asked sources =
-    answers kind walks job limits asked
-asked_jobs_have_answers_by_lines answers labelled walked kind lines.Raw job limits asked sources =
-    text-in-short-exists answers labelled walked lines.Raw (raw-exists labelled walked) job limits kind asked
-asked_jobs_have_answers_by_lines answers labelled walked kind lines.Totals job limits asked sources =
-    text-in-short-exists answers labelled walked lines.Totals (totals-exist labelled walked) job limits kind asked
-asked_jobs_have_answers_by_lines answers labelled walked Components (lines.Within walks bound) job limits asked sources =
-    answers Components walks job limits asked
-asked_jobs_have_answers_by_lines answers labelled walked Distances (lines.Within walks bound) job limits asked sources =
-    sources-exist labelled walked Distances job limits walks bound job.question limits.question
-    (λ none. asked (record { unasked = none; needed = λ same. cc })) sources
-asked_jobs_have_answers_by_lines answers labelled walked Levels (lines.Within walks bound) job limits asked sources =
-    sources-exist labelled walked Levels job limits walks bound job.question limits.question
-    (λ none. asked (record { unasked = none; needed = λ same. cc })) sources
 
 -- ---- what it says
 

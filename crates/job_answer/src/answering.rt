@@ -10,7 +10,7 @@ ghost use Rattle.job_answer.specs.declared.asked.Lines.TheVariants.{Each};
 ghost use Rattle.least_costs.specs.declared.start.Start.TheVariants.{Everywhere};
 ghost use Rattle.job_answer.specs.Outcome.{IsAnswerOf, IsReply, IsReplyFault, IsTrueOfBytes};
 ghost use Rattle.job_answer.specs.Outcome.{IsWritingFault, is_unasked};
-ghost use Rattle.job_answer.specs.Sinks.{Cuts, IsSame, Puts};
+ghost use Rattle.job_answer.specs.Sinks.{Puts};
 ghost use Rattle.job_answer.specs.Within.{HasNoSources, IsAnswerTextBy};
 
 use crate::asked::{Answer, Asked, Lines};
@@ -30,13 +30,13 @@ use dimacs_text::{Ask, Job};
 use job_reader::{ReadWatch, read_job_from};
 use least_costs::{Start, Workers, Workspace};
 use obim_engine::Gate;
-use route_walks::laws::least_labels_follow_the_arcs;
+use route_walks::laws::{least_labels_exist, least_labels_follow_the_arcs};
 use std::alloc::Global;
 use std::io::{Read, Write};
 use std::sync::Wait;
 use std::thread::Threads;
 use std::time::Clock;
-use walk_report::laws::hops_and_parents_follow_the_arcs;
+use walk_report::laws::{hops_and_parents_exist, hops_and_parents_follow_the_arcs};
 
 /// With at least this many sources, pairs are searched by the thread that asks: its searches take room, and reversing
 /// the rows takes time.
@@ -252,13 +252,16 @@ fn write_text<H: Threads + Wait + Clock + Sync, W: Write, G: Gate + Sync>(
     // So what is a prefix of this text is one of the text that another run would write.
     blocks_are_unique();
     lines_are_unique();
+    least_labels_exist();
+    hops_and_parents_exist();
     let mut waiting = Vec::new(context.alloc);
     let mut sink = Sink {
         writer,
         waiting: &mut waiting,
         piece: WRITE_BYTES,
+        stop: None,
     };
-    put_text(context, &mut sink, question, kept, watch)?;
+    put_text(context, &mut sink, question, kept, watch);
     sink.finish()
 }
 
@@ -268,14 +271,10 @@ fn put_text<H: Threads + Wait + Clock + Sync, W: Write, G: Gate + Sync>(
     question: &Question<'_>,
     kept: &mut Option<Workspace>,
     watch: &mut impl Watch,
-) -> Result<(), Fault>
+)
     requires { IsAnswerable context.now.asked.now.answer question.now }
-    ensures same { IsSame sink.old sink.new }
-    ensures text { OnOk result (Puts W.contents (IsTextOf context.now.asked.now.answer question.now)
-        sink.old sink.new) }
-    ensures prefix { OnErr result (Cuts W.contents (IsTextOf context.now.asked.now.answer question.now)
-        sink.old sink.new) }
-    ensures kinds { IfErr result IsWritingFault }
+    ensures { Puts W.contents (IsTextOf context.now.asked.now.answer question.now)
+        sink.old sink.new }
 {
     let (graphs, lines) = (question.graphs, question.lines);
     match (context.asked.answer, question.ask) {
@@ -298,13 +297,9 @@ fn put_all<H: Threads + Wait + Clock + Sync, W: Write, G: Gate + Sync>(
     graphs: &Graphs,
     kept: &mut Option<Workspace>,
     watch: &mut impl Watch,
-) -> Result<(), Fault>
+)
     requires graphs { AreGraphs graphs.now }
-    ensures same { IsSame sink.old sink.new }
-    ensures block { OnOk result (Puts W.contents (IsStartIn graphs.now (Each false) Everywhere) sink.old sink.new) }
-    ensures prefix { OnErr result (Cuts W.contents (IsStartIn graphs.now (Each false) Everywhere)
-        sink.old sink.new) }
-    ensures kinds { IfErr result IsWritingFault }
+    ensures { Puts W.contents (IsStartIn graphs.now (Each false) Everywhere) sink.old sink.new }
 {
     // Components have neither walks nor costs, so their block is the same by all lines.
     let kind = BlockKind {
@@ -319,7 +314,6 @@ fn put_all<H: Threads + Wait + Clock + Sync, W: Write, G: Gate + Sync>(
         Start::Everywhere,
         &mut workers,
         watch,
-    )?;
+    );
     *kept = Some(workers.into_workspace());
-    Ok(())
 }

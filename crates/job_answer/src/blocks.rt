@@ -8,8 +8,7 @@ ghost use Rattle.job_answer.specs.Choices.{IsLinesAsked};
 ghost use Rattle.job_answer.specs.Graphs.{AreGraphs};
 ghost use Rattle.job_answer.specs.InNetworks.{AreBlocksIn, IsBlockIn, IsStartIn};
 ghost use Rattle.least_costs.specs.Network.{IsStartWithin};
-ghost use Rattle.job_answer.specs.Outcome.{IsWritingFault};
-ghost use Rattle.job_answer.specs.Sinks.{Cuts, IsSame, Puts};
+ghost use Rattle.job_answer.specs.Sinks.{Puts};
 ghost use Rattle.job_answer.specs.Solves.{AreCostsFor, IsRest};
 ghost use Rattle.job_answer.specs.Solves.{IsStartBlock, IsStartLines, goal_of};
 ghost use Rattle.job_answer.specs.Tasks.{IsBlockText, IsSourceBlock};
@@ -20,13 +19,12 @@ ghost use Rattle.least_costs.specs.declared.start.Start.TheVariants.{At};
 use crate::asked::Lines;
 use crate::block_kind::BlockKind;
 use crate::env::{Context, Env};
-use crate::fault::Fault;
 use crate::graphs::{GrownNetwork, teams_for};
 use crate::laws::{blocks_are_unique, lines_are_unique};
 use crate::line_walks::{LineWalks, walks_below};
 use crate::lines::{put_components, put_labels, put_raw, put_totals, put_within};
 use crate::near_block::{near_block, put_near};
-use crate::sink::{NoWriter, Sink, most_bytes};
+use crate::sink::{NoWriter, Sink, Stop, most_bytes};
 use crate::solves::{costs_after, costs_from};
 use crate::source_tasks::SourceTasks;
 use crate::team_watch::{SolveCount, TeamWatch, see_round};
@@ -61,15 +59,11 @@ pub fn put_sources<H: Threads + Wait + Clock + Sync, W: Write, G: Gate + Sync>(
     sources: &[u32],
     kept: &mut Option<Workspace>,
     watch: &mut impl Watch,
-) -> Result<(), Fault>
+)
     requires graphs { AreGraphs kind.graphs.now }
     requires sources { All (λ source. source < kind.graphs.now.network.n) sources.now }
-    ensures same { IsSame sink.old sink.new }
-    ensures blocks { OnOk result (Puts W.contents (AreBlocksIn kind.entry.graphs.now kind.entry.lines sources.now)
-        sink.old sink.new) }
-    ensures prefix { OnErr result (Cuts W.contents (AreBlocksIn kind.entry.graphs.now kind.entry.lines sources.now)
-        sink.old sink.new) }
-    ensures kinds { IfErr result IsWritingFault }
+    ensures { Puts W.contents (AreBlocksIn kind.entry.graphs.now kind.entry.lines sources.now)
+        sink.old sink.new }
 {
     let (env, asked) = (context.env(), context.asked);
     let teams = teams_for(kind.graphs, asked);
@@ -80,9 +74,8 @@ pub fn put_sources<H: Threads + Wait + Clock + Sync, W: Write, G: Gate + Sync>(
     };
     let workers = Workers::new(asked.settings, context.gate, kept.take());
     let mut queue = TaskQueue::new(env.alloc, sources.len(), teams, workers);
-    put_blocks(&env, sink, &tasks, &mut queue, watch)?;
+    put_blocks(&env, sink, &tasks, &mut queue, watch);
     *kept = Some(queue.into_workspace());
-    Ok(())
 }
 
 fn put_blocks<H: Threads + Wait + Clock + Sync, W: Write, G: Gate + Sync>(
@@ -91,23 +84,17 @@ fn put_blocks<H: Threads + Wait + Clock + Sync, W: Write, G: Gate + Sync>(
     tasks: &SourceTasks<'_>,
     queue: &mut TaskQueue<'_, BlockText, G>,
     watch: &mut impl Watch,
-) -> Result<(), Fault>
+)
     requires graphs { AreGraphs tasks.now.kind.graphs.now }
     requires made { AreFinished (IsBlockText tasks.now) queue.old.made.items }
-    ensures same { IsSame sink.old sink.new }
-    ensures blocks { OnOk result (Puts W.contents (AreBlocks (IsSourceBlock tasks.now) tasks.now.sources.now)
-        sink.old sink.new) }
-    ensures prefix { OnErr result (Cuts W.contents (AreBlocks (IsSourceBlock tasks.now) tasks.now.sources.now)
-        sink.old sink.new) }
-    ensures kinds { IfErr result IsWritingFault }
+    ensures { Puts W.contents (AreBlocks (IsSourceBlock tasks.now) tasks.now.sources.now)
+        sink.old sink.new }
 {
     // So what is a prefix of these blocks is one of the blocks that another run would write.
     lines_are_unique();
     for place in 0..tasks.sources.len() {
-        watch.see_answered(place, tasks.sources.len());
-        put_block_at(env, sink, tasks, place, queue, watch)?;
+        put_block_at(env, sink, tasks, place, queue, watch);
     }
-    Ok(())
 }
 
 /// Puts the block of the source at a place: made before its turn, or solved now.
@@ -118,28 +105,28 @@ fn put_block_at<H: Threads + Wait + Clock + Sync, W: Write, G: Gate + Sync>(
     place: usize,
     queue: &mut TaskQueue<'_, BlockText, G>,
     watch: &mut impl Watch,
-) -> Result<(), Fault>
+)
     requires graphs { AreGraphs tasks.now.kind.graphs.now }
     requires place { place < length tasks.now.sources.now }
     requires made { AreFinished (IsBlockText tasks.now) queue.old.made.items }
-    ensures same { IsSame sink.old sink.new }
     ensures left { AreFinished (IsBlockText tasks.now) queue.new.made.items }
-    ensures block { OnOk result (Puts W.contents (IsSourceBlock tasks.now (slice_index tasks.now.sources.now place))
-        sink.old sink.new) }
-    ensures prefix { OnErr result (Cuts W.contents (IsSourceBlock tasks.now (slice_index tasks.now.sources.now place))
-        sink.old sink.new) }
-    ensures kinds { IfErr result IsWritingFault }
+    ensures block { Puts W.contents (IsSourceBlock tasks.now (slice_index tasks.now.sources.now place))
+        sink.old sink.new }
 {
     lines_are_unique();
+    if sink.has_stopped() {
+        return;
+    }
+    watch.see_answered(place, tasks.sources.len());
     let text = take_block(env, queue, tasks, place);
     see_round(env.rt, queue.at_once(), &tasks.solves, watch);
     if let Some(text) = text {
-        sink.send_with(&text.bytes)?;
+        sink.put_all(text.bytes);
         watch.end(env.rt, Phase::Writing);
-        return Ok(());
+        return;
     }
     let start = Start::At(tasks.sources[place]);
-    put_solved(env, sink, &tasks.kind, start, &mut queue.workers, watch)
+    put_solved(env, sink, &tasks.kind, start, &mut queue.workers, watch);
 }
 
 /// The block of the source at a place, if it was made before.
@@ -184,30 +171,37 @@ fn make_block<H: Threads + Wait + Clock + Sync, G: Gate + Sync>(
         solves: &tasks.solves,
     };
     let source = tasks.sources[place];
-    held_block(env, &tasks.kind, source, workers, &mut watch).ok()
+    held_block(env, &tasks.kind, source, workers, &mut watch)
 }
 
-/// The block of a source, in memory. Fails if it is long, too.
+/// The block of a source, in memory.
 fn held_block<H: Threads + Wait + Clock + Sync, G: Gate + Sync>(
     env: &Env<'_, H>,
     kind: &BlockKind<'_>,
     source: u32,
     workers: &mut Workers<'_, G>,
     watch: &mut impl Watch,
-) -> Result<BlockText, Fault>
+) -> Option<BlockText>
     requires graphs { AreGraphs kind.now.graphs.now }
     requires source { source < kind.now.graphs.now.network.n }
-    ensures { IfOk result (λ text. IsBlockIn kind.now.graphs.now kind.now.lines source text.bytes.items) }
+    ensures { IfSome result (λ text. IsBlockIn kind.now.graphs.now kind.now.lines source text.bytes.items) }
 {
+    // The block that is kept is the one that there is.
+    least_labels_exist();
+    hops_and_parents_exist();
     let (mut nobody, mut bytes) = (NoWriter, Vec::new(env.alloc));
     let mut sink = Sink {
         writer: &mut nobody,
         waiting: &mut bytes,
         piece: most_bytes(kind.graphs),
+        stop: None,
     };
     let start = Start::At(source);
-    put_solved(env, &mut sink, kind, start, workers, watch)?;
-    Ok(BlockText { bytes })
+    put_solved(env, &mut sink, kind, start, workers, watch);
+    if sink.has_stopped() {
+        return None;
+    }
+    Some(BlockText { bytes })
 }
 
 /// Solves from a start, and puts its block or that of near vertices, and what comes after it if the network grows.
@@ -218,36 +212,41 @@ pub fn put_solved<H: Threads + Wait + Clock + Sync, W: Write, G: Gate + Sync>(
     start: Start,
     workers: &mut Workers<'_, G>,
     watch: &mut impl Watch,
-) -> Result<(), Fault>
+)
     requires graphs { AreGraphs kind.now.graphs.now }
     requires lines { IsStartLines start kind.now.lines }
     requires start { IsStartWithin kind.now.graphs.now.network.n start }
-    ensures same { IsSame sink.old sink.new }
-    ensures block { OnOk result (Puts W.contents (IsStartIn kind.now.graphs.now kind.now.lines start)
-        sink.old sink.new) }
-    ensures prefix { OnErr result (Cuts W.contents (IsStartIn kind.now.graphs.now kind.now.lines start)
-        sink.old sink.new) }
-    ensures kinds { IfErr result IsWritingFault }
+    ensures { Puts W.contents (IsStartIn kind.now.graphs.now kind.now.lines start)
+        sink.old sink.new }
 {
     lines_are_unique();
     blocks_are_unique();
     let (graphs, lines) = (kind.graphs, kind.lines);
     let (alloc, network) = (env.alloc, &graphs.network);
     if let Some(near) = near_block(alloc, graphs, lines, start, workers) {
-        return put_near(env.rt, sink, network, lines, start, &near, watch);
+        watch.see_solves(1);
+        watch.end(env.rt, Phase::Solving);
+        put_near(sink, network, lines, start, &near);
+        return watch.end(env.rt, Phase::Writing);
     }
     let goal = lines.goal();
-    let costs = costs_from(env, network, start, goal, workers, watch)?;
-    put_block(alloc, sink, network, lines, start, &costs)?;
+    let Ok(costs) = costs_from(env, network, start, goal, workers, watch) else {
+        return sink.fail(Stop::Memory);
+    };
+    put_block(alloc, sink, network, lines, start, &costs);
     watch.end(env.rt, Phase::Writing);
     let Some(grown) = &graphs.grown else {
-        return Ok(());
+        return;
     };
+    if sink.has_stopped() {
+        return;
+    }
     let more = &grown.network;
-    let after = costs_after(env, network, more, costs, goal, workers, watch)?;
-    put_grown_block(alloc, sink, grown, lines, start, &after)?;
+    let Ok(after) = costs_after(env, network, more, costs, goal, workers, watch) else {
+        return sink.fail(Stop::Memory);
+    };
+    put_grown_block(alloc, sink, grown, lines, start, &after);
     watch.end(env.rt, Phase::Writing);
-    Ok(())
 }
 
 /// Puts the number of added arcs, and the block of the grown network.
@@ -258,22 +257,17 @@ fn put_grown_block<W: Write>(
     lines: Lines,
     start: Start,
     costs: &CostsBelow,
-) -> Result<(), Fault>
+)
     requires vertices { grown.now.network.n ≤ MAX_VERTICES }
     requires start { IsStartWithin grown.now.network.n start }
     requires lines { IsStartLines start lines }
     requires costs { AreCostsFor grown.now.network start (goal_of lines) costs.now }
-    ensures same { IsSame sink.old sink.new }
-    ensures block { OnOk result (Puts W.contents (IsRest grown.now.count
-        (IsStartBlock lines start grown.now.network.n grown.now.network.arcs)) sink.old sink.new) }
-    ensures prefix { OnErr result (Cuts W.contents (IsRest grown.now.count
-        (IsStartBlock lines start grown.now.network.n grown.now.network.arcs)) sink.old sink.new) }
-    ensures kinds { IfErr result IsWritingFault }
+    ensures { Puts W.contents (IsRest grown.now.count
+        (IsStartBlock lines start grown.now.network.n grown.now.network.arcs)) sink.old sink.new }
 {
-    put_grown(sink.waiting, grown.count)?;
-    let network = &grown.network;
-    put_block(alloc, sink, network, lines, start, costs)?;
-    Ok(())
+    let put = put_grown(sink.waiting, grown.count);
+    sink.end(put);
+    put_block(alloc, sink, &grown.network, lines, start, costs);
 }
 
 fn put_block<W: Write>(
@@ -283,17 +277,13 @@ fn put_block<W: Write>(
     lines: Lines,
     start: Start,
     costs: &CostsBelow,
-) -> Result<(), Fault>
+)
     requires vertices { network.now.n ≤ MAX_VERTICES }
     requires start { IsStartWithin network.now.n start }
     requires lines { IsStartLines start lines }
     requires costs { AreCostsFor network.now start (goal_of lines) costs.now }
-    ensures same { IsSame sink.old sink.new }
-    ensures block { OnOk result (Puts W.contents (IsStartBlock lines start network.now.n network.now.arcs)
-        sink.old sink.new) }
-    ensures prefix { OnErr result (Cuts W.contents (IsStartBlock lines start network.now.n network.now.arcs)
-        sink.old sink.new) }
-    ensures kinds { IfErr result IsWritingFault }
+    ensures { Puts W.contents (IsStartBlock lines start network.now.n network.now.arcs)
+        sink.old sink.new }
 {
     blocks_are_unique();
     match start {
@@ -309,17 +299,13 @@ fn put_source_block<W: Write>(
     source: u32,
     lines: Lines,
     costs: &CostsBelow,
-) -> Result<(), Fault>
+)
     requires vertices { network.now.n ≤ MAX_VERTICES }
     requires source { source < network.now.n }
     requires lines { IsLinesAsked lines }
     requires costs { AreCostsFor network.now (At source) (goal_of lines) costs.now }
-    ensures same { IsSame sink.old sink.new }
-    ensures block { OnOk result (Puts W.contents (IsLinesBlock lines network.now.n network.now.arcs source)
-        sink.old sink.new) }
-    ensures prefix { OnErr result (Cuts W.contents (IsLinesBlock lines network.now.n network.now.arcs source)
-        sink.old sink.new) }
-    ensures kinds { IfErr result IsWritingFault }
+    ensures { Puts W.contents (IsLinesBlock lines network.now.n network.now.arcs source)
+        sink.old sink.new }
 {
     lines_are_unique();
     let labels = costs.labels();
@@ -339,18 +325,14 @@ fn put_vertices<W: Write>(
     source: u32,
     lines: Lines,
     costs: &CostsBelow,
-) -> Result<(), Fault>
+)
     requires vertices { network.now.n ≤ MAX_VERTICES }
     requires source { source < network.now.n }
     requires lines { IsLinesAsked lines }
     requires lined { HasVertexLines lines }
     requires costs { AreCostsFor network.now (At source) (goal_of lines) costs.now }
-    ensures same { IsSame sink.old sink.new }
-    ensures block { OnOk result (Puts W.contents (IsLinesBlock lines network.now.n network.now.arcs source)
-        sink.old sink.new) }
-    ensures prefix { OnErr result (Cuts W.contents (IsLinesBlock lines network.now.n network.now.arcs source)
-        sink.old sink.new) }
-    ensures kinds { IfErr result IsWritingFault }
+    ensures { Puts W.contents (IsLinesBlock lines network.now.n network.now.arcs source)
+        sink.old sink.new }
 {
     lines_are_unique();
     least_labels_exist();
@@ -361,9 +343,11 @@ fn put_vertices<W: Write>(
     if lines.is_plain() {
         return put_labels(sink, source, labels);
     }
-    let walks = walks_for(alloc, network, source, lines, costs)?;
+    let Ok(walks) = walks_for(alloc, network, source, lines, costs) else {
+        return sink.fail(Stop::Memory);
+    };
     let bound = lines.bound();
-    put_within(alloc, sink, source, bound, labels, &walks)
+    put_within(alloc, sink, source, bound, labels, &walks);
 }
 
 fn walks_for(

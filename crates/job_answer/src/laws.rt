@@ -58,7 +58,6 @@ pub fn asked_jobs_have_answers()
 pub fn asked_jobs_have_answers_by_lines()
     ensures { AskedJobsHaveAnswersByLines }
 {
-    asked_jobs_have_answers();
     least_labels_exist();
     hops_and_parents_exist();
 }

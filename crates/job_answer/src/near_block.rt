@@ -3,23 +3,19 @@
 ghost use Rattle.std.specs.Prelude.{◌≡◌, None, IfErr, IfSome, OnErr, OnOk};
 ghost use Rattle.least_costs.specs.Network.{IsStartWithin};
 ghost use Rattle.job_answer.specs.NearBlock.{IsNearBlock};
-ghost use Rattle.job_answer.specs.Outcome.{IsWritingFault};
-ghost use Rattle.job_answer.specs.Sinks.{Cuts, IsSame, Puts};
+ghost use Rattle.job_answer.specs.Sinks.{Puts};
 ghost use Rattle.job_answer.specs.Solves.{IsStartBlock, IsStartLines};
 
 use crate::asked::Lines;
-use crate::fault::Fault;
 use crate::graphs::Graphs;
 use crate::laws::{blocks_are_unique, lines_are_unique};
 use crate::lines::put_listed;
 use crate::sink::Sink;
-use crate::watch::{Phase, Watch};
 use least_costs::{Network, Start, Workers};
 use obim_engine::Gate;
 use route_walks::laws::{least_labels_are_unique, least_labels_exist};
 use std::alloc::Global;
 use std::io::Write;
-use std::time::Clock;
 
 /// The vertices that cost at most a bound from a source, in rising order, each with its label.
 #[derive(Drop)]
@@ -59,23 +55,17 @@ pub(crate) fn near_block<G: Gate + Sync>(
     Some(NearBlock { source, found })
 }
 
-pub(crate) fn put_near<C: Clock, W: Write>(
-    clock: &C,
+pub(crate) fn put_near<W: Write>(
     sink: &mut Sink<'_, W>,
     network: &Network,
     lines: Lines,
     start: Start,
     near: &NearBlock,
-    watch: &mut impl Watch,
-) -> Result<(), Fault>
+)
     requires start { IsStartWithin network.now.n start }
     requires near { IsNearBlock lines start network.now near.now }
-    ensures same { IsSame sink.old sink.new }
-    ensures block { OnOk result (Puts W.contents (IsStartBlock lines start network.now.n network.now.arcs)
-        sink.old sink.new) }
-    ensures prefix { OnErr result (Cuts W.contents (IsStartBlock lines start network.now.n network.now.arcs)
-        sink.old sink.new) }
-    ensures kinds { IfErr result IsWritingFault }
+    ensures { Puts W.contents (IsStartBlock lines start network.now.n network.now.arcs)
+        sink.old sink.new }
 {
     lines_are_unique();
     blocks_are_unique();
@@ -83,9 +73,5 @@ pub(crate) fn put_near<C: Clock, W: Write>(
     least_labels_exist();
     least_labels_are_unique();
     let _ = network.n();
-    watch.see_solves(1);
-    watch.end(clock, Phase::Solving);
-    put_listed(sink, near.source, &near.found)?;
-    watch.end(clock, Phase::Writing);
-    Ok(())
+    put_listed(sink, near.source, &near.found);
 }

@@ -6,13 +6,11 @@ ghost use Rattle.route_walks.specs.declared.graph.TheConstants.{MAX_VERTICES};
 ghost use Rattle.job_answer.specs.AnswerText.{AreBlocks};
 ghost use Rattle.job_answer.specs.Graphs.{AreGraphs};
 ghost use Rattle.job_answer.specs.NearPairs.{found_text};
-ghost use Rattle.job_answer.specs.Outcome.{IsWritingFault};
-ghost use Rattle.job_answer.specs.Sinks.{Cuts, IsSame, Puts};
+ghost use Rattle.job_answer.specs.Sinks.{Puts};
 ghost use Rattle.job_answer.specs.Solves.{AreTargetsOf, IsForQueries};
 ghost use Rattle.least_costs.specs.Pairs.{pair_at};
 ghost use Rattle.job_answer.specs.Tasks.{IsWalkedBlock};
 
-use crate::fault::Fault;
 use crate::graphs::Graphs;
 use crate::laws::blocks_are_unique;
 use crate::pair_queries::PairQueries;
@@ -53,19 +51,15 @@ pub(crate) fn put_found<W: Write>(
     solve: Solve,
     targets: &[u32],
     found: &WalksFound,
-) -> Result<(), Fault>
+)
     requires graphs { AreGraphs queries.now.graphs.now }
     requires alone { queries.now.graphs.now.grown ≡ None }
     requires solve { IsForQueries queries.now.pairs.now solve }
     requires targets { AreTargetsOf queries.now.pairs.now solve.first solve.end targets.now }
     requires found { AreWalksFound queries.now.graphs.now.network.n queries.now.graphs.now.network.arcs
         (pair_at queries.now.pairs.now solve.first).0 targets.now found.now }
-    ensures same { IsSame sink.old sink.new }
-    ensures blocks { OnOk result (Puts W.contents (AreBlocks (IsWalkedBlock queries.now.graphs.now)
-        (slice_range queries.now.pairs.now solve.first solve.end)) sink.old sink.new) }
-    ensures prefix { OnErr result (Cuts W.contents (AreBlocks (IsWalkedBlock queries.now.graphs.now)
-        (drop solve.first queries.now.pairs.now)) sink.old sink.new) }
-    ensures kinds { IfErr result IsWritingFault }
+    ensures { Puts W.contents (AreBlocks (IsWalkedBlock queries.now.graphs.now)
+        (slice_range queries.now.pairs.now solve.first solve.end)) sink.old sink.new }
 {
     blocks_are_unique();
     // Whatever the least labels are, and the walks by them: these are the same.
@@ -76,10 +70,9 @@ pub(crate) fn put_found<W: Write>(
     for place in 0..targets.len() {
         let (source, target) = pairs[solve.first + place];
         let (label, walk) = (found.labels[place], &found.walks[place]);
-        put_found_pair(sink.waiting, source, target, label, walk)?;
-        sink.send_if_full()?;
+        let put = put_found_pair(sink.waiting, source, target, label, walk);
+        sink.end(put);
     }
-    Ok(())
 }
 
 /// Puts the line of a pair, and of its walk if one leads to the target.

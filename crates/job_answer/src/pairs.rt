@@ -8,16 +8,14 @@ ghost use Rattle.dimacs_text.specs.Jobs.{IsPairWithin};
 ghost use Rattle.answer_lines.specs.Lines.{pair_text};
 ghost use Rattle.job_answer.specs.Graphs.{AreGraphs, growth_of};
 ghost use Rattle.job_answer.specs.InNetworks.{ArePairsIn};
-ghost use Rattle.job_answer.specs.Outcome.{IsWritingFault};
-ghost use Rattle.job_answer.specs.Sinks.{Cuts, IsSame, Puts};
+ghost use Rattle.job_answer.specs.Sinks.{Puts};
 ghost use Rattle.job_answer.specs.Solves.{AreCostsAfter, HasCostAfter, with_growth};
 
 use crate::env::Context;
-use crate::fault::Fault;
 use crate::graphs::{Graphs, plan_of};
 use crate::laws::blocks_are_unique;
 use crate::pair_queries::PairQueries;
-use crate::sink::Sink;
+use crate::sink::{Sink, Stop};
 use crate::walked_pairs::put_all_walked;
 use crate::watch::{Phase, Watch};
 use answer_lines::{put_grown, put_pair};
@@ -56,21 +54,19 @@ pub fn put_pairs<H: Threads + Wait + Clock + Sync, W: Write, G: Gate + Sync>(
     walks: bool,
     kept: &mut Option<Workspace>,
     watch: &mut impl Watch,
-) -> Result<(), Fault>
+)
     requires graphs { AreGraphs queries.graphs.now }
     requires count { length queries.pairs.now ≤ 2 ^ 20 }
-    ensures same { IsSame sink.old sink.new }
-    ensures blocks { OnOk result (Puts W.contents (ArePairsIn queries.entry.graphs.now walks queries.entry.pairs.now)
-        sink.old sink.new) }
-    ensures prefix { OnErr result (Cuts W.contents (ArePairsIn queries.entry.graphs.now walks queries.entry.pairs.now)
-        sink.old sink.new) }
-    ensures kinds { IfErr result IsWritingFault }
+    ensures { Puts W.contents (ArePairsIn queries.entry.graphs.now walks queries.entry.pairs.now)
+        sink.old sink.new }
 {
     if walks {
         return put_all_walked(context, sink, queries, kept, watch);
     }
-    let costs = costs_between(context, &queries, kept, watch)?;
-    put_lines(sink, &queries, &costs)
+    match costs_between(context, &queries, kept, watch) {
+        Ok(costs) => put_lines(sink, &queries, &costs),
+        Err(_) => sink.fail(Stop::Memory),
+    }
 }
 
 fn costs_between<H: Threads + Wait + Clock + Sync, G: Gate + Sync>(
@@ -78,14 +74,13 @@ fn costs_between<H: Threads + Wait + Clock + Sync, G: Gate + Sync>(
     queries: &PairQueries<'_>,
     kept: &mut Option<Workspace>,
     watch: &mut impl Watch,
-) -> Result<PairCosts, Fault>
+) -> Result<PairCosts, Memory>
     requires graphs { AreGraphs queries.now.graphs.now }
     requires count { length queries.now.pairs.now ≤ 2 ^ 20 }
     ensures costs { IfOk result (λ costs.
         ArePairCosts queries.now.graphs.now.network queries.now.pairs.now costs.costs.items) }
     ensures after { IfOk result (λ costs.
         AreCostsAfter queries.now.graphs.now.grown queries.now.pairs.now costs.after.items) }
-    ensures kinds { IfErr result IsWritingFault }
 {
     let (graphs, pairs) = (queries.graphs, queries.pairs);
     let (rt, alloc) = (context.rt, context.alloc);
@@ -96,39 +91,29 @@ fn costs_between<H: Threads + Wait + Clock + Sync, G: Gate + Sync>(
     };
     watch.see_answered(0, pairs.len());
     let mut watch = PairWatch { watch };
-    let costs = match &graphs.grown {
-        None => solver.between_grown(rt, alloc, pairs, None, kept, &mut watch)?,
+    match &graphs.grown {
+        None => solver.between_grown(rt, alloc, pairs, None, kept, &mut watch),
         Some(grown) => {
             let grown = Some(&grown.network);
-            solver.between_grown(rt, alloc, pairs, grown, kept, &mut watch)?
+            solver.between_grown(rt, alloc, pairs, grown, kept, &mut watch)
         }
-    };
-    Ok(costs)
+    }
 }
 
-fn put_lines<W: Write>(
-    sink: &mut Sink<'_, W>,
-    queries: &PairQueries<'_>,
-    costs: &PairCosts,
-) -> Result<(), Fault>
+fn put_lines<W: Write>(sink: &mut Sink<'_, W>, queries: &PairQueries<'_>, costs: &PairCosts)
     requires graphs { AreGraphs queries.now.graphs.now }
     requires costs { ArePairCosts queries.now.graphs.now.network queries.now.pairs.now costs.now.costs.items }
     requires after { AreCostsAfter queries.now.graphs.now.grown queries.now.pairs.now costs.now.after.items }
-    ensures same { IsSame sink.old sink.new }
-    ensures blocks { OnOk result (Puts W.contents (ArePairsIn queries.now.graphs.now false queries.now.pairs.now)
-        sink.old sink.new) }
-    ensures prefix { OnErr result (Cuts W.contents (ArePairsIn queries.now.graphs.now false queries.now.pairs.now)
-        sink.old sink.new) }
-    ensures kinds { IfErr result IsWritingFault }
+    ensures { Puts W.contents (ArePairsIn queries.now.graphs.now false queries.now.pairs.now)
+        sink.old sink.new }
 {
     blocks_are_unique();
     costs_are_labels();
     let (graphs, pairs) = (queries.graphs, queries.pairs);
     for place in 0..pairs.len() {
-        put_pair_lines(sink.waiting, graphs, pairs[place], place, costs)?;
-        sink.send_if_full()?;
+        let put = put_pair_lines(sink.waiting, graphs, pairs[place], place, costs);
+        sink.end(put);
     }
-    Ok(())
 }
 
 /// Puts the line of the pair at this place, and that in the grown network.

@@ -1,12 +1,14 @@
 //! The bytes of an answer until they are written.
 
-ghost use Rattle.std.specs.Prelude.{◌≡◌, ◌<◌, ◌≤◌, [], Some, length, max, IfOk, IfErr, OnOk, OnErr};
+ghost use Rattle.std.specs.Prelude.{◌≡◌, ◌<◌, ◌≤◌, [], Some, None, length, is_some, IfOk, IfErr, OnOk, OnErr};
 ghost use Rattle.std.specs.Io.KnownBytes.{Appends, Keeps, WriteAppends};
 ghost use Rattle.job_answer.specs.Bytes.{GivesPrefix};
-ghost use Rattle.job_answer.specs.Sinks.{Cuts, Is, IsSame, Puts};
+ghost use Rattle.job_answer.specs.Outcome.{IsWritingFault};
+ghost use Rattle.job_answer.specs.Sinks.{Ends, IsStill, PutsText, Stops, fault_of};
 
 use crate::fault::Fault;
 use crate::graphs::Graphs;
+use route_walks::Memory;
 use std::io::{self, ErrorKind, Write};
 
 /// The most bytes a vertex of a text that is made before its turn. A block without walks has fewer.
@@ -15,7 +17,27 @@ const MAX_BYTES_A_VERTEX: usize = 64;
 /// The bytes that are written at once.
 pub const WRITE_BYTES: usize = 1 << 16;
 
-/// Takes the bytes of an answer in order, and writes them in pieces.
+/// The reason why no more of an answer comes.
+#[derive(Clone, Copy, Debug, PartialEq, Eq)]
+pub enum Stop {
+    /// The system refused memory.
+    Memory,
+    /// The writer failed.
+    Write,
+}
+
+impl From<Stop> for Fault {
+    ghost from_gives = { λ stop given. given ≡ fault_of stop };
+
+    fn from(stop: Stop) -> Fault {
+        match stop {
+            Stop::Memory => Fault::Memory,
+            Stop::Write => Fault::Write,
+        }
+    }
+}
+
+/// Takes the bytes of an answer in order, and writes them in pieces. Once it has stopped, nothing more is written.
 #[derive(Drop)]
 pub struct Sink<'a, W> {
     pub writer: &'a mut W,
@@ -23,56 +45,76 @@ pub struct Sink<'a, W> {
     pub waiting: &'a mut Vec<u8>,
     /// The bytes of a piece.
     pub piece: usize,
+    /// The first reason why no more comes.
+    pub stop: Option<Stop>,
 }
 
 impl<'a, W: Write> Sink<'a, W> {
-    /// Writes what waits if it makes a piece.
-    pub fn send_if_full(&mut self) -> Result<(), Fault>
-        ensures same { IsSame self.old self.new }
-        ensures put { OnOk result (Puts W.contents (Is []) self.old self.new) }
-        ensures prefix { OnErr result (Cuts W.contents (Is []) self.old self.new) }
-        ensures few { OnOk result (length self.new.waiting.now.items < max 1 self.new.piece) }
-        ensures only { IfErr result (λ fault. fault ≡ Fault.Write) }
+    /// Ends bytes that were put behind those that wait, or that were refused memory: what makes a piece is written.
+    pub fn end(&mut self, put: Result<(), Memory>)
+        ensures { Ends W.contents put self.old self.new }
     {
-        if self.waiting.len() < self.piece {
-            return Ok(());
+        match put {
+            Ok(()) if self.waiting.len() < self.piece => {}
+            Ok(()) => self.send(),
+            Err(_) => self.fail(Stop::Memory),
         }
-        self.send()
     }
 
-    fn send(&mut self) -> Result<(), Fault>
-        ensures same { IsSame self.old self.new }
-        ensures put { OnOk result (Puts W.contents (Is []) self.old self.new) }
-        ensures prefix { OnErr result (Cuts W.contents (Is []) self.old self.new) }
-        ensures none { OnOk result (self.new.waiting.now.items ≡ []) }
-        ensures only { IfErr result (λ fault. fault ≡ Fault.Write) }
+    /// Stops here. What waits is dropped.
+    pub fn fail(&mut self, stop: Stop)
+        ensures { Stops W.contents self.old self.new }
     {
-        write_bytes(self.writer, self.waiting)?;
         self.waiting.clear();
-        Ok(())
+        if self.stop.is_none() {
+            self.stop = Some(stop);
+        }
     }
 
-    /// Writes what waits, and then these bytes.
-    pub fn send_with(&mut self, bytes: &[u8]) -> Result<(), Fault>
-        ensures same { IsSame self.old self.new }
-        ensures put { OnOk result (Puts W.contents (Is bytes.now) self.old self.new) }
-        ensures prefix { OnErr result (Cuts W.contents (Is bytes.now) self.old self.new) }
-        ensures only { IfErr result (λ fault. fault ≡ Fault.Write) }
+    /// Tells if nothing more is written.
+    pub fn has_stopped(&self) -> bool
+        ensures { result ≡ is_some self.now.stop }
     {
-        self.send()?;
-        write_bytes(self.writer, bytes)
+        self.stop.is_some()
     }
 
-    /// Writes what waits, and flushes the writer once.
+    fn send(&mut self)
+        ensures still { IsStill self.old self.new }
+        ensures put { PutsText W.contents [] self.old self.new }
+        ensures none { self.new.waiting.now.items ≡ [] }
+    {
+        if self.stop.is_none() && write_bytes(self.writer, self.waiting).is_err() {
+            self.stop = Some(Stop::Write);
+        }
+        self.waiting.clear();
+    }
+
+    /// Writes what waits, and then takes this text in its place.
+    pub fn put_all(&mut self, text: Vec<u8>)
+        ensures still { IsStill self.old self.new }
+        ensures put { PutsText W.contents text.items self.old self.new }
+    {
+        self.send();
+        *self.waiting = text;
+        self.end(Ok(()));
+    }
+
+    /// Writes what waits, and flushes the writer once. The fault is the reason why the answer stopped.
     pub fn finish(&mut self) -> Result<(), Fault>
-        ensures same { IsSame self.old self.new }
-        ensures put { OnOk result (Puts W.contents (Is []) self.old self.new) }
-        ensures prefix { OnErr result (Cuts W.contents (Is []) self.old self.new) }
-        ensures none { OnOk result (self.new.waiting.now.items ≡ []) }
-        ensures only { IfErr result (λ fault. fault ≡ Fault.Write) }
+        ensures still { IsStill self.old self.new }
+        ensures put { PutsText W.contents [] self.old self.new }
+        ensures none { self.new.waiting.now.items ≡ [] }
+        ensures whole { OnOk result (self.new.stop ≡ None) }
+        ensures kinds { IfErr result IsWritingFault }
     {
-        self.send()?;
-        flush(self.writer)
+        self.send();
+        if self.stop.is_none() && flush(self.writer).is_err() {
+            self.stop = Some(Stop::Write);
+        }
+        match self.stop {
+            None => Ok(()),
+            Some(stop) => Err(Fault::from(stop)),
+        }
     }
 }
 

@@ -1,16 +1,15 @@
 //! The solves that an answer needs, and the queries that each one answers.
 
-ghost use Rattle.std.specs.Prelude.{◌≡◌, ◌<◌, length, IfErr, IfOk};
+ghost use Rattle.std.specs.Prelude.{◌≡◌, ◌<◌, length, IfOk};
 ghost use Rattle.obim_engine.specs.Goal.{IsGoalWithin};
 ghost use Rattle.least_costs.specs.Network.{GrowsTo, IsStartWithin};
-ghost use Rattle.job_answer.specs.Outcome.{IsWritingFault};
 ghost use Rattle.job_answer.specs.Solves.{AreCostsFor, EndsWithSource, IsForQueries};
 
 use crate::env::Env;
-use crate::fault::Fault;
 use crate::watch::{Phase, Watch};
 use least_costs::{CostsBelow, Network, Start, Workers};
 use obim_engine::{Gate, Goal};
+use route_walks::Memory;
 use std::sync::Wait;
 use std::thread::Threads;
 use std::time::Clock;
@@ -23,11 +22,10 @@ pub fn costs_from<H: Threads + Wait + Clock + Sync, G: Gate + Sync>(
     goal: Goal<'_>,
     workers: &mut Workers<'_, G>,
     watch: &mut impl Watch,
-) -> Result<CostsBelow, Fault>
+) -> Result<CostsBelow, Memory>
     requires start { IsStartWithin network.now.n start }
     requires goal { IsGoalWithin network.now.n goal }
     ensures costs { IfOk result (AreCostsFor network.now start goal.entry) }
-    ensures kinds { IfErr result IsWritingFault }
 {
     let costs = workers.costs_for(env.rt, env.alloc, network, start, goal)?;
     // In what costs are least, and up to which limit, is known of each.
@@ -46,12 +44,11 @@ pub fn costs_after<H: Threads + Wait + Clock + Sync, G: Gate + Sync>(
     goal: Goal<'_>,
     workers: &mut Workers<'_, G>,
     watch: &mut impl Watch,
-) -> Result<CostsBelow, Fault>
+) -> Result<CostsBelow, Memory>
     requires net { costs.net ≡ network.now }
     requires grown { GrowsTo network.now grown.now }
     requires goal { IsGoalWithin grown.now.n goal }
     ensures costs { IfOk result (AreCostsFor grown.now costs.start goal.entry) }
-    ensures kinds { IfErr result IsWritingFault }
 {
     let (rt, alloc) = (env.rt, env.alloc);
     let costs = workers.costs_for_after(rt, alloc, network, grown, costs, goal)?;

@@ -11,20 +11,18 @@ ghost use Rattle.job_answer.specs.AnswerText.{AreBlocks};
 ghost use Rattle.job_answer.specs.Graphs.{AreGraphs, growth_of};
 ghost use Rattle.job_answer.specs.InNetworks.{ArePairsIn};
 ghost use Rattle.job_answer.specs.LineWalks.{HasWalkAt};
-ghost use Rattle.job_answer.specs.Outcome.{IsWritingFault};
-ghost use Rattle.job_answer.specs.Sinks.{Cuts, IsSame, Puts};
+ghost use Rattle.job_answer.specs.Sinks.{Puts};
 ghost use Rattle.job_answer.specs.Solves.{AreEachTold, AreTargetsOf, AreWalkedBelow, IsForQueries, IsWalked};
 ghost use Rattle.job_answer.specs.Solves.{IsWalkedAfter, walked_text, walked_after_text, with_growth};
 ghost use Rattle.job_answer.specs.Tasks.{AreLines, IsLinesText, IsWalkedBlock};
 
 use crate::env::{Context, Env};
-use crate::fault::Fault;
 use crate::graphs::{Graphs, teams_for};
 use crate::laws::blocks_are_unique;
 use crate::line_walks::{LineWalks, put_walk_line, walks_below};
 use crate::near_pairs::{near_walks, put_found};
 use crate::pair_queries::PairQueries;
-use crate::sink::{NoWriter, Sink, most_bytes};
+use crate::sink::{NoWriter, Sink, Stop, most_bytes};
 use crate::solves::{Solve, costs_after, costs_from, next_source};
 use crate::team_watch::{SolveCount, TeamWatch, see_round};
 use crate::watch::{Phase, Watch};
@@ -70,14 +68,10 @@ pub fn put_all_walked<H: Threads + Wait + Clock + Sync, W: Write, G: Gate + Sync
     queries: PairQueries<'_>,
     kept: &mut Option<Workspace>,
     watch: &mut impl Watch,
-) -> Result<(), Fault>
+)
     requires graphs { AreGraphs queries.graphs.now }
-    ensures same { IsSame sink.old sink.new }
-    ensures blocks { OnOk result (Puts W.contents (ArePairsIn queries.entry.graphs.now true queries.entry.pairs.now)
-        sink.old sink.new) }
-    ensures prefix { OnErr result (Cuts W.contents (ArePairsIn queries.entry.graphs.now true queries.entry.pairs.now)
-        sink.old sink.new) }
-    ensures kinds { IfErr result IsWritingFault }
+    ensures { Puts W.contents (ArePairsIn queries.entry.graphs.now true queries.entry.pairs.now)
+        sink.old sink.new }
 {
     let (env, asked) = (context.env(), context.asked);
     let teams = teams_for(queries.graphs, asked);
@@ -88,9 +82,8 @@ pub fn put_all_walked<H: Threads + Wait + Clock + Sync, W: Write, G: Gate + Sync
     };
     let workers = Workers::new(asked.settings, context.gate, kept.take());
     let mut queue = TaskQueue::new(env.alloc, count, teams, workers);
-    put_all_lines(&env, sink, &tasks, &mut queue, watch)?;
+    put_all_lines(&env, sink, &tasks, &mut queue, watch);
     *kept = Some(queue.into_workspace());
-    Ok(())
 }
 
 fn put_all_lines<H: Threads + Wait + Clock + Sync, W: Write, G: Gate + Sync>(
@@ -99,27 +92,22 @@ fn put_all_lines<H: Threads + Wait + Clock + Sync, W: Write, G: Gate + Sync>(
     tasks: &WalkTasks<'_>,
     queue: &mut TaskQueue<'_, LinesText, G>,
     watch: &mut impl Watch,
-) -> Result<(), Fault>
+)
     requires graphs { AreGraphs tasks.now.queries.graphs.now }
     requires made { AreFinished (AreLines tasks.now) queue.old.made.items }
-    ensures same { IsSame sink.old sink.new }
-    ensures blocks { OnOk result (Puts W.contents (AreBlocks (IsWalkedBlock tasks.now.queries.graphs.now)
-        tasks.now.queries.pairs.now) sink.old sink.new) }
-    ensures prefix { OnErr result (Cuts W.contents (AreBlocks (IsWalkedBlock tasks.now.queries.graphs.now)
-        tasks.now.queries.pairs.now) sink.old sink.new) }
-    ensures kinds { IfErr result IsWritingFault }
+    ensures { Puts W.contents (AreBlocks (IsWalkedBlock tasks.now.queries.graphs.now)
+        tasks.now.queries.pairs.now) sink.old sink.new }
 {
     blocks_are_unique();
     let count = tasks.queries.pairs.len();
     let mut first = 0;
     while first < count {
-        watch.see_answered(first, count);
-        first += put_lines_at(env, sink, tasks, first, queue, watch)?;
+        first += put_lines_at(env, sink, tasks, first, queue, watch);
     }
-    Ok(())
 }
 
-/// Puts the lines of a task, made before its turn or solved now. Returns the number of its pairs.
+/// Puts the lines of a task, made before its turn or solved now. Returns the number of its pairs, or of all that are left
+/// if nothing more is written.
 fn put_lines_at<H: Threads + Wait + Clock + Sync, W: Write, G: Gate + Sync>(
     env: &Env<'_, H>,
     sink: &mut Sink<'_, W>,
@@ -127,33 +115,34 @@ fn put_lines_at<H: Threads + Wait + Clock + Sync, W: Write, G: Gate + Sync>(
     first: usize,
     queue: &mut TaskQueue<'_, LinesText, G>,
     watch: &mut impl Watch,
-) -> Result<usize, Fault>
+) -> usize
     requires graphs { AreGraphs tasks.now.queries.graphs.now }
     requires place { first < length tasks.now.queries.pairs.now }
     requires made { AreFinished (AreLines tasks.now) queue.old.made.items }
-    ensures same { IsSame sink.old sink.new }
     ensures left { AreFinished (AreLines tasks.now) queue.new.made.items }
-    ensures some { IfOk result (λ count. 1 ≤ count) }
-    ensures within { IfOk result (λ count. first + count ≤ length tasks.now.queries.pairs.now) }
-    ensures blocks { IfOk result (λ count. Puts W.contents (AreBlocks (IsWalkedBlock tasks.now.queries.graphs.now)
-        (take count (drop first tasks.now.queries.pairs.now))) sink.old sink.new) }
-    ensures prefix { OnErr result (Cuts W.contents (AreBlocks (IsWalkedBlock tasks.now.queries.graphs.now)
-        (drop first tasks.now.queries.pairs.now)) sink.old sink.new) }
-    ensures kinds { IfErr result IsWritingFault }
+    ensures some { 1 ≤ result }
+    ensures within { first + result ≤ length tasks.now.queries.pairs.now }
+    ensures blocks { Puts W.contents (AreBlocks (IsWalkedBlock tasks.now.queries.graphs.now)
+        (take result (drop first tasks.now.queries.pairs.now))) sink.old sink.new }
 {
     blocks_are_unique();
+    let queries = &tasks.queries;
+    let count = queries.pairs.len();
+    if sink.has_stopped() {
+        return count - first;
+    }
+    watch.see_answered(first, count);
     let text = take_lines(env, queue, tasks, first);
     see_round(env.rt, queue.at_once(), &tasks.solves, watch);
     if let Some(text) = text {
-        sink.send_with(&text.bytes)?;
+        sink.put_all(text.bytes);
         watch.end(env.rt, Phase::Writing);
-        return Ok(text.count);
+        return text.count;
     }
-    let queries = &tasks.queries;
     let solve = Solve::of_queries(queries.pairs, first);
     let workers = &mut queue.workers;
-    put_solved_pairs(env, sink, queries, solve, workers, watch)?;
-    Ok(solve.end - first)
+    put_solved_pairs(env, sink, queries, solve, workers, watch);
+    solve.end - first
 }
 
 /// The lines of a task, if they were made before.
@@ -197,21 +186,24 @@ fn make_lines<H: Threads + Wait + Clock + Sync, G: Gate + Sync>(
     let mut watch = TeamWatch {
         solves: &tasks.solves,
     };
-    held_lines(env, &tasks.queries, place, workers, &mut watch).ok()
+    held_lines(env, &tasks.queries, place, workers, &mut watch)
 }
 
-/// The lines of a task, in memory. Fails if they are long, too.
+/// The lines of a task, in memory.
 fn held_lines<H: Threads + Wait + Clock + Sync, G: Gate + Sync>(
     env: &Env<'_, H>,
     queries: &PairQueries<'_>,
     first: usize,
     workers: &mut Workers<'_, G>,
     watch: &mut impl Watch,
-) -> Result<LinesText, Fault>
+) -> Option<LinesText>
     requires graphs { AreGraphs queries.now.graphs.now }
     requires place { first < length queries.now.pairs.now }
-    ensures { IfOk result (IsLinesText queries.now.graphs.now queries.now.pairs.now first) }
+    ensures { IfSome result (IsLinesText queries.now.graphs.now queries.now.pairs.now first) }
 {
+    // The lines that are kept are those that there are.
+    least_labels_exist();
+    hops_and_parents_exist();
     let graphs = queries.graphs;
     let pairs = &queries.pairs[first..];
     let solve = Solve::of_queries(pairs, 0);
@@ -221,9 +213,13 @@ fn held_lines<H: Threads + Wait + Clock + Sync, G: Gate + Sync>(
         writer: &mut nobody,
         waiting: &mut bytes,
         piece: most_bytes(graphs),
+        stop: None,
     };
-    put_solved_pairs(env, &mut sink, &rest, solve, workers, watch)?;
-    Ok(LinesText {
+    put_solved_pairs(env, &mut sink, &rest, solve, workers, watch);
+    if sink.has_stopped() {
+        return None;
+    }
+    Some(LinesText {
         count: solve.end,
         bytes,
     })
@@ -237,57 +233,33 @@ fn put_solved_pairs<H: Threads + Wait + Clock + Sync, W: Write, G: Gate + Sync>(
     solve: Solve,
     workers: &mut Workers<'_, G>,
     watch: &mut impl Watch,
-) -> Result<(), Fault>
+)
     requires graphs { AreGraphs queries.now.graphs.now }
     requires solve { IsForQueries queries.now.pairs.now solve }
-    ensures same { IsSame sink.old sink.new }
-    ensures blocks { OnOk result (Puts W.contents (AreBlocks (IsWalkedBlock queries.now.graphs.now)
-        (slice_range queries.now.pairs.now solve.first solve.end)) sink.old sink.new) }
-    ensures prefix { OnErr result (Cuts W.contents (AreBlocks (IsWalkedBlock queries.now.graphs.now)
-        (drop solve.first queries.now.pairs.now)) sink.old sink.new) }
-    ensures kinds { IfErr result IsWritingFault }
+    ensures { Puts W.contents (AreBlocks (IsWalkedBlock queries.now.graphs.now)
+        (slice_range queries.now.pairs.now solve.first solve.end)) sink.old sink.new }
 {
     blocks_are_unique();
     let (graphs, pairs) = (queries.graphs, queries.pairs);
     let source = pairs[solve.first].0;
-    let targets = targets_of(env.alloc, pairs, solve)?;
+    let Ok(targets) = targets_of(env.alloc, pairs, solve) else {
+        return sink.fail(Stop::Memory);
+    };
     match near_walks(env.alloc, graphs, source, &targets, workers) {
         Some(found) => {
             watch.see_solves(1);
             watch.end(env.rt, Phase::Solving);
-            put_found(sink, queries, solve, &targets, &found)?;
+            put_found(sink, queries, solve, &targets, &found);
         }
-        None => put_by_workers(env, sink, queries, solve, &targets, workers, watch)?,
+        None => match walks_to(env, graphs, source, &targets, workers, watch) {
+            Ok(walks) => {
+                let (walked, after) = (&walks.before, &walks.after);
+                put_walked(env.alloc, sink, queries, solve, walked, after);
+            }
+            Err(_) => sink.fail(Stop::Memory),
+        },
     }
     watch.end(env.rt, Phase::Writing);
-    Ok(())
-}
-
-fn put_by_workers<H: Threads + Wait + Clock + Sync, W: Write, G: Gate + Sync>(
-    env: &Env<'_, H>,
-    sink: &mut Sink<'_, W>,
-    queries: &PairQueries<'_>,
-    solve: Solve,
-    targets: &[u32],
-    workers: &mut Workers<'_, G>,
-    watch: &mut impl Watch,
-) -> Result<(), Fault>
-    requires graphs { AreGraphs queries.now.graphs.now }
-    requires solve { IsForQueries queries.now.pairs.now solve }
-    requires targets { AreTargetsOf queries.now.pairs.now solve.first solve.end targets.now }
-    ensures same { IsSame sink.old sink.new }
-    ensures blocks { OnOk result (Puts W.contents (AreBlocks (IsWalkedBlock queries.now.graphs.now)
-        (slice_range queries.now.pairs.now solve.first solve.end)) sink.old sink.new) }
-    ensures prefix { OnErr result (Cuts W.contents (AreBlocks (IsWalkedBlock queries.now.graphs.now)
-        (drop solve.first queries.now.pairs.now)) sink.old sink.new) }
-    ensures kinds { IfErr result IsWritingFault }
-{
-    blocks_are_unique();
-    let (graphs, pairs) = (queries.graphs, queries.pairs);
-    let source = pairs[solve.first].0;
-    let walks = walks_to(env, graphs, source, targets, workers, watch)?;
-    let (walked, after) = (&walks.before, &walks.after);
-    put_walked(env.alloc, sink, queries, solve, walked, after)
 }
 
 fn targets_of(alloc: Global, pairs: &[(u32, u32)], solve: Solve) -> Result<Vec<u32>, Memory>
@@ -323,7 +295,7 @@ fn walks_to<H: Threads + Wait + Clock + Sync, G: Gate + Sync>(
     targets: &[u32],
     workers: &mut Workers<'_, G>,
     watch: &mut impl Watch,
-) -> Result<BothWalked, Fault>
+) -> Result<BothWalked, Memory>
     requires graphs { AreGraphs graphs.now }
     requires source { source < graphs.now.network.n }
     requires targets { All (λ t. t < graphs.now.network.n) targets.now }
@@ -331,7 +303,6 @@ fn walks_to<H: Threads + Wait + Clock + Sync, G: Gate + Sync>(
         (λ t. IsWalked graphs.now.network.n graphs.now.network.arcs (source, t) both.before) targets.now) }
     ensures after { IfOk result (λ both. All
         (λ t. IsWalkedAfter graphs.now.grown (source, t) both.after) targets.now) }
-    ensures kinds { IfErr result IsWritingFault }
 {
     let (alloc, network, goal) = (env.alloc, &graphs.network, Goal::WalksTo(targets));
     let costs = costs_from(env, network, Start::At(source), goal, workers, watch)?;
@@ -385,28 +356,44 @@ fn put_walked<W: Write>(
     solve: Solve,
     walked: &Walked,
     after: &Option<Walked>,
-) -> Result<(), Fault>
+)
     requires graphs { AreGraphs queries.now.graphs.now }
     requires solve { IsForQueries queries.now.pairs.now solve }
     requires walked { AreEachTold (λ pair. IsWalked queries.now.graphs.now.network.n
         queries.now.graphs.now.network.arcs pair walked.now) queries.now.pairs.now solve.first solve.end }
     requires after { AreEachTold (λ pair. IsWalkedAfter queries.now.graphs.now.grown pair after.now)
         queries.now.pairs.now solve.first solve.end }
-    ensures same { IsSame sink.old sink.new }
-    ensures blocks { OnOk result (Puts W.contents (AreBlocks (IsWalkedBlock queries.now.graphs.now)
-        (slice_range queries.now.pairs.now solve.first solve.end)) sink.old sink.new) }
-    ensures prefix { OnErr result (Cuts W.contents (AreBlocks (IsWalkedBlock queries.now.graphs.now)
-        (drop solve.first queries.now.pairs.now)) sink.old sink.new) }
-    ensures few { OnOk result (length sink.new.waiting.now.items < max 1 sink.new.piece) }
-    ensures kinds { IfErr result IsWritingFault }
+    ensures { Puts W.contents (AreBlocks (IsWalkedBlock queries.now.graphs.now)
+        (slice_range queries.now.pairs.now solve.first solve.end)) sink.old sink.new }
 {
     blocks_are_unique();
     let (graphs, pairs) = (queries.graphs, queries.pairs);
     for at in solve.first..solve.end {
-        put_walked_lines(alloc, sink.waiting, graphs, pairs[at], walked, after)?;
-        sink.send_if_full()?;
+        put_pair_at(alloc, sink, graphs, pairs[at], walked, after);
     }
-    Ok(())
+}
+
+/// Puts the lines of a pair, unless nothing more is written: a walk may be long.
+fn put_pair_at<W: Write>(
+    alloc: Global,
+    sink: &mut Sink<'_, W>,
+    graphs: &Graphs,
+    pair: (u32, u32),
+    walked: &Walked,
+    after: &Option<Walked>,
+)
+    requires graphs { AreGraphs graphs.now }
+    requires pair { IsPairWithin graphs.now.network.n pair }
+    requires walked { IsWalked graphs.now.network.n graphs.now.network.arcs pair walked.now }
+    requires after { IsWalkedAfter graphs.now.grown pair after.now }
+    ensures { Puts W.contents (IsWalkedBlock graphs.now pair) sink.old sink.new }
+{
+    blocks_are_unique();
+    if sink.has_stopped() {
+        return;
+    }
+    let put = put_walked_lines(alloc, sink.waiting, graphs, pair, walked, after);
+    sink.end(put);
 }
 
 fn put_walked_lines(

@@ -95,7 +95,7 @@ fn all_visits(counter: &Counter, workers: u32) -> u64 {
 }
 
 /// A path of 200 vertices with these queries.
-fn path(alloc: Global, queries: &[u8]) -> Result<Vec<u8>, Fail> {
+pub fn path(alloc: Global, queries: &[u8]) -> Result<Vec<u8>, Fail> {
     let mut text = Vec::from_slice(alloc, b"p sp 200 199\n")?;
     for v in 1..200_u32 {
         let line = format!(in alloc; "a {v} {} 1\n", v + 1)?;

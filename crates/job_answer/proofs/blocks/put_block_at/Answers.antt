@@ -1,19 +1,17 @@
+use Rattle.std.proofs.Common.{◌∙◌, sym}
 use Rattle.job_answer.specs.Graphs.{growth_of}
-use Rattle.job_answer.proofs.Sinks.{at-err, cuts-is, puts-is}
+use Rattle.job_answer.proofs.Sinks.{puts-only, puts-text, stopped}
 use Rattle.job_answer.proofs.blocks.put_block_at.Goals as goal
 
-pub returns-in_err-send_with-clause-prefix : goal.returns-in_err-send_with-clause-prefix
-returns-in_err-send_with-clause-prefix g c =
+pub returns-then-has_stopped-clause-block : goal.returns-then-has_stopped-clause-block
+returns-then-has_stopped-clause-block g c =
+    stopped g.W.Write.contents c.args.sink.now (sym c.has_stopped.ensures ∙ c.if-has_stopped.true)
+
+pub returns-in-Some-clause-block : goal.returns-in-Some-clause-block
+returns-in-Some-clause-block g c =
     let tasks = c.args.tasks.now in
     let graphs = tasks.kind.graphs.now in
     let only =
     c.lines_are_unique.ensures tasks.kind.lines graphs.network.n graphs.network.arcs (growth_of graphs.grown) in
-    at-err _
-    (cuts-is g.W.Write.contents _ c.in-Some.text.bytes.items _ _
-    (λ other is. only _ c.in-Some.text.bytes.items other c.in-Some.ensures.text is)
-    (rw c.deref.ensures.value at c.in_err-send_with.ensures.prefix))
-
-pub returns-in-Some-clause-block : goal.returns-in-Some-clause-block
-returns-in-Some-clause-block g c =
-    puts-is g.W.Write.contents _ c.in-Some.text.bytes.items _ _ c.in-Some.ensures.text
-    (rw c.deref.ensures.value at c.in_ok-send_with.ensures.put)
+    puts-only g.W.Write.contents (only _) c.in-Some.ensures.text
+    (puts-text g.W.Write.contents c.put_all.ensures.still c.put_all.ensures.put)

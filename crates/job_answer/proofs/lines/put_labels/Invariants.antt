@@ -1,7 +1,6 @@
-use Rattle.std.proofs.Common.{◌≡◌, ◌+◌, ◌<◌, length, max}
+use Rattle.std.proofs.Common.{◌≡◌, ◌+◌, length}
 use Rattle.std.specs.Slice.Iter.{chunks_rest}
 use Rattle.answer_lines.specs.Lines.{label_lines, distances_text}
-use Rattle.job_answer.specs.Sinks.{IsSame, Puts}
 use Rattle.job_answer.proofs.Sinks.{Lacks}
 use Rattle.job_answer.proofs.lines.put_labels.Given as goal
 
@@ -9,9 +8,7 @@ abbrev pub invariant-loop-group : goal.invariant-loop-group
 invariant-loop-group g l = record {
   can_next : (goal.iterator-loop-group g).can_next l.group-iterator;
   is_finite : (goal.iterator-loop-group g).is_finite l.group-iterator;
-  same : IsSame l.fn.sink l.sink;
-  few : 0 < l.v → length l.sink.waiting.now.items < max 1 l.sink.piece;
   count : l.v + length (chunks_rest l.group-iterator) ≡ length l.labels;
-  put : Puts g.W.Write.contents
-      (Lacks (label_lines l.v (chunks_rest l.group-iterator)) (distances_text l.source l.labels)) l.fn.sink l.sink;
+  put : Lacks g.W.Write.contents (label_lines l.v (chunks_rest l.group-iterator)) (distances_text l.source l.labels)
+      l.fn.sink l.sink;
 }

@@ -1,7 +1,5 @@
-use Rattle.std.proofs.Common.{◌<◌, length, max}
 use Rattle.std.specs.Slice.Iter.{chunks_rest}
 use Rattle.answer_lines.specs.Raw.{raw_labels, raw_text}
-use Rattle.job_answer.specs.Sinks.{IsSame, Puts}
 use Rattle.job_answer.proofs.Sinks.{Lacks}
 use Rattle.job_answer.proofs.lines.put_raw.Given as goal
 
@@ -9,8 +7,5 @@ abbrev pub invariant-loop-group : goal.invariant-loop-group
 invariant-loop-group g l = record {
   can_next : (goal.iterator-loop-group g).can_next l.group-iterator;
   is_finite : (goal.iterator-loop-group g).is_finite l.group-iterator;
-  same : IsSame l.fn.sink l.sink;
-  few : length (chunks_rest l.group-iterator) < length l.labels → length l.sink.waiting.now.items < max 1 l.sink.piece;
-  put : Puts g.W.Write.contents
-      (Lacks (raw_labels (chunks_rest l.group-iterator)) (raw_text l.source l.labels)) l.fn.sink l.sink;
+  put : Lacks g.W.Write.contents (raw_labels (chunks_rest l.group-iterator)) (raw_text l.source l.labels) l.fn.sink l.sink;
 }

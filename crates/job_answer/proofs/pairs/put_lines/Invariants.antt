@@ -1,14 +1,12 @@
 use Rattle.std.proofs.Common.{false, take}
 use Rattle.job_answer.specs.AnswerText.{AreBlocks, IsGrownPair}
 use Rattle.job_answer.specs.Graphs.{growth_of}
-use Rattle.job_answer.specs.Sinks.{IsSame, Puts}
+use Rattle.job_answer.specs.Sinks.{Puts}
 use Rattle.job_answer.proofs.pairs.put_lines.Given as goal
 
 abbrev pub invariant-loop-place : goal.invariant-loop-place
-invariant-loop-place g l = record {
-  same : IsSame l.fn.sink l.sink;
-  put : Puts g.W.Write.contents
-      (AreBlocks (IsGrownPair false l.graphs.network.n l.graphs.network.arcs (growth_of l.graphs.grown))
-      (take l.place l.pairs))
-      l.fn.sink l.sink;
-}
+invariant-loop-place g l =
+    Puts g.W.Write.contents
+    (AreBlocks (IsGrownPair false l.graphs.network.n l.graphs.network.arcs (growth_of l.graphs.grown))
+    (take l.place l.pairs))
+    l.fn.sink l.sink

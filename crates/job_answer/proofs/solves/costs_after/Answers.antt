@@ -4,5 +4,5 @@ use Rattle.job_answer.proofs.solves.costs_after.Goals as goal
 pub costs_for_after-requires-clause-grown : goal.costs_for_after-requires-clause-grown
 costs_for_after-requires-clause-grown g c κs within = search rules
 
-pub returns-clause-costs : goal.returns-clause-costs
-returns-clause-costs g c = search rules
+pub returns : goal.returns
+returns g c = search rules

@@ -12,7 +12,6 @@ returns-in_ok-before-in-None g c = record {
       c.in_ok-before-in-None.ensures.walked t (c.requires.targets k d lt)
       (omega (arith, c.in_ok-costs.ensures.costs.served k d lt, same, c.limit-limit.ensures.limit));
   after = λ k d lt. rw c.in-None.is tt;
-  kinds = tt;
 }
 
 pub returns-in_ok-before-in-Some : goal.returns-in_ok-before-in-Some
@@ -36,5 +35,4 @@ returns-in_ok-before-in-Some g c =
           rw c.in-Some.is
           (c.in_ok-after-in-Some.ensures.walked t there
           (omega (arith, c.in_ok-costs-in-Some.ensures.costs.served k d lt, same, c.limit-far.ensures.limit)));
-      kinds = tt;
     }
