@@ -46,6 +46,41 @@ class Changes(Case):
                 found = graph.edges_between(ALL * 3, progress=lambda *words: done.append(words))
             self.assertEqual((sorted(found), done[-1]), (sorted(ARCS * 3), (48, 48)))
 
+    def test_add_edges(self):
+        with Graph.from_edges([("a", "b", 7)], nodes=["c"]) as graph:
+            graph.add_edges([("b", "c", 6), ("a", "c", 20)])
+            self.assertEqual((graph.m, graph.version, graph.path("a", "c")), (3, 1, ["a", "b", "c"]))
+            for edges, kind, words in (
+                ([("a", "b")], ValueError, r"^edges\[0\] is \('a', 'b'\), which is no \(tail, head, weight\)"),
+                ([("a", "b", 1), ("a", "x", 1)], NoVertex, "x"),
+                ([("a", "b", -1)], ValueError, r"^edges\[0\] has the weight -1"),
+                (7, TypeError, "^edges is 7"),
+            ):
+                with self.assertRaisesRegex(kind, words):
+                    graph.add_edges(edges)
+            graph.add_edges([])
+            self.assertEqual(graph.m, 3)
+
+    def test_weights_left_out(self):
+        for scale, cost in ((None, 2), (100, 2.0)):
+            with Graph([0, 1], [1, 2], scale=scale) as graph:
+                self.assertEqual((graph.distance(0, 2), graph.weight(0, 1)), (cost, cost / 2))
+                graph.add([0], [2])
+                self.assertEqual((graph.distance(0, 2), graph.m), (cost / 2, 3))
+                with self.assertRaisesRegex(ValueError, "^1 tails, 2 heads and 1 weights"):
+                    graph.add([0], [1, 2])
+        with self.assertRaisesRegex(ValueError, "^1 tails, 2 heads and 1 weights"):
+            Graph([0], [1, 2])
+        with Graph([], []) as graph:
+            self.assertEqual((graph.n, graph.m), (0, 0))
+        with Graph.from_edges([("a", "b"), ("b", "c", 5), ["a", "c"]], default=3) as graph:
+            self.assertEqual((graph.distance("a", "b"), graph.distance("b", "c"), graph.distance("a", "c")), (3, 5, 3))
+        for edge in (("a",), ("a", "b", 1, 2), 7):
+            with self.assertRaisesRegex((TypeError, ValueError), r"^edges\[0\] is"):
+                Graph.from_edges([edge], default=1)
+        with self.assertRaisesRegex(ValueError, r"^edges\[0\] is \('a', 'b'\)"):
+            Graph.from_edges([("a", "b")])
+
     def test_remove(self):
         for edges, gone, costs in (
             ([(0, 1)], 1, [0, None, 20, None]),

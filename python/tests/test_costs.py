@@ -109,6 +109,27 @@ class Costs(Case):
                 self.assertEqual(ints(graph.components()), components_of(n, arcs + more))
                 self.assertEqual(the_program(), number)
 
+    def test_hops(self):
+        with Graph(*columns([(0, 1, 7), (1, 2, 6), (0, 2, 20)]), scale=None) as graph:
+            self.assertEqual((graph.hops(0, 2), graph.hops(0, 1), graph.hops(1, 1)), (1, 1, 0))
+            with self.assertRaises(NoPath):
+                graph.hops(2, 0)
+        with Graph.from_edges([("a", "b", 0.5), ("b", "c", 0.25)], scale=4) as graph:
+            self.assertEqual(graph.hops("a", "c"), 2)
+
+    def test_rows_that_memory_has_no_room_for(self):
+        with Graph(*columns([(0, 1, 7)]), n=1000) as graph:
+            with mock.patch.object(hollowbowl._numbers, "_FEW_BYTES", 8000):
+                with mock.patch.object(hollowbowl._numbers, "_bytes_left", lambda: 2 * 8 * 3000 - 1):
+                    self.assertEqual(len(graph.distances([0, 1])), 2)
+                    with self.assertRaisesRegex(ValueError, r"^sources has 3 vertices, whose rows take 0 MiB .*rows\(\)"):
+                        graph.distances([0, 1, 2])
+                    self.assertEqual(sum(1 for _ in graph.rows([0] * 3)), 3)
+                with mock.patch.object(hollowbowl._numbers, "_bytes_left", lambda: None):
+                    self.assertEqual(len(graph.distances([0, 1, 2])), 3)
+        left = hollowbowl._numbers._bytes_left()
+        self.assertTrue(left is None or left > 1 << 20)
+
     def test_worked_row(self):
         with Graph([0, 0, 1], [1, 2, 2], [7, 20, 6]) as graph:
             self.assertEqual((graph.distance(0, 2), graph.path(0, 2)), (13, [0, 1, 2]))

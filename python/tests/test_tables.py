@@ -3,7 +3,7 @@
 import unittest
 from array import array
 
-from common import Case, columns, components_of, drawn, ints, numpy, optional, pandas, scipy
+from common import Case, columns, components_of, costs_from, drawn, ints, numpy, optional, pandas, scipy
 
 from hollowbowl import INF, Graph
 
@@ -46,6 +46,39 @@ class Tables(Case):
         polar = type("Polar", (Column,), {"to_list": lambda self: self.entries})
         for kind in (arrow, polar):
             self.check({name: kind(column) for name, column in TABLE.items()})
+
+    def test_without_weights(self):
+        with Graph.from_columns({"source": ["a", "a", "b"], "target": ["b", "c", "c"]}, weight=None) as graph:
+            self.assertEqual((graph.path("a", "c"), ints(graph.distances("a"))), (["a", "c"], [0, 1, 1]))
+        with Graph.from_columns(TABLE, weight=None, scale=10) as graph:
+            self.assertEqual((graph.distance("a", "c"), graph.weight("a", "b", whole=True)), (1.0, 10))
+        with self.assertRaisesRegex(ValueError, "^1 sources and 2 targets$"):
+            Graph.from_columns({"source": ["a"], "target": ["b", "c"]}, weight=None)
+        with self.assertRaisesRegex(TypeError, "which has no columns 'source' and 'target'$"):
+            Graph.from_columns(None, weight=None)
+
+    @unittest.skipIf(pandas is None, "there is no pandas")
+    def test_frames(self):
+        with Graph.from_columns(TABLE) as graph:
+            frame = graph.frame(["b", "a"])
+            self.assertEqual(list(frame.columns), ["source", "target", "cost"])
+            lines = [("b", "b", 0), ("b", "c", 6), ("a", "a", 0), ("a", "b", 7), ("a", "c", 13)]
+            self.assertEqual(list(frame.itertuples(index=False, name=None)), lines)
+            self.assertEqual(list(graph.frame("a", hops=True)["cost"]), [0, 1, 1])
+            self.assertEqual(len(graph.frame([])), 0)
+        with Graph([0, 1], [1, 2], [0.25, 0.5], scale=4) as graph:
+            self.assertEqual(list(graph.frame([0])["cost"]), [0.0, 0.25, 0.75])
+            self.assertEqual(list(graph.frame([0], whole=True)["cost"]), [0, 1, 3])
+        for seed in range(5):
+            n, arcs = drawn(seed)
+            wanted = [
+                (source, target, cost)
+                for source in range(n)
+                for target, cost in enumerate(costs_from(n, arcs, source))
+                if cost != INF
+            ]
+            with Graph(*columns(arcs), n) as graph:
+                self.assertEqual(list(graph.frame(graph).itertuples(index=False, name=None)), wanted)
 
     def test_faults(self):
         for table, kind, words in (

@@ -34,7 +34,7 @@ class Columns(Case):
             self.assertEqual(graph.distance(0, 1), 2)
 
     def test_no_columns(self):
-        for weights in ({7}, 7, None):
+        for weights in ({7}, 7):
             with self.assertRaisesRegex(ValueError, "^weights is "):
                 Graph([0], [1], weights)
         weights = {"a": 7, "b": 6}

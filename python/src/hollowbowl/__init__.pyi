@@ -27,13 +27,13 @@ class Totals(NamedTuple):
 
 class Graph:
     def __init__(
-        self, tails: Iterable[int], heads: Iterable[int], weights: Iterable[_Number], n: int | None = None, *,
+        self, tails: Iterable[int], heads: Iterable[int], weights: Iterable[_Number] | None = None, n: int | None = None, *,
         scale: int | None = None, workers: _Workers = None, names: Iterable[Hashable] | None = None, keep: bool = True,
     ) -> None: ...
     @classmethod
     def from_edges(
-        cls, edges: Iterable[tuple[Any, Any, _Number]], *, nodes: Iterable[Hashable] = (), scale: int | None = None,
-        workers: _Workers = None, keep: bool = True,
+        cls, edges: Iterable[tuple[Any, Any, _Number] | tuple[Any, Any]], *, nodes: Iterable[Hashable] = (),
+        default: _Number | None = None, scale: int | None = None, workers: _Workers = None, keep: bool = True,
     ) -> Graph: ...
     @classmethod
     def from_gr(
@@ -51,7 +51,7 @@ class Graph:
     ) -> Graph: ...
     @classmethod
     def from_networkx(
-        cls, other: Any, weight: str = "weight", *, scale: int | None = None, workers: _Workers = None,
+        cls, other: Any, weight: str | None = "weight", *, scale: int | None = None, workers: _Workers = None,
         keep: bool = True,
     ) -> Graph: ...
     @classmethod
@@ -79,8 +79,10 @@ class Graph:
     def restart(self, *, timeout: _Seconds = None) -> None: ...
     def close(self) -> None: ...
     def add(
-        self, tails: Iterable[Any], heads: Iterable[Any], weights: Iterable[_Number], *, timeout: _Seconds = None
+        self, tails: Iterable[Any], heads: Iterable[Any], weights: Iterable[_Number] | None = None, *,
+        timeout: _Seconds = None,
     ) -> None: ...
+    def add_edges(self, edges: Iterable[tuple[Any, Any, _Number]], *, timeout: _Seconds = None) -> None: ...
     def remove(
         self, edges: Iterable[tuple[Any, Any]], *, missing: Literal["raise", "ignore"] = "raise",
         timeout: _Seconds = None,
@@ -102,6 +104,7 @@ class Graph:
     def distance(
         self, source: Any, target: Any, *, hops: bool = False, whole: bool = False, timeout: _Seconds = None
     ) -> _Cost: ...
+    def hops(self, source: Any, target: Any, *, timeout: _Seconds = None) -> int: ...
     def has_path(self, source: Any, target: Any, *, timeout: _Seconds = None) -> bool: ...
     def distances(
         self, sources: Any, *, hops: bool = False, dtype: Any = None, whole: bool = False, timeout: _Seconds = None,
@@ -114,6 +117,10 @@ class Graph:
         self, sources: Any, *, hops: bool = False, dtype: Any = None, whole: bool = False, timeout: _Seconds = None,
         progress: _Progress = None,
     ) -> Iterator[tuple[Any, Any]]: ...
+    def frame(
+        self, sources: Any, *, hops: bool = False, whole: bool = False, timeout: _Seconds = None,
+        progress: _Progress = None,
+    ) -> Any: ...
     def matrix(
         self, sources: Iterable[Any], targets: Iterable[Any], *, hops: bool = False, dtype: Any = None,
         whole: bool = False, timeout: _Seconds = None, progress: _Progress = None,

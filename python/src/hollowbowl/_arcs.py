@@ -3,7 +3,7 @@
 from ._asked import Asked
 from ._changed import Changed
 from ._changes import Addition, Removal, Setting
-from ._columns import as_weights
+from ._columns import as_weights, ones
 from ._edges import taken_apart
 from ._errors import NoArc
 from ._numbers import as_seconds
@@ -35,15 +35,19 @@ class Arcs(Asked):
             raise NoArc([(tail, head)])
         return min(weight for _, _, weight in edges)
 
-    def add(self, tails, heads, weights, *, timeout=None):
-        """Adds arcs between vertices that are there. If one is refused, none is added.
+    def add(self, tails, heads, weights=None, *, timeout=None):
+        """Adds arcs between vertices that are there, of weight 1 without weights. If one is refused, none is added.
 
         After an interrupt all of them are there, or none; of more than 2**20 arcs so many times 2**20.
         """
         tails, heads = self._names.places("tails", tails), self._names.places("heads", heads)
-        columns = [tails, heads, as_weights(weights, self._scale)]
-        check_lengths(*columns)
-        self._change(Addition(columns), False, timeout)
+        weights = ones(len(tails), self._scale) if weights is None else as_weights(weights, self._scale)
+        check_lengths(tails, heads, weights)
+        self._change(Addition([tails, heads, weights]), False, timeout)
+
+    def add_edges(self, edges, *, timeout=None):
+        """Adds edges (tail, head, weight) between vertices that are there, as `add` does."""
+        self._change(Addition(self._arcs("edges", edges)), False, timeout)
 
     def remove(self, edges, *, missing="raise", timeout=None):
         """Removes all arcs between the ends of each edge (tail, head), and gives how many went.

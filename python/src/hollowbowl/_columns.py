@@ -50,6 +50,12 @@ def as_bound(cost, scale):
     return number
 
 
+def ones(count, scale):
+    """So many weights of 1."""
+    weight = scale or 1
+    return array("I", [weight]) * count if numpy is None else numpy.full(count, weight, dtype=numpy.uint32)
+
+
 def column(numbers):
     """Whole numbers that were looked at, of 4 bytes each."""
     return array("I", numbers) if numpy is None else numpy.array(numbers, dtype=numpy.uint32)

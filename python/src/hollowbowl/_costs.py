@@ -3,7 +3,7 @@
 from ._asked import Asked, kind_of
 from ._columns import as_bound
 from ._errors import NoPath, fault_of
-from ._numbers import INF, as_float_rows, as_floats, as_rows, labels_for, rows_for
+from ._numbers import INF, as_float_rows, as_floats, as_rows, check_room, labels_for, reached_in, rows_for
 from ._questions import Matrix, Near, Pairs, Rows
 
 # How many bytes of rows a request of `rows` has, if it has more than one row.
@@ -20,6 +20,10 @@ class Costs(Asked):
             raise fault_of(NoPath, source, target)
         return label if hops or whole or self._scale is None else label / self._scale
 
+    def hops(self, source, target, *, timeout=None):
+        """The fewest arcs of a walk from the source to the target; NoPath if there is none."""
+        return self.distance(source, target, hops=True, timeout=timeout)
+
     def has_path(self, source, target, *, timeout=None):
         """Tells whether a walk leads from the source to the target."""
         return self._label(source, target, False, timeout) != INF
@@ -32,10 +36,12 @@ class Costs(Asked):
         """The least costs from each of the sources to all vertices: a row for each, 2**64 - 1 where no walk leads.
 
         A single source gives a single row. Rows are numpy arrays of uint64 if numpy is there, and else `array('Q')`.
-        With `dtype=float`, and of a graph with a scale, they are of floats, with `inf` where no walk leads.
+        With `dtype=float`, and of a graph with a scale, they are of floats, with `inf` where no walk leads. Rows that
+        would take more than half of the memory that is left are a ValueError: ask for `rows`.
         """
         divisor = self._divisor(hops, dtype, whole)
         is_one, places = self._names.one_or_several("sources", sources)
+        check_room(len(places), self._names.n)
         question = Rows(kind_of(hops), places, rows_for(len(places), self._names.n))
         rows = self._ask(question, timeout, progress).rows
         rows = rows if divisor is None else as_float_rows(rows, divisor)
@@ -66,6 +72,20 @@ class Costs(Asked):
 
         most = max(1, _BYTES // max(8 * n, 1))
         return self._each(kind, Rows.form, len(places), make, answers, timeout, progress, most)
+
+    def frame(self, sources, *, hops=False, whole=False, timeout=None, progress=None):
+        """A DataFrame of pandas: a line (source, target, cost) for each vertex that a walk from a source reaches."""
+        import pandas  # It is no part of the package's own needs.
+
+        starts, targets, costs = [], [], []
+        for source, row in self.rows(sources, hops=hops, whole=True, timeout=timeout, progress=progress):
+            reached, labels = reached_in(row)
+            starts += [source] * len(reached)
+            targets += self._names.several(reached)
+            costs += labels
+        divisor = self._divisor(hops, None, whole)
+        costs = costs if divisor is None else [label / divisor for label in costs]
+        return pandas.DataFrame({"source": starts, "target": targets, "cost": costs})
 
     def matrix(self, sources, targets, *, hops=False, dtype=None, whole=False, timeout=None, progress=None):
         """The least costs from each source to each target: a row for each source, as in `distances`."""

@@ -3,13 +3,17 @@
 from ._numbers import numpy
 
 
-def edges(given, nodes):
-    """Those of edges `(tail, head, weight)`, whose ends are names; `nodes` are names that come before these."""
+def edges(given, nodes, default):
+    """Those of edges `(tail, head, weight)`, whose ends are names; `nodes` are names that come before these.
+
+    An edge of two has the weight `default`, if that isn't None.
+    """
     names = {name: place for place, name in enumerate(dict.fromkeys(nodes))}
     tails, heads, weights = [], [], []
     for edge in given:
         try:
-            tail, head, weight = edge
+            entries = tuple(edge)
+            tail, head, weight = entries if default is None or len(entries) != 2 else (*entries, default)
             tails.append(names.setdefault(tail, len(names)))
             heads.append(names.setdefault(head, len(names)))
         except (TypeError, ValueError) as fault:
@@ -22,7 +26,8 @@ def edges(given, nodes):
 def networkx(other, weight):
     """Those of a networkx graph, in which an edge without a weight has 1. Undirected edges go both ways."""
     names = {name: place for place, name in enumerate(other)}
-    arcs = [(names[tail], names[head], size) for tail, head, size in other.edges(data=weight, default=1)]
+    given = ((*ends, 1) for ends in other.edges()) if weight is None else other.edges(data=weight, default=1)
+    arcs = [(names[tail], names[head], size) for tail, head, size in given]
     if not other.is_directed():
         arcs += [(head, tail, size) for tail, head, size in arcs]
     tails, heads, weights = zip(*arcs) if arcs else ((), (), ())
@@ -30,14 +35,21 @@ def networkx(other, weight):
 
 
 def columns(table, source, target, weight):
-    """The edges of a table's rows, by the names of its columns."""
+    """The edges of a table's rows, by the names of its columns; of two entries if that of weights is None."""
+    names = [source, target] if weight is None else [source, target, weight]
     try:
-        found = [_entries(table[name]) for name in (source, target, weight)]
+        found = [_entries(table[name]) for name in names]
     except TypeError:
-        raise TypeError(f"table is {table!r}, which has no columns {source!r}, {target!r} and {weight!r}") from None
-    if not len(found[0]) == len(found[1]) == len(found[2]):
-        raise ValueError("{} sources, {} targets and {} weights".format(*map(len, found)))
+        raise TypeError(f"table is {table!r}, which has no columns {_in_words(map(repr, names))}") from None
+    counts = list(map(len, found))
+    if len(set(counts)) > 1:
+        raise ValueError(_in_words(f"{count} {what}" for count, what in zip(counts, ("sources", "targets", "weights"))))
     return zip(*found)
+
+
+def _in_words(parts):
+    *first, last = parts
+    return f"{', '.join(first)} and {last}"
 
 
 def _entries(column):

@@ -2,7 +2,7 @@
 
 from . import _from
 from ._arcs import Arcs, check_lengths
-from ._columns import as_column, as_weights, most_of
+from ._columns import as_column, as_weights, most_of, ones
 from ._costs import Costs
 from ._kept import Columns, File
 from ._measures import Measures
@@ -30,15 +30,15 @@ class Graph(Costs, Paths, Measures, Arcs):
     (13, [0, 1, 2])
     """
 
-    def __init__(self, tails, heads, weights, n=None, *, scale=None, workers=None, names=None, keep=True):
+    def __init__(self, tails, heads, weights=None, n=None, *, scale=None, workers=None, names=None, keep=True):
         """The graph of these arcs among `n` vertices; without `n` up to the greatest that an arc has.
 
-        With `keep=False` Python keeps no arcs, so no other program can begin if this one is killed.
+        Without weights each is 1. With `keep=False` Python keeps no arcs, so no other program can begin if this one is killed.
         """
         self._scale = as_scale(scale)
         tails = as_column("tails", tails, MOST_VERTICES - 1)
         heads = as_column("heads", heads, MOST_VERTICES - 1)
-        weights = as_weights(weights, self._scale)
+        weights = ones(len(tails), self._scale) if weights is None else as_weights(weights, self._scale)
         check_lengths(tails, heads, weights)
         least = max(most_of(tails), most_of(heads)) + 1
         count = least if n is None else whole(n)
@@ -48,12 +48,13 @@ class Graph(Costs, Paths, Measures, Arcs):
         self._begin(Columns(count, tails, heads, weights), workers, keep)
 
     @classmethod
-    def from_edges(cls, edges, *, nodes=(), scale=None, workers=None, keep=True):
+    def from_edges(cls, edges, *, nodes=(), default=None, scale=None, workers=None, keep=True):
         """The graph of edges `(tail, head, weight)` whose ends are any hashable names, in the order in which they come.
 
-        `nodes` are names that come before these, as of vertices without edges.
+        With a `default` weight there may be edges `(tail, head)` among them, which have that. `nodes` are names that
+        come before these, as of vertices without edges.
         """
-        tails, heads, weights, names = _from.edges(edges, nodes)
+        tails, heads, weights, names = _from.edges(edges, nodes, default)
         return cls(tails, heads, weights, len(names), scale=scale, workers=workers, names=names, keep=keep)
 
     @classmethod
@@ -74,12 +75,13 @@ class Graph(Costs, Paths, Measures, Arcs):
     def from_columns(
         cls, table, source="source", target="target", weight="weight", *, nodes=(), scale=None, workers=None, keep=True
     ):
-        """The graph of a table's rows, by the names of its columns; of `nodes` see `from_edges`.
+        """The graph of a table's rows, by the names of its columns; with `weight=None` each weighs 1.
 
+        Of `nodes` see `from_edges`.
         A table is anything with `table[name]`: a DataFrame of pandas or polars, a table of Arrow, lists by name.
         """
         edges = _from.columns(table, source, target, weight)
-        return cls.from_edges(edges, nodes=nodes, scale=scale, workers=workers, keep=keep)
+        return cls.from_edges(edges, nodes=nodes, default=1, scale=scale, workers=workers, keep=keep)
 
     @classmethod
     def from_pandas(
@@ -90,7 +92,10 @@ class Graph(Costs, Paths, Measures, Arcs):
 
     @classmethod
     def from_networkx(cls, other, weight="weight", *, scale=None, workers=None, keep=True):
-        """The graph of a networkx graph, in which an edge without a weight has 1. Undirected edges go both ways."""
+        """The graph of a networkx graph, in which an edge without a weight has 1, and with `weight=None` each.
+
+        Undirected edges go both ways.
+        """
         tails, heads, weights, names = _from.networkx(other, weight)
         return cls(tails, heads, weights, len(names), scale=scale, workers=workers, names=names, keep=keep)
 

@@ -17,6 +17,9 @@ MOST_VERTICES = 2**28
 MOST_WEIGHT = 2**32 - 1
 MOST_WORKERS = 64
 
+# Rows of so many bytes are made without a look at the memory.
+_FEW_BYTES = 1 << 26
+
 # A float is a whole number up to here.
 _EXACT = 2**53
 
@@ -70,6 +73,39 @@ def rows_for(count, n):
     if numpy is not None:
         return numpy.empty((count, n), dtype=numpy.uint64)
     return [labels_for(n) for _ in range(count)]
+
+
+def check_room(count, n):
+    """Goes on if so many rows of n labels take at most half of the memory that is left, as Linux tells it."""
+    size = 8 * count * n
+    if size <= _FEW_BYTES:
+        return
+    left = _bytes_left()
+    if left is not None and size > left // 2:
+        raise ValueError(
+            f"sources has {count} vertices, whose rows take {size >> 20} MiB where {left >> 20} MiB are left: "
+            "rows(), totals() or within() take less"
+        )
+
+
+def _bytes_left():
+    try:
+        with open("/proc/meminfo", encoding="ascii") as file:
+            for line in file:
+                if line.startswith("MemAvailable:"):
+                    return int(line.split()[1]) << 10
+    except OSError:
+        pass
+    return None
+
+
+def reached_in(row):
+    """The places of a row that a walk reaches, and their labels: two lists."""
+    if numpy is not None:
+        places = numpy.flatnonzero(row != INF)
+        return places.tolist(), row[places].tolist()
+    found = [(place, label) for place, label in enumerate(row) if label != INF]
+    return [place for place, _ in found], [label for _, label in found]
 
 
 def as_rows(labels, count, width):
