@@ -1,9 +1,9 @@
 //! Callers of a network, and what they know.
 //!
-//! Four functions as a program writes and proves them over `least_costs`. `cost_matrix` asks for the costs from each
+//! Five functions as a program writes and proves them over `least_costs`. `cost_matrix` asks for the costs from each
 //! of many sources to each of many targets. `nearest_depot` asks for the depot from which a vertex is reached at the
 //! least cost, and `nearest_two` for each of many customers which is nearest and which one next. `changes` asks what a
-//! new road saves for each of many sources. The program prints what they give for five crossings, after the example of
+//! new road saves for each of many sources, and `pairs_in_both` for many pairs, by landmarks. The program prints what they give for five crossings, after the example of
 //! `docs/LIBRARY.md`.
 #![tactic(auto)]
 
@@ -11,11 +11,13 @@ ghost use Rattle.std.specs.Prelude.{◌≡◌};
 
 mod changes;
 mod choice;
+mod landmarked;
 mod matrix;
 mod nearest;
 mod spare;
 
 use crate::changes::changes;
+use crate::landmarked::pairs_in_both;
 use crate::matrix::cost_matrix;
 use crate::nearest::nearest_depot;
 use crate::spare::nearest_two;
@@ -83,13 +85,14 @@ fn print_cost<H: Print>(rt: &H, cost: Option<u64>) -> Result<()> {
     Ok(())
 }
 
-/// Prints what the four functions give for the crossings.
+/// Prints what the five functions give for the crossings.
 fn print_callers<H: Print + Threads + Wait + Clock + Sync>(rt: &H, alloc: Global) -> Result<()> {
     let network = Network::new(rt, alloc, 5, ROADS.to_vec(alloc)?, Cost::Weight, 2)?;
     print_matrix(rt, alloc, &network)?;
     print_nearest(rt, alloc, &network)?;
     print_spares(rt, alloc, &network)?;
-    print_changes(rt, alloc, &network)
+    print_changes(rt, alloc, &network)?;
+    print_pairs(rt, alloc, &network)
 }
 
 fn print_matrix<H: Print + Threads + Wait + Clock + Sync>(
@@ -147,5 +150,20 @@ fn print_changes<H: Print + Threads + Wait + Clock + Sync>(
     for change in changes.iter() {
         println!(rt; "{:?}", change)?;
     }
+    Ok(())
+}
+
+fn print_pairs<H: Print + Threads + Wait + Clock + Sync>(
+    rt: &H,
+    alloc: Global,
+    network: &Network,
+) -> Result<()>
+    requires { network.now.n ≡ 5 }
+{
+    let changed = network.with_arcs(rt, alloc, &NEW_ROAD, 2)?;
+    let pairs = [(0, 2), (1, 2), (3, 2), (2, 4)];
+    let found = pairs_in_both(rt, alloc, network, &changed, Plan::usual(1), &pairs)?;
+    println!(rt; "{:?}", found.costs)?;
+    println!(rt; "{:?}", found.after)?;
     Ok(())
 }

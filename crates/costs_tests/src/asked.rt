@@ -1,8 +1,9 @@
-//! Tables of networks with their costs, random ones beside the plain way, sources side by side, and what is kept
-//! between calls.
+//! Tables of networks with their costs, random ones beside the plain way, sources side by side, landmarks, and
+//! what is kept between calls.
 
 mod draws;
 mod kept;
+mod landmarks;
 mod networks;
 mod refusals;
 mod sources;

@@ -12,3 +12,6 @@ mod InOrder
 mod Rows
 mod Bands
 mod Windows
+mod Weights
+mod BothWays
+mod Adding

@@ -1,4 +1,5 @@
 pub mod Graph
+pub mod Bounds
 pub mod Layout
 pub mod Free
 pub mod Bins

@@ -7,6 +7,7 @@
 
 mod bin_sort;
 mod binning;
+mod bounds;
 mod csr;
 mod free;
 pub mod laws;
@@ -16,6 +17,7 @@ mod part_sort;
 mod sort;
 mod target;
 
+pub use bounds::{Bounds, FINITE_CELLS};
 pub use csr::Csr;
 pub use route_walks::{MAX_ARCS, MAX_VERTICES};
 pub use target::Target;

@@ -6,7 +6,7 @@ ghost use Rattle.std.specs.Prelude.{◌≡◌, ◌<◌};
 mod refusals;
 
 use crate::reports::{are_below, build, distances};
-use csr_graph::Csr;
+use csr_graph::{Bounds, Csr};
 use near_labels::{SearchSpace, WalksFound};
 use route_walks::{ArcRec, EXAMPLE_ARCS, INF, Memory, arcs};
 use std::alloc::Global;
@@ -41,11 +41,13 @@ enum Question {
     Within(u64),
     /// The cost to one vertex, by a search from both ends.
     Cost(u32),
+    /// The label of one vertex by bounds, told by cells of the labels from the source.
+    Toward(u32),
 }
 
-use Question::{Cost, Labels, Walks, Within};
+use Question::{Cost, Labels, Toward, Walks, Within};
 
-const QUESTIONS: [Question; 24] = [
+const QUESTIONS: [Question; 30] = [
     Labels(&[0]),
     Labels(&[1]),
     Labels(&[2]),
@@ -61,6 +63,12 @@ const QUESTIONS: [Question; 24] = [
     Cost(3),
     Cost(4),
     Cost(5),
+    Toward(0),
+    Toward(1),
+    Toward(2),
+    Toward(3),
+    Toward(4),
+    Toward(5),
     Walks,
     Within(0),
     Within(2),
@@ -180,7 +188,34 @@ fn is_right(
             let found = forward.cost_between(backward, csr, reversed, s, v)?;
             Some(want.labels.get(v as usize) == Some(&found))
         }
+        Toward(v) => {
+            assert!(rt; v < n);
+            let cells = cells_of(want.labels);
+            let cell = cells.get(v as usize).copied().unwrap_or(0);
+            let bounds = Bounds {
+                targets: &[v],
+                cells: &cells,
+                low: &[cell],
+                high: &[u16::MAX],
+                unit: LABELS_A_CELL,
+                base: 0,
+            };
+            let found = forward.labels_toward(alloc, csr, s, &bounds)?;
+            Some(are_labels(&found, &[v], want))
+        }
     }
+}
+
+/// The labels that share a cell.
+const LABELS_A_CELL: u64 = 1 << 18;
+
+/// The cells of six labels.
+fn cells_of(labels: &[u64]) -> [u16; 6] {
+    let mut cells = [0_u16; 6];
+    for (cell, label) in cells.iter_mut().zip(labels) {
+        *cell = (*label / LABELS_A_CELL).min(u64::from(u16::MAX)) as u16;
+    }
+    cells
 }
 
 /// Asserts that answers are right, and there if enough visits are allowed. Returns how often there is none.
@@ -294,7 +329,7 @@ fn searches_that_give_up_leave_nothing(rt: HostRuntime) -> Result<(), Fail> {
     let csr = build(&rt, alloc, 6, &EXAMPLE_ARCS)?;
     let reversed = csr.reversed(alloc)?;
     let mut room = room_of(alloc, 6)?;
-    for question in [Labels(&ALL), Cost(5), Walks, Within(14)] {
+    for question in [Labels(&ALL), Cost(5), Toward(5), Walks, Within(14)] {
         expect_after_many(&rt, alloc, &mut room, &csr, &reversed, question);
     }
     Ok(())

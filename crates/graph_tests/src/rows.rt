@@ -37,6 +37,18 @@ const ENTERING: [ArcRec; 8] = arcs![
     (5, 4, 20),
 ];
 
+/// The arcs, each of weight 1.
+const UNITS: [ArcRec; 8] = arcs![
+    (0, 1, 1),
+    (0, 2, 1),
+    (1, 3, 1),
+    (2, 4, 1),
+    (3, 2, 1),
+    (3, 5, 1),
+    (4, 1, 1),
+    (4, 5, 1),
+];
+
 const ADDED: [ArcRec; 1] = arcs![(0, 5, 4)];
 
 /// The example with the added arc.

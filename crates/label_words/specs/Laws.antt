@@ -2,13 +2,15 @@
 -- they hold the state after the event, and the seat's view is the event's. And what the rule of the words keeps is a
 -- lawful core.
 use Rattle.std.specs.Prelude.{◌≡◌, ◌≢◌, ℕ, ◌+◌, ◌-◌, ◌<◌, ◌≤◌, ◌==◌, nat_lt, min, true, false}
-use Rattle.std.specs.Prelude.{Some, List, [], ◌∷◌, ◌++◌, length, slice_index, slice_set}
+use Rattle.std.specs.Prelude.{All, Some, List, [], ◌∷◌, ◌++◌, length, slice_index, slice_set}
 use Rattle.route_walks.specs.declared.graph.Seed.{Seed}
-use Rattle.route_walks.specs.Label.{AreLeast}
-use Rattle.route_walks.specs.Limit.{AreLeastLabelsUpTo}
+use Rattle.route_walks.specs.Label.{AreLeast, IsLeast}
+use Rattle.route_walks.specs.Limit.{AreLeastLabelsUpTo, AreLeastToward}
 use Rattle.route_walks.specs.Walk.{AreSeeds}
 use Rattle.route_walks.specs.Operators.{seeds_of}
 use Rattle.csr_graph.specs.Graph.{Graph, IsInRows}
+use Rattle.csr_graph.specs.Bounds.{AreBounds}
+use Rattle.csr_graph.specs.declared.bounds.Bounds.{Bounds}
 use Rattle.relax_core.specs.declared.events.Event.{Event}
 use Rattle.relax_core.specs.declared.events.Event.TheVariants.{Take, Read, Relax, Raise, RaiseBy, SetMark}
 use Rattle.relax_core.specs.declared.events.Event.TheVariants.{Finish, Keep, Return, See, Split, Join}
@@ -25,7 +27,7 @@ use Rattle.label_words.specs.Known.{after_set_mark, after_finish, after_keep, af
 use Rattle.label_words.specs.Known.{left_half, right_half, both_known, gone}
 use Rattle.label_words.specs.declared.closed.Closed.{Closed}
 use Rattle.label_words.specs.Closed.{IsEnd, AreNoHigher, closed_labels}
-use Rattle.label_words.specs.Paused.{Rest, IsPause, AreUnmarkedBelow}
+use Rattle.label_words.specs.Paused.{Rest, IsPause, AreMarkedFar, AreMarkedPast, AreUnmarkedBelow}
 use Rattle.label_words.specs.Seats.{IsReady}
 
 -- the words hold a state, in which seat s has the view that it knows
@@ -201,3 +203,26 @@ PausesAreLeastUpTo =
     → IsPause graph seeds rest
     → AreUnmarkedBelow limit rest
     → AreLeastLabelsUpTo limit graph.n graph.arcs seeds rest.labels
+
+-- a pause from whose marked vertices each walk to t costs at least a limit has labels that are least up to the limit on
+-- the way to t
+abbrev pub PausesAreLeastToward : Type 0
+PausesAreLeastToward =
+    (limit : ℕ) (graph : Graph) (seeds : List Seed) (t : ℕ) (rest : Rest)
+    → IsInRows graph
+    → IsPause graph seeds rest
+    → AreMarkedPast limit graph t rest
+    → AreLeastToward limit graph.n graph.arcs seeds t (slice_index rest.labels)
+
+-- a pause whose marked vertices are far from the targets of bounds of its graph has least labels of the targets, if a
+-- limit is at least these labels
+abbrev pub FarPausesAreLeast : Type 0
+FarPausesAreLeast =
+    (limit : ℕ) (graph : Graph) (seeds : List Seed) (bounds : Bounds) (rest : Rest)
+    → IsInRows graph
+    → IsPause graph seeds rest
+    → AreBounds graph bounds
+    → AreMarkedFar limit bounds rest
+    → All (λ t. t < graph.n) bounds.targets.now
+    → All (λ t. slice_index rest.labels t ≤ limit) bounds.targets.now
+    → All (λ t. IsLeast graph.arcs seeds t (slice_index rest.labels t)) bounds.targets.now

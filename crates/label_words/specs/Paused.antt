@@ -3,7 +3,10 @@ use Rattle.std.specs.Prelude.{◌≡◌, ℕ, ◌<◌, ◌≤◌, ◌⊎◌, Boo
 use Rattle.route_walks.specs.declared.graph.ArcRec.{ArcRec}
 use Rattle.route_walks.specs.declared.graph.Seed.{Seed}
 use Rattle.route_walks.specs.Label.{IsMet, IsRelaxed, IsSound, AreCapped}
+use Rattle.route_walks.specs.Limit.{IsPast}
 use Rattle.csr_graph.specs.Graph.{Graph}
+use Rattle.csr_graph.specs.Bounds.{ArePast}
+use Rattle.csr_graph.specs.declared.bounds.Bounds.{Bounds}
 use Rattle.relax_core.specs.State.{mark_of}
 
 -- labels and marks by vertex, as a run leaves them
@@ -31,6 +34,17 @@ pub record IsPause (graph : Graph) (seeds : List Seed) (rest : Rest) : Type 0 wh
 abbrev pub AreUnmarkedBelow : ℕ → Rest → Type 0
 AreUnmarkedBelow limit rest =
     (v : ℕ) → v < length rest.marks → mark_of rest.marks v ≡ true → limit ≤ slice_index rest.labels v
+
+-- from the label of each marked vertex each walk to t costs at least the limit
+abbrev pub AreMarkedPast : ℕ → Graph → ℕ → Rest → Type 0
+AreMarkedPast limit graph t rest =
+    (v : ℕ) → v < graph.n → mark_of rest.marks v ≡ true → IsPast limit graph.arcs t v (slice_index rest.labels v)
+
+-- each marked vertex is so far from the targets of bounds that each walk there costs at least the limit, if they are bounds
+-- of the graph
+abbrev pub AreMarkedFar : ℕ → Bounds → Rest → Type 0
+AreMarkedFar limit bounds rest =
+    (v : ℕ) → v < length rest.marks → mark_of rest.marks v ≡ true → ArePast limit bounds v (slice_index rest.labels v)
 
 -- some vertex with a label below the limit is marked
 pub record IsMarkedBelow (limit : ℕ) (rest : Rest) : Type 0 where

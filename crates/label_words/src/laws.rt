@@ -6,6 +6,7 @@ ghost use Rattle.label_words.specs.Laws.{FinishIsItsEvent, KeepIsItsEvent, Retur
 ghost use Rattle.label_words.specs.Laws.{SeeIsItsEvent, SplitIsItsEvent, JoinIsItsEvent};
 ghost use Rattle.label_words.specs.Laws.{LawfulWordsHoldACore, UnmarkedPauseIsLeast};
 ghost use Rattle.label_words.specs.Laws.{ResumedRunsEndAlike, PausesAreLeastUpTo};
+ghost use Rattle.label_words.specs.Laws.{FarPausesAreLeast, PausesAreLeastToward};
 
 /// States that words hold a lawful core between any two steps.
 pub fn lawful_words_hold_a_core()
@@ -46,4 +47,15 @@ pub fn resumed_runs_end_alike()
 /// A pause whose marked vertices have labels of at least a limit has least labels up to it. So a run may stop early.
 pub fn pauses_are_least_up_to()
     ensures { PausesAreLeastUpTo }
+{}
+
+/// States that labels of a pause are least up to a limit on the way to a vertex, if marked vertices are past it. So a run
+/// may leave alone what is too far from the vertex.
+pub fn pauses_are_least_toward()
+    ensures { PausesAreLeastToward }
+{}
+
+/// States that a pause has least labels of targets, if its marked vertices are past them by bounds.
+pub fn far_pauses_are_least()
+    ensures { FarPausesAreLeast }
 {}

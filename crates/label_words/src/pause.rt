@@ -6,8 +6,9 @@ ghost use Rattle.route_walks.specs.Walk.{AreSeeds};
 ghost use Rattle.route_walks.specs.Label.{AreLeastLabels};
 ghost use Rattle.csr_graph.specs.Graph.{Graph, IsInRows};
 ghost use Rattle.relax_core.specs.State.{mark_of};
-ghost use Rattle.label_words.specs.Paused.{IsPause, AreUnmarkedBelow, IsMarkedBelow};
+ghost use Rattle.label_words.specs.Paused.{IsPause, AreMarkedFar, AreUnmarkedBelow, IsMarkedBelow};
 
+use csr_graph::Bounds;
 use route_walks::Memory;
 use std::alloc::Global;
 use std::marker::Model;
@@ -67,6 +68,22 @@ impl Paused {
     {
         for v in 0..self.marks.len() {
             if self.marks[v] && self.labels[v] < limit {
+                return false;
+            }
+        }
+        true
+    }
+
+    /// Tells if each marked one of `n` vertices is so far from the targets of these bounds that each walk there costs at
+    /// least the limit. Looks at every mark.
+    pub fn is_marked_far(&self, bounds: &Bounds<'_>, n: u32, limit: u64) -> bool
+        requires labels { length self.now.labels ≡ n }
+        requires marks { length self.now.marks ≡ n }
+        ensures { result ≡ true → AreMarkedFar limit bounds.now self.now }
+    {
+        for v in 0..n {
+            let place = v as usize;
+            if self.marks[place] && !bounds.is_past(v, self.labels[place], limit) {
                 return false;
             }
         }

@@ -8,4 +8,5 @@ pub mod Taken
 pub mod Filling
 pub mod Reaching
 pub mod Bounds
+pub mod Cells
 pub mod Facts

@@ -8,6 +8,7 @@ pub mod Teams
 pub mod TaskQueue
 pub mod Each
 pub mod Taken
+pub mod Landmarks
 pub mod Pairs
 pub mod Within
 pub mod Below

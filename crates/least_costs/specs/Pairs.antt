@@ -1,6 +1,6 @@
 -- The least costs of pairs.
 use Rattle.std.specs.Prelude.{◌≡◌, ◌≢◌, ℕ, ◌+◌, ◌<◌, ◌≤◌, List, Option, All, Contains, length, slice_index_or, take}
-use Rattle.std.specs.Prelude.{None, Some, ⊤, slice_index}
+use Rattle.std.specs.Prelude.{IfSome, None, Some, ⊤, slice_index}
 use denote.Ref.{Bor}
 use Rattle.least_costs.specs.Costs.{AreCostsTo, IsCostTo}
 use Rattle.least_costs.specs.Network.{GrowsTo, NetworkSeen}
@@ -50,6 +50,7 @@ pub record AreAsked (asked : Pairs) : Type 0 where
   pub order : AreBySource asked.pairs.now asked.order.now
   pub within : ArePairsWithin asked.network.now.n asked.pairs.now
   pub grows : GrowsInto asked.network.now asked.grown
+  pub landmarks : IfSome asked.landmarks (λ l. l.now.net ≡ asked.network.now)
 
 -- the entries of the order from a place on are of pairs that have these costs
 abbrev pub AreCostsAt : NetworkSeen → List (ℕ × ℕ) → List (ℕ × ℕ) → ℕ → List (Option ℕ) → Type 0

@@ -17,6 +17,9 @@ const SMALL_VERTICES: u32 = 4096;
 /// A search then visits one vertex for so many, and at most `CHEAP_VISITS`.
 const VERTICES_A_LAST_VISIT: u32 = 512;
 
+/// By landmarks a search visits at most one vertex for so many.
+const VERTICES_A_GUIDED_VISIT: u32 = 4;
+
 /// The fewest visits that a search is given.
 const MIN_VISITS: u32 = 64;
 
@@ -42,6 +45,16 @@ impl SearchBudget {
             visits: (n / VERTICES_A_FIRST_VISIT).max(CHEAP_VISITS),
             least: least_visits(n),
             most: (n / VERTICES_A_VISIT).max(CHEAP_VISITS),
+        }
+    }
+
+    /// The budget in a network of `n` vertices if landmarks tell the way. A search is then worth a fair part of a run.
+    pub(crate) fn by_landmarks(n: u32) -> SearchBudget {
+        let most = (n / VERTICES_A_GUIDED_VISIT).max(CHEAP_VISITS);
+        SearchBudget {
+            visits: most,
+            least: (most / 8).max(CHEAP_VISITS),
+            most,
         }
     }
 

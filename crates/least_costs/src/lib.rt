@@ -20,6 +20,9 @@
 //! }
 //! ```
 //!
+//! `Landmarks` are vertices from which a network was solved once. By them `between_with` finds the costs of pairs with a
+//! fraction of the visits.
+//!
 //! `Each` is made of a `TaskQueue`: tasks of any kind that teams do at the same time, before their turn. `Workers` keep
 //! their pool, a `WarmPool`, from one task to the next. Asked for the costs that serve a goal, they go no further, and
 //! give `CostsBelow`: labels that are least up to a limit.
@@ -32,10 +35,12 @@
 mod below;
 mod between;
 mod budget;
+mod choosing;
 mod cost;
 mod costs;
 mod each;
 mod fault;
+mod landmarks;
 pub mod laws;
 mod near;
 mod network;
@@ -57,6 +62,7 @@ pub use cost::Cost;
 pub use costs::Costs;
 pub use each::Each;
 pub use fault::NetworkFault;
+pub use landmarks::{Landmarks, MAX_LANDMARKS};
 pub use near_labels::WalksFound;
 pub use network::{MOST_ARCS, Network};
 pub use pairs::PairCosts;

@@ -4,16 +4,20 @@ ghost use Rattle.std.specs.Prelude.{◌≡◌, ◌<◌, All, IfSome, length};
 ghost use Rattle.route_walks.specs.declared.graph.TheConstants.{INF};
 ghost use Rattle.route_walks.specs.Label.{IsLeast};
 ghost use Rattle.route_walks.specs.Operators.{seeds_from};
+ghost use Rattle.csr_graph.specs.Bounds.{AreBounds};
 ghost use Rattle.near_labels.specs.Found.{AreWalksFound};
 ghost use Rattle.least_costs.specs.Costs.{AreCostsTo};
 ghost use Rattle.least_costs.specs.Near.{AreCostsWithin, AreLabelsTo};
+ghost use Rattle.least_costs.specs.Network.{graph_of};
 ghost use Rattle.least_costs.specs.declared.start.Start.TheVariants.{At};
 
 use crate::budget::{SearchBudget, SearchLimit};
 use crate::costs::costs_in_order;
+use crate::landmarks::Landmarks;
 use crate::network::Network;
 use crate::start::Start;
 use near_labels::{SearchSpace, WalksFound};
+use obim_engine::Bounds;
 use std::alloc::Global;
 use walk_report::WalkSpace;
 
@@ -28,6 +32,9 @@ const VAIN_IN: u64 = 8;
 /// gain little there for far targets.
 const VISITED_A_VERTEX: usize = 2;
 
+/// By landmarks so few targets that lie apart are searched one by one.
+const MAX_TARGETS_ONE_BY_ONE: usize = 8;
+
 /// Visits so few are never worth it.
 const MIN_SPENT_VISITS: u64 = 4096;
 
@@ -40,6 +47,7 @@ pub(crate) struct Near {
     walks: Option<WalkSpace>,
     one_end: SearchBudget,
     both_ends: SearchBudget,
+    by_landmarks: SearchBudget,
     /// The visits of searches from one end to one target.
     spent: u64,
 }
@@ -53,6 +61,7 @@ impl Near {
             walks: None,
             one_end: SearchBudget::of(0),
             both_ends: SearchBudget::of(0),
+            by_landmarks: SearchBudget::by_landmarks(0),
             spent: 0,
         }
     }
@@ -90,6 +99,82 @@ impl Near {
             }
             None => None,
         }
+    }
+
+    /// The costs of these targets by landmarks, if not much of the network has to be searched: of all at once if they lie
+    /// together, and of each by itself if there are few.
+    pub(crate) fn costs_by(
+        &mut self,
+        alloc: Global,
+        network: &Network,
+        landmarks: &Landmarks,
+        source: u32,
+        targets: &[u32],
+    ) -> Option<Vec<Option<u64>>>
+        requires landmarks { landmarks.now.net ≡ network.now }
+        requires source { source < network.now.n }
+        requires targets { All (λ t. t < network.now.n) targets.now }
+        ensures { IfSome result (λ costs. AreCostsTo network.now (At source) targets.now costs.items) }
+    {
+        if landmarks.serves(source, targets) {
+            self.costs_toward(alloc, network, landmarks, source, targets)
+        } else if targets.len() <= MAX_TARGETS_ONE_BY_ONE {
+            self.costs_one_by_one(alloc, network, landmarks, source, targets)
+        } else {
+            self.costs_to(alloc, network, source, targets)
+        }
+    }
+
+    /// The costs of these targets, each by itself.
+    fn costs_one_by_one(
+        &mut self,
+        alloc: Global,
+        network: &Network,
+        landmarks: &Landmarks,
+        source: u32,
+        targets: &[u32],
+    ) -> Option<Vec<Option<u64>>>
+        requires landmarks { landmarks.now.net ≡ network.now }
+        requires source { source < network.now.n }
+        requires targets { All (λ t. t < network.now.n) targets.now }
+        ensures { IfSome result (λ costs. AreCostsTo network.now (At source) targets.now costs.items) }
+    {
+        let mut costs = Vec::with_capacity(alloc, targets.len()).ok()?;
+        for target in targets {
+            let one = [*target];
+            let Some(found) = self.costs_toward(alloc, network, landmarks, source, &one) else {
+                return None;
+            };
+            match costs.push(found[0]) {
+                Ok(()) => {}
+                Err(_) => return None,
+            }
+        }
+        Some(costs)
+    }
+
+    /// The costs of these targets by bounds of the way to all of them.
+    fn costs_toward(
+        &mut self,
+        alloc: Global,
+        network: &Network,
+        landmarks: &Landmarks,
+        source: u32,
+        targets: &[u32],
+    ) -> Option<Vec<Option<u64>>>
+        requires landmarks { landmarks.now.net ≡ network.now }
+        requires source { source < network.now.n }
+        requires targets { All (λ t. t < network.now.n) targets.now }
+        ensures { IfSome result (λ costs. AreCostsTo network.now (At source) targets.now costs.items) }
+    {
+        self.prepare(alloc, network);
+        let limit = self.by_landmarks.limit(network);
+        let low = landmarks.low(alloc, targets).ok()?;
+        let high = landmarks.high(alloc, targets).ok()?;
+        let bounds = landmarks.toward(source, targets, &low, &high);
+        let labels = labels_toward(&mut self.forward, alloc, network, source, &bounds, limit);
+        self.by_landmarks.learn(labels.is_some());
+        costs_in_order(alloc, network, Start::At(source), targets, &labels?).ok()
     }
 
     /// The least labels of these targets and the walks to them, if near.
@@ -195,6 +280,7 @@ impl Near {
         if fit(&mut self.forward, alloc, n) {
             self.one_end = SearchBudget::of(n);
             self.both_ends = SearchBudget::of(n);
+            self.by_landmarks = SearchBudget::by_landmarks(n);
         }
     }
 }
@@ -264,6 +350,29 @@ fn labels_by(
         Some(space) if space.vertices() == network.n() as usize => {
             space.allow(limit.visits, limit.arcs);
             space.labels_to(alloc, &network.rows, source, targets)
+        }
+        _ => None,
+    }
+}
+
+/// The least labels of the targets of bounds, within the limit.
+fn labels_toward(
+    space: &mut Option<SearchSpace>,
+    alloc: Global,
+    network: &Network,
+    source: u32,
+    bounds: &Bounds<'_>,
+    limit: SearchLimit,
+) -> Option<Vec<u64>>
+    requires source { source < network.now.n }
+    requires targets { All (λ t. t < network.now.n) bounds.now.targets.now }
+    requires bounds { AreBounds (graph_of network.now) bounds.now }
+    ensures { IfSome result (AreLabelsTo network.now.arcs source bounds.now.targets.now) }
+{
+    match space {
+        Some(space) if space.vertices() == network.n() as usize => {
+            space.allow(limit.visits, limit.arcs);
+            space.labels_toward(alloc, &network.rows, source, bounds)
         }
         _ => None,
     }

@@ -167,7 +167,8 @@ impl Network {
     }
 
     /// Makes the network of the same arcs, each of which costs what `cost` says: for a network in which each costs its
-    /// weight. Shares nothing with this one, and needs a list of all arcs for a while.
+    /// weight. Shares nothing with this one. Needs a list of all arcs for a while if they cost their weights, and else
+    /// none.
     ///
     /// # Errors
     ///
@@ -183,11 +184,16 @@ impl Network {
             → IfOk result (IsNetworkOf n cost arcs) }
         ensures vertices { IfOk result (λ net. net.n ≡ self.now.n) }
     {
-        let arcs = self.rows.arcs(alloc)?;
-        match Network::new(rt, alloc, self.rows.n(), arcs, cost, threads) {
-            Ok(network) => Ok(network),
-            Err(_) => Err(Memory),
+        if self.rows.arc_count() > MOST_ARCS {
+            return Err(Memory);
         }
+        let rows = rows_by(rt, alloc, &self.rows, cost, threads)?;
+        Ok(Network {
+            rows,
+            reversed: None,
+            cost,
+            added: Vec::new(alloc),
+        })
     }
 
     /// The number of vertices.
@@ -277,6 +283,35 @@ fn rows_of<H: Threads + Sync>(
             Csr::build_from(rt, alloc, n, arcs, threads)
         }
         Cost::FreeBothWays => Csr::build_both_ways(rt, alloc, n, arcs, threads),
+    }
+}
+
+/// Returns the rows by this cost of rows in which each arc costs its weight.
+fn rows_by<H: Threads + Sync>(
+    rt: &H,
+    alloc: Global,
+    rows: &Csr,
+    cost: Cost,
+    threads: usize,
+) -> Result<Csr, Memory>
+    requires count { length rows.now.arcs ≤ MOST_ARCS }
+    ensures vertices { IfOk result (λ by. by.n ≡ rows.now.n) }
+    ensures in_rows { IfOk result IsInRows }
+    ensures arcs { IfOk result (λ by. HaveSameArcs by.arcs (arcs_of cost rows.now.arcs)) }
+{
+    // Whatever rows they are, their ends are vertices.
+    let n = rows.n();
+    match cost {
+        Cost::Weight => {
+            let arcs = rows.arcs(alloc)?;
+            Csr::build_from(rt, alloc, n, arcs, threads)
+        }
+        Cost::One => {
+            let rows = rows.with_unit_weights(alloc)?;
+            let _ = rows.n();
+            Ok(rows)
+        }
+        Cost::FreeBothWays => rows.with_both_ways(alloc),
     }
 }
 

@@ -2,7 +2,10 @@
 
 ghost use Rattle.std.specs.Prelude.{◌≡◌, ◌+◌, ◌<◌, ◌≤◌, ◌^◌, ℕ, List, All, IfOk, IfSome, OnOk, length};
 ghost use Rattle.std.specs.Thread.{IsSync};
-ghost use Rattle.label_words.specs.Closed.{IsEnd};
+ghost use Rattle.label_words.specs.Closed.{IsEnd, closed_labels};
+ghost use Rattle.least_costs.specs.Costs.{AreCostsTo, AreLeastAt};
+ghost use Rattle.least_costs.specs.declared.start.Start.TheVariants.{At};
+ghost use Rattle.route_walks.specs.Operators.{seeds_from};
 ghost use Rattle.least_costs.specs.Network.{IsStartWithin, NetworkSeen, graph_of, seeds_at};
 ghost use Rattle.least_costs.specs.Pairs.{AreAsked, AreBySource, AreCostsAfter, AreCostsAt, AreCostsFrom, AreFilled};
 ghost use Rattle.least_costs.specs.Pairs.{AreFilledAfter, AreGrownCostsTo, ArePairCosts, ArePairsWithin, AreTargets};
@@ -10,6 +13,8 @@ ghost use Rattle.least_costs.specs.Pairs.{GrowsInto, IsRun};
 ghost use Rattle.least_costs.specs.TaskQueue.{AreFinished};
 
 use crate::costs::costs_at;
+use crate::landmarks::Landmarks;
+use crate::near::Near;
 use crate::network::Network;
 use crate::progress::{Progress, Unwatched};
 use crate::solver::Solver;
@@ -29,6 +34,7 @@ use std::time::Clock;
 #[derive(Drop)]
 pub struct Pairs<'a> {
     pub network: &'a Network,
+    pub landmarks: Option<&'a Landmarks>,
     pub grown: Option<&'a Network>,
     pub pairs: &'a [(u32, u32)],
     pub order: &'a [(u32, u32)],
@@ -69,6 +75,36 @@ impl<'a, G: Gate + Sync> Solver<'a, G> {
         Ok(found.costs)
     }
 
+    /// Does what `between` does, by landmarks of the same network: they tell which vertices are too far from the target,
+    /// and these are left alone. No cost depends on which landmarks they are.
+    ///
+    /// Takes what `kept` has, and gives it back unless memory is refused.
+    pub fn between_with<H: Threads + Wait + Clock + Sync>(
+        &self,
+        rt: &H,
+        alloc: Global,
+        landmarks: &Landmarks,
+        pairs: &[(u32, u32)],
+        kept: &mut Option<Workspace>,
+        progress: &mut impl Progress,
+    ) -> Result<Vec<Option<u64>>, Memory>
+        requires landmarks { landmarks.now.net ≡ self.now.network.now }
+        requires few { length pairs.now < 2 ^ 32 }
+        requires within { ArePairsWithin self.now.network.now.n pairs.now }
+        ensures { IfOk result (λ costs. ArePairCosts self.now.network.now pairs.now costs.items) }
+    {
+        let order = by_source(alloc, pairs)?;
+        let asked = Pairs {
+            network: self.network,
+            landmarks: Some(landmarks),
+            grown: None,
+            pairs,
+            order: &order,
+        };
+        let found = self.found(rt, alloc, &asked, kept, progress)?;
+        Ok(found.costs)
+    }
+
     /// Does what `between` does, and gives the costs in a network that this one grew to by `with_arcs`, if there is
     /// one. Each source is solved once in each network; in the second only what the added arcs change is visited.
     ///
@@ -92,17 +128,34 @@ impl<'a, G: Gate + Sync> Solver<'a, G> {
         let order = by_source(alloc, pairs)?;
         let asked = Pairs {
             network: self.network,
+            landmarks: None,
             grown,
             pairs,
             order: &order,
         };
-        let mut costs = vec![in alloc; None; pairs.len()]?;
-        let mut after = room_after(alloc, &asked)?;
+        self.found(rt, alloc, &asked, kept, progress)
+    }
+
+    /// The costs of all that is asked.
+    fn found<H: Threads + Wait + Clock + Sync>(
+        &self,
+        rt: &H,
+        alloc: Global,
+        asked: &Pairs<'_>,
+        kept: &mut Option<Workspace>,
+        progress: &mut impl Progress,
+    ) -> Result<PairCosts, Memory>
+        requires { AreAsked asked.now }
+        ensures costs { IfOk result (λ found. ArePairCosts asked.now.network.now asked.now.pairs.now found.costs.items) }
+        ensures after { IfOk result (λ found. AreCostsAfter asked.now.grown asked.now.pairs.now found.after.items) }
+    {
+        let mut costs = vec![in alloc; None; asked.pairs.len()]?;
+        let mut after = room_after(alloc, asked)?;
         let teams = self.plan.teams(self.network);
         let workers = Workers::new(self.plan.settings, &self.gate, kept.take());
-        let mut queue = TaskQueue::new(alloc, order.len(), teams, workers);
+        let mut queue = TaskQueue::new(alloc, asked.order.len(), teams, workers);
         fill_all(
-            rt, alloc, &asked, &mut queue, &mut costs, &mut after, progress,
+            rt, alloc, asked, &mut queue, &mut costs, &mut after, progress,
         )?;
         *kept = Some(queue.into_workspace());
         Ok(PairCosts { costs, after })
@@ -257,11 +310,33 @@ fn costs_near(
         return None;
     };
     let source = asked.order[first].0;
-    let Some(costs) = kept.near.costs_to(alloc, asked.network, source, &targets) else {
+    let Some(costs) = search_targets(alloc, asked, source, &targets, &mut kept.near) else {
         return None;
     };
     let after = Vec::new(alloc);
     Some(PairCosts { costs, after })
+}
+
+/// The costs of these targets, if a search by landmarks or without finds them.
+fn search_targets(
+    alloc: Global,
+    asked: &Pairs<'_>,
+    source: u32,
+    targets: &[u32],
+    near: &mut Near,
+) -> Option<Vec<Option<u64>>>
+    requires landmarks { IfSome asked.now.landmarks (λ l. l.now.net ≡ asked.now.network.now) }
+    requires source { source < asked.now.network.now.n }
+    requires targets { All (λ t. t < asked.now.network.now.n) targets.now }
+    ensures { IfSome result (λ costs. AreCostsTo asked.now.network.now (At source) targets.now costs.items) }
+{
+    let network = asked.network;
+    match asked.landmarks {
+        Some(landmarks) if landmarks.len() > 0 => {
+            near.costs_by(alloc, network, landmarks, source, targets)
+        }
+        _ => near.costs_to(alloc, network, source, targets),
+    }
 }
 
 /// The costs of the source at a place, by workers.
@@ -279,13 +354,39 @@ fn costs_of<H: Threads + Wait + Clock + Sync, G: Gate + Sync>(
     let end = run_end(asked.order, first);
     let targets = targets_of(alloc, asked, first, end)?;
     let (network, start) = (asked.network, Start::At(asked.order[first].0));
-    // No run goes further than its targets.
-    let goal = Goal::Targets(&targets);
-    let reached = workers.reach(rt, alloc, network, start, goal)?;
-    let costs = costs_at(alloc, network, start, &targets, reached.closed.labels())?;
-    let closed = reached.closed;
+    let closed = reach_targets(rt, alloc, asked, asked.order[first].0, &targets, workers)?;
+    let costs = costs_at(alloc, network, start, &targets, closed.labels())?;
     let after = costs_grown(rt, alloc, asked, start, &targets, closed, workers)?;
     Ok(PairCosts { costs, after })
+}
+
+/// Runs from a source no further than to these targets, by landmarks if there are some.
+fn reach_targets<H: Threads + Wait + Clock + Sync, G: Gate + Sync>(
+    rt: &H,
+    alloc: Global,
+    asked: &Pairs<'_>,
+    source: u32,
+    targets: &[u32],
+    workers: &mut Workers<'_, G>,
+) -> Result<Closed, Memory>
+    requires landmarks { IfSome asked.now.landmarks (λ l. l.now.net ≡ asked.now.network.now) }
+    requires source { source < asked.now.network.now.n }
+    requires targets { All (λ t. t < asked.now.network.now.n) targets.now }
+    ensures end { IfOk result (IsEnd (graph_of asked.now.network.now) (seeds_from source)) }
+    ensures least { IfOk result (λ closed.
+        AreLeastAt asked.now.network.now (At source) (closed_labels closed) targets.now) }
+{
+    let network = asked.network;
+    match asked.landmarks {
+        Some(landmarks) if landmarks.serves(source, targets) => {
+            workers.reach_by(rt, alloc, network, landmarks, source, targets)
+        }
+        _ => {
+            let goal = Goal::Targets(targets);
+            let reached = workers.reach(rt, alloc, network, Start::At(source), goal)?;
+            Ok(reached.closed)
+        }
+    }
 }
 
 /// The costs in the grown network, from what the run before it left.

@@ -2,14 +2,18 @@
 
 ghost use Rattle.std.specs.Prelude.{◌≡◌, ◌<◌, All, IfOk, IfSome};
 ghost use Rattle.route_walks.specs.declared.graph.TheConstants.{INF};
-ghost use Rattle.label_words.specs.Closed.{IsEnd};
+ghost use Rattle.label_words.specs.Closed.{IsEnd, closed_labels};
 ghost use Rattle.obim_engine.specs.Goal.{HasReached, IsGoalWithin, IsServedBy};
 ghost use Rattle.near_labels.specs.Found.{AreWalksFound};
+ghost use Rattle.route_walks.specs.Operators.{seeds_from};
+ghost use Rattle.least_costs.specs.Costs.{AreLeastAt};
+ghost use Rattle.least_costs.specs.declared.start.Start.TheVariants.{At};
 ghost use Rattle.least_costs.specs.Near.{AreCostsWithin};
 ghost use Rattle.least_costs.specs.Network.{GrowsTo, IsStartWithin, graph_of, seeds_at};
 
 use crate::below::CostsBelow;
 use crate::costs::Costs;
+use crate::landmarks::Landmarks;
 use crate::network::Network;
 use crate::start::Start;
 use crate::warm_pool::{WarmPool, pause_after};
@@ -196,6 +200,31 @@ impl<'a, G: Gate + Sync> Workers<'a, G> {
         let reached = warm_pool.reach(rt, alloc, network, start, goal, self.gate)?;
         self.workspace.pool = Some(warm_pool);
         Ok(reached)
+    }
+
+    /// Runs from a source to these targets, and leaves vertices alone that are too far from them by landmarks.
+    pub(crate) fn reach_by<H: Threads + Wait + Clock + Sync>(
+        &mut self,
+        rt: &H,
+        alloc: Global,
+        network: &Network,
+        landmarks: &Landmarks,
+        source: u32,
+        targets: &[u32],
+    ) -> Result<Closed, Memory>
+        requires landmarks { landmarks.now.net ≡ network.now }
+        requires source { source < network.now.n }
+        requires targets { All (λ t. t < network.now.n) targets.now }
+        ensures end { IfOk result (IsEnd (graph_of network.now) (seeds_from source)) }
+        ensures least { IfOk result (λ closed.
+            AreLeastAt network.now (At source) (closed_labels closed) targets.now) }
+    {
+        let low = landmarks.low(alloc, targets)?;
+        let high = landmarks.high(alloc, targets)?;
+        let bounds = landmarks.toward(source, targets, &low, &high);
+        let goal = Goal::Toward(&bounds);
+        let reached = self.reach(rt, alloc, network, Start::At(source), goal)?;
+        Ok(reached.closed)
     }
 
     /// Goes on in a grown network, from what a run left before.

@@ -7,7 +7,9 @@ use Rattle.std.proofs.lemmas.List.Elements.{All-push, All-contains, Contains-app
 use Rattle.std.proofs.lemmas.Bool.{cases_eq}
 use Rattle.route_walks.specs.declared.graph.TheConstants.{INF}
 use Rattle.relax_core.specs.State.{mark_of}
-use Rattle.label_words.specs.Paused.{AreUnmarkedBelow}
+use Rattle.csr_graph.specs.Bounds.{ArePast}
+use Rattle.csr_graph.specs.declared.bounds.Bounds.{Bounds}
+use Rattle.label_words.specs.Paused.{AreMarkedFar, AreUnmarkedBelow}
 use Rattle.near_labels.specs.Noted.{AreNoted, IsBlank, IsBlankAt, rest_of}
 
 -- a vertex that is blank stays so when another one is written
@@ -136,5 +138,18 @@ noted-unmarked limit labels marks noted before none v below marked =
     elim (before.others v (omega (arith, below, before.count))) [
       | inl within ↦
           All-contains (λ (w : ℕ). mark_of marks w ≡ true → limit ≤ slice_index labels w) noted v none within marked
+      | inr blank ↦ absurd (cc (marked, blank.1))
+    ]
+
+-- each marked vertex is far from the targets of bounds, if those are that are noted
+pub noted-far : (limit : ℕ) (bounds : Bounds) (labels : List ℕ) (marks : List Bool) (noted : List ℕ)
+    → AreNoted labels marks noted
+    → All (λ v. mark_of marks v ≡ true → ArePast limit bounds v (slice_index labels v)) noted
+    → AreMarkedFar limit bounds (rest_of labels marks)
+noted-far limit bounds labels marks noted before far v below marked =
+    elim (before.others v (omega (arith, below, before.count))) [
+      | inl within ↦
+          All-contains (λ (w : ℕ). mark_of marks w ≡ true → ArePast limit bounds w (slice_index labels w)) noted v far within
+          marked
       | inr blank ↦ absurd (cc (marked, blank.1))
     ]

@@ -36,7 +36,7 @@ impl<'a> SearchAim<'a> {
         }
     }
 
-    /// Tells if what is asked for is known, if no label below `next` waits. The targets before the place `seen` are
+    /// Tells if what is asked for is known, if no key below `next` waits. The targets before the place `seen` are
     /// known. A hint.
     pub(crate) fn is_reached(&self, labels: &[u64], seen: &mut usize, next: u64) -> bool
         requires { All (λ t. t < length labels.now) (targets_of self.now) }
@@ -67,7 +67,8 @@ fn first_above(labels: &[u64], targets: &[u32], from: usize, label: u64) -> usiz
     place
 }
 
-fn farthest(labels: &[u64], targets: &[u32]) -> u64
+/// The greatest label of the targets.
+pub(crate) fn farthest(labels: &[u64], targets: &[u32]) -> u64
     requires { All (λ t. t < length labels.now) targets.now }
     ensures { All (λ t. slice_index labels.now t ≤ result) targets.now }
 {

@@ -7,6 +7,7 @@ ghost use Rattle.label_words.specs.Paused.{IsPause};
 ghost use Rattle.near_labels.specs.Noted.{AreNoted, IsBlank, rest_of};
 ghost use Rattle.near_labels.specs.Meeting.{IsReversed};
 
+use crate::guide::Guide;
 use crate::laws::meeting_is_least;
 use crate::search::begin;
 use crate::state::State;
@@ -37,10 +38,10 @@ pub(crate) fn cost_from_both(
     ensures noted_backward { AreNoted backward.new.labels.items backward.new.marks.items backward.new.noted.items }
     ensures least { IfSome result (λ cost. IsLeast csr.now.arcs (seeds_from source) target cost) }
 {
-    if !begin(forward, csr, source, &backward.labels) {
+    if !begin(forward, csr, source, Guide::OtherEnd(&backward.labels)) {
         return None;
     }
-    if !begin(backward, reversed, target, &forward.labels) {
+    if !begin(backward, reversed, target, Guide::OtherEnd(&forward.labels)) {
         return None;
     }
     if !come_near(forward, backward, csr, reversed, source, target) {
@@ -76,9 +77,9 @@ fn come_near(
             return true;
         }
         let went = if forward.queue.len() <= backward.queue.len() {
-            forward.step(csr, source, &backward.labels)
+            forward.step(csr, source, Guide::OtherEnd(&backward.labels))
         } else {
-            backward.step(reversed, target, &forward.labels)
+            backward.step(reversed, target, Guide::OtherEnd(&forward.labels))
         };
         if !went {
             return false;

@@ -15,6 +15,7 @@
 
 mod aim;
 mod both_ends;
+mod guide;
 pub mod laws;
 mod listing;
 mod search;

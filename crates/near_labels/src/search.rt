@@ -1,16 +1,19 @@
 //! A search from one end, the lowest label first.
 
-ghost use Rattle.std.specs.Prelude.{◌≡◌, ◌<◌, true, [], All, IfSome, length};
+ghost use Rattle.std.specs.Prelude.{◌≡◌, ◌<◌, true, [], All, IfSome, length, slice_index};
+ghost use Rattle.route_walks.specs.Label.{IsLeast};
 ghost use Rattle.route_walks.specs.Limit.{AreLeastLabelsUpTo};
+ghost use Rattle.csr_graph.specs.Bounds.{AreBounds};
 ghost use Rattle.route_walks.specs.Operators.{seeds_from};
 ghost use Rattle.label_words.specs.Paused.{IsPause};
 ghost use Rattle.near_labels.specs.Aim.{IsServedBy, targets_of};
 ghost use Rattle.near_labels.specs.Noted.{AreNoted, IsBlank, rest_of};
 
-use crate::aim::SearchAim;
+use crate::aim::{SearchAim, farthest};
+use crate::guide::Guide;
 use crate::state::State;
-use csr_graph::Csr;
-use label_words::laws::pauses_are_least_up_to;
+use csr_graph::{Bounds, Csr};
+use label_words::laws::{far_pauses_are_least, pauses_are_least_up_to};
 use std::cmp::Reverse;
 
 /// Searches from the source of a blank state until labels serve the aim. Returns the limit up to which they are least;
@@ -27,14 +30,36 @@ pub(crate) fn search(state: &mut State, csr: &Csr, source: u32, aim: SearchAim<'
         AreLeastLabelsUpTo limit csr.now.n csr.now.arcs (seeds_from source) state.new.labels.items) }
     ensures served { IfSome result (IsServedBy aim.entry state.new.labels.items) }
 {
-    if !begin(state, csr, source, &[]) || !go_on(state, csr, source, &aim) {
+    let guide = Guide::Labels;
+    if !begin(state, csr, source, guide) || !go_on(state, csr, source, &aim, guide) {
         return None;
     }
     limit_reached(state, csr, source, &aim)
 }
 
-/// Lets the source wait at label 0. `other`: the labels of a search from the other end, if there is one.
-pub(crate) fn begin(state: &mut State, csr: &Csr, source: u32, other: &[u64]) -> bool
+/// Searches from the source of a blank state, the vertex first that is nearest by bounds, until the labels of their
+/// targets are least. Returns false if the allowed visits don't do, or memory is refused.
+pub(crate) fn search_toward(state: &mut State, csr: &Csr, source: u32, bounds: &Bounds<'_>) -> bool
+    requires count { length state.old.labels.items ≡ csr.now.n }
+    requires blank { IsBlank state.old.labels.items state.old.marks.items }
+    requires none { state.old.noted.items ≡ [] }
+    requires source { source < csr.now.n }
+    requires targets { All (λ t. t < csr.now.n) bounds.now.targets.now }
+    ensures count { length state.new.labels.items ≡ csr.now.n }
+    ensures noted { AreNoted state.new.labels.items state.new.marks.items state.new.noted.items }
+    ensures least { result ≡ true → AreBounds csr.now bounds.now →
+        All (λ t. IsLeast csr.now.arcs (seeds_from source) t (slice_index state.new.labels.items t))
+        bounds.now.targets.now }
+{
+    let (aim, guide) = (SearchAim::Costs(bounds.targets), Guide::Bounds(bounds));
+    if !begin(state, csr, source, guide) || !go_on(state, csr, source, &aim, guide) {
+        return false;
+    }
+    is_done_toward(state, csr, source, bounds)
+}
+
+/// Lets the source wait at label 0.
+pub(crate) fn begin(state: &mut State, csr: &Csr, source: u32, guide: Guide<'_>) -> bool
     requires count { length state.old.labels.items ≡ csr.now.n }
     requires blank { IsBlank state.old.labels.items state.old.marks.items }
     requires none { state.old.noted.items ≡ [] }
@@ -46,11 +71,11 @@ pub(crate) fn begin(state: &mut State, csr: &Csr, source: u32, other: &[u64]) ->
 {
     // That the graph is in rows tells what its ends are.
     let _vertices = csr.n();
-    state.lower(source, 0, other)
+    state.lower(source, 0, guide)
 }
 
-/// Visits vertices until no lower label than the next one is asked for.
-fn go_on(state: &mut State, csr: &Csr, source: u32, aim: &SearchAim<'_>) -> bool
+/// Visits vertices until no lower label is asked for than the key by which the next one waits.
+fn go_on(state: &mut State, csr: &Csr, source: u32, aim: &SearchAim<'_>, guide: Guide<'_>) -> bool
     requires noted { AreNoted state.old.labels.items state.old.marks.items state.old.noted.items }
     requires pause { IsPause csr.now (seeds_from source) (rest_of state.old.labels.items state.old.marks.items) }
     requires targets { All (λ t. t < csr.now.n) (targets_of aim.now) }
@@ -65,13 +90,13 @@ fn go_on(state: &mut State, csr: &Csr, source: u32, aim: &SearchAim<'_>) -> bool
         if state.relaxed > state.arcs {
             return true;
         }
-        let Some(Reverse((label, u))) = state.queue.pop() else {
+        let Some(Reverse((key, u))) = state.queue.pop() else {
             return true;
         };
-        if aim.is_reached(&state.labels, &mut seen, label) {
+        if aim.is_reached(&state.labels, &mut seen, key) {
             return true;
         }
-        if u < n && state.marks[u as usize] && !state.visit(csr, source, u, &[]) {
+        if u < n && state.marks[u as usize] && !state.visit(csr, source, u, guide) {
             return false;
         }
     }
@@ -95,4 +120,19 @@ fn limit_reached(state: &State, csr: &Csr, source: u32, aim: &SearchAim<'_>) -> 
     } else {
         None
     }
+}
+
+/// Tells if what waits is too far from the targets of bounds to lower their labels.
+fn is_done_toward(state: &State, csr: &Csr, source: u32, bounds: &Bounds<'_>) -> bool
+    requires noted { AreNoted state.now.labels.items state.now.marks.items state.now.noted.items }
+    requires pause { IsPause csr.now (seeds_from source) (rest_of state.now.labels.items state.now.marks.items) }
+    requires targets { All (λ t. t < csr.now.n) bounds.now.targets.now }
+    ensures { result ≡ true → AreBounds csr.now bounds.now →
+        All (λ t. IsLeast csr.now.arcs (seeds_from source) t (slice_index state.now.labels.items t))
+        bounds.now.targets.now }
+{
+    far_pauses_are_least();
+    let _ = (csr.n(), source);
+    let limit = farthest(&state.labels, bounds.targets);
+    state.is_marked_far(bounds, limit)
 }

@@ -5,6 +5,7 @@ ghost use Rattle.route_walks.specs.declared.graph.TheConstants.{INF};
 ghost use Rattle.route_walks.specs.Label.{IsLeast};
 ghost use Rattle.route_walks.specs.Limit.{AreLeastLabelsUpTo};
 ghost use Rattle.route_walks.specs.Operators.{seeds_from};
+ghost use Rattle.csr_graph.specs.Bounds.{AreBounds};
 ghost use Rattle.near_labels.specs.Found.{AreWalksFound};
 ghost use Rattle.near_labels.specs.Meeting.{IsReversed};
 ghost use Rattle.near_labels.specs.Noted.{AreLeastOf, AreNoted, AreThoseWithin};
@@ -12,10 +13,10 @@ ghost use Rattle.near_labels.specs.Noted.{AreLeastOf, AreNoted, AreThoseWithin};
 use crate::aim::SearchAim;
 use crate::both_ends::cost_from_both;
 use crate::listing::{labels_of, listed};
-use crate::search::search;
+use crate::search::{search, search_toward};
 use crate::state::State;
 use crate::walks::{WalksFound, walks_below};
-use csr_graph::Csr;
+use csr_graph::{Bounds, Csr};
 use route_walks::Memory;
 use route_walks::laws::least_up_to_a_limit;
 use std::alloc::Global;
@@ -96,6 +97,31 @@ impl SearchSpace {
         let labels = match reached {
             Some(limit) => least_of(alloc, csr, source, &self.state.labels, limit, targets),
             None => None,
+        };
+        self.state.wipe();
+        labels
+    }
+
+    /// Returns the labels of the targets of bounds, in their order; `None` as for `labels_to`. They are least if these are
+    /// bounds of the graph. Takes the time of the vertices by way of which a target may be nearer than the farthest one.
+    pub fn labels_toward(
+        &mut self,
+        alloc: Global,
+        csr: &Csr,
+        source: u32,
+        bounds: &Bounds<'_>,
+    ) -> Option<Vec<u64>>
+        requires vertices { self.old ≡ csr.now.n }
+        requires source { source < csr.now.n }
+        requires targets { All (λ t. t < csr.now.n) bounds.now.targets.now }
+        ensures vertices { self.new ≡ self.old }
+        ensures least { AreBounds csr.now bounds.now → IfSome result (λ labels.
+            AreLeastOf csr.now.arcs (seeds_from source) bounds.now.targets.now labels.items) }
+    {
+        let labels = if search_toward(&mut self.state, csr, source, bounds) {
+            labels_of(alloc, &self.state.labels, bounds.targets)
+        } else {
+            None
         };
         self.state.wipe();
         labels

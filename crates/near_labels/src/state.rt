@@ -4,11 +4,14 @@ ghost use Rattle.std.specs.Prelude.{◌≡◌, ◌<◌, ◌≤◌, true, false, 
 ghost use Rattle.route_walks.specs.declared.graph.TheConstants.{INF};
 ghost use Rattle.route_walks.specs.Operators.{seeds_from};
 ghost use Rattle.std.specs.List.Sorted.{IsNonDecreasing};
-ghost use Rattle.label_words.specs.Paused.{IsPause, AreUnmarkedBelow};
+ghost use Rattle.relax_core.specs.State.{mark_of};
+ghost use Rattle.csr_graph.specs.Bounds.{ArePast};
+ghost use Rattle.label_words.specs.Paused.{IsPause, AreMarkedFar, AreUnmarkedBelow};
 ghost use Rattle.near_labels.specs.Noted.{AreNoted, IsBlank, rest_of};
 ghost use Rattle.near_labels.specs.Meeting.{IsLeastMeeting};
 
-use csr_graph::{Csr, Target};
+use crate::guide::Guide;
+use csr_graph::{Bounds, Csr, Target};
 use route_walks::{INF, Memory, offer};
 use std::alloc::Global;
 use std::cmp::Reverse;
@@ -76,19 +79,22 @@ impl State {
 
     /// Notes the sum of a label of `v` and the other side's, if there is another side.
     #[inline(always)]
-    fn meet(&mut self, v: u32, label: u64, other: &[u64])
+    fn meet(&mut self, v: u32, label: u64, guide: Guide<'_>)
         ensures labels { self.new.labels ≡ self.old.labels }
         ensures marks { self.new.marks ≡ self.old.marks }
         ensures noted { self.new.noted ≡ self.old.noted }
     {
-        if let Some(back) = other.get(v as usize) {
+        if let Guide::OtherEnd(other) = guide
+            && let Some(back) = other.get(v as usize)
+        {
             self.met = label.saturating_add(*back).min(self.met);
         }
     }
 
-    /// Lowers the label of `v`, marks it, and lets it wait. Returns false if memory is refused.
+    /// Lowers the label of `v`, marks it, and lets it wait by its key, unless that is `INF`. Returns
+    /// false if memory is refused.
     #[inline(always)]
-    pub(crate) fn lower(&mut self, v: u32, label: u64, other: &[u64]) -> bool
+    pub(crate) fn lower(&mut self, v: u32, label: u64, guide: Guide<'_>) -> bool
         requires noted { AreNoted self.old.labels.items self.old.marks.items self.old.noted.items }
         requires vertex { v < length self.old.labels.items }
         ensures labels { result ≡ true → self.new.labels.items ≡ slice_set self.old.labels.items v label }
@@ -97,13 +103,13 @@ impl State {
         ensures kept_marks { result ≡ false → self.new.marks.items ≡ self.old.marks.items }
         ensures noted { AreNoted self.new.labels.items self.new.marks.items self.new.noted.items }
     {
-        self.meet(v, label, other);
+        self.meet(v, label, guide);
+        let key = guide.key(v, label);
         if !self.note(v) {
             return false;
         }
-        match self.queue.push(Reverse((label, v))) {
-            Ok(()) => {}
-            Err(_) => return false,
+        if !let_wait(&mut self.queue, v, key) {
+            return false;
         }
         let place = v as usize;
         self.labels[place] = label;
@@ -112,7 +118,7 @@ impl State {
     }
 
     /// Relaxes the arcs that leave `u`. Returns false if memory is refused.
-    pub(crate) fn visit(&mut self, csr: &Csr, source: u32, u: u32, other: &[u64]) -> bool
+    pub(crate) fn visit(&mut self, csr: &Csr, source: u32, u: u32, guide: Guide<'_>) -> bool
         requires noted { AreNoted self.old.labels.items self.old.marks.items self.old.noted.items }
         requires pause { IsPause csr.now (seeds_from source) (rest_of self.old.labels.items self.old.marks.items) }
         requires vertex { u < csr.now.n }
@@ -130,7 +136,7 @@ impl State {
         self.relaxed = self.relaxed.saturating_add(row.len());
         for &Target { head, weight } in row {
             let label = offer(d, weight);
-            if label < self.labels[head as usize] && !self.lower(head, label, other) {
+            if label < self.labels[head as usize] && !self.lower(head, label, guide) {
                 return false;
             }
         }
@@ -152,8 +158,33 @@ impl State {
         true
     }
 
+    /// Tells if each marked vertex is so far from the targets of these bounds that each walk there costs at least the
+    /// limit, by the noted vertices.
+    pub(crate) fn is_marked_far(&self, bounds: &Bounds<'_>, limit: u64) -> bool
+        requires { AreNoted self.now.labels.items self.now.marks.items self.now.noted.items }
+        ensures { result ≡ true → AreMarkedFar limit bounds.now (rest_of self.now.labels.items self.now.marks.items) }
+    {
+        for v in &self.noted {
+            if !self.is_far(*v, bounds, limit) {
+                return false;
+            }
+        }
+        true
+    }
+
+    /// Tells if a vertex isn't marked, or is so far.
+    fn is_far(&self, v: u32, bounds: &Bounds<'_>, limit: u64) -> bool
+        requires count { length self.now.marks.items ≡ length self.now.labels.items }
+        requires vertex { v < length self.now.labels.items }
+        ensures { result ≡ true → mark_of self.now.marks.items v ≡ true →
+            ArePast limit bounds.now v (slice_index self.now.labels.items v) }
+    {
+        let place = v as usize;
+        !self.marks[place] || bounds.is_past(v, self.labels[place], limit)
+    }
+
     /// Visits the next vertex that waits, if one does. Returns false if memory is refused.
-    pub(crate) fn step(&mut self, csr: &Csr, source: u32, other: &[u64]) -> bool
+    pub(crate) fn step(&mut self, csr: &Csr, source: u32, guide: Guide<'_>) -> bool
         requires noted { AreNoted self.old.labels.items self.old.marks.items self.old.noted.items }
         requires pause { IsPause csr.now (seeds_from source) (rest_of self.old.labels.items self.old.marks.items) }
         ensures noted { AreNoted self.new.labels.items self.new.marks.items self.new.noted.items }
@@ -165,7 +196,7 @@ impl State {
             return true;
         };
         if u < csr.n() && self.marks[u as usize] {
-            self.visit(csr, source, u, other)
+            self.visit(csr, source, u, guide)
         } else {
             true
         }
@@ -237,5 +268,17 @@ impl State {
             self.labels[place] = INF;
             self.marks[place] = false;
         }
+    }
+}
+
+/// Lets `v` wait by a key, unless that is `INF`. Returns false if memory is refused.
+#[inline(always)]
+fn let_wait(queue: &mut BinaryHeap<Reverse<(u64, u32)>>, v: u32, key: u64) -> bool {
+    if key == INF {
+        return true;
+    }
+    match queue.push(Reverse((key, v))) {
+        Ok(()) => true,
+        Err(_) => false,
     }
 }

@@ -1,9 +1,11 @@
 //! The labels that are wanted of a run.
 
-ghost use Rattle.std.specs.Prelude.{◌≡◌, ◌↔◌, ◌<◌, ◌≤◌, IsTrue, length, slice_index, All};
-ghost use Rattle.obim_engine.specs.Goal.{IsGoalWithin, IsServedBy, limit_past, targets_of};
+ghost use Rattle.std.specs.Prelude.{◌≡◌, ◌↔◌, ◌<◌, ◌≤◌, true, IsTrue, length, slice_index, All};
+ghost use Rattle.obim_engine.specs.Goal.{HasNoneLeft, IsGoalWithin, IsNear, IsServedBy};
+ghost use Rattle.obim_engine.specs.Goal.{limit_for_all, limit_past, targets_of};
 
-use label_words::Closed;
+use csr_graph::Bounds;
+use label_words::{Closed, Paused};
 use route_walks::INF;
 
 /// The labels that are wanted. The run may stop when it has them.
@@ -18,6 +20,9 @@ pub enum Goal<'a> {
     WalksTo(&'a [u32]),
     /// All that are at most this bound.
     Within(u64),
+    /// Those of the targets of these bounds, which are least if they are bounds of the graph. The run leaves a vertex alone
+    /// if its label and its bound are at least the greatest of them.
+    Toward(&'a Bounds<'a>),
 }
 
 impl<'a> Goal<'a> {
@@ -34,6 +39,7 @@ impl<'a> Goal<'a> {
         match *self {
             Goal::Targets(targets) => targets,
             Goal::WalksTo(targets) => targets,
+            Goal::Toward(bounds) => bounds.targets,
             _ => &[],
         }
     }
@@ -47,13 +53,37 @@ impl<'a> Goal<'a> {
             Goal::Targets(_) => farthest,
             Goal::WalksTo(_) => farthest.saturating_add(1),
             Goal::Within(bound) => bound.saturating_add(1),
+            Goal::Toward(_) => farthest,
+        }
+    }
+
+    /// The limit up to which the labels of all vertices are least, if the run stopped at this one.
+    pub(crate) fn limit_for_all(&self, limit: u64) -> u64
+        ensures { result ≡ limit_for_all self.now limit }
+    {
+        match self {
+            Goal::Toward(_) => 0,
+            _ => limit,
+        }
+    }
+
+    /// Tells if no marked vertex of a pause is needed, if this limit serves its labels.
+    pub(crate) fn has_none_left(&self, rest: &Paused, n: u32, limit: u64) -> bool
+        requires labels { length rest.now.labels ≡ n }
+        requires marks { length rest.now.marks ≡ n }
+        ensures { result ≡ true → HasNoneLeft self.now limit rest.now }
+    {
+        match *self {
+            Goal::Toward(bounds) => rest.is_marked_far(bounds, n, limit),
+            _ => rest.is_unmarked_below(limit),
         }
     }
 
     /// The least limit up to which labels must be least to serve.
     pub(crate) fn limit_of(&self, labels: &[u64]) -> u64
         requires { IsGoalWithin (length labels.now) self.now }
-        ensures { IsServedBy self.now labels.now result }
+        ensures served { IsServedBy self.now labels.now (limit_for_all self.now result) }
+        ensures near { IsNear self.now labels.now result }
     {
         self.limit_past(farthest(labels, self.targets()))
     }

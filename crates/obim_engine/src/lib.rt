@@ -22,6 +22,7 @@ mod shared;
 mod until;
 mod worker;
 
+pub use csr_graph::{Bounds, FINITE_CELLS};
 pub use gate::{Gate, OpenGate};
 pub use gates::{Recorder, Yielding};
 pub use goal::{Goal, GoalResult};

@@ -98,14 +98,15 @@ where
     ensures sides { All (P.is_side run.now.pool.now) sides.new }
 {
     // That the graph is in rows tells what its pauses are worth.
-    let _vertices = run.csr.n();
+    let n = run.csr.n();
     let rest = match run_workers(rt, alloc, opened, run, sides)? {
         Closed::Settled(labels) => return Ok(settled(labels)),
         Closed::Paused(rest) => rest,
     };
     let limit = run.goal.limit_of(rest.labels());
-    if rest.is_unmarked_below(limit) {
+    if run.goal.has_none_left(&rest, n, limit) {
         let closed = Closed::Paused(rest);
+        let limit = run.goal.limit_for_all(limit);
         return Ok(GoalResult { closed, limit });
     }
     let opened = Opened::from_pause(alloc, run.csr, rest)?;

@@ -15,7 +15,7 @@ ghost use Rattle.obim_engine.specs.declared.goal.Goal.TheVariants as goal;
 use crate::budget::Budget;
 use crate::gate::Gate;
 use crate::goal::Goal;
-use crate::hints::aim::{Aim, FindTargets, RunToEnd, StopAtLimit, first_look, next_look};
+use crate::hints::aim::{Aim, FindTargets, GoToward, RunToEnd, StopAtLimit, first_look, next_look};
 use crate::hints::pace::LeadMonitor;
 use crate::hints::patience::Patience;
 use crate::hints::pauses::Pauses;
@@ -51,6 +51,10 @@ pub(crate) fn work<H: Wait + Clock, P: WorkPool, G: Gate>(
 {
     match shared.run.goal {
         Goal::EachVertex => work_with(rt, shared, worker, seat, side, &mut RunToEnd),
+        Goal::Toward(bounds) => {
+            let mut aim = GoToward::new(bounds, shared, &seat);
+            work_with(rt, shared, worker, seat, side, &mut aim)
+        }
         _ => work_until(rt, shared, worker, seat, side),
     }
 }
@@ -120,7 +124,7 @@ fn work_with<H: Wait + Clock, P: WorkPool, G: Gate, A: Aim>(
             None => near.run.pool.pop(rt, side),
         };
         if !is_alone {
-            show(&near, worker, &seat, popped);
+            show(&near, worker, &seat, popped, aim);
         }
         match popped {
             Some(u) if u < n && take_below(&near, &mut seat, aim, u) => {
@@ -236,7 +240,13 @@ fn look<C: Clock, P, G, A: Aim>(
 }
 
 /// Shows others the metric of the vertex that it is about to take, or `INF`.
-fn show<P, G>(shared: &Shared<'_, P, G>, worker: u32, seat: &WorkSeat, vertex: Option<u32>)
+fn show<P, G, A: Aim>(
+    shared: &Shared<'_, P, G>,
+    worker: u32,
+    seat: &WorkSeat,
+    vertex: Option<u32>,
+    aim: &A,
+)
     requires words { seat.now.words ≡ shared.now.words.now }
     requires graph { shared.now.run.csr.now ≡ seat.now.known.graph }
 {
@@ -246,7 +256,8 @@ fn show<P, G>(shared: &Shared<'_, P, G>, worker: u32, seat: &WorkSeat, vertex: O
     };
     if v < shared.run.csr.n() {
         if let Some(label) = shared.words.marked_label(seat, v) {
-            shared.pace.show(worker, shared.run.metric_of(label));
+            let key = aim.key(v, label);
+            shared.pace.show(worker, shared.run.metric_of(key));
         }
     }
 }
@@ -279,7 +290,7 @@ fn sweep<H: Wait, P: WorkPool, G: Gate, A: Aim>(
             break;
         }
         if !shared.pace.is_alone() {
-            show(shared, worker, &seat, Some(v));
+            show(shared, worker, &seat, Some(v), aim);
         }
         if take_below(shared, &mut seat, aim, v) {
             visit(rt, shared, worker, &mut seat, side, v, aim);
@@ -321,10 +332,11 @@ fn visit<H: Wait, P: WorkPool, G: Gate, A: Aim>(
     words.prefetch_labels(seat, csr, u);
     while let Some((head, label)) = next_lowered(words, csr, seat, u, end) {
         mark(words, seat, u);
-        if aim.is_past(label) {
+        let key = aim.key(head, label);
+        if aim.is_past(key) {
             continue;
         }
-        let metric = run.metric_of(label);
+        let metric = run.metric_of(key);
         let pushed = run.pool.push_now(side, head, metric) || run.pool.push(rt, side, head, metric);
         // If the pool refuses the head, it stays marked all the same.
         if !pushed {

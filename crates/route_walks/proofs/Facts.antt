@@ -13,6 +13,11 @@ pub use Rattle.route_walks.proofs.Labels.{settled_and_sound_are_least, least_lab
 -- exact; least labels are least up to each limit
 pub use Rattle.route_walks.proofs.Limits.{settled_up_to_is_least_up_to, least_up_to_is_least, least_is_least_up_to}
 pub use Rattle.route_walks.proofs.Limits.{least_up_to_agrees, within_is_exact, walks_below_are_tight}
+-- labels that are settled up to a limit on the way to a vertex are least up to it there, and walks there are tight
+pub use Rattle.route_walks.proofs.Limits.{settled_toward_is_least_toward, least_toward_is_least_up_to}
+pub use Rattle.route_walks.proofs.Limits.{least_up_to_is_least_toward, walks_toward_are_tight}
+-- labels along which arcs are relaxed tell bounds, and a label that reaches a limit with a bound is past it
+pub use Rattle.route_walks.proofs.Bounds.{relaxed_labels_are_bounds, backward_labels_are_bounds, bounds_are_past}
 -- where every vertex is a seed, each is
 pub use Rattle.route_walks.proofs.Components.{seed-within}
 -- what is attained along some arcs is attained along more

@@ -32,6 +32,33 @@ pub record AreSettledUpTo (limit : ℕ) (arcs : List ArcRec) (seeds : List Seed)
   pub met : All (IsMet label) seeds
   pub relaxed : All (IsRelaxedUpTo limit label) arcs
 
+-- from a label d at v each walk to t costs at least the limit
+abbrev pub IsPast : ℕ → List ArcRec → ℕ → ℕ → ℕ → Type 0
+IsPast limit arcs t v d = (walk : List ArcRec) → IsWalk arcs v walk t → limit ≤ d + cost walk
+
+-- d is the least label of v up to a limit on the way to t: at most INF, attained below INF, and each number that is
+-- attained at v is at least d, or from it each walk to t costs at least the limit
+pub record IsLeastToward (limit : ℕ) (arcs : List ArcRec) (seeds : List Seed) (t v d : ℕ) : Type 0 where
+  pub capped : d ≤ INF
+  pub attained : d < INF → IsAttained arcs seeds v d
+  pub least : (c : ℕ) → IsAttained arcs seeds v c → (d ≤ c) ⊎ IsPast limit arcs t v c
+
+-- each of n vertices has its least label up to a limit on the way to t
+abbrev pub AreLeastToward : ℕ → ℕ → List ArcRec → List Seed → ℕ → (ℕ → ℕ) → Type 0
+AreLeastToward limit n arcs seeds t label = (v : ℕ) → v < n → IsLeastToward limit arcs seeds t v (label v)
+
+-- an arc is relaxed up to a limit on the way to t: it is relaxed, or from what it offers each walk to t costs at
+-- least the limit
+abbrev pub IsRelaxedToward : ℕ → List ArcRec → ℕ → (ℕ → ℕ) → ArcRec → Type 0
+IsRelaxedToward limit arcs t label arc =
+    IsRelaxed label arc ⊎ IsPast limit arcs t arc.head (label arc.tail + arc.weight)
+
+-- labels are settled up to a limit on the way to t: all seeds are met and all arcs are relaxed up to it
+pub record AreSettledToward (limit : ℕ) (arcs : List ArcRec) (seeds : List Seed) (t : ℕ) (label : ℕ → ℕ) : Type 0
+  where
+    pub met : All (IsMet label) seeds
+    pub relaxed : All (IsRelaxedToward limit arcs t label) arcs
+
 -- a label is exact within a bound: within it, it is least, and if the least label is within it, it is that one
 pub record IsExactWithin (bound : ℕ) (arcs : List ArcRec) (seeds : List Seed) (v d : ℕ) : Type 0 where
   pub least : d ≤ bound → IsLeast arcs seeds v d
@@ -89,4 +116,41 @@ WalksBelowAreTight =
     → IsWalk arcs u walk v
     → b + cost walk ≡ label v
     → label v < limit
+    → label u ≡ b
+
+-- labels that are settled up to a limit on the way to t and sound are least up to it on that way
+abbrev pub SettledTowardIsLeastToward : Type 0
+SettledTowardIsLeastToward =
+    (limit n : ℕ) (arcs : List ArcRec) (seeds : List Seed) (t : ℕ) (label : ℕ → ℕ)
+    → AreCapped n label
+    → AreSettledToward limit arcs seeds t label
+    → IsSound n arcs seeds label
+    → AreLeastToward limit n arcs seeds t label
+
+-- a label of t that is least up to a limit on the way to t is least up to the limit
+abbrev pub LeastTowardIsLeastUpTo : Type 0
+LeastTowardIsLeastUpTo =
+    (limit : ℕ) (arcs : List ArcRec) (seeds : List Seed) (t d : ℕ)
+    → IsLeastToward limit arcs seeds t t d
+    → IsLeastUpTo limit arcs seeds t d
+
+-- a label that is least up to a limit is so on each way
+abbrev pub LeastUpToIsLeastToward : Type 0
+LeastUpToIsLeastToward =
+    (limit : ℕ) (arcs : List ArcRec) (seeds : List Seed) (t v d : ℕ)
+    → IsLeastUpTo limit arcs seeds v d
+    → IsLeastToward limit arcs seeds t v d
+
+-- on the way to t walks of least cost are tight: where what is attained at u and the cost of a walk make the label of
+-- t, which is below the limit, u has just that label
+abbrev pub WalksTowardAreTight : Type 0
+WalksTowardAreTight =
+    (limit n : ℕ) (arcs : List ArcRec) (seeds : List Seed) (t : ℕ) (label : ℕ → ℕ)
+    → AreLeastToward limit n arcs seeds t label
+    → (u b : ℕ) (walk : List ArcRec)
+    → u < n → t < n
+    → IsAttained arcs seeds u b
+    → IsWalk arcs u walk t
+    → b + cost walk ≡ label t
+    → label t < limit
     → label u ≡ b

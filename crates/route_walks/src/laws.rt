@@ -6,6 +6,9 @@ ghost use Rattle.route_walks.specs.Label.{LeastLabelsAreUnique};
 ghost use Rattle.route_walks.specs.Label.{LeastLabelsFollowTheArcs, InfMeansNoWalk, LabelsServeAsSeeds};
 ghost use Rattle.route_walks.specs.Limit.{SettledUpToIsLeastUpTo, LeastUpToIsLeast, LeastIsLeastUpTo};
 ghost use Rattle.route_walks.specs.Limit.{LeastUpToAgrees, WithinIsExact, WalksBelowAreTight};
+ghost use Rattle.route_walks.specs.Limit.{SettledTowardIsLeastToward, LeastTowardIsLeastUpTo};
+ghost use Rattle.route_walks.specs.Limit.{LeastUpToIsLeastToward, WalksTowardAreTight};
+ghost use Rattle.route_walks.specs.Bounds.{BackwardLabelsAreBounds, BoundsArePast, RelaxedLabelsAreBounds};
 ghost use Rattle.route_walks.specs.Component.{LeastLabelsAreComponents};
 ghost use Rattle.route_walks.specs.Existence.{LeastLabelsExist};
 
@@ -76,4 +79,26 @@ pub fn least_up_to_a_limit()
 /// label of just the limit may have a walk through one that isn't least, if arcs are free.
 pub fn walks_below_a_limit_are_tight()
     ensures { WalksBelowAreTight }
+{}
+
+/// States that labels are least up to a limit on the way to a vertex if each seed is met and each label is attained or
+/// `INF`. From what an arc offers that can lower one, each walk to that vertex has to cost at least the limit.
+pub fn settled_toward_a_vertex_is_least()
+    ensures settled { SettledTowardIsLeastToward }
+    ensures there { LeastTowardIsLeastUpTo }
+    ensures special { LeastUpToIsLeastToward }
+    ensures past { BoundsArePast }
+{}
+
+/// States that each vertex on a least walk to a vertex has its least label. Labels have to be least up to a limit on the
+/// way there, and that of the vertex below it.
+pub fn walks_toward_a_vertex_are_tight()
+    ensures { WalksTowardAreTight }
+{}
+
+/// States that labels tell what walks cost at least if all arcs are relaxed, as for the least labels from a landmark.
+/// They rise along a walk by no more than its cost. If arcs are relaxed backwards, they fall by no more.
+pub fn relaxed_labels_are_bounds()
+    ensures forward { RelaxedLabelsAreBounds }
+    ensures backward { BackwardLabelsAreBounds }
 {}

@@ -16,20 +16,25 @@ use std::time::Clock;
 
 /// Marsaglia's xorshift.
 #[derive(Drop)]
-struct Draws {
-    state: u64,
+pub(crate) struct Draws {
+    pub(crate) state: u64,
 }
 
 impl Draws {
     /// A number below `end`, which isn't 0.
-    fn below(&mut self, end: u32) -> u32 {
+    pub(crate) fn below(&mut self, end: u32) -> u32 {
         self.state ^= self.state << 13;
         self.state ^= self.state >> 7;
         self.state ^= self.state << 17;
         (self.state >> 40) as u32 % end.max(1)
     }
 
-    fn arcs(&mut self, alloc: Global, n: u32, count: u32) -> Result<Vec<ArcRec>, Memory> {
+    pub(crate) fn arcs(
+        &mut self,
+        alloc: Global,
+        n: u32,
+        count: u32,
+    ) -> Result<Vec<ArcRec>, Memory> {
         let mut arcs = Vec::new(alloc);
         for _ in 0..count {
             let (tail, head) = (self.below(n), self.below(n));

@@ -14,7 +14,7 @@ use std::test::Fail;
 use std::thread::Threads;
 use std::time::Clock;
 
-fn are_within(n: u32, pairs: &[(u32, u32)]) -> bool
+pub(crate) fn are_within(n: u32, pairs: &[(u32, u32)]) -> bool
     ensures { result ≡ true → ArePairsWithin n pairs.now }
 {
     pairs.iter().all(|pair| pair.0 < n && pair.1 < n)

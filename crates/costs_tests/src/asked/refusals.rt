@@ -8,8 +8,8 @@ ghost use Rattle.least_costs.specs.Pairs.{GrowsInto};
 use crate::asked::kept::{ask_in_vain, prepare};
 use crate::asked::{expect_costs, expect_within, six, tree};
 use least_costs::{
-    AtOnce, Cost, Costs, CostsBelow, CostsWithin, Network, NetworkFault, PairCosts, Plan, Solver,
-    Start, Unwatched, WarmPool, Workers, Workspace,
+    AtOnce, Cost, Costs, CostsBelow, CostsWithin, Landmarks, Network, NetworkFault, PairCosts,
+    Plan, Solver, Start, Unwatched, WarmPool, Workers, Workspace,
 };
 use obim_engine::{Goal, OpenGate};
 use route_walks::{ArcRec, EXAMPLE_ARCS, Memory, arcs, refusable, tried_again};
@@ -553,4 +553,33 @@ fn of_workers_near_within(rt: HostRuntime) -> Result<(), Fail> {
     let within = within.expect(&rt, "a bound near the source");
     assert!(rt; within.as_slice() == [(1, 0), (2, 0), (3, 0), (4, 0)].as_slice());
     Ok(())
+}
+
+fn with_landmarks<H: Threads + Wait + Clock + Abort + Sync>(
+    rt: &H,
+    alloc: Global,
+    searches: bool,
+) -> Result<(), Fail> {
+    let network = six(rt, alloc)?;
+    let solver = Solver::new(&network, Plan::usual(1));
+    let landmarks = tried_again!(rt, alloc, Memory, Landmarks::new(rt, alloc, &solver, 2));
+    let mut kept = Some(Workspace::new().searching(searches));
+    let costs = tried_again!(
+        rt,
+        alloc,
+        Memory,
+        solver.between_with(rt, alloc, &landmarks, &PAIRS, &mut kept, &mut Unwatched)
+    );
+    assert!(rt; costs.as_slice() == [Some(0), Some(15)].as_slice());
+    Ok(())
+}
+
+#[test]
+fn of_landmarks_new(rt: HostRuntime) -> Result<(), Fail> {
+    with_landmarks(&rt, rt.alloc(), true)
+}
+
+#[test]
+fn of_solver_between_with(rt: HostRuntime) -> Result<(), Fail> {
+    with_landmarks(&rt, rt.alloc(), false)
 }

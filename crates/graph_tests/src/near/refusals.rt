@@ -1,7 +1,7 @@
 //! Each call with one allocation refused: it finds nothing, and made once more in the same lists what was worked by
 //! hand.
 
-use crate::near::Question::{Cost, Labels, Walks, Within};
+use crate::near::Question::{Cost, Labels, Toward, Walks, Within};
 use crate::near::{ALL, ENOUGH, FROM_0, Question, is_right, room_of};
 use crate::reports::build;
 use near_labels::SearchSpace;
@@ -40,6 +40,11 @@ fn of_search_space_new(rt: HostRuntime) -> Result<(), Fail> {
 fn of_search_space_labels_to(rt: HostRuntime) -> Result<(), Fail> {
     expect_again(&rt, rt.alloc(), Labels(&ALL))?;
     expect_again(&rt, rt.alloc(), Cost(5))
+}
+
+#[test]
+fn of_search_space_labels_toward(rt: HostRuntime) -> Result<(), Fail> {
+    expect_again(&rt, rt.alloc(), Toward(5))
 }
 
 #[test]

@@ -1,6 +1,6 @@
 //! Each call with one allocation refused: `Memory`, and made once more the rows worked by hand.
 
-use crate::rows::{ADDED, ENTERING, GIVEN, GROWN, both_rows, expect_rows, graph_of, six};
+use crate::rows::{ADDED, ENTERING, GIVEN, GROWN, UNITS, both_rows, expect_rows, graph_of, six};
 use csr_graph::Csr;
 use route_walks::{EXAMPLE_ARCS, Memory, is_graph, tried_again};
 use std::test::Fail;
@@ -60,6 +60,29 @@ fn of_csr_arcs(rt: HostRuntime) -> Result<(), Fail> {
     let csr = six(&rt, alloc)?;
     let arcs = tried_again!(rt, alloc, Memory, csr.arcs(alloc));
     assert!(rt; arcs.as_slice() == EXAMPLE_ARCS.as_slice());
+    Ok(())
+}
+
+#[test]
+fn of_csr_with_unit_weights(rt: HostRuntime) -> Result<(), Fail> {
+    let alloc = rt.alloc();
+    let csr = six(&rt, alloc)?;
+    let units = tried_again!(rt, alloc, Memory, csr.with_unit_weights(alloc));
+    expect_rows(&rt, alloc, &units, 6, &UNITS)?;
+    expect_rows(&rt, alloc, &csr, 6, &EXAMPLE_ARCS)
+}
+
+#[test]
+fn of_csr_with_both_ways(rt: HostRuntime) -> Result<(), Fail> {
+    let alloc = rt.alloc();
+    for (n, count) in SIZES {
+        let arcs = graph_of(&rt, alloc, n, count)?;
+        let csr = Csr::build(alloc, n, &arcs)?;
+        let own = csr.arcs(alloc)?;
+        let rows = both_rows(&rt, alloc, n, &own)?;
+        let both = tried_again!(rt, alloc, Memory, csr.with_both_ways(alloc));
+        expect_rows(&rt, alloc, &both, n, &rows)?;
+    }
     Ok(())
 }
 

@@ -8,6 +8,7 @@ ghost use Rattle.obim_engine.specs.declared.goal.Goal.TheVariants as goal;
 
 use crate::goal::Goal;
 use crate::shared::Shared;
+use csr_graph::Bounds;
 use label_words::WorkSeat;
 use route_walks::INF;
 
@@ -26,9 +27,15 @@ const VERTICES_A_LATE_ONE: u32 = 32;
 
 /// An aim says which vertices a worker leaves alone, and when it leaves. By default it leaves no vertex alone.
 pub(crate) trait Aim {
-    /// Tells if a head of this label is left alone: marked, but not pushed.
+    /// The label of a vertex, and what bounds tell of the way from there on: by it the pool orders vertices.
     #[inline(always)]
-    fn is_past(&self, _label: u64) -> bool {
+    fn key(&self, _v: u32, label: u64) -> u64 {
+        label
+    }
+
+    /// Tells if a head with this key is left alone: marked, but not pushed.
+    #[inline(always)]
+    fn is_past(&self, _key: u64) -> bool {
         false
     }
 
@@ -162,8 +169,8 @@ pub(crate) struct StopAtLimit {
 
 impl Aim for StopAtLimit {
     #[inline(always)]
-    fn is_past(&self, label: u64) -> bool {
-        label >= self.limit
+    fn is_past(&self, key: u64) -> bool {
+        key >= self.limit
     }
 
     #[inline(always)]
@@ -243,20 +250,108 @@ impl StopAtLimit {
         requires graph { shared.now.run.csr.now ≡ seat.now.known.graph }
     {
         self.take_aim(shared, seat);
+        let ready = self.is_ready(shared, worker, self.limit);
+        ready && self.limit != INF
+    }
+
+    /// Tells if a worker that drew nothing may leave, unless another one is at work below this key.
+    fn is_ready<P, G>(&mut self, shared: &Shared<'_, P, G>, worker: u32, limit: u64) -> bool {
         self.idle = self.idle.saturating_add(1);
         let pace = shared.pace;
         if worker == 0 {
             // The first vertices were handed to its side, and it has drawn them.
             pace.mark_started();
         }
-        if self.limit == INF || pace.needs_sweep() {
+        if pace.needs_sweep() {
             return false;
         }
         if pace.is_alone() || self.idle >= MAX_IDLE_POPS {
             return true;
         }
-        let lowest = pace.is_lowest(worker, shared.run.metric_of(self.limit));
+        let lowest = pace.is_lowest(worker, shared.run.metric_of(limit));
         lowest && pace.has_started() && self.idle >= IDLE_POPS_BEFORE_LEAVING
+    }
+}
+
+/// The aim of a run by bounds. It leaves vertices alone from the first visit on, if they are too far from the targets or
+/// no walk leads there.
+#[derive(Drop)]
+pub(crate) struct GoToward<'a> {
+    bounds: &'a Bounds<'a>,
+    stop: StopAtLimit,
+}
+
+impl Aim for GoToward<'_> {
+    #[inline(always)]
+    fn key(&self, v: u32, label: u64) -> u64 {
+        let key = label.saturating_add(self.bounds.bound(v));
+        key.saturating_sub(self.bounds.base)
+    }
+
+    #[inline(always)]
+    fn is_past(&self, key: u64) -> bool {
+        key >= self.limit()
+    }
+
+    #[inline(always)]
+    fn skips<P, G>(&self, shared: &Shared<'_, P, G>, seat: &WorkSeat, v: u32) -> bool {
+        self.key(v, shared.words.label_hint(seat, v)) >= self.limit()
+    }
+
+    fn note_visit(&mut self) {
+        self.stop.note_visit();
+    }
+
+    fn note_sweep(&mut self, has_visited: bool) {
+        self.stop.note_sweep(has_visited);
+    }
+
+    fn look<P, G>(&mut self, shared: &Shared<'_, P, G>, seat: &WorkSeat, visits: u64) {
+        self.stop.look(shared, seat, visits);
+    }
+
+    #[inline(always)]
+    fn should_switch<P, G>(&self, _shared: &Shared<'_, P, G>) -> bool {
+        false
+    }
+
+    #[inline(never)]
+    fn should_stop<P, G>(
+        &mut self,
+        shared: &Shared<'_, P, G>,
+        seat: &WorkSeat,
+        worker: u32,
+        drawn: Option<u32>,
+    ) -> bool {
+        if matches!(shared.run.goal, Goal::EachVertex) {
+            return false;
+        }
+        self.stop.take_aim(shared, seat);
+        let limit = self.limit();
+        let may_leave = drawn.is_none() || self.stop.has_swept;
+        may_leave && self.stop.is_ready(shared, worker, limit)
+    }
+}
+
+impl<'a> GoToward<'a> {
+    pub(crate) fn new<P, G>(
+        bounds: &'a Bounds<'a>,
+        shared: &Shared<'_, P, G>,
+        seat: &WorkSeat,
+    ) -> GoToward<'a>
+        requires words { seat.now.words ≡ shared.now.words.now }
+        requires graph { shared.now.run.csr.now ≡ seat.now.known.graph }
+    {
+        GoToward {
+            bounds,
+            stop: StopAtLimit::new(shared, seat),
+        }
+    }
+
+    /// The limit, counted as keys are.
+    #[inline(always)]
+    fn limit(&self) -> u64 {
+        self.stop.limit.saturating_sub(self.bounds.base)
     }
 }
 

@@ -6,12 +6,12 @@ use Rattle.route_walks.specs.Operators.{seeds_of}
 use Rattle.route_walks.specs.Walk.{AreSeeds}
 use Rattle.csr_graph.specs.Graph.{Graph}
 use Rattle.label_words.specs.declared.closed.Closed.{Closed}
-use Rattle.label_words.specs.declared.closed.Closed.TheVariants.{Settled}
+use Rattle.label_words.specs.declared.closed.Closed.TheVariants.{Paused, Settled}
 use Rattle.label_words.specs.declared.known.Known.{Known}
 use Rattle.label_words.specs.Closed.{IsEnd}
 use Rattle.label_words.specs.Paused.{IsPause}
 use Rattle.obim_engine.specs.declared.goal.GoalResult.{GoalResult}
-use Rattle.obim_engine.specs.Goal.{HasStopped, IsServedBy}
+use Rattle.obim_engine.specs.Goal.{HasStopped, IsNear, IsServedBy, Stops, limit_for_all}
 use Rattle.obim_engine.proofs.Stopping.{settled_stops, paused_stops}
 use Rattle.obim_engine.proofs.until.reach.Goals as goal
 
@@ -26,18 +26,23 @@ returns-in-Settled-clause-stopped g c =
       stops = settled_stops run.goal graph c.in-Settled.labels c.requires.goal;
     })
 
-pub returns-then-is_unmarked_below-clause-stopped : goal.returns-then-is_unmarked_below-clause-stopped
-returns-then-is_unmarked_below-clause-stopped g c =
+pub returns-then-has_none_left-clause-stopped : goal.returns-then-has_none_left-clause-stopped
+returns-then-has_none_left-clause-stopped g c =
     let run = c.args.run.now in
     let graph = run.csr.now in
     let seeds = c.args.opened.seat.known.seeds in
     let limit = c.limit_of-limit.result in
-    let served = subst (λ (labels : List ℕ). IsServedBy run.goal labels limit) c.labels.ensures c.limit_of-limit.ensures in
+    let served =
+    subst (λ (labels : List ℕ). IsServedBy run.goal labels (limit_for_all run.goal limit)) c.labels.ensures
+    c.limit_of-limit.ensures.served in
+    let near = subst (λ (labels : List ℕ). IsNear run.goal labels limit) c.labels.ensures c.limit_of-limit.ensures.near in
+    let none = c.has_none_left.ensures c.if-has_none_left.true in
     record {
       end = subst (λ (x : Closed). IsEnd graph seeds x) c.in-Paused.is c.in_ok-labels.ensures.end;
       stops =
-          paused_stops run.goal graph c.in-Paused.rest limit c.n-vertices.ensures.in_rows c.requires.goal
-          (c.is_unmarked_below.ensures.unmarked c.if-is_unmarked_below.true) served;
+          subst (λ (l : ℕ). Stops run.goal graph record { closed = Paused c.in-Paused.rest; limit = l })
+          (sym c.limit_for_all-limit.ensures)
+          (paused_stops run.goal graph c.in-Paused.rest limit c.n-n.ensures.in_rows c.requires.goal none served near);
     }
 
 pub returns-clause-stopped : goal.returns-clause-stopped

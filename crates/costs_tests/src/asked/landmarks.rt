@@ -1,0 +1,236 @@
+//! Pairs by landmarks: the costs of whole runs, with fewer visits.
+
+ghost use Rattle.std.specs.Prelude.{◌≡◌};
+
+use crate::asked::draws::Draws;
+use crate::asked::kept::are_within;
+use crate::asked::{network_of, path, six};
+use least_costs::{Cost, Landmarks, Network, Plan, Solver, Unwatched, Workspace};
+use obim_engine::Gate;
+use route_walks::{ArcRec, Memory};
+use std::alloc::Global;
+use std::process::Abort;
+use std::sync::Wait;
+use std::sync::atomic::{AtomicU64, Ordering};
+use std::test::Fail;
+use std::thread::Threads;
+use std::time::Clock;
+
+/// The workers, true if the thread that asks searches, and the landmarks.
+const CALLS: [(u32, bool, usize); 6] = [
+    (1, true, 8),
+    (1, false, 8),
+    (2, false, 3),
+    (4, false, 16),
+    (3, true, 1),
+    (1, true, 0),
+];
+
+/// Streets between the crossings of a square of this side: some are free, and one in so many leads one way.
+fn streets(
+    alloc: Global,
+    draws: &mut Draws,
+    side: u32,
+    one_way_in: u32,
+) -> Result<Vec<ArcRec>, Memory> {
+    let mut arcs = Vec::new(alloc);
+    for row in 0..side {
+        push_row(&mut arcs, draws, side, row, one_way_in)?;
+    }
+    Ok(arcs)
+}
+
+/// Adds the streets that leave one row of crossings to the right and down.
+fn push_row(
+    arcs: &mut Vec<ArcRec>,
+    draws: &mut Draws,
+    side: u32,
+    row: u32,
+    one_way_in: u32,
+) -> Result<(), Memory> {
+    for column in 0..side {
+        let here = row.saturating_mul(side).saturating_add(column);
+        if column.saturating_add(1) < side {
+            push_street(arcs, draws, here, here.saturating_add(1), one_way_in)?;
+        }
+        if row.saturating_add(1) < side {
+            push_street(arcs, draws, here, here.saturating_add(side), one_way_in)?;
+        }
+    }
+    Ok(())
+}
+
+fn push_street(
+    arcs: &mut Vec<ArcRec>,
+    draws: &mut Draws,
+    tail: u32,
+    head: u32,
+    one_way_in: u32,
+) -> Result<(), Memory> {
+    let weight = draws.below(4).saturating_mul(draws.below(100));
+    arcs.push(ArcRec::new(tail, head, weight))?;
+    if draws.below(one_way_in) > 0 {
+        arcs.push(ArcRec::new(head, tail, weight))?;
+    }
+    Ok(())
+}
+
+/// Asserts that pairs cost by landmarks what they cost without.
+fn expect_same<H: Threads + Wait + Clock + Abort + Sync>(
+    rt: &H,
+    alloc: Global,
+    network: &Network,
+    pairs: &[(u32, u32)],
+) -> Result<(), Fail> {
+    let within = pairs.len() < 1000 && are_within(network.n(), pairs);
+    assert!(rt; within);
+    let want = Solver::new(network, Plan::usual(1)).between(rt, alloc, pairs)?;
+    for (workers, searches, count) in CALLS {
+        assert!(rt; count <= 64);
+        let solver = Solver::new(network, Plan::usual(workers));
+        let landmarks = Landmarks::new(rt, alloc, &solver, count)?;
+        assert!(rt; landmarks.len() <= count);
+        let mut kept = Some(Workspace::new().searching(searches));
+        let found = solver.between_with(rt, alloc, &landmarks, pairs, &mut kept, &mut Unwatched)?;
+        assert!(rt; kept.is_some());
+        assert!(rt; found.as_slice() == want.as_slice(), "{workers} workers");
+    }
+    Ok(())
+}
+
+/// Pairs of vertices below `n`, some with several targets of a source, and some of a vertex with itself.
+fn drawn_pairs(alloc: Global, draws: &mut Draws, n: u32) -> Result<Vec<(u32, u32)>, Memory> {
+    let mut pairs = Vec::new(alloc);
+    for at in 0..15_u32 {
+        let source = draws.below(n);
+        pairs.push((source, draws.below(n)))?;
+        if at % 5 == 0 {
+            pairs.push((source, draws.below(n)))?;
+            pairs.push((source, source))?;
+        }
+    }
+    Ok(pairs)
+}
+
+#[test]
+fn random_streets(rt: HostRuntime) -> Result<(), Fail> {
+    let alloc = rt.alloc();
+    for seed in 1..3_u64 {
+        let mut draws = Draws {
+            state: seed << 40 | 0x9E37_79B9,
+        };
+        let arcs = streets(alloc, &mut draws, 20, 8)?;
+        let network = network_of(&rt, alloc, 400, &arcs, Cost::Weight)?;
+        let pairs = drawn_pairs(alloc, &mut draws, 400)?;
+        expect_same(&rt, alloc, &network, &pairs)?;
+    }
+    Ok(())
+}
+
+#[test]
+fn random_arcs(rt: HostRuntime) -> Result<(), Fail> {
+    let alloc = rt.alloc();
+    for (seed, count, cost) in [
+        (1_u64, 300, Cost::Weight),
+        (2, 900, Cost::Weight),
+        (3, 250, Cost::One),
+        (4, 150, Cost::FreeBothWays),
+    ] {
+        let mut draws = Draws {
+            state: seed << 40 | 0x9E37_79B9,
+        };
+        let arcs = draws.arcs(alloc, 200, count)?;
+        let network = network_of(&rt, alloc, 200, &arcs, cost)?;
+        let pairs = drawn_pairs(alloc, &mut draws, 200)?;
+        expect_same(&rt, alloc, &network, &pairs)?;
+    }
+    Ok(())
+}
+
+// A one-way path has no landmark that reaches half of what another one does; weights may be as great as can be.
+#[test]
+fn paths_and_great_weights(rt: HostRuntime) -> Result<(), Fail> {
+    let alloc = rt.alloc();
+    let network = path(&rt, alloc)?;
+    expect_same(
+        &rt,
+        alloc,
+        &network,
+        &[(0, 2_999), (2_999, 0), (7, 7), (100, 1_900)],
+    )?;
+    let network = six(&rt, alloc)?;
+    expect_same(
+        &rt,
+        alloc,
+        &network,
+        &[(3, 1), (0, 5), (5, 0), (0, 3), (3, 5), (0, 0)],
+    )?;
+    let mut arcs = Vec::new(alloc);
+    for v in 0..50_u32 {
+        arcs.push(ArcRec::new(v, v + 1, u32::MAX - v))?;
+        arcs.push(ArcRec::new(v + 1, v, u32::MAX - v))?;
+        arcs.push(ArcRec::new(v, (v * 7) % 51, u32::MAX))?;
+    }
+    let network = network_of(&rt, alloc, 60, &arcs, Cost::Weight)?;
+    expect_same(
+        &rt,
+        alloc,
+        &network,
+        &[(0, 50), (50, 0), (3, 44), (44, 3), (0, 55), (55, 0)],
+    )
+}
+
+/// Counts visits.
+#[derive(Drop)]
+struct Counter {
+    visits: AtomicU64,
+}
+
+impl Gate for Counter {
+    fn pass<H: Wait>(&self, _rt: &H, _worker: u32, _v: u32) {
+        self.visits.fetch_add(1, Ordering::SeqCst);
+    }
+}
+
+fn visits_of<H: Threads + Wait + Clock + Abort + Sync>(
+    rt: &H,
+    alloc: Global,
+    network: &Network,
+    count: usize,
+    pairs: &[(u32, u32)],
+) -> Result<u64, Fail> {
+    let within = pairs.len() < 1000 && count <= 64 && are_within(network.n(), pairs);
+    assert!(rt; within);
+    let solver = Solver::new(network, Plan::usual(1));
+    let landmarks = Landmarks::new(rt, alloc, &solver, count)?;
+    let counted = Solver {
+        network,
+        plan: Plan::usual(1),
+        gate: Counter {
+            visits: AtomicU64::new(0),
+        },
+    };
+    counted.between_with(rt, alloc, &landmarks, pairs, &mut None, &mut Unwatched)?;
+    Ok(counted.gate.visits.load(Ordering::SeqCst))
+}
+
+// Streets of 3,600 crossings: a worker visits less than a fifth by landmarks, and nothing if no walk leads there.
+#[test]
+fn fewer_visits(rt: HostRuntime) -> Result<(), Fail> {
+    let alloc = rt.alloc();
+    let mut draws = Draws { state: 11 };
+    let arcs = streets(alloc, &mut draws, 60, u32::MAX)?;
+    let network = network_of(&rt, alloc, 3_601, &arcs, Cost::Weight)?;
+    let mut pairs = Vec::new(alloc);
+    for _ in 0..40 {
+        pairs.push((draws.below(3_600), draws.below(3_600)))?;
+    }
+    let (all, few) = (
+        visits_of(&rt, alloc, &network, 0, &pairs)?,
+        visits_of(&rt, alloc, &network, 8, &pairs)?,
+    );
+    assert!(rt; few.saturating_mul(5) < all, "{few} of {all} visits");
+    let vain = visits_of(&rt, alloc, &network, 8, &[(0, 3_600), (3_600, 0)])?;
+    assert!(rt; vain <= 2, "{vain} visits");
+    Ok(())
+}

@@ -1,0 +1,56 @@
+-- Landmarks as contracts see them: cells of vertices, whose differences tell what walks cost at least.
+use Rattle.std.specs.Prelude.{◌≡◌, ℕ, ◌+◌, ◌-◌, ◌*◌, ◌<◌, ◌≤◌, Bool, true, false, List, All, length, slice_index}
+use Rattle.route_walks.specs.declared.graph.TheConstants.{INF}
+use Rattle.route_walks.specs.Bounds.{IsBound}
+use Rattle.csr_graph.specs.Bounds.{bound_of}
+use Rattle.csr_graph.specs.declared.bounds.TheConstants.{FINITE_CELLS}
+use Rattle.least_costs.specs.Network.{IsNetwork, NetworkSeen}
+use Rattle.least_costs.specs.declared.landmarks.TheConstants.{MAX_UNIT}
+
+-- the cells of some landmarks in a network, vertex by vertex, as many as there are landmarks
+pub record LandmarksSeen : Type 0 where
+  pub net : NetworkSeen
+  pub count : ℕ
+  pub cells : List ℕ
+  -- how many labels share a cell
+  pub unit : ℕ
+  -- if costs towards a landmark are those from it, as far as cells tell
+  pub is_two_way : Bool
+
+-- the cell of v for the landmark i
+abbrev pub column : ℕ → List ℕ → ℕ → ℕ → ℕ
+column count cells i v = slice_index cells (v * count + i)
+
+-- a cell is that of a label: the label counted in units and rounded down, or the greatest number for INF
+pub record IsCell (unit cell label : ℕ) : Type 0 where
+  pub finite : cell < FINITE_CELLS → (cell * unit ≤ label) × (label < cell * unit + unit)
+  pub none : FINITE_CELLS ≤ cell → (cell ≡ 65535) × (label ≡ INF)
+
+-- what cells of a landmark differ by tells what walks from one of two vertices to the other cost at least
+abbrev pub IsTold : NetworkSeen → ℕ → Bool → (ℕ → ℕ) → Type 0
+IsTold net unit is_two_way cell =
+    (v t : ℕ) → v < net.n → t < net.n
+    → IsBound net.arcs v t (bound_of unit (cell t - cell v))
+    × (is_two_way ≡ true → IsBound net.arcs v t (bound_of unit (cell v - cell t)))
+
+-- what is so of all landmarks
+pub record AreLandmarks (seen : LandmarksSeen) : Type 0 where
+  pub network : IsNetwork seen.net
+  pub unit : seen.unit ≤ MAX_UNIT
+  pub room : length seen.cells ≡ seen.count * seen.net.n
+  pub fit : (i v : ℕ) → i < seen.count → v < seen.net.n → column seen.count seen.cells i v ≤ 65535
+  pub told : (i : ℕ) → i < seen.count
+      → IsTold seen.net seen.unit seen.is_two_way (column seen.count seen.cells i)
+
+-- by landmark a cell that is at most those of some vertices
+pub record AreLowest (seen : LandmarksSeen) (vertices low : List ℕ) : Type 0 where
+  pub count : length low ≡ seen.count
+  pub each : (i : ℕ) → i < seen.count
+      → All (λ t. slice_index low i ≤ column seen.count seen.cells i t) vertices
+
+-- by landmark a cell that is at least those of some vertices, and the greatest number if that tells nothing
+pub record AreHighest (seen : LandmarksSeen) (vertices high : List ℕ) : Type 0 where
+  pub count : length high ≡ seen.count
+  pub each : (i : ℕ) → i < seen.count → seen.is_two_way ≡ true
+      → All (λ t. column seen.count seen.cells i t ≤ slice_index high i) vertices
+  pub none : (i : ℕ) → i < seen.count → seen.is_two_way ≡ false → slice_index high i ≡ 65535

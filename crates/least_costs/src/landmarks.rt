@@ -1,0 +1,271 @@
+//! Landmarks, whose costs tell how far vertices are from each other at least.
+
+ghost use Rattle.std.specs.Prelude.{◌≡◌, ◌≢◌, ◌+◌, ◌*◌, ◌<◌, ◌≤◌, ℕ, true, All, IfOk, length, slice_index};
+ghost use Rattle.route_walks.specs.declared.graph.TheConstants.{INF};
+ghost use Rattle.route_walks.specs.Bounds.{IsRelaxedBackward};
+ghost use Rattle.csr_graph.specs.Bounds.{AreBounds};
+ghost use Rattle.csr_graph.specs.declared.bounds.TheConstants.{FINITE_CELLS};
+ghost use Rattle.least_costs.specs.Landmarks.{AreHighest, AreLowest, IsCell, column};
+ghost use Rattle.least_costs.specs.Network.{graph_of};
+
+use crate::costs::Costs;
+use crate::network::Network;
+use obim_engine::{Bounds, FINITE_CELLS};
+use route_walks::{INF, Memory};
+use std::alloc::Global;
+use std::marker::Model;
+use std::snapshot::Snapshot;
+
+/// The most landmarks.
+pub const MAX_LANDMARKS: usize = 64;
+
+/// The most labels that share a cell: 2^45, so that cells count costs of up to 2^60.
+pub const MAX_UNIT: u64 = 1 << 45;
+
+/// Vertices of a network from which it was solved. The costs from them tell how far any two vertices are from each other
+/// at least, and so pairs are answered with fewer visits. No cost depends on which vertices they are.
+///
+/// Contracts see the network, of which nothing is kept. Takes 2 bytes a vertex for each landmark.
+#[derive(Drop)]
+pub struct Landmarks {
+    cells: Vec<u16>,
+    count: usize,
+    used: usize,
+    unit: u64,
+    is_two_way: bool,
+    of: Snapshot<Network>,
+}
+
+impl Model for Landmarks {
+    ghost use Rattle.least_costs.specs.Landmarks.{AreLandmarks, LandmarksSeen};
+
+    ghost Value = { LandmarksSeen };
+
+    ghost view = { λ l. record {
+      net = l.of.value;
+      count = l.count;
+      cells = l.cells.items;
+      unit = l.unit;
+      is_two_way = l.is_two_way;
+    } };
+
+    ghost invariant = { λ l. AreLandmarks (record {
+      net = l.of.value;
+      count = l.count;
+      cells = l.cells.items;
+      unit = l.unit;
+      is_two_way = l.is_two_way;
+    }) };
+}
+
+impl Landmarks {
+    /// Room for so many landmarks, which tell nothing yet.
+    pub(crate) fn blank(
+        alloc: Global,
+        network: &Network,
+        count: usize,
+        unit: u64,
+    ) -> Result<Landmarks, Memory>
+        requires count { count ≤ MAX_LANDMARKS }
+        requires unit { unit ≤ MAX_UNIT }
+        ensures { IfOk result (λ landmarks. landmarks.net ≡ network.now) }
+    {
+        let n = network.n() as usize;
+        Ok(Landmarks {
+            cells: vec![in alloc; 0_u16; count * n]?,
+            count,
+            used: 0,
+            unit,
+            is_two_way: true,
+            of: Snapshot::of(network),
+        })
+    }
+
+    /// The number of landmarks: fewer than were asked for if no others reach much.
+    pub fn len(&self) -> usize {
+        self.used
+    }
+
+    /// Tells if there is no room for another landmark.
+    pub(crate) fn is_full(&self) -> bool {
+        self.used >= self.count
+    }
+
+    /// Adds a landmark with these costs, of which `farthest` is the greatest, unless they don't fit into cells.
+    pub(crate) fn add(&mut self, costs: &Costs, farthest: u64, is_two_way: bool)
+        requires net { costs.now.net ≡ self.old.net }
+        requires farthest { All (λ label. label < INF → label ≤ farthest) costs.now.labels }
+        requires two_way { is_two_way ≡ true →
+            All (IsRelaxedBackward (slice_index costs.now.labels)) self.old.net.arcs }
+        ensures { self.new.net ≡ self.old.net }
+    {
+        let at = self.used;
+        if at >= self.count || self.unit == 0 || farthest / self.unit >= u64::from(FINITE_CELLS) {
+            return;
+        }
+        let _ = costs.start();
+        let (labels, unit) = (costs.labels(), self.unit);
+        put_column(&mut self.cells, labels, self.count, at, unit, farthest);
+        self.used = at + 1;
+        self.is_two_way = self.is_two_way && is_two_way;
+    }
+
+    /// Tells if bounds of the way to all of these targets at once tell about as much as those to the farthest. A hint.
+    pub(crate) fn serves(&self, source: u32, targets: &[u32]) -> bool {
+        if self.used == 0 {
+            return false;
+        }
+        let to_all = u64::from(self.units_to(source, targets));
+        for target in targets {
+            if to_all * 4 < u64::from(self.units_to(source, &[*target])) * 3 {
+                return false;
+            }
+        }
+        true
+    }
+
+    /// The most units by which cells of a vertex differ from those of all targets. A hint.
+    fn units_to(&self, source: u32, targets: &[u32]) -> u16 {
+        let mut most = 0_u16;
+        for i in 0..self.count {
+            let from = cell_at(&self.cells, self.count, i, source);
+            let low = lowest(&self.cells, self.count, i, targets);
+            most = low.saturating_sub(from).max(most);
+            if self.is_two_way {
+                let high = highest(&self.cells, self.count, i, targets);
+                most = from.saturating_sub(high).max(most);
+            }
+        }
+        most
+    }
+
+    /// The least cell of these targets, by landmark.
+    pub(crate) fn low(&self, alloc: Global, targets: &[u32]) -> Result<Vec<u16>, Memory>
+        ensures { IfOk result (λ low. AreLowest self.now targets.now low.items) }
+    {
+        let mut low = Vec::with_capacity(alloc, self.count)?;
+        for i in 0..self.count {
+            low.push(lowest(&self.cells, self.count, i, targets))?;
+        }
+        Ok(low)
+    }
+
+    /// The greatest cell of these targets, by landmark, if costs are told both ways.
+    pub(crate) fn high(&self, alloc: Global, targets: &[u32]) -> Result<Vec<u16>, Memory>
+        ensures { IfOk result (λ high. AreHighest self.now targets.now high.items) }
+    {
+        if self.is_two_way {
+            greatest_cells(alloc, &self.cells, self.count, targets)
+        } else {
+            Ok(vec![in alloc; u16::MAX; self.count]?)
+        }
+    }
+
+    /// Bounds of the way to these targets, whose least and greatest cells these are.
+    pub(crate) fn toward<'a>(
+        &'a self,
+        source: u32,
+        targets: &'a [u32],
+        low: &'a [u16],
+        high: &'a [u16],
+    ) -> Bounds<'a>
+        requires targets { All (λ t. t < self.now.net.n) targets.now }
+        requires low { AreLowest self.now targets.now low.now }
+        requires high { AreHighest self.now targets.now high.now }
+        ensures bounds { AreBounds (graph_of self.now.net) result }
+        ensures targets { result.targets.now ≡ targets.now }
+    {
+        let (cells, unit) = (&self.cells, self.unit);
+        let bounds = Bounds {
+            targets,
+            cells,
+            low,
+            high,
+            unit,
+            base: 0,
+        };
+        let base = bounds.bound(source);
+        Bounds { base, ..bounds }
+    }
+}
+
+/// The cell of a vertex for a landmark; 0 if there is none.
+#[inline(always)]
+fn cell_at(cells: &[u16], count: usize, i: usize, v: u32) -> u16
+    ensures { result ≡ column count cells.now i v }
+{
+    let place = (v as usize).saturating_mul(count).saturating_add(i);
+    if place < cells.len() { cells[place] } else { 0 }
+}
+
+/// The least cell of these vertices for a landmark.
+fn lowest(cells: &[u16], count: usize, i: usize, vertices: &[u32]) -> u16
+    ensures { All (λ t. result ≤ column count cells.now i t) vertices.now }
+{
+    let mut least = u16::MAX;
+    for vertex in vertices {
+        least = cell_at(cells, count, i, *vertex).min(least);
+    }
+    least
+}
+
+/// The greatest cell of these vertices for a landmark.
+fn highest(cells: &[u16], count: usize, i: usize, vertices: &[u32]) -> u16
+    ensures { All (λ t. column count cells.now i t ≤ result) vertices.now }
+{
+    let mut most = 0_u16;
+    for vertex in vertices {
+        most = cell_at(cells, count, i, *vertex).max(most);
+    }
+    most
+}
+
+/// The greatest cell of these vertices, by landmark.
+fn greatest_cells(
+    alloc: Global,
+    cells: &[u16],
+    count: usize,
+    vertices: &[u32],
+) -> Result<Vec<u16>, Memory>
+    ensures count { IfOk result (λ high. length high.items ≡ count) }
+    ensures each { IfOk result (λ high. (i : ℕ) → i < count
+        → All (λ t. column count cells.now i t ≤ slice_index high.items i) vertices.now) }
+{
+    let mut high = Vec::with_capacity(alloc, count)?;
+    for i in 0..count {
+        high.push(highest(cells, count, i, vertices))?;
+    }
+    Ok(high)
+}
+
+/// Puts the cells of labels, none of which is above `farthest` but `INF`, into the column of a landmark.
+fn put_column(cells: &mut [u16], labels: &[u64], count: usize, at: usize, unit: u64, farthest: u64)
+    requires place { at < count }
+    requires room { length cells.old ≡ count * length labels.now }
+    requires unit { 0 < unit }
+    requires fit { farthest < FINITE_CELLS * unit }
+    requires farthest { All (λ label. label < INF → label ≤ farthest) labels.now }
+    ensures room { length cells.new ≡ length cells.old }
+    ensures put { (v : ℕ) → v < length labels.now
+        → IsCell unit (column count cells.new at v) (slice_index labels.now v) }
+    ensures others { (i v : ℕ) → i < count → i ≢ at → column count cells.new i v ≡ column count cells.old i v }
+{
+    // The greatest label is for the contract alone.
+    let _ = farthest;
+    for v in 0..labels.len() {
+        cells[v * count + at] = cell_of(labels[v], unit);
+    }
+}
+
+/// The cell of a label.
+fn cell_of(label: u64, unit: u64) -> u16
+    requires unit { 0 < unit }
+    requires fit { label < INF → label < FINITE_CELLS * unit }
+    ensures { IsCell unit result label }
+{
+    if label == INF {
+        u16::MAX
+    } else {
+        (label / unit) as u16
+    }
+}
