@@ -160,7 +160,9 @@ class Memory(Case):
 
     def test_kinds(self):
         n = 300_000
-        with Graph(range(n - 1), range(1, n), [2] * (n - 1), n) as graph:
+        # Lists that were freed go back to the system at once, so nothing of them is left within the limit.
+        at_once = mock.patch.dict(os.environ, MALLOC_MMAP_THRESHOLD_="65536", MALLOC_TRIM_THRESHOLD_="65536")
+        with at_once, Graph(range(n - 1), range(1, n), [2] * (n - 1), n) as graph:
             self.assertEqual(graph.distance(0, 9), 18)
             number = the_program()
             limits = resource.prlimit(number, resource.RLIMIT_AS)
