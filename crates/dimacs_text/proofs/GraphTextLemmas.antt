@@ -1,7 +1,7 @@
 -- A reader that has come to the end of a graph: what its text is, and how many lines it has.
 use Rattle.std.proofs.Common.{◌≡◌, ℕ, suc, ◌+◌, Bool, true, false, cond, eqb, List, [], ◌∷◌, ◌++◌, length, drop, map}
-use Rattle.std.proofs.Common.{Option, Some, None, Ok, inl, inr, is_some, refl, sym, ap, ap₂, subst, ◌∙◌, arith}
-use Rattle.std.proofs.lemmas.List.{append-nil, length-map}
+use Rattle.std.proofs.Common.{Option, Some, None, Ok, ◌⊎◌, ◌<◌, ◌≤◌, inl, inr, is_some, refl, sym, ap, ap₂, subst, ◌∙◌, arith}
+use Rattle.std.proofs.lemmas.List.{append-nil, length-append, length-map}
 use Rattle.std.specs.List.{onto_first}
 use Rattle.route_walks.specs.declared.graph.TheConstants.{MAX_VERTICES}
 use Rattle.dimacs_text.specs.declared.draft.Draft.{Draft}
@@ -17,9 +17,10 @@ use Rattle.dimacs_text.specs.Faults.{IsFaultOf, IsFirstFault}
 use Rattle.dimacs_text.specs.GraphTexts.{HasGraph, IsGraphOver, IsGraphText}
 use Rattle.dimacs_text.specs.Jobs.{Content, absent, arc_record, problem_record, records_of, IsJobText}
 use Rattle.dimacs_text.specs.Lines.{lines}
-use Rattle.dimacs_text.specs.Reading.{HasRead, HasReadBy, Keeps}
-use Rattle.dimacs_text.specs.reader.Drafts.{IsReadTo, progress_of, records_by}
-use Rattle.dimacs_text.proofs.ReaderLemmas.{all_said, finished}
+use Rattle.dimacs_text.specs.Reading.{HasRead, HasReadBy, HasReadText, Keeps}
+use Rattle.dimacs_text.specs.reader.Drafts.{IsReadTo, Progress, progress_of, records_by}
+use Rattle.dimacs_text.proofs.LineLemmas.{lines_whole}
+use Rattle.dimacs_text.proofs.ReaderLemmas.{comment_read, finished, text_fails, text_read}
 use Rattle.dimacs_text.proofs.TextLaws.{no_fault, one_first_fault, one_job}
 
 -- the graph of the arcs that were read
@@ -118,19 +119,79 @@ readings_length n (l ∷ ls) = ap (λ k. suc k) (readings_length (vertices_after
 abbrev as_reading : Option Record → Reading
 as_reading said = Ok said
 
+-- the lines up to a place, and those that are left
+lines_to : (text rest : List ℕ) (line : ℕ) (progress : Progress) → IsReadTo text rest line progress
+    → line + length (lines rest) ≡ length (lines text) + 1
+lines_to text rest line progress read =
+    let said = ap (λ rs. length rs) read.split in
+    omega (
+      arith,
+      read.count,
+      said,
+      readings_length MAX_VERTICES (lines text),
+      readings_length progress.vertices (lines rest),
+      length-append (map as_reading read.said) (readings progress.vertices (lines rest)),
+      length-map read.said as_reading,
+    )
+
 -- the number of the next line
 pub next_line : (reader : JobReader) (text : List ℕ) → HasGraph reader → HasRead reader text
     → reader.lines.line ≡ length (lines text) + 1
 next_line reader text has r =
     let read = subst (λ t. IsReadTo t [] reader.lines.line (progress_of reader.lines.draft)) (append-nil text)
     (read_whole reader text [] has r) in
-    let said = ap (λ rs. length rs) (all_said (lines text) reader.lines.line (progress_of reader.lines.draft) read) in
+    omega (arith, lines_to text [] reader.lines.line (progress_of reader.lines.draft) read)
+
+-- the reader of a job's text has met no fault
+job_right : (reader : JobReader) (text : List ℕ) (job : Content) → HasRead reader text → IsJobText text job
+    → reader.lines.fault ≡ None
+job_right reader text job r is_job = by_fault reader.lines.fault refl
+  where
+    by_fault : (o : Option LineKind) → reader.lines.fault ≡ o → reader.lines.fault ≡ None
+    by_fault None is = is
+    by_fault (Some kind) is =
+        absurd
+        (no_fault text job reader.lines.line kind is_job
+        (text_fails reader.lines reader.in_comment reader.unfinished.items text kind is r))
+
+-- a line that was begun counts
+pub line_begun : (reader : JobReader) (text : List ℕ) (job : Content) → HasRead reader text → IsJobText text job
+    → (reader.in_comment ≡ true) ⊎ (0 < length reader.unfinished.items)
+    → (reader.lines.line ≤ length text + 1) × (reader.lines.line ≡ length (lines text))
+line_begun reader text job r is_job begun = by_comment reader.in_comment refl begun
+  where
+    right : reader.lines.fault ≡ None
+    right = job_right reader text job r is_job
+
+    by_comment : (inside : Bool) → reader.in_comment ≡ inside
+        → (reader.in_comment ≡ true) ⊎ (0 < length reader.unfinished.items)
+        → (reader.lines.line ≤ length text + 1) × (reader.lines.line ≡ length (lines text))
+    by_comment true is some =
+        let read = comment_read reader.lines reader.unfinished.items text right
+        (subst (λ b. HasReadText reader.lines b reader.unfinished.items text) is r) in (
+          read.0,
+          omega (arith, lines_to text [] (reader.lines.line + 1) (progress_of reader.lines.draft) read.1),
+        )
+    by_comment false is (inl inside) = absurd (cc)
+    by_comment false is (inr filled) =
+        let read = text_read reader.lines reader.unfinished.items text right
+        (subst (λ b. HasReadText reader.lines b reader.unfinished.items text) is r) in
+        let one = ap (λ ls. length ls) (lines_whole reader.unfinished.items filled (λ k few. read.2 k (omega arith) few)) in (
+          read.0,
+          omega
+              (arith, one, lines_to text reader.unfinished.items reader.lines.line (progress_of reader.lines.draft) read.1),
+        )
+
+pub none_begun : (reader : JobReader) (text : List ℕ) (job : Content) → HasRead reader text → IsJobText text job
+    → reader.in_comment ≡ false → reader.unfinished.items ≡ []
+    → reader.lines.line ≡ length (lines text) + 1
+none_begun reader text job r is_job outside none =
+    let read = text_read reader.lines reader.unfinished.items text (job_right reader text job r is_job)
+    (subst (λ b. HasReadText reader.lines b reader.unfinished.items text) outside r) in
     omega (
       arith,
-      read.count,
-      said,
-      readings_length MAX_VERTICES (lines text),
-      length-map read.said as_reading,
+      ap (λ bytes. length (lines bytes)) none,
+      lines_to text reader.unfinished.items reader.lines.line (progress_of reader.lines.draft) read.1,
     )
 
 -- ---- the lines of what comes after it

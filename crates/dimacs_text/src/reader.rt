@@ -7,7 +7,7 @@ ghost use Rattle.std.specs.Prelude.{◌≡◌, ◌^◌, ◌≤◌, ◌+◌, ◌+
 ghost use Rattle.std.specs.Prelude.{◌⊎◌, true, false};
 ghost use Rattle.dimacs_text.specs.Lines.{lines};
 ghost use Rattle.std.specs.Prelude.{OnOk};
-ghost use Rattle.dimacs_text.specs.Jobs.{content_of, IsJobText, IsWithinLimits};
+ghost use Rattle.dimacs_text.specs.Jobs.{content_of, Content, IsJobText, IsWithinLimits};
 ghost use Rattle.dimacs_text.specs.Explaining.{Explains};
 ghost use Rattle.dimacs_text.specs.Faults.{IsFaultOf};
 ghost use Rattle.std.specs.Bool.{OnFalse, OnTrue};
@@ -301,9 +301,16 @@ impl JobReader {
         Ok(at)
     }
 
-    /// The number of the next line, or of the first that is wrong.
-    pub fn next_line(&self) -> u64 {
-        self.lines.line
+    /// The number of the next line; a line that was begun counts. After a wrong line nothing is said.
+    pub fn next_line(&self) -> u64
+        ensures { (text : List ℕ) (job : Content) → HasRead self.now text → IsJobText text job
+            → result ≡ length (lines text) + 1 }
+    {
+        if self.has_begun_line() {
+            self.lines.line.saturating_add(1)
+        } else {
+            self.lines.line
+        }
     }
 
     /// Tells if a line is wrong.
