@@ -7,7 +7,7 @@ use Rattle.dimacs_text.specs.Forms.{readings}
 use Rattle.dimacs_text.specs.Jobs.{Content, IsJobText}
 use Rattle.dimacs_text.specs.AfterGraph.{asked_of, graph_of, has_question, head_among, head_or_plain, IsJobAmong, IsPlain}
 use Rattle.dimacs_text.proofs.Facts.{one_request, IsOneRequest}
-use Rattle.request_reader.specs.Requests.{whole, AreRequests}
+use Rattle.request_reader.specs.Requests.{told, whole, AreRequests}
 
 plain_head : (head : Option SectionHead) → IfSome head IsPlain → IsPlain (head_or_plain head)
 plain_head None plain = (refl, refl, refl)
@@ -15,7 +15,8 @@ plain_head (Some head) plain = plain
 
 told_once : (n first : ℕ) (ls : List (List ℕ)) (job : Content)
     → (p : IsOneRequest n ls job)
-    → AreRequests n first ls (whole job (head_or_plain (head_among (p.body ++ p.last ∷ []))) ∷ [])
+    → AreRequests n first ls
+    (whole (told (first + length p.body)) job (head_or_plain (head_among (p.body ++ p.last ∷ []))) ∷ [])
 told_once n first ls job p = record {
   next = first + length (p.body ++ p.last ∷ []);
   end = p.silent;
@@ -27,6 +28,7 @@ told_once n first ls job p = record {
       front = p.body;
       last = p.last;
       parts = refl;
+      number = refl;
       unanswered = p.first;
       is_whole = p.is_whole;
       head_is = refl;
@@ -43,7 +45,10 @@ pub job_request : (text : List ℕ) (job : Content)
     × (lines text ≡ graph ++ ls)
     × IsJobAmong (readings MAX_VERTICES graph) (graph_of job)
     × ((first : ℕ)
-    → (head : SectionHead) × IsPlain head × AreRequests job.n first ls (whole (asked_of job) head ∷ []))
+    → (line : ℕ)
+    × (head : SectionHead)
+    × IsPlain head
+    × AreRequests job.n first ls (whole line (asked_of job) head ∷ []))
 job_request text job is none asked =
     let one = one_request text job is none asked in
     let head = head_among (one.4.body ++ one.4.last ∷ []) in (
@@ -51,5 +56,10 @@ job_request text job is none asked =
       one.1,
       one.2,
       one.3,
-      λ first. (head_or_plain head, plain_head head one.4.head, told_once job.n first one.1 (asked_of job) one.4),
+      λ first. (
+        told (first + length one.4.body),
+        head_or_plain head,
+        plain_head head one.4.head,
+        told_once job.n first one.1 (asked_of job) one.4,
+      ),
     )

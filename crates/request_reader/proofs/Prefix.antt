@@ -34,7 +34,7 @@ silent_spent n end silent first ls rest a parts heard one =
 short_spent : (n : ℕ) (end : List (List ℕ))
     → IsUnanswered n end → IsFirstAmong (after_graph n end) (length end + 2) TooFew
     → NoneFollow n end
-short_spent n end none short first ls rest (whole job head) parts heard one = none ls rest job parts one.is_whole
+short_spent n end none short first ls rest (whole line job head) parts heard one = none ls rest job parts one.is_whole
 short_spent n end none short first ls rest (no_memory line) parts heard one = heard
 short_spent n end none short first ls rest (wrong line kind) parts heard one =
     by_fault (fault_or_end n ls one.before kind one.fault) one.inside

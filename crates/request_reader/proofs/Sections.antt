@@ -33,10 +33,10 @@ never_earlier n ls front last is none one =
         filled ws one.next one.rest empty
 
 -- a whole request has one section line
-answered_count : (n : ℕ) (ls : List (List ℕ)) (job : Content) (head : SectionHead)
-    → IsAnswered n ls job head
+answered_count : (n first : ℕ) (ls : List (List ℕ)) (line : ℕ) (job : Content) (head : SectionHead)
+    → IsAnswered n first ls line job head
     → count_by begins_section ls ≡ 1
-answered_count n ls job head p = by_parts (one_section n ls job p.is_whole)
+answered_count n first ls line job head p = by_parts (one_section n ls job p.is_whole)
   where
     by_parts : (count_by begins_section ls ≡ 1) ⊎ IsAnsweredEarlier n ls → count_by begins_section ls ≡ 1
     by_parts (inl one) = one
@@ -60,7 +60,7 @@ cut_count ls rest (inr (few, none)) = by_count (count_by begins_section ls) refl
 request_count : (n first : ℕ) (ls rest : List (List ℕ)) (outcome : Outcome)
     → IsRequest n first ls rest outcome
     → HasItsLine ls rest
-request_count n first ls rest (whole job head) p = inl (answered_count n ls job head p)
+request_count n first ls rest (whole line job head) p = inl (answered_count n first ls line job head p)
 request_count n first ls rest (wrong line kind) p = cut_count ls rest p.cut
 request_count n first ls rest (no_memory line) p = cut_count ls rest p.cut
 
@@ -70,7 +70,7 @@ none_requested : (n first : ℕ) (ls rest : List (List ℕ)) (outcome : Outcome)
     → ⊥
 none_requested n first (l ∷ ls) rest outcome e p = cc
 none_requested n first [] (l ∷ rest) outcome e p = cc
-none_requested n first [] [] (whole job head) e p = filled p.front p.last [] p.parts
+none_requested n first [] [] (whole line job head) e p = filled p.front p.last [] p.parts
 none_requested n first [] [] (wrong line kind) e p = by_place p.inside
   where
     by_place : (p.before < 0) ⊎ BeginsSection [] → ⊥

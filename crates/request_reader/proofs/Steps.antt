@@ -203,17 +203,19 @@ pub completes : (n : ℕ) (old new fresh : RequestDraft) (b : Bool) (v w : Optio
     → ((ls : List (List ℕ)) → HasReadAfter n ls new → IsWhole n ls job)
     → w ≡ option_or v (head_of line) → next ≡ told (number + 1)
     → HasReadAfter n [] fresh → is_whole fresh ≡ false
-    → IsReading n fresh false None next first (all ++ line ∷ []) [] (outcomes ++ whole job (head_or_plain w) ∷ [])
+    → IsReading n fresh false None next first (all ++ line ∷ []) [] (outcomes ++ whole number job (head_or_plain w) ∷ [])
 completes n old new fresh b v w number next first all line outcomes job p reads ends asks is read lacks =
-    begins_at n fresh next first (all ++ line ∷ []) [] (outcomes ++ whole job (head_or_plain w) ∷ [])
+    begins_at n fresh next first (all ++ line ∷ []) [] (outcomes ++ whole number job (head_or_plain w) ∷ [])
     (λ more.
     then_one n (first + length p.done) (p.ls ++ line ∷ []) more (first + length (all ++ line ∷ [])) first
-    ((all ++ line ∷ []) ++ more) outcomes (whole job (head_or_plain w))
+    ((all ++ line ∷ []) ++ more) outcomes (whole number job (head_or_plain w))
     (shift n (first + length p.done) first p.ls all line more outcomes (p.requests more))
     (record {
       front = p.ls;
       last = line;
       parts = refl;
+      number =
+          p.number ∙ ap (λ k. told k) (omega (arith, ap (λ l. length l) p.parts, length-append p.done p.ls));
       unanswered = p.unanswered;
       is_whole = ends (p.ls ++ line ∷ []) (reads p.ls p.read);
       head_is = ap head_or_plain (head_more p.ls line v w p.head_is asks);

@@ -1,6 +1,6 @@
 -- Lines come to one list of outcomes.
 use Rattle.std.proofs.Common.{◌≡◌, ◌≤◌, ◌<◌, ◌⊎◌, inl, inr, ℕ, ◌+◌, true, cond, List, [], ◌∷◌, ◌++◌, length, count_by}
-use Rattle.std.proofs.Common.{refl, sym, ap, ap₂, subst, ◌∙◌, append-nil, arith}
+use Rattle.std.proofs.Common.{refl, sym, ap, ap₂, subst, ◌∙◌, append-nil, length-append, arith}
 use Rattle.std.specs.List.{AllByRecursion}
 use Rattle.std.proofs.lemmas.List.Sums.{sum_by-append}
 use Rattle.dimacs_text.specs.declared.head.SectionHead.{SectionHead}
@@ -16,18 +16,18 @@ use Rattle.request_reader.specs.Laws.{IsHeard}
 use Rattle.request_reader.proofs.Splits.{parted}
 
 -- no longer lines are whole first
-longest : (n : ℕ) (ls us : List (List ℕ)) (i j : Content) (v : SectionHead)
-    → IsAnswered n ls i v → IsWhole n us j
+longest : (n first : ℕ) (ls us : List (List ℕ)) (line : ℕ) (i j : Content) (v : SectionHead)
+    → IsAnswered n first ls line i v → IsWhole n us j
     → (ws : List (List ℕ))
     → ls ≡ us ++ ws
     → ws ≡ []
-longest n ls us i j v first second ws is =
-    by_parts (parted first.front (first.last ∷ []) us ws (sym first.parts ∙ is))
+longest n first ls us line i j v one second ws is =
+    by_parts (parted one.front (one.last ∷ []) us ws (sym one.parts ∙ is))
   where
-    by_parts : ((xs : List (List ℕ)) × (first.front ≡ us ++ xs) × (ws ≡ xs ++ first.last ∷ []))
-        ⊎ ((x : List ℕ) × (xs : List (List ℕ)) × (us ≡ first.front ++ x ∷ xs) × (first.last ∷ [] ≡ x ∷ xs ++ ws))
+    by_parts : ((xs : List (List ℕ)) × (one.front ≡ us ++ xs) × (ws ≡ xs ++ one.last ∷ []))
+        ⊎ ((x : List ℕ) × (xs : List (List ℕ)) × (us ≡ one.front ++ x ∷ xs) × (one.last ∷ [] ≡ x ∷ xs ++ ws))
         → ws ≡ []
-    by_parts (inl (xs, front, rest)) = absurd (first.unanswered us xs j front second)
+    by_parts (inl (xs, front, rest)) = absurd (one.unanswered us xs j front second)
     by_parts (inr (x, [], more, rest)) = cc
     by_parts (inr (x, y ∷ xs, more, rest)) = absurd (cc)
 
@@ -78,10 +78,11 @@ longest_cut ls rest us others first (inl (one, begins)) (l ∷ ws) is more =
     omega (arith, few, all, one))
 
 -- no lines are a whole request and one that is refused
-clash : (n first : ℕ) (ls rest us others : List (List ℕ)) (job : Content) (head : SectionHead) (line : ℕ) (kind : LineKind)
-    → ls ++ rest ≡ us ++ others → IsAnswered n ls job head → IsRefused n first us others line kind
+clash : (n first : ℕ) (ls rest us others : List (List ℕ)) (last : ℕ) (job : Content) (head : SectionHead) (line : ℕ)
+    (kind : LineKind)
+    → ls ++ rest ≡ us ++ others → IsAnswered n first ls last job head → IsRefused n first us others line kind
     → ⊥
-clash n first ls rest us others job head line kind e one other = by_parts (parted ls rest us others e)
+clash n first ls rest us others last job head line kind e one other = by_parts (parted ls rest us others e)
   where
     after_cut : (ws : List (List ℕ)) → ls ≡ us ++ ws → others ≡ ws ++ rest
         → ((l : List ℕ) (more : List (List ℕ)) → begins_section l ≡ true
@@ -115,25 +116,39 @@ clash n first ls rest us others job head line kind e one other = by_parts (parte
         by_fault ws is more (fault_or_end n us other.before kind other.fault) other.inside
     by_parts (inr (w, ws, is, more)) = other.unanswered ls (w ∷ ws) job is one.is_whole
 
+-- lines that end with a line each have as many before it
+as_many : (ls front us more : List (List ℕ)) (last final : List ℕ)
+    → ls ≡ us → ls ≡ front ++ last ∷ [] → us ≡ more ++ final ∷ []
+    → length front ≡ length more
+as_many ls front us more last final same one other =
+    omega (
+      arith,
+      ap (λ l. length l) (sym one ∙ same ∙ other),
+      length-append front (last ∷ []),
+      length-append more (final ∷ []),
+    )
+
 -- one request is the same
 pub same_request : (n first : ℕ) (ls rest us others : List (List ℕ)) (a b : Outcome)
     → ls ++ rest ≡ us ++ others → IsHeard a → IsHeard b → IsRequest n first ls rest a → IsRequest n first us others b
     → (ls ≡ us) × (rest ≡ others) × (a ≡ b)
-same_request n first ls rest us others (whole i v) (whole j w) e heard_a heard_b one other =
+same_request n first ls rest us others (whole k i v) (whole l j w) e heard_a heard_b one other =
     let same =
     alike ls rest us others e
-    (λ ws is more. longest n ls us i j v one other.is_whole ws is)
-    (λ ws is more. longest n us ls j i w other one.is_whole ws is) in (
+    (λ ws is more. longest n first ls us k i j v one other.is_whole ws is)
+    (λ ws is more. longest n first us ls l j i w other one.is_whole ws is) in
+    let before = as_many ls one.front us other.front one.last other.last same.0 one.parts other.parts in (
       same.0,
       same.1,
-      ap₂ (λ job head. whole job head)
+      ap (λ line. whole line i v) (one.number ∙ ap (λ k. told (first + k)) before ∙ sym other.number)
+          ∙ ap₂ (λ job head. whole l job head)
           (one_job_among (after_graph n us) i j (subst (λ l. IsWhole n l i) same.0 one.is_whole).is_job other.is_whole.is_job)
           (one.head_is ∙ ap (λ l. head_or_plain (head_among l)) same.0 ∙ sym other.head_is),
     )
-same_request n first ls rest us others (whole i v) (wrong k kind) e heard_a heard_b one other =
-    absurd (clash n first ls rest us others i v k kind e one other)
-same_request n first ls rest us others (wrong k kind) (whole j w) e heard_a heard_b one other =
-    absurd (clash n first us others ls rest j w k kind (sym e) other one)
+same_request n first ls rest us others (whole l i v) (wrong k kind) e heard_a heard_b one other =
+    absurd (clash n first ls rest us others l i v k kind e one other)
+same_request n first ls rest us others (wrong k kind) (whole l j w) e heard_a heard_b one other =
+    absurd (clash n first us others ls rest l j w k kind (sym e) other one)
 same_request n first ls rest us others (wrong k kind) (wrong l sort) e heard_a heard_b one other =
     let same =
     alike ls rest us others e (longest_cut ls rest us others one.cut other.cut)
@@ -147,7 +162,7 @@ same_request n first ls rest us others (wrong k kind) (wrong l sort) e heard_a h
       ap₂ (λ number sort. wrong number sort) (one.number ∙ ap (λ k. told (first + k)) before ∙ sym other.number) fault.1,
     )
 same_request n first ls rest us others (no_memory k) b e heard_a heard_b one other = absurd heard_a
-same_request n first ls rest us others (whole i v) (no_memory l) e heard_a heard_b one other = absurd heard_b
+same_request n first ls rest us others (whole k i v) (no_memory l) e heard_a heard_b one other = absurd heard_b
 same_request n first ls rest us others (wrong k kind) (no_memory l) e heard_a heard_b one other = absurd heard_b
 
 -- lines that say nothing are no request
@@ -158,7 +173,7 @@ silent_front n (l ∷ ls) rest silent = (silent.0, silent_front n ls rest silent
 pub none_asked : (n first : ℕ) (ls rest : List (List ℕ)) (a : Outcome)
     → IsHeard a → AreSilent n ls → IsRequest n first ls rest a
     → ⊥
-none_asked n first ls rest (whole job head) heard silent one = silent_unasked n ls job silent one.is_whole
+none_asked n first ls rest (whole line job head) heard silent one = silent_unasked n ls job silent one.is_whole
 none_asked n first ls rest (wrong line kind) heard silent one = silent_right n ls (one.before + 2) kind silent one.fault
 none_asked n first ls rest (no_memory line) heard silent one = heard
 

@@ -14,7 +14,7 @@ use Rattle.request_reader.specs.Reading.{vertices_of, HasRequests}
 
 -- memory was not refused there
 abbrev pub IsHeard : Outcome → Type 0
-IsHeard (whole job head) = Unit {0}
+IsHeard (whole line job head) = Unit {0}
 IsHeard (wrong line kind) = Unit {0}
 IsHeard (no_memory line) = ⊥
 
@@ -57,7 +57,10 @@ AJobIsOneRequest =
     × (lines text ≡ graph ++ ls)
     × IsJobAmong (readings MAX_VERTICES graph) (graph_of job)
     × ((first : ℕ)
-    → (head : SectionHead) × IsPlain head × AreRequests job.n first ls (whole (asked_of job) head ∷ []))
+    → (line : ℕ)
+    × (head : SectionHead)
+    × IsPlain head
+    × AreRequests job.n first ls (whole line (asked_of job) head ∷ []))
 
 -- Each request has one section line, and so has one that lacks lines at the end. Only one that the lines end in may have
 -- none, and then it is refused.

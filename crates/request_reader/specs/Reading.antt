@@ -14,7 +14,7 @@ use Rattle.request_reader.specs.Requests.{Outcome, whole, wrong, no_memory, told
 use Rattle.request_reader.specs.Requests.{AreRequestsTo}
 
 abbrev pub outcome_of : Request → Outcome
-outcome_of (Asked job head) = whole (content_of job) head
+outcome_of (Asked line job head) = whole line (content_of job) head
 outcome_of (Wrong line kind) = wrong line kind
 outcome_of (NoMemory line) = no_memory line
 
@@ -32,7 +32,7 @@ vertices_of reader = reader.vertices
 
 -- a job that a request asks keeps the limits of jobs, has the vertices of the graph, and no arcs; a bound is a cost
 abbrev pub IsAskedWithin : ℕ → Request → Type 0
-IsAskedWithin n (Asked job head) =
+IsAskedWithin n (Asked line job head) =
     IsWithinLimits (content_of job)
     × (job.n ≡ n)
     × (job.arcs.items ≡ [])
@@ -104,6 +104,6 @@ IsRefusedLast reader first all outcomes =
 
 -- if the request is whole, it can be refused in place of that
 abbrev pub IsRefusable : RequestReader → ℕ → List (List ℕ) → List Outcome → Request → Type 0
-IsRefusable reader first all outcomes (Asked job head) = IsRefusedLast reader first all outcomes
+IsRefusable reader first all outcomes (Asked line job head) = IsRefusedLast reader first all outcomes
 IsRefusable reader first all outcomes (Wrong line kind) = Unit {0}
 IsRefusable reader first all outcomes (NoMemory line) = Unit {0}

@@ -10,8 +10,8 @@ use Rattle.dimacs_text.specs.Heads.{begins_section}
 
 -- what becomes of a request
 pub data Outcome : Type 0 where
-  -- it is whole: its items, as a job whose graph has no arcs, and its head
-  whole : Content → SectionHead → Outcome
+  -- it is whole with the line of this number: its items, as a job whose graph has no arcs, and its head
+  whole : ℕ → Content → SectionHead → Outcome
   -- the line of this number is wrong
   wrong : ℕ → LineKind → Outcome
   -- memory was refused at the line of this number
@@ -40,11 +40,13 @@ IsCut ls rest =
     ((count_by begins_section ls ≡ 1) × BeginsSection rest)
     ⊎ ((count_by begins_section ls ≤ 1) × (rest ≡ []))
 
--- The lines, of which the first has the number given, are a whole request, and no shorter front of them is one.
-pub record IsAnswered (n : ℕ) (ls : List (List ℕ)) (job : Content) (head : SectionHead) : Type 0 where
+-- The lines, of which the first has the number given, are a whole request, and no shorter front of them is one. The last
+-- of them has the number line.
+pub record IsAnswered (n first : ℕ) (ls : List (List ℕ)) (line : ℕ) (job : Content) (head : SectionHead) : Type 0 where
   pub front : List (List ℕ)
   pub last : List ℕ
   pub parts : ls ≡ front ++ last ∷ []
+  pub number : line ≡ told (first + length front)
   pub unanswered : IsUnanswered n front
   pub is_whole : IsWhole n ls job
   pub head_is : head ≡ head_or_plain (head_among ls)
@@ -71,7 +73,7 @@ pub record IsStarved (n first : ℕ) (ls rest : List (List ℕ)) (line : ℕ) : 
 
 -- the lines, of which the first has the number given, are a request that comes to this, and the rest follows
 abbrev pub IsRequest : ℕ → ℕ → List (List ℕ) → List (List ℕ) → Outcome → Type 0
-IsRequest n first ls rest (whole job head) = IsAnswered n ls job head
+IsRequest n first ls rest (whole line job head) = IsAnswered n first ls line job head
 IsRequest n first ls rest (wrong line kind) = IsRefused n first ls rest line kind
 IsRequest n first ls rest (no_memory line) = IsStarved n first ls rest line
 

@@ -175,6 +175,7 @@ impl RequestReader {
                 self.had_section = self.has_section;
                 let draft = self.begin();
                 Some(Request::Asked {
+                    line: number,
                     job: draft.finish(),
                     head,
                 })

@@ -64,9 +64,9 @@ returns-in-Ok-clause-requests c first all outcomes h =
     let b = c.begin-draft.ensures in
     let content = content_of c.finish.result in
     subst
-    (λ head. HasReadBefore fresh first (all ++ line ∷ []) [] (outcomes ++ whole content head ∷ [])) (sym c.or_plain-head.ensures)
+    (λ head. HasReadBefore fresh first (all ++ line ∷ []) [] (outcomes ++ whole old.line content head ∷ [])) (sym c.or_plain-head.ensures)
     (from_fresh fresh old.vertices c.saturating_add-self.result first (all ++ line ∷ []) []
-    (outcomes ++ whole content (head_or_plain c.or-self.result) ∷ []) b.refused b.section b.head b.vertices b.line
+    (outcomes ++ whole old.line content (head_or_plain c.or-self.result) ∷ []) b.refused b.section b.head b.vertices b.line
     (completes old.vertices old.draft c.read.new.self fresh.draft old.has_section old.head c.or-self.result old.line
     c.saturating_add-self.result first all line outcomes content
     (as_reading old.is_refused old first all (line ∷ []) outcomes c.if-self.false h)
