@@ -89,14 +89,14 @@ def job_options(workers, answer, lines, request):
     return ["--workers", workers, "--answer", answer, *lines]
 
 
-def job_reply(program, session, n, arcs, request):
-    """What a session replies to a whole request, by jobs alone; and the arcs from then on."""
+def job_reply(program, session, n, arcs, request, line):
+    """What a session replies to a whole request that ends on a line, by jobs alone; and the arcs from then on."""
     workers, answer, _ = session
     _, _, form, _, rows = request
     graph = lambda of: f"p sp {n} {len(of)}\n" + records("a", of)
     if form == "arcs":
         listed = [arc for row in rows for arc in arcs if arc[:2] == row]
-        return f"{records('a', listed)}r {n} {len(arcs)}\n", arcs
+        return f"{records('a', listed)}r {n} {len(arcs)} {line}\n", arcs
     if form in ("add", "cut", "set"):
         removed = {row[:2] for row in rows} if form != "add" else set()
         left = [arc for arc in arcs if arc[:2] not in removed]
@@ -104,13 +104,13 @@ def job_reply(program, session, n, arcs, request):
         lines += f"g {len(rows)}\n" if form != "cut" else ""
         arcs = left + (rows if form != "cut" else [])
         block = run(program, ["--workers", workers, "--answer", answer], graph(arcs))[0] if answer == "components" else ""
-        return f"{lines}{block}r {n} {len(arcs)}\n", arcs
+        return f"{lines}{block}r {n} {len(arcs)} {line}\n", arcs
     section = {"walk": "p2p", "within": "ss"}.get(form, form)
     text = graph(arcs) + f"p aux sp {section} {len(rows)}\n" + records(LETTERS[form], rows)
     output, error, status = run(program, job_options(*session, request), text)
     if status:
         wrong(f"job ended with {status}: {error}")
-    return f"{output}r {n} {len(arcs)}\n", arcs
+    return f"{output}r {n} {len(arcs)} {line}\n", arcs
 
 
 def draw_wrong(draw, n, request, line):
@@ -139,7 +139,7 @@ def check_random(program, count):
         options = ["--workers", workers, "--answer", answer, *lines]
         text = f"p sp {n} {len(arcs)}\n" + records("a", arcs)
         block = run(program, options, text)[0] if answer == "components" else ""
-        wanted = f"{block}r {n} {len(arcs)}\n"
+        wanted = f"{block}r {n} {len(arcs)} {len(arcs) + 1}\n"
         for _ in range(draw.randrange(6)):
             request = draw_request(draw, n)
             if draw.randrange(4) == 0:
@@ -148,7 +148,7 @@ def check_random(program, count):
                 wanted += refusal
                 continue
             text += f"p aux sp {head_of(request)} {len(request[-1])}\n" + records(LETTERS[request[2]], request[-1])
-            reply, arcs = job_reply(program, (workers, answer, lines), n, arcs, request)
+            reply, arcs = job_reply(program, (workers, answer, lines), n, arcs, request, text.count("\n"))
             wanted += reply
         found = run(program, ["--session", *options], text)
         if found != (wanted, "", 0):

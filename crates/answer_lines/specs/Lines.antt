@@ -47,9 +47,16 @@ arc_text arc =
     ++ decimal arc.weight
     ++ codes "\n"
 
--- 'r N M': how many vertices and arcs a graph has, which are the numbers themselves
-abbrev pub ready_text : ℕ → ℕ → List ℕ
-ready_text n m = codes "r " ++ decimal n ++ codes " " ++ decimal m ++ codes "\n"
+-- 'r N M LINE': how many vertices and arcs a graph has, and the number of a line, which are the numbers themselves
+abbrev pub ready_text : ℕ → ℕ → ℕ → List ℕ
+ready_text n m line =
+    codes "r "
+    ++ decimal n
+    ++ codes " "
+    ++ decimal m
+    ++ codes " "
+    ++ decimal line
+    ++ codes "\n"
 
 -- 'e LINE WORDS': a line that is wrong, and what is wrong with it
 abbrev pub refusal_text : ℕ → List ℕ → List ℕ

@@ -95,13 +95,15 @@ pub fn put_arc(out: &mut Vec<u8>, arc: ArcRec) -> Result<(), Memory>
     Ok(())
 }
 
-/// Appends the line `r N M` of a graph's vertices and arcs.
-pub fn put_ready(out: &mut Vec<u8>, n: u32, arcs: u64) -> Result<(), Memory>
-    ensures ok { OnOk result (out.new.items ≡ out.old.items ++ ready_text n arcs) }
+/// Appends the line `r N M LINE`: how many vertices and arcs a graph has, and the number of a line.
+pub fn put_ready(out: &mut Vec<u8>, n: u32, arcs: u64, number: u64) -> Result<(), Memory>
+    ensures ok { OnOk result (out.new.items ≡ out.old.items ++ ready_text n arcs number) }
     ensures err { OnErr result (out.new.items ≡ out.old.items) }
 {
     let mut line = [0u8; MAX_LINE_BYTES];
     let end = put_byte(&mut line, MAX_LINE_BYTES, b'\n');
+    let end = put_number(&mut line, end, number);
+    let end = put_byte(&mut line, end, b' ');
     let end = put_number(&mut line, end, arcs);
     let end = put_byte(&mut line, end, b' ');
     let start = put_start(&mut line, end, b'r', u64::from(n));

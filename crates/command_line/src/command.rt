@@ -65,9 +65,9 @@ of added arcs, or `p aux sp walk K` and K pairs, whose walks are wanted, or
 `p aux sp within COST K` and K sources, of which only vertices that cost at most
 COST have a line. Each is answered as soon as its last line has come, on the
 graph with all arcs that were added before, and the answer ends with the line
-`r N M`: the graph has N vertices and M arcs. So is the graph itself. A request
-with a line that is wrong is answered by the line `e LINE WORDS` alone, and
-nothing of it is done.
+`r N M LINE`: the graph has N vertices and M arcs, and the request ends on that
+line. So is the graph itself. A request with a line that is wrong is answered by
+the line `e LINE WORDS` alone, and nothing of it is done.
 
 Example:
   $ printf 'p sp 2 1\\na 1 2 7\\np aux sp ss 1\\ns 1\\n' | obim_query

@@ -122,38 +122,38 @@ module _ (law : AnswerTextsByLinesAreUnique) (terms : Terms) where
       by_asked false first second one two =
           law terms.kind (lines_for terms.lines question) (job_of graph question) first second one two
 
-  pub one_answer : (graph : Content) (question : Question)
-      → IsOneText (IsAnswerIn terms graph question)
-  one_answer graph question first second one two =
+  pub one_answer : (graph : Content) (question : Question) (line : ℕ)
+      → IsOneText (IsAnswerIn terms graph question line)
+  one_answer graph question line first second one two =
       one.written
-      ∙ ap (λ (body : List ℕ). body ++ ready_text graph.n (length graph.arcs))
+      ∙ ap (λ (body : List ℕ). body ++ ready_text graph.n (length graph.arcs) line)
       (one_body graph question one.body two.body one.is_body two.is_body)
       ∙ sym two.written
 
-  one_reply : (graph : Content) (change : ChangeSeen) (question : Question)
-      → IsOneText (IsReplyTo terms graph change question)
-  one_reply graph change question first second one two =
+  one_reply : (graph : Content) (change : ChangeSeen) (question : Question) (line : ℕ)
+      → IsOneText (IsReplyTo terms graph change question line)
+  one_reply graph change question line first second one two =
       one.written
       ∙ ap (λ (answer : List ℕ). change_text change graph.arcs ++ answer)
-      (one_answer (changed_by graph change) question one.answer two.answer one.is_answer two.is_answer)
+      (one_answer (changed_by graph change) question line one.answer two.answer one.is_answer two.is_answer)
       ∙ sym two.written
 
-one_reply_by : AnswerTextsByLinesAreUnique → (form : HeadForm) (terms : Terms) (graph job : Content)
-    → IsOneText (IsReplyBy form terms graph job)
-one_reply_by law Sources terms graph job = one_reply law terms graph (change_by Sources job) job.question
-one_reply_by law Within terms graph job = one_reply law terms graph (change_by Within job) job.question
-one_reply_by law Pairs terms graph job = one_reply law terms graph (change_by Pairs job) job.question
-one_reply_by law Walk terms graph job = one_reply law terms graph (change_by Walk job) job.question
-one_reply_by law Added terms graph job = one_reply law terms graph (change_by Added job) job.question
-one_reply_by law Removed terms graph job = one_reply law terms graph (change_by Removed job) absent
-one_reply_by law Replaced terms graph job = one_reply law terms graph (change_by Replaced job) job.question
-one_reply_by law Listed terms graph job = λ first second one two. one ∙ sym two
+one_reply_by : AnswerTextsByLinesAreUnique → (form : HeadForm) (terms : Terms) (graph job : Content) (line : ℕ)
+    → IsOneText (IsReplyBy form terms graph job line)
+one_reply_by law Sources terms graph job line = one_reply law terms graph (change_by Sources job) job.question line
+one_reply_by law Within terms graph job line = one_reply law terms graph (change_by Within job) job.question line
+one_reply_by law Pairs terms graph job line = one_reply law terms graph (change_by Pairs job) job.question line
+one_reply_by law Walk terms graph job line = one_reply law terms graph (change_by Walk job) job.question line
+one_reply_by law Added terms graph job line = one_reply law terms graph (change_by Added job) job.question line
+one_reply_by law Removed terms graph job line = one_reply law terms graph (change_by Removed job) absent line
+one_reply_by law Replaced terms graph job line = one_reply law terms graph (change_by Replaced job) job.question line
+one_reply_by law Listed terms graph job line = λ first second one two. one ∙ sym two
 
 module _ (law : AnswerTextsByLinesAreUnique) (terms : Terms) where
   one_reply_for : (graph : Content) (outcome : Outcome)
       → IsOneText (IsReplyFor terms graph outcome)
-  one_reply_for graph (whole job head) first second one two =
-      one_reply_by law head.form (terms_by head terms) graph job first second one two
+  one_reply_for graph (whole line job head) first second one two =
+      one_reply_by law head.form (terms_by head terms) graph job line first second one two
   one_reply_for graph (wrong line what) first second one two = one ∙ sym two
   one_reply_for graph (no_memory line) first second one two = one ∙ sym two
 
@@ -171,20 +171,20 @@ module _ (law : AnswerTextsByLinesAreUnique) (terms : Terms) where
   -- ---- an answer
 
   -- the answer was given whole, and then a prefix of how large the graph is
-  pub ready_cut : (graph : Content) (question : Question) (body : List ℕ)
+  pub ready_cut : (graph : Content) (question : Question) (line : ℕ) (body : List ℕ)
       (before middle after : Option (List ℕ))
       → IsBodyIn terms graph question body
       → Appends before middle body
-      → WritesPrefix (λ text. text ≡ ready_text graph.n (length graph.arcs)) middle after
-      → WritesPrefix (IsAnswerIn terms graph question) before after
-  ready_cut graph question body before middle after is_body one cut =
-      second_cut (λ text. text ≡ ready_text graph.n (length graph.arcs)) (IsAnswerIn terms graph question) body
+      → WritesPrefix (λ text. text ≡ ready_text graph.n (length graph.arcs) line) middle after
+      → WritesPrefix (IsAnswerIn terms graph question line) before after
+  ready_cut graph question line body before middle after is_body one cut =
+      second_cut (λ text. text ≡ ready_text graph.n (length graph.arcs) line) (IsAnswerIn terms graph question line) body
       before middle after
       (λ text is. (
-        ready_text graph.n (length graph.arcs),
+        ready_text graph.n (length graph.arcs) line,
         refl,
         is.written
-            ∙ ap (λ (some : List ℕ). some ++ ready_text graph.n (length graph.arcs))
+            ∙ ap (λ (some : List ℕ). some ++ ready_text graph.n (length graph.arcs) line)
             (one_body law terms graph question is.body body is.is_body is_body),
       ))
       one cut

@@ -145,12 +145,12 @@ front_parts limit initial buffer taken_from taken_to is more may = by_end initia
         )
 
 -- the reply to the graph was cut short
-pub greeting_cut : (limit : ℕ) (terms : Terms) (initial : InitialGraph) (buffer : List ℕ)
+pub greeting_cut : (limit : ℕ) (terms : Terms) (initial : InitialGraph) (line : ℕ) (buffer : List ℕ)
     (taken_from taken_to given_from given_to : Option (List ℕ))
-    → HasInitialGraph limit initial buffer taken_from taken_to
-    → WritesPrefix (IsAnswerIn terms (content_of initial.graph) absent) given_from given_to
+    → HasInitialGraph limit initial buffer taken_from taken_to → line ≡ initial.line - 1
+    → WritesPrefix (IsAnswerIn terms (content_of initial.graph) absent line) given_from given_to
     → IsCutSession terms taken_from taken_to given_from given_to
-greeting_cut limit terms initial buffer taken_from taken_to given_from given_to has cut = record {
+greeting_cut limit terms initial line buffer taken_from taken_to given_from given_to has names cut = record {
   text = has.text ++ take (initial.end - initial.at) (drop initial.at buffer);
   taken = has.taken;
   given = inr
@@ -167,23 +167,30 @@ greeting_cut limit terms initial buffer taken_from taken_to given_from given_to 
         end = parts.0;
         requests = (refl, refl);
         replied =
-            first_cut (IsAnswerIn terms (content_of initial.graph) absent)
-            (AreAllReplies terms (content_of initial.graph) []) given_from given_to
-            (λ text is. (is.greeting, is.later, is.greets, is.written)) cut;
+            first_cut (IsAnswerIn terms (content_of initial.graph) absent line)
+            (AreAllReplies terms (content_of initial.graph) (length (lines has.text)) []) given_from given_to
+            (λ text is. (
+              is.greeting,
+              is.later,
+              subst (λ k. IsAnswerIn terms (content_of initial.graph) absent k is.greeting)
+                  (omega (arith, has.number, names)) is.greets,
+              is.written,
+            ))
+            cut;
       });
 }
 
 -- the replies to requests were cut short
 pub session_cut : AnswerTextsByLinesAreUnique
-    → (limit : ℕ) (terms : Terms) (initial : InitialGraph) (buffer : List ℕ)
+    → (limit : ℕ) (terms : Terms) (initial : InitialGraph) (line : ℕ) (buffer : List ℕ)
     (taken_from between taken_to given_from middle given_to : Option (List ℕ))
-    → HasInitialGraph limit initial buffer taken_from between → initial.has_ended ≡ false
-    → Writes (IsAnswerIn terms (content_of initial.graph) absent) given_from middle
+    → HasInitialGraph limit initial buffer taken_from between → initial.has_ended ≡ false → line ≡ initial.line - 1
+    → Writes (IsAnswerIn terms (content_of initial.graph) absent line) given_from middle
     → IsCutConversation terms (content_of initial.graph) initial.line
     (take (initial.end - initial.at) (drop initial.at buffer)) between taken_to middle given_to
     → IsCutSession terms taken_from taken_to given_from given_to
-session_cut law limit terms initial buffer taken_from between taken_to given_from middle given_to has goes_on writes
-    conversed =
+session_cut law limit terms initial line buffer taken_from between taken_to given_from middle given_to has goes_on names
+    writes conversed =
     let heard = take (initial.end - initial.at) (drop initial.at buffer) in
     let graph = content_of initial.graph in
     let more = conversed.more in
@@ -211,16 +218,18 @@ session_cut law limit terms initial buffer taken_from between taken_to given_fro
             requests =
                 subst
                 (λ first. AreRequestsTo graph.n cut.next cut.end first (lines (heard ++ (more ++ later))) cut.outcomes)
-                (has.number goes_on) cut.requests;
+                has.number cut.requests;
             replied =
                 second_cut (AreReplies terms graph cut.outcomes)
-                (AreAllReplies terms graph cut.outcomes) writes.text given_from middle given_to
+                (AreAllReplies terms graph (length (lines has.text)) cut.outcomes) writes.text given_from middle given_to
                 (λ text is. (
                   is.later,
                   is.replied,
                   is.written
                       ∙ ap (λ (greeting : List ℕ). greeting ++ is.later)
-                      (one_answer law terms graph absent is.greeting writes.text is.greets writes.is_text),
+                      (one_answer law terms graph absent (length (lines has.text)) is.greeting writes.text is.greets
+                      (subst (λ k. IsAnswerIn terms graph absent k writes.text) (omega (arith, has.number, names))
+                      writes.is_text)),
                 ))
                 writes.appended cut.replied;
           });

@@ -106,7 +106,7 @@ after_graph_ends limit initial buffer taken_from between taken_to (fault.Text li
       parts = has.joined goes_on (heard ++ more);
       outcomes = is.2.0.0;
       short =
-          subst (λ first. AreShort initial.graph.n first (lines (heard ++ more)) is.2.0.0 line) (has.number goes_on)
+          subst (λ first. AreShort initial.graph.n first (lines (heard ++ more)) is.2.0.0 line) has.number
           is.2.0.1;
       kind_is = is.2.1;
     })

@@ -63,9 +63,10 @@ pub ended_has : (job : JobReader) (limit left : ℕ) (before between after : Opt
     → IsFed job limit left before between → Consumes between after (take count buffer) → count ≡ 0 → IsAtEnd after
     → IfOk result (λ initial. (initial.at ≡ 0) × (initial.end ≡ 0) × (initial.has_ended ≡ true))
     → ((text : List ℕ) → HasRead job text → IfOk result (λ initial. IsGraphText text (content_of initial.graph)))
+    → ((text : List ℕ) → HasRead job text → IfOk result (λ initial. initial.line ≡ length (lines text) + 1))
     → IfOk result (λ initial. HasInitialGraph limit initial buffer before after)
-ended_has job limit left before between after buffer count (Err fault) fed takes none ended places graph = tt
-ended_has job limit left before between after buffer count (Ok initial) fed takes none ended places graph =
+ended_has job limit left before between after buffer count (Err fault) fed takes none ended places graph next = tt
+ended_has job limit left before between after buffer count (Ok initial) fed takes none ended places graph next =
     let zero : initial.end - initial.at ≡ count = omega (arith, places.0, places.1, none) in
     let nothing : take (initial.end - initial.at) (drop initial.at buffer) ≡ take count buffer =
     ap (λ k. take k (drop initial.at buffer)) (zero ∙ none) ∙ sym (ap (λ k. take k buffer) none) in
@@ -73,7 +74,7 @@ ended_has job limit left before between after buffer count (Ok initial) fed take
       text = fed.text;
       few = omega (arith, fed.count);
       is_graph = graph fed.text fed.read;
-      number = λ other. absurd (let is = places.2 in cc);
+      number = next fed.text fed.read;
       joined = λ other more. absurd (let is = places.2 in cc);
       taken =
           subst (λ bytes. Consumes before after (fed.text ++ bytes)) (sym nothing)
@@ -107,7 +108,7 @@ open_has old job limit left before between after buffer at count (Ok initial) lo
       text = text;
       few = omega (arith, fed.count, short, length-append fed.text (take at (take count buffer)));
       is_graph = graph text read;
-      number = λ other. next text read;
+      number = next text read;
       joined = λ other more. joined text more read;
       taken =
           subst (λ bytes. Consumes before after bytes)
@@ -163,7 +164,7 @@ whole_has job limit left before after buffer (Ok initial) fed places graph next 
       text = fed.text;
       few = omega (arith, fed.count);
       is_graph = graph fed.text fed.read;
-      number = λ other. next fed.text fed.read;
+      number = next fed.text fed.read;
       joined = λ other more. joined fed.text more fed.read;
       taken =
           subst (λ bytes. Consumes before after bytes)

@@ -122,10 +122,10 @@ replied_once terms graph outcome session before after (Ok reply_outcome.NotStart
 replied_once terms graph outcome session before after (Err fault) written holds = tt
 
 -- the reply to a question alone
-pub plain_reply : (terms : Terms) (graph : Content) (question : Question) (text : List ℕ)
-    → IsAnswerIn terms graph question text
-    ↔ IsReplyTo terms graph (record { removed = None; added = None }) question text
-plain_reply terms graph question text = (
+pub plain_reply : (terms : Terms) (graph : Content) (question : Question) (line : ℕ) (text : List ℕ)
+    → IsAnswerIn terms graph question line text
+    ↔ IsReplyTo terms graph (record { removed = None; added = None }) question line text
+plain_reply terms graph question line text = (
   λ is. record {
     answer = text;
     is_answer = record { body = is.body; is_body = is.is_body; written = is.written };
@@ -139,29 +139,29 @@ plain_reply terms graph question text = (
 )
 
 -- the reply to a request that lists no arcs
-reply_same : (form : HeadForm) (terms : Terms) (graph job : Content) (text : List ℕ) → (form ≡ Listed → ⊥)
-    → IsReplyTo terms graph (change_by form job) (question_by form job.question) text
-    ↔ IsReplyBy form terms graph job text
-reply_same Sources terms graph job text other = (λ is. is, λ is. is)
-reply_same Within terms graph job text other = (λ is. is, λ is. is)
-reply_same Pairs terms graph job text other = (λ is. is, λ is. is)
-reply_same Walk terms graph job text other = (λ is. is, λ is. is)
-reply_same Added terms graph job text other = (λ is. is, λ is. is)
-reply_same Removed terms graph job text other = (λ is. is, λ is. is)
-reply_same Replaced terms graph job text other = (λ is. is, λ is. is)
-reply_same Listed terms graph job text other = absurd (other refl)
+reply_same : (form : HeadForm) (terms : Terms) (graph job : Content) (line : ℕ) (text : List ℕ) → (form ≡ Listed → ⊥)
+    → IsReplyTo terms graph (change_by form job) (question_by form job.question) line text
+    ↔ IsReplyBy form terms graph job line text
+reply_same Sources terms graph job line text other = (λ is. is, λ is. is)
+reply_same Within terms graph job line text other = (λ is. is, λ is. is)
+reply_same Pairs terms graph job line text other = (λ is. is, λ is. is)
+reply_same Walk terms graph job line text other = (λ is. is, λ is. is)
+reply_same Added terms graph job line text other = (λ is. is, λ is. is)
+reply_same Removed terms graph job line text other = (λ is. is, λ is. is)
+reply_same Replaced terms graph job line text other = (λ is. is, λ is. is)
+reply_same Listed terms graph job line text other = absurd (other refl)
 
 pub reply_by : (form : HeadForm) (terms given : Terms) (graph job : Content) (change : ChangeSeen) (question : Question)
-    (text : List ℕ) → (form ≡ Listed → ⊥)
+    (line : ℕ) (text : List ℕ) → (form ≡ Listed → ⊥)
     → given ≡ terms → change ≡ change_by form job → question ≡ question_by form job.question
-    → IsReplyTo given graph change question text
-    ↔ IsReplyBy form terms graph job text
-reply_by form terms given graph job change question text other a b c =
-    subst (λ (t : Terms). IsReplyTo t graph change question text ↔ IsReplyBy form terms graph job text) (sym a)
-    (subst (λ (x : ChangeSeen). IsReplyTo terms graph x question text ↔ IsReplyBy form terms graph job text) (sym b)
+    → IsReplyTo given graph change question line text
+    ↔ IsReplyBy form terms graph job line text
+reply_by form terms given graph job change question line text other a b c =
+    subst (λ (t : Terms). IsReplyTo t graph change question line text ↔ IsReplyBy form terms graph job line text) (sym a)
+    (subst (λ (x : ChangeSeen). IsReplyTo terms graph x question line text ↔ IsReplyBy form terms graph job line text) (sym b)
     (subst
-    (λ (q : Question). IsReplyTo terms graph (change_by form job) q text ↔ IsReplyBy form terms graph job text) (sym c)
-    (reply_same form terms graph job text other)))
+    (λ (q : Question). IsReplyTo terms graph (change_by form job) q line text ↔ IsReplyBy form terms graph job line text) (sym c)
+    (reply_same form terms graph job line text other)))
 
 -- the arcs that it adds are within the limits
 pub change_within : (form : HeadForm) (n : ℕ) (job : Content) → IsAddedWithin n job.added
@@ -181,7 +181,7 @@ pub refusable_last : (request : Option Request) (reader : RequestReader) (first 
     → IsAskedIn request → IfSome request (IsRefusable reader first all outcomes)
     → IsRefusedLast reader first all outcomes
 refusable_last None reader first all outcomes asked is = absurd asked
-refusable_last (Some (Asked job head)) reader first all outcomes asked is = is
+refusable_last (Some (Asked line job head)) reader first all outcomes asked is = is
 refusable_last (Some (Wrong line kind)) reader first all outcomes asked is = absurd asked
 refusable_last (Some (NoMemory line)) reader first all outcomes asked is = absurd asked
 
@@ -198,7 +198,7 @@ refused_reply terms graph line session before after holds reply = record {
 }
 
 within_of : (n : ℕ) (request : Request) → IsAskedWithin n request → IsRequestWithin n request
-within_of n (Asked job head) (limits, vertices, none, bound) = (
+within_of n (Asked line job head) (limits, vertices, none, bound) = (
   subst (λ k. IsQuestionWithin k (content_of job).question) vertices limits.question,
   subst (λ k. IsAddedWithin k (content_of job).added) vertices limits.added,
   bound,

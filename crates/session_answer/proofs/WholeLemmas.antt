@@ -88,12 +88,12 @@ begins_heard terms graph first conversation written outside none requests vertic
 }
 
 -- the input ends with the graph
-pub session_ended : (limit : ℕ) (terms : Terms) (initial : InitialGraph) (buffer : List ℕ)
+pub session_ended : (limit : ℕ) (terms : Terms) (initial : InitialGraph) (line : ℕ) (buffer : List ℕ)
     (taken_from taken_to given_from given_to : Option (List ℕ))
-    → HasInitialGraph limit initial buffer taken_from taken_to → initial.has_ended ≡ true
-    → Writes (IsAnswerIn terms (content_of initial.graph) absent) given_from given_to
+    → HasInitialGraph limit initial buffer taken_from taken_to → initial.has_ended ≡ true → line ≡ initial.line - 1
+    → Writes (IsAnswerIn terms (content_of initial.graph) absent line) given_from given_to
     → IsAnsweredSession limit terms taken_from taken_to given_from given_to
-session_ended limit terms initial buffer taken_from taken_to given_from given_to has ended writes =
+session_ended limit terms initial line buffer taken_from taken_to given_from given_to has ended names writes =
     let last = has.ended ended in
     let nothing : initial.end - initial.at ≡ 0 = omega (arith, last.1) in
     record {
@@ -114,7 +114,9 @@ session_ended limit terms initial buffer taken_from taken_to given_from given_to
         outcomes = [];
         requests = record { next = length (lines has.text) + 1; end = []; requests = (refl, refl); silent = tt };
         greeting = writes.text;
-        greets = writes.is_text;
+        greets =
+            subst (λ k. IsAnswerIn terms (content_of initial.graph) absent k writes.text)
+            (omega (arith, has.number, names)) writes.is_text;
         later = [];
         replied = refl;
         written = sym (append-nil writes.text);
@@ -124,18 +126,18 @@ session_ended limit terms initial buffer taken_from taken_to given_from given_to
     }
 
 -- requests come after it
-pub session_whole : {T : Type 0} (limit : ℕ) (terms : Terms) (initial : InitialGraph) (buffer : List ℕ)
+pub session_whole : {T : Type 0} (limit : ℕ) (terms : Terms) (initial : InitialGraph) (line : ℕ) (buffer : List ℕ)
     (taken_from between taken_to given_from middle given_to : Option (List ℕ)) (result : Result T Fault)
-    → HasInitialGraph limit initial buffer taken_from between → initial.has_ended ≡ false
-    → Writes (IsAnswerIn terms (content_of initial.graph) absent) given_from middle
+    → HasInitialGraph limit initial buffer taken_from between → initial.has_ended ≡ false → line ≡ initial.line - 1
+    → Writes (IsAnswerIn terms (content_of initial.graph) absent line) given_from middle
     → OnOk result
     (HasConversed terms (content_of initial.graph) initial.line
     (take (initial.end - initial.at) (drop initial.at buffer)) between taken_to middle given_to)
     → OnOk result (IsAnsweredSession limit terms taken_from taken_to given_from given_to)
-session_whole limit terms initial buffer taken_from between taken_to given_from middle given_to (Err fault) has goes_on
-    writes conversed = tt
-session_whole limit terms initial buffer taken_from between taken_to given_from middle given_to (Ok done) has goes_on
-    writes conversed =
+session_whole limit terms initial line buffer taken_from between taken_to given_from middle given_to (Err fault) has
+    goes_on names writes conversed = tt
+session_whole limit terms initial line buffer taken_from between taken_to given_from middle given_to (Ok done) has
+    goes_on names writes conversed =
     let heard = take (initial.end - initial.at) (drop initial.at buffer) in
     let more = conversed.more in
     record {
@@ -157,9 +159,11 @@ session_whole limit terms initial buffer taken_from between taken_to given_from 
         requests =
             subst
             (λ first. AreRequests initial.graph.n first (lines (heard ++ more)) conversed.answered.outcomes)
-            (has.number goes_on) conversed.answered.requests;
+            has.number conversed.answered.requests;
         greeting = writes.text;
-        greets = writes.is_text;
+        greets =
+            subst (λ k. IsAnswerIn terms (content_of initial.graph) absent k writes.text)
+            (omega (arith, has.number, names)) writes.is_text;
         later = conversed.answered.replies;
         replied = conversed.answered.replied;
         written = refl;

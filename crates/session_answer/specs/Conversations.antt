@@ -78,12 +78,12 @@ pub record HasConversed (terms : Terms) (graph : Content) (first : ℕ) (heard :
   pub answered : AreAnswered terms graph first (heard ++ more) before after
 
 -- A graph was read, within the limit, and of the bytes that were taken those in the buffer come after it. Or the input
--- has ended.
+-- has ended. The number of the next line is one more than the number of its lines.
 pub record HasInitialGraph (limit : ℕ) (initial : InitialGraph) (buffer : List ℕ) (before after : Option (List ℕ)) : Type 0 where
   pub text : List ℕ
   pub few : length text ≤ limit
   pub is_graph : IsGraphText text (content_of initial.graph)
-  pub number : initial.has_ended ≡ false → initial.line ≡ length (lines text) + 1
+  pub number : initial.line ≡ length (lines text) + 1
   pub joined : initial.has_ended ≡ false → (more : List ℕ) → lines (text ++ more) ≡ lines text ++ lines more
   pub taken : Consumes before after (text ++ take (initial.end - initial.at) (drop initial.at buffer))
   pub ended : initial.has_ended ≡ true → IsAtEnd after × (initial.end ≡ initial.at)

@@ -62,11 +62,11 @@ pub record IsCutConversation (terms : Terms) (graph : Content) (first : ℕ)
 
 -- ---- a session
 
--- the reply to a graph, and then those to the requests after it
-pub record AreAllReplies (terms : Terms) (graph : Content) (outcomes : List Outcome)
+-- the reply to a graph, whose last line has the number given, and then those to the requests after it
+pub record AreAllReplies (terms : Terms) (graph : Content) (line : ℕ) (outcomes : List Outcome)
     (text : List ℕ) : Type 0 where
   pub greeting : List ℕ
-  pub greets : IsAnswerIn terms graph absent greeting
+  pub greets : IsAnswerIn terms graph absent line greeting
   pub later : List ℕ
   pub replied : AreReplies terms graph outcomes later
   pub written : text ≡ greeting ++ later
@@ -84,7 +84,7 @@ pub record IsSessionBegun (terms : Terms) (text : List ℕ)
   pub next : ℕ
   pub end : List (List ℕ)
   pub requests : AreRequestsTo graph.n next end (length (lines initial) + 1) rest outcomes
-  pub replied : WritesPrefix (AreAllReplies terms graph outcomes) before after
+  pub replied : WritesPrefix (AreAllReplies terms graph (length (lines initial)) outcomes) before after
 
 -- This text was taken. Nothing was given; or whatever follows, all of it begins with a graph and some requests, and a
 -- prefix of the replies to these was given.

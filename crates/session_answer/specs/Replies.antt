@@ -44,39 +44,40 @@ abbrev pub IsBodyIn : Terms → Content → Question → List ℕ → Type 0
 IsBodyIn terms graph question text =
     IsBodyIf (is_unasked terms.kind question) terms.kind (lines_for terms.lines question) (job_of graph question) text
 
--- the same, and then how large the graph is
-pub record IsAnswerIn (terms : Terms) (graph : Content) (question : Question) (text : List ℕ) : Type 0 where
+-- the same, and then how large the graph is, and the number of the line that is answered
+pub record IsAnswerIn (terms : Terms) (graph : Content) (question : Question) (line : ℕ) (text : List ℕ) : Type 0 where
   pub body : List ℕ
   pub is_body : IsBodyIn terms graph question body
-  pub written : text ≡ body ++ ready_text graph.n (length graph.arcs)
+  pub written : text ≡ body ++ ready_text graph.n (length graph.arcs) line
 
 -- ---- the reply to a request that is whole
 
 -- How a request changes the graph, and the answer to its question in the graph after it.
-pub record IsReplyTo (terms : Terms) (graph : Content) (change : ChangeSeen) (question : Question) (text : List ℕ)
-    : Type 0 where
+pub record IsReplyTo (terms : Terms) (graph : Content) (change : ChangeSeen) (question : Question) (line : ℕ)
+    (text : List ℕ) : Type 0 where
   pub answer : List ℕ
-  pub is_answer : IsAnswerIn terms (changed_by graph change) question answer
+  pub is_answer : IsAnswerIn terms (changed_by graph change) question line answer
   pub written : text ≡ change_text change graph.arcs ++ answer
 
 -- the lines of the arcs that lead between a pair
 abbrev pub between_text : List ArcRec → ℕ × ℕ → List ℕ
 between_text arcs pair = flat_map arc_text (filter (λ arc. leads_between arc pair) arcs)
 
--- the arcs between pairs, and then how large the graph is
-abbrev pub listing_text : Content → List (ℕ × ℕ) → List ℕ
-listing_text graph pairs = flat_map (between_text graph.arcs) pairs ++ ready_text graph.n (length graph.arcs)
+-- the arcs between pairs, and then how large the graph is, and the number of the line that is answered
+abbrev pub listing_text : Content → List (ℕ × ℕ) → ℕ → List ℕ
+listing_text graph pairs line =
+    flat_map (between_text graph.arcs) pairs ++ ready_text graph.n (length graph.arcs) line
 
--- the reply to a request of a form
-abbrev pub IsReplyBy : HeadForm → Terms → Content → Content → List ℕ → Type 0
-IsReplyBy form.Sources terms graph job text = IsReplyTo terms graph (change_by form.Sources job) job.question text
-IsReplyBy form.Within terms graph job text = IsReplyTo terms graph (change_by form.Within job) job.question text
-IsReplyBy form.Pairs terms graph job text = IsReplyTo terms graph (change_by form.Pairs job) job.question text
-IsReplyBy form.Walk terms graph job text = IsReplyTo terms graph (change_by form.Walk job) job.question text
-IsReplyBy form.Added terms graph job text = IsReplyTo terms graph (change_by form.Added job) job.question text
-IsReplyBy form.Removed terms graph job text = IsReplyTo terms graph (change_by form.Removed job) absent text
-IsReplyBy form.Replaced terms graph job text = IsReplyTo terms graph (change_by form.Replaced job) job.question text
-IsReplyBy form.Listed terms graph job text = text ≡ listing_text graph (pairs_of job.question)
+-- the reply to a request of a form, whose last line has the number given
+abbrev pub IsReplyBy : HeadForm → Terms → Content → Content → ℕ → List ℕ → Type 0
+IsReplyBy form.Sources terms graph job line text = IsReplyTo terms graph (change_by form.Sources job) job.question line text
+IsReplyBy form.Within terms graph job line text = IsReplyTo terms graph (change_by form.Within job) job.question line text
+IsReplyBy form.Pairs terms graph job line text = IsReplyTo terms graph (change_by form.Pairs job) job.question line text
+IsReplyBy form.Walk terms graph job line text = IsReplyTo terms graph (change_by form.Walk job) job.question line text
+IsReplyBy form.Added terms graph job line text = IsReplyTo terms graph (change_by form.Added job) job.question line text
+IsReplyBy form.Removed terms graph job line text = IsReplyTo terms graph (change_by form.Removed job) absent line text
+IsReplyBy form.Replaced terms graph job line text = IsReplyTo terms graph (change_by form.Replaced job) job.question line text
+IsReplyBy form.Listed terms graph job line text = text ≡ listing_text graph (pairs_of job.question) line
 
 -- ---- the reply to any request, and the graph after it
 
@@ -84,22 +85,22 @@ IsReplyBy form.Listed terms graph job text = text ≡ listing_text graph (pairs_
 abbrev pub out_of_memory : List ℕ
 out_of_memory = codes "out of memory"
 
--- A request that is whole is answered. One that is wrong is refused in a line, and so is one for which memory was
+-- A request that is whole is answered, by the number of its last line. One that is wrong is refused in a line, and so is one for which memory was
 -- refused, while it was read or for its reply.
 abbrev pub IsReplyFor : Terms → Content → Outcome → List ℕ → Type 0
-IsReplyFor terms graph (whole job head) text = IsReplyBy head.form (terms_by head terms) graph job text
+IsReplyFor terms graph (whole line job head) text = IsReplyBy head.form (terms_by head terms) graph job line text
 IsReplyFor terms graph (wrong line what) text = text ≡ refusal_text line (words_of what)
 IsReplyFor terms graph (no_memory line) text = text ≡ refusal_text line out_of_memory
 
 -- the graph after a request
 abbrev pub graph_after : Content → Outcome → Content
-graph_after graph (whole job head) = changed_by graph (change_by head.form job)
+graph_after graph (whole line job head) = changed_by graph (change_by head.form job)
 graph_after graph (wrong line what) = graph
 graph_after graph (no_memory line) = graph
 
 -- what a request asks for and adds is within the limits of a graph of n vertices, and a bound is a cost
 abbrev pub IsRequestWithin : ℕ → Request → Type 0
-IsRequestWithin n (request.Asked job head) =
+IsRequestWithin n (request.Asked line job head) =
     IsQuestionWithin n (content_of job).question
     × IsAddedWithin n (content_of job).added
     × IsHeadWithin head
@@ -113,7 +114,7 @@ IsReplied reply_outcome.NotStarted p q = q
 
 -- the request is whole
 abbrev pub IsAsked : Request → Type 0
-IsAsked (request.Asked job head) = ⊤
+IsAsked (request.Asked line job head) = ⊤
 IsAsked (request.Wrong line what) = ⊥
 IsAsked (request.NoMemory line) = ⊥
 
@@ -163,7 +164,8 @@ AreReplies terms graph (outcome ∷ outcomes) text =
     × IsReplyFor terms graph outcome first
     × AreReplies terms (graph_after graph outcome) outcomes rest
 
--- The text is that of a graph and then of requests, and these are the replies to the graph and to each of them.
+-- The text is that of a graph and then of requests, and these are the replies to the graph and to each of them. That to
+-- the graph names its last line.
 pub record IsSession (terms : Terms) (text replies : List ℕ) : Type 0 where
   pub initial : List ℕ
   pub graph : Content
@@ -173,7 +175,7 @@ pub record IsSession (terms : Terms) (text replies : List ℕ) : Type 0 where
   pub outcomes : List Outcome
   pub requests : AreRequests graph.n (length (lines initial) + 1) rest outcomes
   pub greeting : List ℕ
-  pub greets : IsAnswerIn terms graph absent greeting
+  pub greets : IsAnswerIn terms graph absent (length (lines initial)) greeting
   pub later : List ℕ
   pub replied : AreReplies terms graph outcomes later
   pub written : replies ≡ greeting ++ later

@@ -9,6 +9,7 @@ ghost use Rattle.session_answer.specs.Terms.{Terms, terms_of};
 
 use crate::conversation::Conversation;
 use crate::initial_graph::{InitialGraph, read_initial_graph, read_some};
+use crate::query::Query;
 use crate::session::Session;
 use dimacs_text::Ask;
 use job_answer::laws::answer_texts_by_lines_are_unique;
@@ -81,7 +82,12 @@ fn answer_by<H: Threads + Wait + Clock + Sync, R: Read, W: Write, G: Gate + Sync
     let initial = read_initial_graph(rt, alloc, reader, buffer, context.asked.limit, threads)?;
     let (at, end, has_ended, line) = (initial.at, initial.end, initial.has_ended, initial.line);
     let mut session = Session::open(rt, alloc, initial.graph, threads)?;
-    session.answer(context, writer, &Ask::Absent, &mut None)?;
+    let last = line.saturating_sub(1);
+    let greeting = Query {
+        ask: Ask::Absent,
+        line: last,
+    };
+    session.answer(context, writer, &greeting, &mut None)?;
     if has_ended {
         return Ok(());
     }

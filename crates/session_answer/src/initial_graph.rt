@@ -116,6 +116,7 @@ fn ended_initial_graph(job: JobReader) -> Result<InitialGraph, Fault>
     ensures limits { (text : List ℕ) → HasRead job text → IfOk result (λ initial. IsWithinLimits (content_of initial.graph)) }
     ensures graph { (text : List ℕ) → HasRead job text
         → IfOk result (λ initial. IsGraphText text (content_of initial.graph)) }
+    ensures next { (text : List ℕ) → HasRead job text → IfOk result (λ initial. initial.line ≡ length (lines text) + 1) }
     ensures says { (text : List ℕ) → HasRead job text → IfErr result (IsFaultOfGraph text) }
 {
     let line = job.next_line();

@@ -14,6 +14,7 @@ ghost use Rattle.session_answer.specs.Terms.{terms_of};
 
 use crate::change::{Change, pairs_of};
 use crate::listing::put_listed;
+use crate::query::Query;
 use crate::terms::lines_for;
 use answer_lines::put_ready;
 use dimacs_text::Ask;
@@ -126,26 +127,26 @@ impl KindGraph {
         &self,
         context: &Context<'_, H, G>,
         writer: &mut W,
-        ask: &Ask,
+        query: &Query,
         kept: &mut Option<Workspace>,
     ) -> Result<ReplyOutcome, Fault>
         requires graphs { AreGraphs self.now.graphs }
-        requires within { IsQuestionWithin self.now.graphs.network.n (question_of ask.now) }
+        requires within { IsQuestionWithin self.now.graphs.network.n (question_of query.now.ask) }
         ensures answered { (graph : Content) → HoldsKind context.now.asked.now.answer graph self.now
             → IfOk result (λ reply. IsReplied reply (Writes (IsAnswerIn (terms_of context.now.asked.now) graph
-            (question_of ask.now)) (W.contents writer.old) (W.contents writer.new))
+            (question_of query.now.ask) query.now.line) (W.contents writer.old) (W.contents writer.new))
             (Appends (W.contents writer.old) (W.contents writer.new) [])) }
         ensures cut { (graph : Content) → HoldsKind context.now.asked.now.answer graph self.now
             → OnErr result (WritesPrefix (IsAnswerIn (terms_of context.now.asked.now) graph
-            (question_of ask.now)) (W.contents writer.old) (W.contents writer.new)) }
+            (question_of query.now.ask) query.now.line) (W.contents writer.old) (W.contents writer.new)) }
         ensures kinds { IfErr result IsWritingFault }
     {
         answer_texts_by_lines_are_unique();
-        if !self.is_short(context, ask) {
-            self.answer(context, writer, ask, kept)?;
+        if !self.is_short(context, &query.ask) {
+            self.answer(context, writer, query, kept)?;
             return Ok(ReplyOutcome::Written);
         }
-        let text = match self.answer_text(context, ask, kept) {
+        let text = match self.answer_text(context, query, kept) {
             Ok(text) => text,
             Err(Fault::Spawn) => return Err(Fault::Spawn),
             Err(_) => return Ok(ReplyOutcome::NotStarted),
@@ -160,36 +161,37 @@ impl KindGraph {
         alloc: Global,
         writer: &mut W,
         ask: Ask,
+        line: u64,
     ) -> Result<ReplyOutcome, Fault>
         requires within { IsQuestionWithin self.now.graphs.network.n (question_of ask) }
         ensures listed { (graph : Content) → HoldsKind Distances graph self.now
             → HasArcs graph.arcs self.now.graphs.network
             → IfOk result (λ outcome. IsReplied outcome (Appends (W.contents writer.old) (W.contents writer.new)
-            (listing_text graph (pairs_of (question_of ask))))
+            (listing_text graph (pairs_of (question_of ask)) line))
             (Appends (W.contents writer.old) (W.contents writer.new) [])) }
         ensures cut { (graph : Content) → HoldsKind Distances graph self.now
             → HasArcs graph.arcs self.now.graphs.network
             → OnErr result (GivesPrefix (W.contents writer.old) (W.contents writer.new)
-            (listing_text graph (pairs_of (question_of ask)))) }
+            (listing_text graph (pairs_of (question_of ask)) line)) }
         ensures kinds { IfErr result IsWritingFault }
     {
         let pairs = pairs_of(alloc, ask);
-        let Ok(text) = self.listing(alloc, &pairs) else {
+        let Ok(text) = self.listing(alloc, &pairs, line) else {
             return Ok(ReplyOutcome::NotStarted);
         };
         write_whole(writer, &text)?;
         Ok(ReplyOutcome::Written)
     }
 
-    /// Makes the lines of the arcs between pairs, and of how large the graph is.
-    fn listing(&self, alloc: Global, pairs: &[(u32, u32)]) -> Result<Vec<u8>, Memory>
+    /// Makes the lines of the arcs between pairs, and the one that names the line that asks for them.
+    fn listing(&self, alloc: Global, pairs: &[(u32, u32)], line: u64) -> Result<Vec<u8>, Memory>
         requires within { All (IsPairWithin self.now.graphs.network.n) pairs.now }
         ensures { (graph : Content) → HoldsKind Distances graph self.now → HasArcs graph.arcs self.now.graphs.network
-            → IfOk result (λ text. text.items ≡ listing_text graph pairs.now) }
+            → IfOk result (λ text. text.items ≡ listing_text graph pairs.now line) }
     {
         let mut text = Vec::new(alloc);
         put_listed(alloc, &mut text, &self.graphs.network, pairs)?;
-        put_ready(&mut text, self.graphs.network.n(), self.arcs as u64)?;
+        put_ready(&mut text, self.graphs.network.n(), self.arcs as u64, line)?;
         Ok(text)
     }
 
@@ -197,18 +199,18 @@ impl KindGraph {
     fn answer_text<H: Threads + Wait + Clock + Sync, G: Gate + Sync>(
         &self,
         context: &Context<'_, H, G>,
-        ask: &Ask,
+        query: &Query,
         kept: &mut Option<Workspace>,
     ) -> Result<Vec<u8>, Fault>
         requires graphs { AreGraphs self.now.graphs }
-        requires within { IsQuestionWithin self.now.graphs.network.n (question_of ask.now) }
+        requires within { IsQuestionWithin self.now.graphs.network.n (question_of query.now.ask) }
         ensures text { (graph : Content) → HoldsKind context.now.asked.now.answer graph self.now
             → IfOk result (λ text. IsAnswerIn (terms_of context.now.asked.now) graph
-            (question_of ask.now) text.items) }
+            (question_of query.now.ask) query.now.line text.items) }
         ensures kinds { IfErr result IsWritingFault }
     {
         let mut text = Vec::new(context.alloc);
-        self.answer(context, &mut text, ask, kept)?;
+        self.answer(context, &mut text, query, kept)?;
         Ok(text)
     }
 
@@ -230,23 +232,24 @@ impl KindGraph {
         &self,
         context: &Context<'_, H, G>,
         writer: &mut W,
-        ask: &Ask,
+        query: &Query,
         kept: &mut Option<Workspace>,
     ) -> Result<(), Fault>
         requires graphs { AreGraphs self.now.graphs }
-        requires within { IsQuestionWithin self.now.graphs.network.n (question_of ask.now) }
+        requires within { IsQuestionWithin self.now.graphs.network.n (question_of query.now.ask) }
         ensures answered { (graph : Content) → HoldsKind context.now.asked.now.answer graph self.now
             → OnOk result (Writes (IsAnswerIn (terms_of context.now.asked.now) graph
-            (question_of ask.now)) (W.contents writer.old) (W.contents writer.new)) }
+            (question_of query.now.ask) query.now.line) (W.contents writer.old) (W.contents writer.new)) }
         ensures cut { (graph : Content) → HoldsKind context.now.asked.now.answer graph self.now
             → OnErr result (WritesPrefix (IsAnswerIn (terms_of context.now.asked.now) graph
-            (question_of ask.now)) (W.contents writer.old) (W.contents writer.new)) }
+            (question_of query.now.ask) query.now.line) (W.contents writer.old) (W.contents writer.new)) }
         ensures kinds { IfErr result IsWritingFault }
     {
         answer_texts_by_lines_are_unique();
-        self.write_body(context, writer, ask, kept)?;
+        self.write_body(context, writer, &query.ask, kept)?;
+        let n = self.graphs.network.n();
         let mut ready = Vec::new(context.alloc);
-        put_ready(&mut ready, self.graphs.network.n(), self.arcs as u64)?;
+        put_ready(&mut ready, n, self.arcs as u64, query.line)?;
         write_whole(writer, &ready)
     }
 

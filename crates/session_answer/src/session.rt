@@ -15,9 +15,10 @@ ghost use Rattle.session_answer.specs.Terms.{terms_of};
 
 use crate::change::Change;
 use crate::kind_graph::{KindGraph, ReplyOutcome};
+use crate::query::Query;
 use crate::terms::asked_by;
 use answer_lines::put_refusal;
-use dimacs_text::{Ask, HeadForm, Job};
+use dimacs_text::{HeadForm, Job};
 use job_answer::laws::answer_texts_by_lines_are_unique;
 use job_answer::{Answer, Context, Fault, graphs_for, write_whole};
 use least_costs::Workspace;
@@ -102,14 +103,15 @@ impl Session {
                 refuse(context.alloc, writer, line, NO_MEMORY)?;
                 Ok(ReplyOutcome::Written)
             }
-            Request::Asked { job, head } => {
+            Request::Asked { line, job, head } => {
                 let Job { ask, added, .. } = job;
                 if matches!(head.form, HeadForm::Listed) {
-                    return self.weights.reply_listed(context.alloc, writer, ask);
+                    return self.weights.reply_listed(context.alloc, writer, ask, line);
                 }
                 let Ok((change, ask)) = Change::of(context.alloc, head.form, ask, added) else {
                     return Ok(ReplyOutcome::NotStarted);
                 };
+                let query = Query { ask, line };
                 let asked = asked_by(head, context.asked);
                 let context = Context {
                     rt: context.rt,
@@ -118,9 +120,9 @@ impl Session {
                     gate: context.gate,
                 };
                 if change.is_none() {
-                    return self.reply_asked(&context, writer, &ask, kept);
+                    return self.reply_asked(&context, writer, &query, kept);
                 }
-                self.reply_changed(&context, writer, &change, &ask, kept)
+                self.reply_changed(&context, writer, &change, &query, kept)
             }
         }
     }
@@ -130,18 +132,18 @@ impl Session {
         &mut self,
         context: &Context<'_, H, G>,
         writer: &mut W,
-        ask: &Ask,
+        query: &Query,
         kept: &mut Option<Workspace>,
     ) -> Result<ReplyOutcome, Fault>
         requires kept { AreKept self.old }
-        requires within { IsQuestionWithin (vertices_in self.old) (question_of ask.now) }
+        requires within { IsQuestionWithin (vertices_in self.old) (question_of query.now.ask) }
         ensures answered { (graph : Content) → HoldsGraph graph self.old
             → IfOk result (λ reply. IsReplied reply (Writes (IsAnswerIn (terms_of context.now.asked.now) graph
-            (question_of ask.now)) (W.contents writer.old) (W.contents writer.new))
+            (question_of query.now.ask) query.now.line) (W.contents writer.old) (W.contents writer.new))
             (Appends (W.contents writer.old) (W.contents writer.new) [])) }
         ensures cut { (graph : Content) → HoldsGraph graph self.old
             → OnErr result (WritesPrefix (IsAnswerIn (terms_of context.now.asked.now) graph
-            (question_of ask.now)) (W.contents writer.old) (W.contents writer.new)) }
+            (question_of query.now.ask) query.now.line) (W.contents writer.old) (W.contents writer.new)) }
         ensures graph { (graph : Content) → HoldsGraph graph self.old → HoldsGraph graph self.new }
         ensures kept { AreKept self.new }
         ensures vertices { vertices_in self.new ≡ vertices_in self.old }
@@ -150,13 +152,13 @@ impl Session {
         let answer = context.asked.answer;
         if matches!(answer, Answer::Distances) {
             self.weights.prepare(context.alloc, answer, kept);
-            return self.weights.reply_asked(context, writer, ask, kept);
+            return self.weights.reply_asked(context, writer, query, kept);
         }
         let Ok(mut graph) = self.taken(context) else {
             return Ok(ReplyOutcome::NotStarted);
         };
         graph.prepare(context.alloc, answer, kept);
-        let reply = graph.reply_asked(context, writer, ask, kept);
+        let reply = graph.reply_asked(context, writer, query, kept);
         self.put(answer, graph);
         reply
     }
@@ -166,17 +168,17 @@ impl Session {
         &mut self,
         context: &Context<'_, H, G>,
         writer: &mut W,
-        ask: &Ask,
+        query: &Query,
         kept: &mut Option<Workspace>,
     ) -> Result<(), Fault>
         requires kept { AreKept self.old }
-        requires within { IsQuestionWithin (vertices_in self.old) (question_of ask.now) }
+        requires within { IsQuestionWithin (vertices_in self.old) (question_of query.now.ask) }
         ensures answered { (graph : Content) → HoldsGraph graph self.old
             → OnOk result (Writes (IsAnswerIn (terms_of context.now.asked.now) graph
-            (question_of ask.now)) (W.contents writer.old) (W.contents writer.new)) }
+            (question_of query.now.ask) query.now.line) (W.contents writer.old) (W.contents writer.new)) }
         ensures cut { (graph : Content) → HoldsGraph graph self.old
             → OnErr result (WritesPrefix (IsAnswerIn (terms_of context.now.asked.now) graph
-            (question_of ask.now)) (W.contents writer.old) (W.contents writer.new)) }
+            (question_of query.now.ask) query.now.line) (W.contents writer.old) (W.contents writer.new)) }
         ensures graph { (graph : Content) → HoldsGraph graph self.old → HoldsGraph graph self.new }
         ensures kept { AreKept self.new }
         ensures vertices { vertices_in self.new ≡ vertices_in self.old }
@@ -185,10 +187,10 @@ impl Session {
         answer_texts_by_lines_are_unique();
         let answer = context.asked.answer;
         if matches!(answer, Answer::Distances) {
-            return self.weights.answer(context, writer, ask, kept);
+            return self.weights.answer(context, writer, query, kept);
         }
         let graph = self.taken(context)?;
-        let answered = graph.answer(context, writer, ask, kept);
+        let answered = graph.answer(context, writer, query, kept);
         self.put(answer, graph);
         answered
     }
@@ -250,19 +252,19 @@ impl Session {
         context: &Context<'_, H, G>,
         writer: &mut W,
         change: &Change,
-        ask: &Ask,
+        query: &Query,
         kept: &mut Option<Workspace>,
     ) -> Result<ReplyOutcome, Fault>
         requires kept { AreKept self.old }
-        requires within { IsQuestionWithin (vertices_in self.old) (question_of ask.now) }
+        requires within { IsQuestionWithin (vertices_in self.old) (question_of query.now.ask) }
         requires added { IsAddedWithin (vertices_in self.old) (change_seen change.now).added }
         ensures reply { (graph : Content) → HoldsGraph graph self.old
             → IfOk result (λ reply. IsReplied reply (Writes (IsReplyTo (terms_of context.now.asked.now) graph
-            (change_seen change.now) (question_of ask.now)) (W.contents writer.old) (W.contents writer.new))
+            (change_seen change.now) (question_of query.now.ask) query.now.line) (W.contents writer.old) (W.contents writer.new))
             (Appends (W.contents writer.old) (W.contents writer.new) [])) }
         ensures cut { (graph : Content) → HoldsGraph graph self.old
             → OnErr result (WritesPrefix (IsReplyTo (terms_of context.now.asked.now) graph (change_seen change.now)
-            (question_of ask.now)) (W.contents writer.old) (W.contents writer.new)) }
+            (question_of query.now.ask) query.now.line) (W.contents writer.old) (W.contents writer.new)) }
         ensures graph { (graph : Content) → HoldsGraph graph self.old
             → IfOk result (λ reply. IsReplied reply (HoldsGraph (changed_by graph (change_seen change.now)) self.new)
             (HoldsGraph graph self.new)) }
@@ -273,7 +275,7 @@ impl Session {
         let ReplyOutcome::Written = self.change(context, writer, change)? else {
             return Ok(ReplyOutcome::NotStarted);
         };
-        self.answer(context, writer, ask, kept)?;
+        self.answer(context, writer, query, kept)?;
         Ok(ReplyOutcome::Written)
     }
 

@@ -28,7 +28,7 @@ const LINES: [(&[u8], u64); 10] = [
 ];
 
 const REPLIES: &[u8] =
-    b"r 2 0\nq 1 2 inf\nr 2 0\ne 6 out of range\ng 1\nr 2 1\nq 1 2 5\nw 2 5 1 2\nr 2 1\n";
+    b"r 2 0 1\nq 1 2 inf\nr 2 0 3\ne 6 out of range\ng 1\nr 2 1 8\nq 1 2 5\nw 2 5 1 2\nr 2 1 10\n";
 
 /// The number of replies that a client sees, and true if bytes wait for a flush.
 #[derive(Drop)]
@@ -142,7 +142,7 @@ fn each_reply_is_out_before_more_is_read(rt: HostRuntime) -> Result<(), Fail> {
 
 // The limit, the outcome, and what is written.
 const LIMITS: [(u64, Result<(), Fault>, &[u8]); 3] = [
-    (9, Ok(()), b"r 2 0\n"),
+    (9, Ok(()), b"r 2 0 1\n"),
     (8, Err(Fault::TooLong), b""),
     (0, Err(Fault::TooLong), b""),
 ];

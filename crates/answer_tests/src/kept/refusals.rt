@@ -22,9 +22,9 @@ const REQUESTS: &[u8] =
     p aux sp walk 1\nq 2 1\np aux sp within 2 1\ns 2\np aux sp levels p2p 1\nq 2 1\np aux sp components ss 0\n\
     p aux sp set 1\na 1 2 5\np aux sp arcs 2\nq 1 2\nq 2 2\np aux sp cut 1\nq 2 1\np aux sp p2p 1\nq 2 1\n";
 
-const REPLIES: &[u8] = b"r 2 1\ns 1\nd 1 0\nd 2 7\nr 2 1\nt 1 2 1 1 2\nr 2 1\ng 1\nr 2 2\n\
-    q 2 1 3\nw 1 3 2 1\nr 2 2\ns 2\nd 2 0\nr 2 2\nq 2 1 1\nr 2 2\nk 1 1\nk 2 1\nr 2 2\n\
-    x 1\ng 1\nr 2 2\na 1 2 5\nr 2 2\nx 1\nr 2 1\nq 2 1 inf\nr 2 1\n";
+const REPLIES: &[u8] = b"r 2 1 2\ns 1\nd 1 0\nd 2 7\nr 2 1 4\nt 1 2 1 1 2\nr 2 1 6\ng 1\nr 2 2 8\n\
+    q 2 1 3\nw 1 3 2 1\nr 2 2 10\ns 2\nd 2 0\nr 2 2 12\nq 2 1 1\nr 2 2 14\nk 1 1\nk 2 1\nr 2 2 15\n\
+    x 1\ng 1\nr 2 2 17\na 1 2 5\nr 2 2 20\nx 1\nr 2 1 22\nq 2 1 inf\nr 2 1 24\n";
 
 #[test]
 fn of_graphs_for(rt: HostRuntime) -> Result<(), Fail> {

@@ -70,7 +70,7 @@ fn put(out: &mut Vec<u8>, line: Line) -> Result<(), Memory> {
         Line::Grown => put_grown(out, 1),
         Line::Removed => put_removed(out, 4294967296),
         Line::Arc => put_arc(out, ArcRec::new(0, 268435455, 4294967295)),
-        Line::Ready => put_ready(out, 268435456, 1074790400),
+        Line::Ready => put_ready(out, 268435456, 1074790400, 17),
         Line::Refusal => put_refusal(out, 17, "out of range"),
         Line::Raw => put_raw(out, &[0, 258]),
         Line::Totals => put_totals(out, 0, &TOTALS),
@@ -398,7 +398,12 @@ fn of_put_grown(rt: HostRuntime) -> Result<(), Fail> {
 
 #[test]
 fn of_put_ready(rt: HostRuntime) -> Result<(), Fail> {
-    expect_put(&rt, rt.alloc(), Line::Ready, "c\nr 268435456 1074790400\n")
+    expect_put(
+        &rt,
+        rt.alloc(),
+        Line::Ready,
+        "c\nr 268435456 1074790400 17\n",
+    )
 }
 
 #[test]

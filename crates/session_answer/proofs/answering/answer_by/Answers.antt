@@ -13,10 +13,10 @@ returns-then-has_ended-clause-answered g c =
     let asked = c.args.context.now.asked.now in
     let terms = terms_of asked in
     let initial = c.in_ok-initial.initial in
-    session_ended asked.limit terms initial c.read_initial_graph.new.buffer
+    session_ended asked.limit terms initial c.saturating_sub-last.result c.read_initial_graph.new.buffer
     (g.R.Read.remaining c.args.reader.now) (g.R.Read.remaining c.read_initial_graph.new.reader)
     (g.W.Write.contents c.args.writer.now) (g.W.Write.contents c.answer.new.writer) c.in_ok-initial.ensures.initial
-    c.if-has_ended.true (c.in_ok-answer.ensures.answered (content_of initial.graph) c.in_ok-session.ensures.holds)
+    c.if-has_ended.true c.saturating_sub-last.ensures (c.in_ok-answer.ensures.answered (content_of initial.graph) c.in_ok-session.ensures.holds)
 
 pub returns-clause-answered : goal.returns-clause-answered
 returns-clause-answered g c =
@@ -24,11 +24,11 @@ returns-clause-answered g c =
     let terms = terms_of asked in
     let initial = c.in_ok-initial.initial in
     let written = g.W.Write.contents c.answer.new.writer in
-    session_whole asked.limit terms initial c.read_initial_graph.new.buffer
+    session_whole asked.limit terms initial c.saturating_sub-last.result c.read_initial_graph.new.buffer
     (g.R.Read.remaining c.args.reader.now) (g.R.Read.remaining c.read_initial_graph.new.reader)
     (g.R.Read.remaining c.converse.new.reader) (g.W.Write.contents c.args.writer.now) written
     (g.W.Write.contents c.converse.new.writer) c.converse.result c.in_ok-initial.ensures.initial c.if-has_ended.false
-    (c.in_ok-answer.ensures.answered (content_of initial.graph) c.in_ok-session.ensures.holds)
+    c.saturating_sub-last.ensures (c.in_ok-answer.ensures.answered (content_of initial.graph) c.in_ok-session.ensures.holds)
     (c.converse.ensures.conversed (content_of initial.graph) initial.line (take (initial.end - initial.at) (drop initial.at c.read_initial_graph.new.buffer))
     written
     (c.in_ok-take.ensures.heard (content_of initial.graph) initial.line [] written
@@ -60,10 +60,10 @@ returns-in_err-answer-clause-cut g c =
     let terms = terms_of asked in
     let initial = c.in_ok-initial.initial in
     on_err
-    (greeting_cut asked.limit terms initial c.read_initial_graph.new.buffer
+    (greeting_cut asked.limit terms initial c.saturating_sub-last.result c.read_initial_graph.new.buffer
     (g.R.Read.remaining c.args.reader.now) (g.R.Read.remaining c.read_initial_graph.new.reader)
     (g.W.Write.contents c.args.writer.now) (g.W.Write.contents c.answer.new.writer) c.in_ok-initial.ensures.initial
-    (c.in_err-answer.ensures.cut (content_of initial.graph) c.in_ok-session.ensures.holds))
+    c.saturating_sub-last.ensures (c.in_err-answer.ensures.cut (content_of initial.graph) c.in_ok-session.ensures.holds))
     c.from_residual-in_err-answer.result
 
 pub returns-in_err-take-clause-cut : goal.returns-in_err-take-clause-cut
@@ -77,9 +77,9 @@ returns-in_err-take-clause-cut g c =
     let taken = g.R.Read.remaining c.read_initial_graph.new.reader in
     on_err
     (session_cut c.answer_texts_by_lines_are_unique.ensures asked.limit terms
-    initial c.read_initial_graph.new.buffer (g.R.Read.remaining c.args.reader.now) taken taken
+    initial c.saturating_sub-last.result c.read_initial_graph.new.buffer (g.R.Read.remaining c.args.reader.now) taken taken
     (g.W.Write.contents c.args.writer.now) written (g.W.Write.contents c.take.new.writer) c.in_ok-initial.ensures.initial
-    c.if-has_ended.false (c.in_ok-answer.ensures.answered graph c.in_ok-session.ensures.holds)
+    c.if-has_ended.false c.saturating_sub-last.ensures (c.in_ok-answer.ensures.answered graph c.in_ok-session.ensures.holds)
     (first_heard_cut terms graph initial.line heard taken written
     (g.W.Write.contents c.take.new.writer)
     (c.in_err-take.ensures.cut graph initial.line [] written (c.open_conversation-conversation.ensures.heard terms (content_of initial.graph) written
@@ -97,10 +97,10 @@ returns-clause-cut g c =
     on_err_weaker c.converse.result
     (λ cut.
     session_cut c.answer_texts_by_lines_are_unique.ensures asked.limit terms
-    initial c.read_initial_graph.new.buffer (g.R.Read.remaining c.args.reader.now) (g.R.Read.remaining c.read_initial_graph.new.reader)
+    initial c.saturating_sub-last.result c.read_initial_graph.new.buffer (g.R.Read.remaining c.args.reader.now) (g.R.Read.remaining c.read_initial_graph.new.reader)
     (g.R.Read.remaining c.converse.new.reader) (g.W.Write.contents c.args.writer.now) written
     (g.W.Write.contents c.converse.new.writer) c.in_ok-initial.ensures.initial c.if-has_ended.false
-    (c.in_ok-answer.ensures.answered graph c.in_ok-session.ensures.holds) cut)
+    c.saturating_sub-last.ensures (c.in_ok-answer.ensures.answered graph c.in_ok-session.ensures.holds) cut)
     (c.converse.ensures.cut graph initial.line heard written
     (c.in_ok-take.ensures.heard graph initial.line [] written (c.open_conversation-conversation.ensures.heard terms (content_of initial.graph) written
     (c.in_ok-answer.ensures.graph (content_of initial.graph) c.in_ok-session.ensures.holds))))

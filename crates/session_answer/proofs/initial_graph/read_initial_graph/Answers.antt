@@ -14,6 +14,7 @@ returns-then-count-eq0-clause-initial g c =
     (g.R.Read.remaining c.loop.reader) (g.R.Read.remaining c.read_some.new.reader) c.read_some.new.buffer
     c.in_ok-count.count c.ended_initial_graph.result c.loop.invariant.fed c.in_ok-count.ensures.bytes.0 c.if-count-eq0.true
     (c.in_ok-count.ensures.bytes.1 c.if-count-eq0.true (grind (arith, c.loop.invariant.room, c.read_some.auto.buffer))) c.ended_initial_graph.ensures.places c.ended_initial_graph.ensures.graph
+    c.ended_initial_graph.ensures.next
 
 pub returns-then-count-eq0-clause-limits : goal.returns-then-count-eq0-clause-limits
 returns-then-count-eq0-clause-limits g c =

@@ -30,11 +30,11 @@ returns-then-is_none-clause-reply g c graph holds =
     (λ written. record {
       text = written.text;
       is_text =
-          (reply_by head.form terms given graph job change question written.text other c.asked_by-asked.ensures.terms
+          (reply_by head.form terms given graph job change question c.in-Asked.line written.text other c.asked_by-asked.ensures.terms
           (c.in-Ok.ensures.change job refl refl) c.in-Ok.ensures.question).0
-          (subst (λ (x : ChangeSeen). IsReplyTo given graph x question written.text)
+          (subst (λ (x : ChangeSeen). IsReplyTo given graph x question c.in-Asked.line written.text)
           (sym (c.is_none.ensures.0 c.if-is_none.true))
-          ((plain_reply given graph question written.text).0 written.is_text));
+          ((plain_reply given graph question c.in-Asked.line written.text).0 written.is_text));
       appended = written.appended;
     })
     (λ none. none) what)
@@ -59,9 +59,9 @@ returns-then-is_none-clause-cut g c graph holds =
       given = cut.given;
       is_prefix = λ text is.
           cut.is_prefix text
-          ((plain_reply given graph question text).1
-          (subst (λ (x : ChangeSeen). IsReplyTo given graph x question text) (c.is_none.ensures.0 c.if-is_none.true)
-          ((reply_by head.form terms given graph job change question text other c.asked_by-asked.ensures.terms
+          ((plain_reply given graph question c.in-Asked.line text).1
+          (subst (λ (x : ChangeSeen). IsReplyTo given graph x question c.in-Asked.line text) (c.is_none.ensures.0 c.if-is_none.true)
+          ((reply_by head.form terms given graph job change question c.in-Asked.line text other c.asked_by-asked.ensures.terms
           (c.in-Ok.ensures.change job refl refl) c.in-Ok.ensures.question).1 is)));
       appended = cut.appended;
     })
@@ -95,7 +95,7 @@ returns-else-is_none-clause-reply g c graph holds =
     (λ written. record {
       text = written.text;
       is_text =
-          (reply_by head.form terms given graph job change question written.text other c.asked_by-asked.ensures.terms
+          (reply_by head.form terms given graph job change question c.in-Asked.line written.text other c.asked_by-asked.ensures.terms
           (c.in-Ok.ensures.change job refl refl) c.in-Ok.ensures.question).0 written.is_text;
       appended = written.appended;
     })
@@ -121,7 +121,7 @@ returns-else-is_none-clause-cut g c graph holds =
       given = cut.given;
       is_prefix = λ text is.
           cut.is_prefix text
-          ((reply_by head.form terms given graph job change question text other c.asked_by-asked.ensures.terms
+          ((reply_by head.form terms given graph job change question c.in-Asked.line text other c.asked_by-asked.ensures.terms
           (c.in-Ok.ensures.change job refl refl) c.in-Ok.ensures.question).1 is);
       appended = cut.appended;
     })

@@ -19,11 +19,11 @@ returns-in_err-change-clause-cut g c graph holds =
 pub returns-in_err-answer-clause-cut : goal.returns-in_err-answer-clause-cut
 returns-in_err-answer-clause-cut g c graph holds =
     let terms = terms_of c.args.context.now.asked.now in
-    let question = question_of c.args.ask.now in
+    let question = question_of c.args.query.now.ask in
     let change = change_seen c.args.change.now in
     let after = changed_by graph change in
     on_err
-    (second_cut (IsAnswerIn terms after question) _ (change_text change graph.arcs) _ _ _
+    (second_cut (IsAnswerIn terms after question c.args.query.now.line) _ (change_text change graph.arcs) _ _ _
     (λ text is. (is.answer, is.is_answer, is.written))
     (reply_written _ _ _ c.in-Written.is (c.in_ok-change.ensures.reply graph holds))
     (c.in_err-answer.ensures.cut after (reply_written _ _ _ c.in-Written.is (c.in_ok-change.ensures.graph graph holds))))
