@@ -48,5 +48,5 @@ class Fake:
 
 
 def fake(body, pause=0):
-    """A program that has the graph of one arc from 0 to 1, of weight 7, and knows kinds; it goes on by the body."""
-    return Fake('read(2)\nsay(b"r 2 1\\n")\nread(2)\nsay(b"r 2 1\\nr 2 1\\n")\n' + body, pause)
+    """A program that has the graph of one arc from 0 to 1, of weight 7, and knows kinds. It goes on by the body, from line 5."""
+    return Fake('read(2)\nsay(b"r 2 1 2\\n")\nread(2)\nsay(b"r 2 1 3\\nr 2 1 4\\n")\n' + body, pause)

@@ -265,25 +265,25 @@ class Replies(Case):
         remove = lambda graph: graph.remove([(0, 1)], missing="ignore")
         put = lambda graph: graph.set_weights([(0, 1, 5)], missing="add")
         for ask, reply in (
-            (remove, b"x 1\nr 2 1\n"),
-            (remove, b"x 0\nr 2 0\n"),
-            (remove, b"g 1\nr 2 2\n"),
-            (remove, b"r 2 1\n"),
-            (put, b"x 1\ng 2\nr 2 2\n"),
-            (put, b"x 1\nr 2 0\n"),
-            (put, b"g 1\nx 1\nr 2 1\n"),
-            (put, b"x 1\ng 1\nr 2 2\n"),
-            (lambda graph: graph.has_edge(0, 1), b"a 1 1 7\nr 2 1\n"),
-            (lambda graph: graph.has_edge(0, 1), b"a 1 2\nr 2 1\n"),
-            (lambda graph: graph.has_edge(0, 1), b"q 1 2 7\nr 2 1\n"),
-            (lambda graph: graph.edges_between([(0, 1), (1, 0)]), b"a 2 1 7\na 1 2 7\nr 2 1\n"),
+            (remove, b"x 1\nr 2 1 6\n"),
+            (remove, b"x 0\nr 2 0 6\n"),
+            (remove, b"g 1\nr 2 2 6\n"),
+            (remove, b"r 2 1 6\n"),
+            (put, b"x 1\ng 2\nr 2 2 6\n"),
+            (put, b"x 1\nr 2 0 6\n"),
+            (put, b"g 1\nx 1\nr 2 1 6\n"),
+            (put, b"x 1\ng 1\nr 2 2 6\n"),
+            (lambda graph: graph.has_edge(0, 1), b"a 1 1 7\nr 2 1 6\n"),
+            (lambda graph: graph.has_edge(0, 1), b"a 1 2\nr 2 1 6\n"),
+            (lambda graph: graph.has_edge(0, 1), b"q 1 2 7\nr 2 1 6\n"),
+            (lambda graph: graph.edges_between([(0, 1), (1, 0)]), b"a 2 1 7\na 1 2 7\nr 2 1 7\n"),
         ):
             lines = 3 if reply.startswith(b"a 2") else 2
             with fake(f"read({lines})\nsay({reply!r})\nrest()"), Graph([0], [1], [7]) as graph, self.assertRaises(OutOfStep):
                 ask(graph)
 
     def test_an_older_program(self):
-        body = "read(2)\nsay(b'e 5 unknown line\\n')\nread(2)\nsay(b'q 1 2 7\\nr 2 1\\n')\nrest()"
+        body = "read(2)\nsay(b'e 5 unknown line\\n')\nread(2)\nsay(b'q 1 2 7\\nr 2 1 8\\n')\nrest()"
         for ask, form in (
             (lambda graph: graph.remove([(0, 1)], missing="ignore"), "cut"),
             (lambda graph: graph.set_weights([(0, 1, 5)], missing="add"), "set"),
@@ -297,7 +297,7 @@ class Replies(Case):
                 self.assertEqual((graph.distance(0, 1), graph.m), (7, 1))
 
     def test_memory(self):
-        with fake("read(2)\nsay(b'e 6 out of memory\\n')\nread(2)\nsay(b'x 1\\nr 2 0\\n')\nrest()"), Graph([0], [1], [7]) as graph:
+        with fake("read(2)\nsay(b'e 6 out of memory\\n')\nread(2)\nsay(b'x 1\\nr 2 0 8\\n')\nrest()"), Graph([0], [1], [7]) as graph:
             for wanted in (OutOfMemory, None):
                 if wanted is None:
                     self.assertEqual((graph.remove([(0, 1)], missing="ignore"), graph.m), (1, 0))

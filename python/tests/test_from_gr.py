@@ -10,8 +10,9 @@ import unittest
 import warnings
 
 from common import Case, ints, the_program
+from fake import Fake
 
-from hollowbowl import BadGraph, Ended, Graph, GraphChanged
+from hollowbowl import BadGraph, Ended, Graph, GraphChanged, ProgramTooOld
 
 SIX = """c a graph
 p sp 6 8
@@ -78,6 +79,18 @@ class Files(Case):
             self.assertIn(words, fault.words)
             self.assertIn(self.path, str(fault))
             self.assertIsInstance(fault, ValueError)
+
+    def test_an_older_program(self):
+        self.write(CHAIN)
+        with Fake('read(3)\nsay(b"r 3 2\\n")\nrest()') as program, self.assertRaisesRegex(ProgramTooOld, f"^{program.path} is older"):
+            Graph.from_gr(self.path)
+
+    def test_replies_that_name_another_line(self):
+        self.write(CHAIN)
+        for first, second in ((7, 4), (3, 3), (3, 5)):
+            with Fake(f'read(6)\nsay(b"r 3 2 {first}\\nr 3 2 {second}\\ne 5 not a number\\ne 6 not a number\\n")\nrest()'):
+                with self.assertRaises(BadGraph):
+                    Graph.from_gr(self.path)
 
     def test_more_than_a_graph(self):
         more = (

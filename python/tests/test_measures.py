@@ -111,7 +111,7 @@ class Itself(Case):
             self.assertEqual((graph.distance(0, 2), graph.version, graph.m), (2, 2, 6))
 
     def test_ended(self):
-        with fake('read(2)\nsay(b"hello\\nr 9 9\\n")\nrest()'), Graph([0], [1], [7]) as graph:
+        with fake('read(2)\nsay(b"hello\\nr 9 9 6\\n")\nrest()'), Graph([0], [1], [7]) as graph:
             with self.assertRaises(OutOfStep):
                 graph.distance(0, 1)
             self.assertTrue(graph.is_closed)

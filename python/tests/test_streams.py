@@ -159,10 +159,10 @@ class Changes(Case):
         self.assertTrue(waits_for(lambda: not threads()))
 
     def test_left(self):
-        # The cost is how many requests there were, with a row each in parts of one.
+        # The cost is how many requests of two lines there were, with a row each in parts of one.
         body = (
             "count = 0\nwhile words := sys.stdin.buffer.readline().split():\n    read()\n    count += 1\n"
-            "    say(b's 1\\n' + bytes(16) if b'raw' in words else b'q 1 2 %d\\n' % count, b'r 2 1\\n')\n"
+            "    say(b's 1\\n' + bytes(16) if b'raw' in words else b'q 1 2 %d\\n' % count, b'r 2 1 %d\\n' % (2 * count + 4))\n"
         )
         with fake(body), Graph([0], [1], [7]) as graph, by_requests_of(1000):
             with mock.patch.object(hollowbowl._asking.Sizes, "of", lambda self, question: 1):
@@ -202,10 +202,10 @@ class Changes(Case):
         self.assertLessEqual(most, 6)
 
     def test_wrong_replies(self):
-        for reply in (b"q 1 2 7\nw 2 7 1 2\nq 1 1 0\nr 2 1\n", b"q 1 2 7\nw 2 7 1 2\nr 2 1\n", b"q 1 2 7\nw 2 7 1 2\nq 1 2 7\nw 2 8 1 2\nr 2 1\n"):
+        for reply in (b"q 1 2 7\nw 2 7 1 2\nq 1 1 0\nr 2 1 7\n", b"q 1 2 7\nw 2 7 1 2\nr 2 1 7\n", b"q 1 2 7\nw 2 7 1 2\nq 1 2 7\nw 2 8 1 2\nr 2 1 7\n"):
             with fake(f"read(3)\nsay({reply!r})\nrest()"), Graph([0], [1], [7]) as graph, self.assertRaises(OutOfStep):
                 list(graph.paths([(0, 1), (0, 1)]))
-        for reply in (b"s 1\nd 1 0\nr 2 1\n", b"s 1\nd 1 0\ns 1\nd 1 0\nr 2 1\n", b"s 1\nd 1 0\ns 2\nd 2\nr 2 1\n", b"d 1 0\ns 1\ns 2\nr 2 1\n"):
+        for reply in (b"s 1\nd 1 0\nr 2 1 7\n", b"s 1\nd 1 0\ns 1\nd 1 0\nr 2 1 7\n", b"s 1\nd 1 0\ns 2\nd 2\nr 2 1 7\n", b"d 1 0\ns 1\ns 2\nr 2 1 7\n"):
             with fake(f"read(3)\nsay({reply!r})\nrest()"), Graph([0], [1], [7]) as graph, self.assertRaises(OutOfStep):
                 list(graph.within_many([0, 1], 0))
 

@@ -273,8 +273,8 @@ class Rows(Case):
     def test_more_sources_than_a_request_takes(self):
         count, most = 2001, 1000
         body = (
-            f"while words := sys.stdin.buffer.readline().split():\n    count = int(words[6])\n    os._exit(9) if count > {most} else read(count)\n"
-            "    say(b's 1\\n' + bytes(16) if count else b'', *[b's 1\\n' + bytes(16)] * (count - 1), b'r 2 1\\n')\n"
+            f"line = 4\nwhile words := sys.stdin.buffer.readline().split():\n    count = int(words[6])\n    line += count + 1\n    os._exit(9) if count > {most} else read(count)\n"
+            "    say(b's 1\\n' + bytes(16) if count else b'', *[b's 1\\n' + bytes(16)] * (count - 1), b'r 2 1 %d\\n' % line)\n"
         )
         with fake(body), Graph([0], [1], [7]) as graph, mock.patch.object(hollowbowl._asking, "MOST_ITEMS", most):
             rows = graph.distances([0] * count)

@@ -19,12 +19,12 @@ class Replies(Case):
     """Replies in pieces, and replies that are none to what was asked."""
 
     def test_byte_by_byte(self):
-        with fake('for _ in range(2):\n    read(2)\n    say(*[bytes([each]) for each in b"q 1 2 7\\nr 2 1\\n"])', 0.005):
+        with fake('for line in (6, 8):\n    read(2)\n    say(*[bytes([each]) for each in b"q 1 2 7\\nr 2 1 %d\\n" % line])', 0.005):
             with Graph(*ARC) as graph:
                 self.assertEqual([graph.distance(0, 1), graph.distance(0, 1)], [7, 7])
 
     def test_rows_in_pieces(self):
-        body = 'read(2)\nsay(b"s", b" 1\\n", bytes(3), bytes(5) + b"\\7\\0\\0", b"\\0\\0\\0\\0\\0r", b" 2 1\\n")\nrest()'
+        body = 'read(2)\nsay(b"s", b" 1\\n", bytes(3), bytes(5) + b"\\7\\0\\0", b"\\0\\0\\0\\0\\0r", b" 2 1 6\\n")\nrest()'
         with fake(body, 0.02), Graph(*ARC) as graph:
             self.assertEqual(ints(graph.distances(0)), [0, 7])
 
@@ -51,23 +51,23 @@ class Replies(Case):
 
     def test_a_reply_to_something_else(self):
         far = bytes(8) + b"\7" + bytes(7)
-        for reply in (b"q 1 2 7\nr 3 1\n", b"q 1 2 7\nr 2 2\n", b"q 2 1 7\nr 2 1\n", b"q 1 2 x\nr 2 1\n", b"r 2 1\n", b"q 1 2 7\nr 2 1\nr 2 1\n", b"e 4 out of range\n", b"e 7 out of range\n", b"e x\n", b"q 1 2 7\nq 1 2 7\nr 2 1\n"):
+        for reply in (b"q 1 2 7\nr 3 1 6\n", b"q 1 2 7\nr 2 2 6\n", b"q 2 1 7\nr 2 1 6\n", b"q 1 2 x\nr 2 1 6\n", b"r 2 1 6\n", b"q 1 2 7\nr 2 1 6\nr 2 1 6\n", b"e 4 out of range\n", b"e 7 out of range\n", b"e x\n", b"q 1 2 7\nq 1 2 7\nr 2 1 6\n", b"q 1 2 7\nr 2 1 5\n", b"q 1 2 7\nr 2 1 7\n", b"q 1 2 7\nr 2 1\n"):
             self.out_of_step(reply, lambda graph: graph.distance(0, 1))
-        for reply in (b"s 2\n" + far + b"r 2 1\n", b"s 1\n" + far + b"r 2 2\n", b"s 1\n" + far + b"s 1\n", b"r 2 1\n", b"s 1\n" + far + b"r 2 1\nq 1 2 7\n", b"x" * 300):
+        for reply in (b"s 2\n" + far + b"r 2 1 6\n", b"s 1\n" + far + b"r 2 2 6\n", b"s 1\n" + far + b"s 1\n", b"r 2 1 6\n", b"s 1\n" + far + b"r 2 1 6\nq 1 2 7\n", b"x" * 300):
             self.out_of_step(reply, lambda graph: graph.distances(0))
-        for reply in (b"t 2 2 7 7 2\nr 2 1\n", b"t 1 2 7 7\nr 2 1\n", b"q 1 2 7\nr 2 1\n"):
+        for reply in (b"t 2 2 7 7 2\nr 2 1 6\n", b"t 1 2 7 7\nr 2 1 6\n", b"q 1 2 7\nr 2 1 6\n"):
             self.out_of_step(reply, lambda graph: graph.totals(0))
-        for reply in (b"s 2\nd 1 0\nr 2 1\n", b"s 1\nd 1\nr 2 1\n"):
+        for reply in (b"s 2\nd 1 0\nr 2 1 6\n", b"s 1\nd 1\nr 2 1 6\n"):
             self.out_of_step(reply, lambda graph: graph.within(0, 9))
-        for reply in (b"q 1 2 7\nw 2 7 1 1\nr 2 1\n", b"q 1 2 7\nw 2 8 1 2\nr 2 1\n", b"q 1 2 7\nr 2 1\n", b"q 1 2 inf\nw 2 7 1 2\nr 2 1\n"):
+        for reply in (b"q 1 2 7\nw 2 7 1 1\nr 2 1 6\n", b"q 1 2 7\nw 2 8 1 2\nr 2 1 6\n", b"q 1 2 7\nr 2 1 6\n", b"q 1 2 inf\nw 2 7 1 2\nr 2 1 6\n"):
             self.out_of_step(reply, lambda graph: graph.path(0, 1))
-        for reply in (b"k 1 1\nr 2 1\n", b"k 1 1\nk 1 1\nr 2 1\n", b"s 1\nr 2 1\n"):
+        for reply in (b"k 1 1\nr 2 1 5\n", b"k 1 1\nk 1 1\nr 2 1 5\n", b"s 1\nr 2 1 5\n"):
             self.out_of_step(reply, lambda graph: graph.components(), 1)
-        for reply in (b"g 1\nr 2 1\n", b"g 2\nr 2 2\n", b"r 2 2\n"):
+        for reply in (b"g 1\nr 2 1 6\n", b"g 2\nr 2 2 6\n", b"r 2 2 6\n"):
             self.out_of_step(reply, lambda graph: graph.add([0], [1], [1]))
 
     def test_no_session(self):
-        for body in ('say(b"hello\\nr 2 1\\n")\nrest()', 'read(2)\nsay(b"r 1 1\\n")\nrest()', 'read(2)\nsay(b"e 2 x\\n")\nrest()', 'say(b"x" * 300)\nrest()'):
+        for body in ('say(b"hello\\nr 2 1 2\\n")\nrest()', 'read(2)\nsay(b"r 1 1 2\\n")\nrest()', 'read(2)\nsay(b"r 2 1 1\\n")\nrest()', 'read(2)\nsay(b"e 2 x\\n")\nrest()', 'say(b"x" * 300)\nrest()'):
             with Fake(body), self.assertRaises((OutOfStep, Ended)):
                 Graph(*ARC)
         with Fake('sys.stderr.write("no such option")\nos._exit(1)'), self.assertRaisesRegex(Ended, "status 1: no such option"):
@@ -76,11 +76,13 @@ class Replies(Case):
             Graph(*ARC)
 
     def test_an_older_program(self):
-        """It refuses a line with words that it doesn't know, and passes by the next."""
-        body = 'read(2)\nsay(b"r 2 1\\n")\nread(2)\nsay({!r})\nrest()'
+        """Its replies name no line, or it refuses a line with words that it doesn't know, and passes by the next."""
+        with Fake('read(2)\nsay(b"r 2 1\\n")\nrest()') as program, self.assertRaisesRegex(ProgramTooOld, f"^{program.path} is older"):
+            Graph(*ARC)
+        body = 'read(2)\nsay(b"r 2 1 2\\n")\nread(2)\nsay({!r})\nrest()'
         with Fake(body.format(b"e 3 unknown line\n")) as program, self.assertRaisesRegex(ProgramTooOld, f"^{program.path} is older"):
             Graph(*ARC)
-        for reply in (b"r 2 1\nr 2 2\n", b"r 2 2\nr 2 2\n", b"r 2 1\nr 2 1\nr 2 1\n", b"e 3 out of range\n" * 2):
+        for reply in (b"r 2 1 3\nr 2 2 4\n", b"r 2 2 3\nr 2 2 4\n", b"r 2 1 3\nr 2 1 4\nr 2 1 4\n", b"r 2 1 4\nr 2 1 4\n", b"e 3 out of range\n" * 2):
             with Fake(body.format(reply)), self.assertRaises(OutOfStep):
                 Graph(*ARC)
 
@@ -138,7 +140,7 @@ class Refusals(Case):
             self.assertEqual((ints(graph.distances(0)), ints(graph.components()), graph.m), ([0, 3], [0, 0], 1))
 
     def test_memory(self):
-        with fake('read(2)\nsay(b"e 6 out of memory\\n")\nread(2)\nsay(b"q 1 2 7\\nr 2 1\\n")\nrest()'), Graph(*ARC) as graph:
+        with fake('read(2)\nsay(b"e 6 out of memory\\n")\nread(2)\nsay(b"q 1 2 7\\nr 2 1 8\\n")\nrest()'), Graph(*ARC) as graph:
             with self.assertRaises(OutOfMemory) as caught:
                 graph.distance(0, 1)
             self.assertIsInstance(caught.exception, MemoryError)
@@ -146,8 +148,8 @@ class Refusals(Case):
 
     def test_memory_within_an_add(self):
         body = (
-            'for count in (1, 2):\n    read(11)\n    say(b"g 10\\nr 2 %d\\n" % (10 * count + 1))\n'
-            'read(2)\nsay(b"e 28 out of memory\\n")\nread(2)\nsay(b"q 1 2 7\\nr 2 21\\n")\nrest()'
+            'for count in (1, 2):\n    read(11)\n    say(b"g 10\\nr 2 %d %d\\n" % (10 * count + 1, 11 * count + 4))\n'
+            'read(2)\nsay(b"e 28 out of memory\\n")\nread(2)\nsay(b"q 1 2 7\\nr 2 21 30\\n")\nrest()'
         )
         with fake(body), Graph(*ARC) as graph, mock.patch.object(hollowbowl._session, "MOST_ITEMS", 10):
             with self.assertRaises(OutOfMemory) as caught:

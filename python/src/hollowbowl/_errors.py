@@ -151,7 +151,7 @@ class ProgramMissing(Error, FileNotFoundError):
 
 
 class ProgramTooOld(Error, RuntimeError):
-    """The program is older than this package: it doesn't know several kinds of questions, or not all changes."""
+    """The program is older than this package: its replies name no line, or it doesn't know all kinds or changes."""
 
 
 class OutOfStep(Error, RuntimeError):

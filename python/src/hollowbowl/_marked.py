@@ -1,8 +1,9 @@
 """A file that should be a graph and nothing else, and how its end is told.
 
-Behind the file come three section lines. The first is right: if the graph is not whole then, the program says so and
-ends. The two others are wrong on purpose, and their refusals name their own lines: a line too many in the file would
-take the first of them with it, and so is seen. Whatever comes in place of these replies is of the file's own doing.
+Behind the file come three section lines. The first is right, and its reply names it: if the graph is not whole then,
+the program says so and ends. The two others are wrong on purpose, and their refusals name their own lines: a line too
+many in the file would take the first of them with it, and so is seen. Whatever comes in place of these replies is of
+the file's own doing.
 """
 
 import re
@@ -36,7 +37,7 @@ class MarkedText:
         self.rest = memoryview(b"")
         #: How many lines are written, but for those at hand.
         self.lines = 0
-        #: Whether all that was to come has come; and then N and M.
+        #: Whether all that was to come has come; and then N and M, or None if replies name no line.
         self.is_told = False
         self.size = None
 
@@ -87,13 +88,16 @@ class MarkedText:
         due = len(self._replies)
         self._replies.append(words)
         if due == 0 and words[:1] == ["r"] and len(words) == 3:
+            # An older program.
+            self.is_told = True
+        elif due == 0 and words[:1] == ["r"] and len(words) == 4 and int(words[3]) <= self.file_lines:
             self.size = int(words[1]), int(words[2])
-        elif due == 1 and words == self._replies[0]:
+        elif due == 1 and self._file_lines is not None and words == [*self._replies[0][:3], str(self._file_lines + 1)]:
             pass
         elif due in (2, 3) and self._file_lines is not None and words == self._refusal(due):
             self.is_told = due == 3
         else:
-            # The program names the line of a record that it refuses; of a section that it answered none.
+            # Of a record that it refuses the program names the line, and of a section that it answered the last one.
             line = int(words[1]) if words[:1] == ["e"] and int(words[1]) <= self.file_lines else None
             raise BadGraph(self._path, line, GOES_ON)
 

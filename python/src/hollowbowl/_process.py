@@ -109,7 +109,9 @@ class Process:
     def write(self, piece):
         """Writes text of a request, all of it."""
         self.lines += piece.count(b"\n")
-        rest = memoryview(piece)
+        self._write(memoryview(piece))
+
+    def _write(self, rest):
         while rest:
             rest = rest[self._popen.stdin.write(rest) :]
 
@@ -166,7 +168,10 @@ class Process:
     # ---- a file that should be a graph
 
     def load(self, text):
-        """Writes a marked text (`_marked`) and reads what comes meanwhile, which may be long. Gives N and M."""
+        """Writes a marked text (`_marked`) and reads what comes meanwhile, which may be long.
+
+        Gives N and M, or None of a program whose replies name no line.
+        """
         given, taken = self._popen.stdin.fileno(), self._popen.stdout.fileno()
         poll = select.poll()
         poll.register(given, select.POLLOUT)
@@ -182,7 +187,10 @@ class Process:
                 elif not self._feed(text):
                     poll.unregister(given)
         os.set_blocking(given, True)
-        self.lines += text.lines
+        if text.size is not None:
+            # Comments may be at hand that were written in part.
+            self._write(text.rest)
+            self.lines += text.lines
         return text.size
 
     def _feed(self, text):

@@ -133,7 +133,10 @@ class Session:
         else:
             for piece in self._kept.pieces():
                 process.write(piece)
-            self.end_of(process, process.line(), m=self._kept.m)
+            line = process.line()
+            if line == b"r %d %d\n" % (self.n, self._kept.m):
+                raise self._too_old("replies name no line")
+            self.end_of(process, line, m=self._kept.m)
         self._probe(process)
         m = self._kept.m
         for change in self.log.changes():
@@ -147,15 +150,17 @@ class Session:
         process.write(_PROBE)
         line = process.line()
         if line.startswith(b"e ") and line.endswith(b" unknown line\n"):
-            raise ProgramTooOld(f"{self._command[0]} is older than this package: its sessions answer one kind alone")
-        if line != process.line():
-            raise OutOfStep("two replies to nothing differ")
-        self.end_of(process, line, m=self._kept.m)
+            raise self._too_old("sessions answer one kind alone")
+        if line != b"r %d %d %d\n" % (self.n, self._kept.m, process.lines - 1):
+            raise OutOfStep("a reply to nothing is none")
+        self.end_of(process, process.line(), m=self._kept.m)
 
     def _load(self, process):
         text = MarkedText(self._kept.path, self._kept.pieces())
         try:
             size = process.load(text)
+            if size is None:
+                raise self._too_old("replies name no line")
             if self.n is None:
                 self.n, self.m = self._kept.n, self._kept.m = size
             if size == (self._kept.n, self._kept.m):
@@ -206,8 +211,8 @@ class Session:
     # ---- the ends of replies
 
     def end_of(self, process, line, request=b"", m=None):
-        """Goes on if the last line of a reply is the one that is due."""
-        if line != b"r %d %d\n" % (self.n, self.m if m is None else m):
+        """Goes on if the last line of a reply is the one that is due, which names the last line that was written."""
+        if line != b"r %d %d %d\n" % (self.n, self.m if m is None else m, process.lines):
             raise self._fault_of(process, line, request)
         if not process.is_silent():
             raise OutOfStep("more came than a reply")
@@ -221,5 +226,8 @@ class Session:
         words = found[2].decode("ascii", "replace")
         if words == "unknown line" and place == 0:
             form = records[0].split()[3].decode("ascii")
-            return ProgramTooOld(f"{self._command[0]} is older than this package: its sessions know no {form!r}")
+            return self._too_old(f"sessions know no {form!r}")
         return OutOfMemory() if words == "out of memory" else Refused(words, records[place].decode("ascii"))
+
+    def _too_old(self, why):
+        return ProgramTooOld(f"{self._command[0]} is older than this package: its {why}")
