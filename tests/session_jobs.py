@@ -2,9 +2,11 @@
 
 Each session is of distances, levels or components, by 1 or 3 workers, with stray lines and wrong ones. The reply to each
 request is compared with what the program writes for the job of the graph so far and this request, by the words of its
-head or else the options of the session; and each refusal with the fault of that job.
+head or else the options of the session; and each refusal with the fault of that job. Each session is asked with its
+input closed, and with its input left open until its last reply has come.
 """
 
+import itertools
 import random
 import subprocess
 import sys
@@ -20,6 +22,42 @@ def run(program, options, text):
     """What the program writes for a whole input: output, a character a byte, error, status."""
     done = subprocess.run([program, *options], input=text.encode("ascii"), capture_output=True, check=False)
     return done.stdout.decode("latin-1"), done.stderr.decode("ascii"), done.returncode
+
+
+def begin(program, *options):
+    """A session with its three pipes."""
+    pipe = subprocess.PIPE
+    return subprocess.Popen([program, "--session", *options], stdin=pipe, stdout=pipe, stderr=pipe, bufsize=0)
+
+
+def read_exactly(process, count):
+    """So many bytes of output, or fewer if it ends."""
+    found = b""
+    while len(found) < count and (piece := process.stdout.read(count - len(found))):
+        found += piece
+    return found.decode("latin-1")
+
+
+def in_pieces(program, options, text, output, sizes):
+    """Writes pieces, and reads all output that is wanted with the input left open, unless the end is part of it."""
+    process = begin(program, *options)
+    try:
+        at = 0
+        for size in sizes:
+            process.stdin.write(text[at : at + size].encode("ascii"))
+            at += size
+            if at >= len(text):
+                break
+    except BrokenPipeError:
+        pass
+    open_output = read_exactly(process, len(output)) if text.endswith("\n") else ""
+    try:
+        process.stdin.close()
+    except BrokenPipeError:
+        pass
+    rest = process.stdout.read().decode("latin-1")
+    error = process.stderr.read().decode("ascii")
+    return open_output + rest, error, process.wait()
 
 
 def letter_fields(letter):
@@ -129,8 +167,11 @@ def draw_wrong(draw, n, request, line):
 
 
 def check_random(program, count):
-    """Random sessions: each reply is that of a job."""
-    for seed in range(count):
+    """Random sessions of so many requests: each reply is that of a job."""
+    asked = 0
+    for seed in itertools.count():
+        if asked >= count:
+            return
         draw = random.Random(seed)
         n = draw.randrange(1, 9)
         arcs = [(draw.randrange(1, n + 1), draw.randrange(1, n + 1), draw.randrange(9)) for _ in range(draw.randrange(12))]
@@ -142,6 +183,7 @@ def check_random(program, count):
         wanted = f"{block}r {n} {len(arcs)} {len(arcs) + 1}\n"
         for _ in range(draw.randrange(6)):
             request = draw_request(draw, n)
+            asked += 1
             if draw.randrange(4) == 0:
                 faulty, refusal = draw_wrong(draw, n, request, text.count("\n") + 1)
                 text += faulty
@@ -150,6 +192,6 @@ def check_random(program, count):
             text += f"p aux sp {head_of(request)} {len(request[-1])}\n" + records(LETTERS[request[2]], request[-1])
             reply, arcs = job_reply(program, (workers, answer, lines), n, arcs, request, text.count("\n"))
             wanted += reply
-        found = run(program, ["--session", *options], text)
-        if found != (wanted, "", 0):
-            wrong(f"seed {seed}: {found} and not {wanted!r} for {text!r} by {options}")
+        for found in (run(program, ["--session", *options], text), in_pieces(program, options, text, wanted, [len(text)])):
+            if found != (wanted, "", 0):
+                wrong(f"seed {seed}: {found} and not {wanted!r} for {text!r} by {options}")

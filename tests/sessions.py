@@ -2,8 +2,8 @@
 """Requests after a graph, each answered at once: tests/sessions.py PROGRAM COUNT.
 
 Worked rows, each written whole, byte by byte, and in random pieces, and each with the input left open until its last
-reply has come. Graphs that several threads read, in the same ways, and with wrong lines. COUNT random sessions beside
-jobs (tests/session_jobs.py). Clients that go away, that write 2^20 pairs before they read, and a session of 10,000 requests, whose memory
+reply has come. Graphs that several threads read, in the same ways, and with wrong lines. COUNT requests of random sessions
+beside jobs (tests/session_jobs.py). Clients that go away, that write 2^20 pairs before they read, and a session of 10,000 requests, whose memory
 does not grow. It prints what is wrong first, and the status is 1 then.
 """
 
@@ -13,7 +13,7 @@ import subprocess
 import sys
 
 import session_jobs
-from session_jobs import run, wrong
+from session_jobs import begin, in_pieces, read_exactly, run, wrong
 
 GRAPH = "p sp 2 0\n"
 SIX = open("examples/six.gr", encoding="ascii").read()
@@ -163,42 +163,6 @@ OPTION_ROWS = [
         0,
     ),
 ]
-
-
-def begin(program, *options):
-    """A session with its three pipes."""
-    pipe = subprocess.PIPE
-    return subprocess.Popen([program, "--session", *options], stdin=pipe, stdout=pipe, stderr=pipe, bufsize=0)
-
-
-def read_exactly(process, count):
-    """So many bytes of output, or fewer if it ends."""
-    found = b""
-    while len(found) < count and (piece := process.stdout.read(count - len(found))):
-        found += piece
-    return found.decode("latin-1")
-
-
-def in_pieces(program, options, text, output, sizes):
-    """Writes pieces, and reads all output that is wanted with the input left open, unless the end is part of it."""
-    process = begin(program, *options)
-    try:
-        at = 0
-        for size in sizes:
-            process.stdin.write(text[at : at + size].encode("ascii"))
-            at += size
-            if at >= len(text):
-                break
-    except BrokenPipeError:
-        pass
-    open_output = read_exactly(process, len(output)) if text.endswith("\n") else ""
-    try:
-        process.stdin.close()
-    except BrokenPipeError:
-        pass
-    rest = process.stdout.read().decode("latin-1")
-    error = process.stderr.read().decode("ascii")
-    return open_output + rest, error, process.wait()
 
 
 def head_rows():
