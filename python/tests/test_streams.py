@@ -229,6 +229,15 @@ class Sizes(unittest.TestCase):
             sizes.learn(walks, count, seconds, length)
             self.assertEqual(sizes.of(walks), wanted, (count, seconds, length))
 
+    def test_of_first_requests(self):
+        from hollowbowl import _asking
+
+        for n, wanted in ((0, (16, 256, 4096)), (8192, (16, 256, 256)), (2**20, (2, 2, 4096)), (2**28, (1, 1, 4096))):
+            sizes = _asking.Sizes()
+            sizes.n = n
+            forms = ("rows", "walks", "pairs" if n == 8192 else "arcs")
+            self.assertEqual(tuple(sizes.size(b"distances", form) for form in forms), wanted)
+
 
 class Progress(Case):
     """Functions that are told how far a call is."""

@@ -89,7 +89,8 @@ def question(graph, draw):
 class One:
     """The work of one process: threads that ask, and a main thread that adds, kills and is interrupted."""
 
-    def __init__(self, seed, inherited):
+    def __init__(self, seed, inherited, programs):
+        self.programs = programs
         self.draw = random.Random(seed)
         self.inherited = inherited
         self.wrong = []
@@ -175,7 +176,7 @@ class One:
         """All of it; what went wrong."""
         signal.signal(signal.SIGALRM, interrupt)
         count = descriptors()
-        graph = Graph(*columns(self.arcs), VERTICES, workers=1)
+        graph = Graph(*columns(self.arcs), VERTICES, workers=1, programs=self.programs)
         askers = [threading.Thread(target=self.ask, args=(graph, self.draw.random())) for _ in range(THREADS)]
         for asker in askers:
             asker.start()
@@ -192,7 +193,7 @@ class One:
 
 
 class Stress(Case):
-    """Four processes by fork, each with eight threads."""
+    """Four processes by fork, each with eight threads, and a graph of one program or of three."""
 
     def test_all_at_once(self):
         seed = int(os.environ.get("HOLLOWBOWL_SEED") or random.randrange(2**32))
@@ -203,7 +204,7 @@ class Stress(Case):
                 number = os.fork()
                 if number == 0:
                     os.close(taken)
-                    self.in_child(seed + place, inherited, given)
+                    self.in_child(seed + place, inherited, 1 + 2 * (place % 2), given)
                 os.close(given)
                 numbers[number] = taken
             for number, taken in numbers.items():
@@ -212,10 +213,10 @@ class Stress(Case):
                 self.assertEqual((said, os.waitpid(number, 0)[1]), ("", 0), f"HOLLOWBOWL_SEED={seed}")
             self.assertEqual(inherited.distance(0, 1), 3)
 
-    def in_child(self, seed, inherited, given):
+    def in_child(self, seed, inherited, programs, given):
         said = "no end"
         try:
-            said = "\n".join(One(seed, inherited).run()[:3])
+            said = "\n".join(One(seed, inherited, programs).run()[:3])
         except BaseException:
             said = traceback.format_exc()
         finally:

@@ -16,7 +16,7 @@ class Asked:
     def _ask(self, question, timeout, progress=None):
         """Asks a question, which has the answer then."""
         progress = None if progress is None else _as_function(progress)
-        self._wire.ask("ask", question, seconds=as_seconds(timeout), progress=progress)
+        self._wire.ask("ask", question, seconds=as_seconds(timeout), progress=progress, is_near=question.is_near())
         return question
 
     def _each(self, kind, form, count, make, answers, timeout, progress, most=MOST_ITEMS):

@@ -9,10 +9,13 @@ import time
 from ._errors import OutOfStep
 from ._text import MOST_ITEMS
 
-# How many items the first request of a form has, and how many seconds one should take.
+# How many items the first request of a form has at most, and how many seconds one should take.
 _FIRST = {"pairs": 4096, "arcs": 4096, "walks": 256}
 _FEW = 16
 _SECONDS = 0.25
+
+# The first request of a form may go through so many vertices, if each item goes through all: about as long as it should.
+_VERTICES = 1 << 21
 
 
 class Sizes:
@@ -20,10 +23,16 @@ class Sizes:
 
     def __init__(self):
         self._sizes = {}
+        #: The number of vertices, once it is known.
+        self.n = 1
 
     def size(self, kind, form):
         """The size of the next request of a kind and form."""
-        return self._sizes.get((kind, form)) or _FIRST.get(form, _FEW)
+        return self._sizes.get((kind, form)) or self._first(form)
+
+    def _first(self, form):
+        first = _FIRST.get(form, _FEW)
+        return first if form == "arcs" else max(1, min(first, _VERTICES // max(1, self.n)))
 
     def of(self, question):
         """The size of the next request of a question, which ends at its steps if it can."""
@@ -60,8 +69,11 @@ class _Part:
         return time.monotonic() - self._start
 
 
-def ask(process, session, question, sizes, exchange):
-    """Asks a question whose caller waits for an exchange; once it has gone no more is sent."""
+def ask(process, session, question, sizes, exchange, between=lambda: None):
+    """Asks a question whose caller waits for an exchange; once it has gone no more is sent.
+
+    Another may be asked `between` requests, while the program waits.
+    """
     part = _Part(question, 0, sizes)
     part.send(process)
     while part is not None:
@@ -72,6 +84,7 @@ def ask(process, session, question, sizes, exchange):
         if following is not None and exchange.is_left:
             following = None
         if following is not None:
+            between()
             following.send(process)
         _in_words(question.take, body, part)
         exchange.step(part.last, question.count)

@@ -10,11 +10,13 @@ from ._errors import Timeout
 class Exchange:
     """Work that is to be done by the thread, a function of its state, and what came of it."""
 
-    __slots__ = ("work", "fault", "is_left", "caller", "_done", "_steps")
+    __slots__ = ("work", "fault", "is_left", "is_near", "caller", "_done", "_steps")
 
-    def __init__(self, work, has_steps=False):
+    def __init__(self, work, has_steps=False, is_near=None):
         self.work = work
         self.fault = None
+        #: Whether it is a question that takes little; None if it is no question.
+        self.is_near = is_near
         #: Whether its caller has gone.
         self.is_left = False
         #: The thread that waits for it.

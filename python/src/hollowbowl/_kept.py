@@ -4,6 +4,7 @@ import gzip
 import os
 import re
 import stat
+import threading
 import zlib
 
 from ._errors import BadGraph, GraphChanged
@@ -46,6 +47,7 @@ class File:
             raise ValueError(f"{self.path} is no regular file: copy what it gives to one")
         self._is_packed = os.fsdecode(self.path).endswith(".gz")
         self._stamp = self._look()
+        self._reading = threading.Lock()
 
     def _look(self):
         found = os.fstat(self._file.fileno())
@@ -82,10 +84,12 @@ class File:
             yield piece
 
     def _unpacked(self):
-        self._file.seek(0)
-        with gzip.GzipFile(fileobj=self._file, mode="rb") as packed:
-            while piece := self._read(packed):
-                yield piece
+        # Several programs may begin at a time, and the file has one position.
+        with self._reading:
+            self._file.seek(0)
+            with gzip.GzipFile(fileobj=self._file, mode="rb") as packed:
+                while piece := self._read(packed):
+                    yield piece
 
     def _read(self, packed):
         try:

@@ -40,9 +40,9 @@ class Log:
         return [array("I", each[others].tobytes()) for each in columns]
 
     def changes(self):
-        """The changes that make the graph of the first one."""
+        """The changes that make the graph of the first one. They stay as they are, whatever is taken in later."""
         if self._gone:
             ends = [array("I", (key >> 32 for key in self._gone)), array("I", (key & 0xFFFFFFFF for key in self._gone))]
             yield Removal(ends)
         if len(self.columns[0]):
-            yield Addition(list(self.columns))
+            yield Addition([each[:] for each in self.columns])

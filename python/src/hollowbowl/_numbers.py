@@ -16,6 +16,7 @@ INF = 2**64 - 1
 MOST_VERTICES = 2**28
 MOST_WEIGHT = 2**32 - 1
 MOST_WORKERS = 64
+MOST_PROGRAMS = 64
 
 # Rows of so many bytes are made without a look at the memory.
 _FEW_BYTES = 1 << 26
@@ -61,6 +62,16 @@ def as_options(workers):
     if number is None or (number != "auto" and not 1 <= number <= MOST_WORKERS):
         raise ValueError(f"workers is {workers!r}, where a whole number from 1 to {MOST_WORKERS}, or 'auto', is wanted")
     return ["--workers", str(number)]
+
+
+def as_programs(programs, keep):
+    """How many programs a graph has; ValueError if it can't have so many."""
+    number = whole(programs)
+    if number is None or not 1 <= number <= MOST_PROGRAMS:
+        raise ValueError(f"programs is {programs!r}, where a whole number from 1 to {MOST_PROGRAMS} is wanted")
+    if number > 1 and not keep:
+        raise ValueError(f"programs is {number}, which wants keep=True")
+    return number
 
 
 def labels_for(count):

@@ -3,7 +3,7 @@
 A question has a `kind`, which says what a walk costs, a `form` whose requests take alike long an item, a `count` of
 items and a `step`: requests are cut at multiples of it where they can. `most_bytes` bounds the text of a reply.
 `request` makes the text for the items from `first` up to `last`; `read` gives what came in reply and its last line, and
-`take` looks at what came.
+`take` looks at what came. `is_near` tells whether it may take less than to go through the graph.
 
 Requests name all that they ask, so no option of the program changes what it answers.
 """
@@ -15,6 +15,9 @@ from ._text import arcs_in, components_in, near_in, pair_costs, pairs_text, sour
 #: The kinds: costs are sums of weights, or numbers of arcs.
 DISTANCES, LEVELS = b"distances", b"levels"
 
+# The forms of which one item may take little.
+_NEAR = ("pairs", "walks", "near", "arcs")
+
 
 class Question:
     """A question that is asked as one request, and whose reply is a text."""
@@ -22,6 +25,9 @@ class Question:
     form = "one"
     step = count = 1
     most_bytes = 1 << 40
+
+    def is_near(self):
+        return self.count == 1 and self.form in _NEAR
 
     def read(self, process, first, last):
         return process.text()

@@ -1,6 +1,7 @@
 """The program of a graph: how it begins, is told arcs, and ends."""
 
 import re
+import threading
 
 from ._errors import BadGraph, Ended, Error, GraphChanged, NotKept, OutOfMemory, OutOfStep, ProgramTooOld, Refused
 from ._kept import File
@@ -29,8 +30,12 @@ class Session:
         self.version = 0
         #: What was changed.
         self.log = Log()
+        #: What other programs of the graph follow, if there are some; and a lock for who looks at that and at the log.
+        self.made = None
+        self.lock = threading.Lock()
         self._kept = kept
         self._is_kept = is_kept
+        self.options = options
         self._command = [program(), "--session", *options]
         self._why = why
         self._process = None
@@ -49,6 +54,10 @@ class Session:
     def has_ended(self):
         """Tells whether the program has ended and no other begins."""
         return self._last is not None
+
+    def has_none(self):
+        """Tells whether no program is there."""
+        return self._process is None
 
     def check_kept(self):
         """Goes on if another program can begin."""
@@ -139,12 +148,16 @@ class Session:
             self.end_of(process, line, m=self._kept.m)
         self._probe(process)
         m = self._kept.m
-        for change in self.log.changes():
+        for change in self._changes_before():
             for part in change.parts(MOST_ITEMS):
                 gone, come = self._make(process, part, m)
                 m += come - gone
         if m != self.m:
             raise OutOfStep(f"{m} arcs are there, where {self.m} were")
+
+    def _changes_before(self):
+        """The changes that a new program makes."""
+        return self.log.changes()
 
     def _probe(self, process):
         process.write(_PROBE)
@@ -191,11 +204,18 @@ class Session:
                 gone, come = self.in_step(self._make, part, self.m)
             except OutOfMemory:
                 raise OutOfMemory(added=change.come) from None
-            if self._is_kept:
-                part.keep(self.log)
+            with self.lock:
+                self._take_in(part, gone, come)
             change.gone, change.come = change.gone + gone, change.come + come
-            if gone or come:
-                self.m, self.version = self.m + come - gone, self.version + 1
+
+    def _take_in(self, part, gone, come):
+        """Goes on with the graph after a change by which so many arcs went and came."""
+        if self._is_kept:
+            part.keep(self.log)
+        if gone or come:
+            self.m, self.version = self.m + come - gone, self.version + 1
+            if self.made is not None:
+                self.made.append(part, self.version, self.m)
 
     def _make(self, process, change, m):
         """Makes a change of a graph with m arcs, and gives how many went and came."""

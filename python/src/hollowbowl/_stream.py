@@ -34,7 +34,7 @@ class Stream:
         if first == self._count:
             return None, None
         question = self._make(first, min(first + self._size(), self._count))
-        exchange = Exchange(lambda state, exchange: state.ask(question, exchange))
+        exchange = Exchange(lambda by, exchange: by.ask(question, exchange), is_near=question.is_near())
         self._wire.send(exchange)
         return question, exchange
 

@@ -9,7 +9,7 @@ from ._numbers import INF, numpy
 MOST_ITEMS = 1 << 20
 
 # Lines whose text is made at a time.
-_CHUNK = 1 << 18
+_CHUNK = 1 << 14
 
 # From how many lines on arrays are quicker than a loop.
 _MANY = 64

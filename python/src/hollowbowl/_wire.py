@@ -22,9 +22,9 @@ _PATIENCE = 10
 class Wire:
     """A graph's way to its state."""
 
-    def __init__(self, kept, options, is_kept):
+    def __init__(self, kept, options, is_kept, programs):
         self._pid = os.getpid()
-        self.state = State(kept, options, is_kept)
+        self.state = State(kept, options, is_kept, programs)
         self.finalizer = weakref.finalize(self, self.state.end, Closed)
         _wires.add(self)
         threading.Thread(target=self.state.serve, name=f"hollowbowl-{self._pid}", daemon=True).start()
@@ -64,13 +64,14 @@ class Wire:
         self.check()
         self.state.put(exchange)
 
-    def ask(self, work, *words, seconds=-1, progress=None, is_put_off=True):
+    def ask(self, work, *words, seconds=-1, progress=None, is_put_off=True, is_near=None):
         """Has the thread do some work, and waits for it. A caller that goes away leaves the rest undone.
 
-        It is put off while a change of another thread is to be undone, if `is_put_off` says so.
+        It is put off while a change of another thread is to be undone, if `is_put_off` says so. Of a question
+        `is_near` says whether it takes little.
         """
         self.check()
-        exchange = Exchange(lambda state, exchange: getattr(state, work)(*words, exchange), progress is not None)
+        exchange = Exchange(lambda by, exchange: getattr(by, work)(*words, exchange), progress is not None, is_near)
         if not is_put_off:
             exchange.caller = None
         try:
@@ -89,7 +90,7 @@ class Wire:
         if fault is not None:
             raise fault
         self.state.session.check_kept()
-        self.ask("restart", self.state.session.kill(), seconds=seconds, is_put_off=False)
+        self.ask("restart", self.state.kill(), seconds=seconds, is_put_off=False)
 
     def waker(self):
         """Gives a function that has the thread look who waits; nothing interrupts it, since it is none of Python."""
@@ -105,7 +106,8 @@ class Wire:
         state = self.state
         if os.getpid() == self._pid:
             state.end(Closed)
-            if not state.is_over and threading.get_ident() != state.thread and state.over.acquire(timeout=_PATIENCE):
+            is_own = threading.get_ident() in state.threads
+            if not state.is_over and not is_own and state.over.acquire(timeout=_PATIENCE):
                 state.over.release()
 
 
@@ -116,7 +118,8 @@ def _in_child():
     beginning.release()
     for wire in list(_wires):
         wire.finalizer.detach()
-        wire.state.session.let_go()
+        for session in wire.state.sessions():
+            session.let_go()
 
 
 os.register_at_fork(before=beginning.acquire, after_in_parent=beginning.release, after_in_child=_in_child)
