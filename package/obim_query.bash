@@ -11,9 +11,9 @@ _obim_query() {
         --answer | -a) choices="distances levels components" ;;
         --labels) choices="text raw" ;;
         --workers | -w | --at-once | --shift | -s) choices=auto ;;
-        --chunk | -c | --within) compopt +o bashdefault +o default; return ;;
+        --landmarks | --chunk | -c | --within) compopt +o bashdefault +o default; return ;;
         *[\<\>]) return ;;
-        *) choices="-a --answer -W --walks --within --labels --totals -w --workers --at-once -s --shift -c --chunk
+        *) choices="-a --answer -W --walks --within --labels --totals -w --workers --at-once --landmarks -s --shift -c --chunk
             --session --progress --stats --explain -h --help -V --version" ;;
     esac
     mapfile -t COMPREPLY < <(compgen -W "$choices" -- "$word")

@@ -8,6 +8,7 @@ _arguments -s -S \
     '--totals[print one line a source: how many, sum, greatest]' \
     '(-w --workers)'{-w+,--workers=}'[how many workers, 1 to 64]:count:(auto)' \
     '--at-once=[sources solved at the same time, 1 to 64]:count:(auto)' \
+    '--landmarks=[landmarks for far pairs, at most, 0 to 64]:max:' \
     '(-s --shift)'{-s+,--shift=}'[bucket width 2^BITS, 0 to 63]:bits:(auto)' \
     '(-c --chunk)'{-c+,--chunk=}'[vertices in a chunk, the unit of shared work, 1 to 256]:size:' \
     '--session[answer requests after the graph, each at once]' \

@@ -60,6 +60,14 @@ class Columns(Case):
             with Graph([0], [1], [1], workers=workers) as graph:
                 self.assertEqual(graph.distance(0, 1), 1)
 
+    def test_how_many_landmarks(self):
+        for landmarks in (65, -1, 2.5, "auto", [4]):
+            with self.assertRaisesRegex(ValueError, "^landmarks is "):
+                Graph([0], [1], [1], landmarks=landmarks)
+        for landmarks in (0, 64, 2.0, None):
+            with Graph([0], [1], [1], landmarks=landmarks) as graph:
+                self.assertEqual(graph.distance(0, 1), 1)
+
     def test_what_is_no_edge(self):
         for edge in (("a", "b"), ("a", "b", 1, 2), 5, (["a"], "b", 1)):
             with self.assertRaisesRegex((TypeError, ValueError), r"^edges\[1\] is .*, which is no \(tail, head, weight"):

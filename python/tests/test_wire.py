@@ -167,20 +167,20 @@ class Memory(Case):
         with at_once, Graph(range(n - 1), range(1, n), [2] * (n - 1), n) as graph:
             self.assertEqual(graph.distance(0, 9), 18)
             number = the_program()
-            limits = resource.prlimit(number, resource.RLIMIT_AS)
-            resource.prlimit(number, resource.RLIMIT_AS, (size_of(number), limits[1]))
+            limits = resource.prlimit(number, resource.RLIMIT_DATA)
+            resource.prlimit(number, resource.RLIMIT_DATA, (size_of(number), limits[1]))
             for ask in (graph.levels, graph.components):
                 with self.assertRaises(OutOfMemory):
                     ask(*[0] * (ask == graph.levels))
                 self.assertEqual(graph.distance(0, 9), 18)
-            resource.prlimit(number, resource.RLIMIT_AS, limits)
+            resource.prlimit(number, resource.RLIMIT_DATA, limits)
             self.assertEqual((int(graph.levels(0)[-1]), int(graph.components()[-1]), the_program()), (n - 1, 0, number))
 
 
 def size_of(number):
-    """How many bytes of addresses a process has."""
-    with open(f"/proc/{number}/statm", encoding="ascii") as file:
-        return int(file.read().split()[0]) * resource.getpagesize()
+    """How many bytes of memory a process may write. Room that the C library holds for later isn't among them."""
+    with open(f"/proc/{number}/status", encoding="ascii") as file:
+        return next(1024 * int(line.split()[1]) for line in file if line.startswith("VmData:"))
 
 
 if __name__ == "__main__":

@@ -9,10 +9,12 @@ use Rattle.job_answer.specs.declared.asked.Answer.{Answer}
 use Rattle.job_answer.specs.declared.asked.Answer.TheVariants.{Distances, Levels, Components}
 use Rattle.job_answer.specs.declared.asked.Lines.{Lines}
 use Rattle.job_answer.specs.declared.asked.Lines.TheVariants.{Each, Within, Raw, Totals}
+use Rattle.least_costs.specs.declared.landmarks.TheConstants.{MAX_LANDMARKS}
 use Rattle.least_costs.specs.declared.plan.AtOnce.{AtOnce}
 use Rattle.least_costs.specs.declared.plan.AtOnce.TheVariants as at_once
-use Rattle.command_line.specs.CommandLine.{AreHyphens, AsksAtOnce, AsksCost, AsksLines, AsksNumber, AsksSettings}
-use Rattle.command_line.specs.CommandLine.{IsAuto, IsFlag, IsNumeralOf, NamesKind, NamesLabels, buckets_for, name_of}
+use Rattle.least_costs.specs.declared.plan.TheConstants.{USUAL_LANDMARKS}
+use Rattle.command_line.specs.CommandLine.{AreHyphens, AsksAtOnce, AsksCost, AsksLandmarks, AsksLines, AsksNumber}
+use Rattle.command_line.specs.CommandLine.{AsksSettings, IsAuto, IsFlag, IsNumeralOf, NamesKind, NamesLabels, buckets_for, name_of}
 use Rattle.command_line.specs.CommandLine.{usual_chunk}
 use Rattle.command_line.proofs.Same.{same_settings}
 
@@ -98,6 +100,11 @@ pub one_plan : (text : Option Text) (one other : AtOnce) → AsksAtOnce text one
 one_plan text one other is too =
     sym (plan_again one)
     ∙ ap planned (one_number true 1 64 text _ _ (asks_most text one is) (asks_most text other too)) ∙ plan_again other
+
+pub one_landmarks : (text : Option Text) (one other : ℕ) → AsksLandmarks text one → AsksLandmarks text other → one ≡ other
+one_landmarks text one other is too =
+    is.most_is ∙ ap (λ number. unwrap_or number USUAL_LANDMARKS) (one_number false 0 MAX_LANDMARKS text _ _ is.asks too.asks)
+    ∙ sym too.most_is
 
 -- the lines, by what is said of them
 pub lines_by : Bool → Option ℕ → Bool → Bool → Lines

@@ -22,8 +22,10 @@ use Rattle.job_answer.specs.declared.asked.Answer.{Answer}
 use Rattle.job_answer.specs.declared.asked.Answer.TheVariants.{Distances, Levels, Components}
 use Rattle.job_answer.specs.declared.asked.Lines.{Lines}
 use Rattle.job_answer.specs.declared.asked.Lines.TheVariants.{Each}
+use Rattle.least_costs.specs.declared.landmarks.TheConstants.{MAX_LANDMARKS}
 use Rattle.least_costs.specs.declared.plan.AtOnce.{AtOnce}
 use Rattle.least_costs.specs.declared.plan.AtOnce.TheVariants as at_once
+use Rattle.least_costs.specs.declared.plan.TheConstants.{USUAL_LANDMARKS}
 use Rattle.command_line.specs.declared.options.Options.{Options}
 use Rattle.command_line.specs.declared.refusals.Refusal.{Refusal}
 use Rattle.command_line.specs.declared.refusals.Refusal.TheVariants as refusal
@@ -57,6 +59,9 @@ workers_rule = record (valued (codes "workers")) { short = Some 119; defaults = 
 abbrev pub at_once_rule : Rule
 at_once_rule = record (valued (codes "at-once")) { defaults = codes "auto" ∷ [] }
 
+abbrev pub landmarks_rule : Rule
+landmarks_rule = valued (codes "landmarks")
+
 abbrev pub shift_rule : Rule
 shift_rule = record (valued (codes "shift")) { short = Some 115; defaults = codes "auto" ∷ [] }
 
@@ -72,7 +77,7 @@ operand_rule = record (new_rule (codes "operand")) {
 
 abbrev pub program_rules : List Rule
 program_rules = answer_rule ∷ walks_rule ∷ within_rule ∷ labels_rule ∷ flag (codes "totals") ∷ workers_rule
-    ∷ at_once_rule ∷ shift_rule ∷ chunk_rule ∷ flag (codes "session") ∷ flag (codes "progress") ∷ flag (codes "stats") ∷ flag (codes "explain") ∷ operand_rule
+    ∷ at_once_rule ∷ landmarks_rule ∷ shift_rule ∷ chunk_rule ∷ flag (codes "session") ∷ flag (codes "progress") ∷ flag (codes "stats") ∷ flag (codes "explain") ∷ operand_rule
     ∷ []
 
 -- a command with a version, and of an option that is given twice the last one counts
@@ -145,6 +150,12 @@ abbrev pub AsksAtOnce : Option Text → AtOnce → Type 0
 AsksAtOnce text at_once.Auto = AsksNumber true 1 MAX_AT_ONCE text None
 AsksAtOnce text (at_once.Most number) = AsksNumber true 1 MAX_AT_ONCE text (Some number)
 
+-- the most landmarks: a number, or as many as are usual
+pub record AsksLandmarks (text : Option Text) (most : ℕ) : Type 0 where
+  pub number : Option ℕ
+  pub asks : AsksNumber false 0 MAX_LANDMARKS text number
+  pub most_is : most ≡ unwrap_or number USUAL_LANDMARKS
+
 -- vertices of a chunk where none are asked for: one worker shares nothing, so its chunks are as large as they can be
 abbrev pub usual_chunk : ℕ → ℕ
 usual_chunk workers =
@@ -195,6 +206,7 @@ pub record AsksFor (rows : List Row) (options : Options) : Type 0 where
   -- one worker works alone in a small graph, unless a number of them is asked for
   pub saves : IsAuto (first_of (codes "workers") rows) options.asked.saves
   pub at_once : AsksAtOnce (first_of (codes "at-once") rows) options.asked.at_once
+  pub landmarks : AsksLandmarks (first_of (codes "landmarks") rows) options.asked.landmarks
   pub limit : options.asked.limit ≡ MAX_BYTES
   pub session : IsFlag (first_of (codes "session") rows) options.session
   pub stats : IsFlag (first_of (codes "stats") rows) options.stats

@@ -3,10 +3,10 @@
 ghost use Rattle.std.specs.Prelude.{◌≡◌, codes, false, IfOk};
 ghost use Rattle.clap.specs.Words.{app_of, rule_of, with_rule};
 ghost use Rattle.command_line.specs.CommandLine.{answer_rule, at_once_rule, chunk_rule, operand_rule, shift_rule};
-ghost use Rattle.command_line.specs.CommandLine.{bare_program, flag, labels_rule, program, valued, walks_rule};
-ghost use Rattle.command_line.specs.CommandLine.{within_rule, workers_rule};
+ghost use Rattle.command_line.specs.CommandLine.{bare_program, flag, labels_rule, landmarks_rule, program, valued};
+ghost use Rattle.command_line.specs.CommandLine.{walks_rule, within_rule, workers_rule};
 
-use crate::values::{AT_ONCE, CHUNK, KINDS, LABELS, SHIFT, WORKERS};
+use crate::values::{AT_ONCE, CHUNK, KINDS, LABELS, LANDMARKS, SHIFT, WORKERS};
 use clap::{Arg, ArgAction, Command};
 use std::alloc::{AllocError, Global};
 
@@ -18,17 +18,20 @@ const USAGE: &str = "obim_query [OPTIONS] < JOB";
 const ABOUT: &str = "Answers a job: a directed graph with whole-number weights, and queries.";
 
 const AFTER: &str = "\
-Workers, sources at once, shift and chunk change how long an answer takes, and
-no byte of it. The defaults serve every kind of graph, from paths to maps of 24
-million vertices. With --workers auto there are two, and one works alone in a
-small graph, where the other would gain less than it takes; so it does in a
-session by any --workers. With --at-once auto sources are solved side by side,
-up to one for each worker, and one by one if the graph is large and vertices
-have many arcs; each source at once takes memory of its own. With --shift auto
-the buckets of vertices get wider as costs rise, up to a width that fits the
-graph; with --shift BITS each spans 2^BITS costs. Without --chunk a chunk has
-256 vertices with one worker, 128 with two, and 64 with more. If an option is
-given twice, the last one counts.
+Workers, sources at once, landmarks, shift and chunk change how long an answer
+takes, and no byte of it. The defaults serve every kind of graph, from paths to
+maps of 24 million vertices. With --workers auto there are two, and one works
+alone in a small graph, where the other would gain less than it takes; so it
+does in a session by any --workers. With --at-once auto sources are solved side
+by side, up to one for each worker, and one by one if the graph is large and
+vertices have many arcs; each source at once takes memory of its own. Landmarks
+are vertices from which a graph is solved once many pairs are far from each
+other: by their costs such pairs take a fraction of the time. Each takes 2 bytes
+a vertex; without --landmarks there are 16 at most, and with 0 none. With
+--shift auto the buckets of vertices get wider as costs rise, up to a width that
+fits the graph; with --shift BITS each spans 2^BITS costs. Without --chunk a
+chunk has 256 vertices with one worker, 128 with two, and 64 with more. If an
+option is given twice, the last one counts.
 
 A job is one text on standard input (which the argument - stands for): a graph
 in the .gr format of the 9th DIMACS Implementation Challenge, and after it its
@@ -83,6 +86,7 @@ Status: 0 answered, 1 the command line is refused, 2 the text is refused,
 pub(crate) struct Limits {
     workers: String,
     at_once: String,
+    landmarks: String,
     shift: String,
     chunk: String,
 }
@@ -92,6 +96,7 @@ impl Limits {
         Ok(Limits {
             workers: format!(in alloc; "How many workers, {WORKERS}")?,
             at_once: format!(in alloc; "Sources at once, {AT_ONCE}")?,
+            landmarks: format!(in alloc; "Landmarks for far pairs, at most: {LANDMARKS}")?,
             shift: format!(in alloc; "Bucket width 2^BITS, {SHIFT}")?,
             chunk: format!(in alloc; "Vertices in a chunk, the unit of shared work, {CHUNK}")?,
         })
@@ -149,14 +154,27 @@ fn with_settings<'a>(
     command: Command<'a>,
     limits: &'a Limits,
 ) -> Result<Command<'a>, AllocError>
-    ensures { IfOk result (λ with. app_of with ≡ with_rule (with_rule (with_rule (with_rule
-        (app_of command.entry) workers_rule) at_once_rule) shift_rule) chunk_rule) }
+    ensures { IfOk result (λ with. app_of with ≡ with_rule (with_rule (with_rule (with_rule (with_rule
+        (app_of command.entry) workers_rule) at_once_rule) landmarks_rule) shift_rule) chunk_rule) }
+{
+    let command = with_plan(alloc, command, limits)?
+        .arg(shift_option(alloc, &limits.shift))?
+        .arg(chunk_option(alloc, &limits.chunk))?;
+    Ok(command)
+}
+
+fn with_plan<'a>(
+    alloc: Global,
+    command: Command<'a>,
+    limits: &'a Limits,
+) -> Result<Command<'a>, AllocError>
+    ensures { IfOk result (λ with. app_of with ≡ with_rule (with_rule (with_rule
+        (app_of command.entry) workers_rule) at_once_rule) landmarks_rule) }
 {
     let command = command
         .arg(workers_option(alloc, &limits.workers))?
         .arg(at_once_option(alloc, &limits.at_once))?
-        .arg(shift_option(alloc, &limits.shift))?
-        .arg(chunk_option(alloc, &limits.chunk))?;
+        .arg(landmarks_option(alloc, &limits.landmarks))?;
     Ok(command)
 }
 
@@ -230,6 +248,13 @@ fn at_once_option<'a>(alloc: Global, help: &'a str) -> Arg<'a>
     ensures local { result.global ≡ false }
 {
     option(alloc, "at-once", "COUNT", help).default_value("auto")
+}
+
+fn landmarks_option<'a>(alloc: Global, help: &'a str) -> Arg<'a>
+    ensures rule { rule_of result ≡ landmarks_rule }
+    ensures local { result.global ≡ false }
+{
+    option(alloc, "landmarks", "MAX", help)
 }
 
 fn shift_option<'a>(alloc: Global, help: &'a str) -> Arg<'a>

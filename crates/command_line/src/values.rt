@@ -3,12 +3,12 @@
 ghost use Rattle.std.specs.Prelude.{◌≡◌, ℕ, [], codes, map, option_map, unwrap_or, MatchOption};
 ghost use Rattle.clap.specs.Words.{first_value, found_of, matched_of, raw_values};
 ghost use Rattle.command_line.specs.CommandLine.{AreHyphens, AsksAtOnce, AsksCost, AsksNumber, AsksSettings, IsAuto};
-ghost use Rattle.command_line.specs.CommandLine.{IsFlag, IsNumberIn, NamesKind, NamesLabels, usual_chunk};
+ghost use Rattle.command_line.specs.CommandLine.{AsksLandmarks, IsFlag, IsNumberIn, NamesKind, NamesLabels, usual_chunk};
 ghost use Rattle.command_line.specs.Misuses.{Finds};
 ghost use Rattle.command_line.specs.declared.values.Misuse.TheVariants as misuse;
 
 use clap::ArgMatches;
-use job_answer::{Answer, AtOnce, MAX_AT_ONCE};
+use job_answer::{Answer, AtOnce, MAX_AT_ONCE, MAX_LANDMARKS, USUAL_LANDMARKS};
 use obim_engine::{MAX_CHUNK, MAX_SHIFT, MAX_WORKERS, Settings};
 use route_walks::INF;
 use std::alloc::{AllocError, Global};
@@ -32,6 +32,13 @@ pub(crate) const AT_ONCE: Numbers = Numbers {
     least: 1,
     most: MAX_AT_ONCE,
     has_auto: true,
+};
+
+pub(crate) const LANDMARKS: Numbers = Numbers {
+    option: "landmarks",
+    least: 0,
+    most: MAX_LANDMARKS as u32,
+    has_auto: false,
 };
 
 pub(crate) const SHIFT: Numbers = Numbers {
@@ -190,6 +197,17 @@ pub(crate) fn at_once_in(alloc: Global, matches: &ArgMatches) -> Result<AtOnce, 
         Some(count) => AtOnce::Most(count),
         None => AtOnce::Auto,
     })
+}
+
+/// The most landmarks that a network is given; 0 for none.
+pub(crate) fn landmarks_in(alloc: Global, matches: &ArgMatches) -> Result<u32, Misuse>
+    ensures { Finds (AsksLandmarks (first_value (found_of matches.now) (codes "landmarks"))) result }
+{
+    Ok(
+        LANDMARKS
+            .asked_in(alloc, matches)?
+            .unwrap_or(USUAL_LANDMARKS),
+    )
 }
 
 fn chunk_of(asked: Option<u32>, workers: u32) -> usize

@@ -87,12 +87,12 @@ fn print_cost<H: Print>(rt: &H, cost: Option<u64>) -> Result<()> {
 
 /// Prints what the five functions give for the crossings.
 fn print_callers<H: Print + Threads + Wait + Clock + Sync>(rt: &H, alloc: Global) -> Result<()> {
-    let network = Network::new(rt, alloc, 5, ROADS.to_vec(alloc)?, Cost::Weight, 2)?;
+    let mut network = Network::new(rt, alloc, 5, ROADS.to_vec(alloc)?, Cost::Weight, 2)?;
     print_matrix(rt, alloc, &network)?;
     print_nearest(rt, alloc, &network)?;
     print_spares(rt, alloc, &network)?;
     print_changes(rt, alloc, &network)?;
-    print_pairs(rt, alloc, &network)
+    print_pairs(rt, alloc, &mut network)
 }
 
 fn print_matrix<H: Print + Threads + Wait + Clock + Sync>(
@@ -156,13 +156,13 @@ fn print_changes<H: Print + Threads + Wait + Clock + Sync>(
 fn print_pairs<H: Print + Threads + Wait + Clock + Sync>(
     rt: &H,
     alloc: Global,
-    network: &Network,
+    network: &mut Network,
 ) -> Result<()>
-    requires { network.now.n ≡ 5 }
+    requires { network.old.n ≡ 5 }
 {
-    let changed = network.with_arcs(rt, alloc, &NEW_ROAD, 2)?;
+    let mut changed = network.with_arcs(rt, alloc, &NEW_ROAD, 2)?;
     let pairs = [(0, 2), (1, 2), (3, 2), (2, 4)];
-    let found = pairs_in_both(rt, alloc, network, &changed, Plan::usual(1), &pairs)?;
+    let found = pairs_in_both(rt, alloc, network, &mut changed, Plan::usual(1), &pairs)?;
     println!(rt; "{:?}", found.costs)?;
     println!(rt; "{:?}", found.after)?;
     Ok(())

@@ -1,7 +1,7 @@
 //! The way from a job text to its answer.
 
 ghost use Rattle.std.specs.Prelude.{◌≡◌, ◌↔◌, false, IfOk, IfErr, IsTrue, OnErr, OnOk};
-ghost use Rattle.dimacs_text.specs.Jobs.{Content, content_of, question_of, IsWithinLimits};
+ghost use Rattle.dimacs_text.specs.Jobs.{Content, content_of, question_of, IsQuestionWithin, IsWithinLimits};
 ghost use Rattle.job_answer.specs.Bytes.{Writes, WritesPrefix};
 ghost use Rattle.job_answer.specs.Graphs.{AreGraphs};
 ghost use Rattle.job_answer.specs.InNetworks.{IsStartIn};
@@ -18,7 +18,7 @@ use crate::block_kind::BlockKind;
 use crate::blocks::{put_solved, put_sources};
 use crate::env::Context;
 use crate::fault::Fault;
-use crate::graphs::{Graphs, graphs_for};
+use crate::graphs::{Graphs, graphs_for, plan_of};
 use crate::laws::{blocks_are_unique, lines_are_unique};
 use crate::pair_queries::PairQueries;
 use crate::pairs::put_pairs;
@@ -28,7 +28,7 @@ use crate::sink::{Sink, WRITE_BYTES};
 use crate::watch::{NoWatch, Phase, Watch};
 use dimacs_text::{Ask, Job};
 use job_reader::{ReadWatch, read_job_from};
-use least_costs::{Start, Workers, Workspace};
+use least_costs::{Start, Workers, Workspace, count_sources};
 use obim_engine::Gate;
 use route_walks::laws::{least_labels_exist, least_labels_follow_the_arcs};
 use std::alloc::Global;
@@ -138,20 +138,41 @@ fn answer_job<H: Threads + Wait + Clock + Sync, W: Write, G: Gate + Sync>(
         added,
     } = job;
     let threads = asked.settings.workers as usize;
-    let searches = has_many_sources(&ask);
-    let turns = searches && !asked.lines.has_walks() && added.is_none();
     let mut graphs = graphs_for(rt, alloc, asked.answer, n, arcs, added, threads)?;
-    reverse_if(turns, alloc, &mut graphs);
     let rows = graphs.network.rows();
     watch.see_rows(rows.n(), rows.arc_count());
     watch.end(rt, Phase::Rows);
+    let mut kept = Workspace::new().searching(has_many_sources(&ask));
+    prepare(context, &mut graphs, &ask, &mut kept);
     let question = Question {
         graphs: &graphs,
         ask: &ask,
         lines: asked.lines,
     };
-    let mut kept = Some(Workspace::new().searching(searches));
-    answer_question(context, writer, &question, &mut kept, watch)
+    answer_question(context, writer, &question, &mut Some(kept), watch)
+}
+
+/// Makes the network of a job ready for pairs, if these are searched: its rows are reversed, and landmarks are chosen if
+/// that saves time.
+fn prepare<H: Threads + Wait + Clock + Sync, G: Gate + Sync>(
+    context: &Context<'_, H, G>,
+    graphs: &mut Graphs,
+    ask: &Ask,
+    kept: &mut Workspace,
+)
+    requires { IsQuestionWithin graphs.old.network.n (question_of ask.now) }
+    ensures { graphs.new ≡ graphs.old }
+{
+    let (Answer::Distances | Answer::Levels, Ask::Pairs(pairs)) = (context.asked.answer, ask) else {
+        return;
+    };
+    if context.asked.lines.has_walks() || graphs.grown.is_some() {
+        return;
+    }
+    let (rt, alloc, gate) = (context.rt, context.alloc, context.gate);
+    reverse_if(kept.searches(), alloc, graphs);
+    let plan = plan_of(context.asked);
+    kept.prepare(rt, alloc, &mut graphs.network, plan, gate, pairs);
 }
 
 fn reverse_if(turns: bool, alloc: Global, graphs: &mut Graphs)
@@ -168,18 +189,6 @@ fn has_many_sources(ask: &Ask) -> bool {
         Ask::Pairs(pairs) => count_sources(pairs) >= MANY_SOURCES,
         Ask::Absent | Ask::Sources(_) => false,
     }
-}
-
-fn count_sources(pairs: &[(u32, u32)]) -> usize {
-    let mut count: usize = 0;
-    let mut last = u32::MAX;
-    for (source, _) in pairs {
-        if *source != last {
-            count = count.saturating_add(1);
-            last = *source;
-        }
-    }
-    count
 }
 
 /// Writes the answer to a question, as to a job of that graph, and flushes the writer once; at a fault a prefix was

@@ -6,7 +6,7 @@ ghost use Rattle.job_answer.specs.declared.asked.Lines.TheVariants as lines;
 ghost use Rattle.job_answer.specs.LineWalks.{bound_in, bound_of, has_walks, is_raw, is_totals};
 ghost use Rattle.job_answer.specs.Solves.{goal_of};
 
-use least_costs::AtOnce;
+use least_costs::{AtOnce, USUAL_LANDMARKS};
 use obim_engine::{Goal, Settings};
 use route_walks::INF;
 
@@ -115,6 +115,8 @@ pub struct Asked {
     pub limit: u64,
     /// The number of sources solved at the same time.
     pub at_once: AtOnce,
+    /// The landmarks that a network is given at most, if that saves time; 0 for none.
+    pub landmarks: u32,
     /// True if one worker works alone in a small graph.
     pub saves: bool,
     ghost within: { IsAsked answer lines limit },
@@ -154,6 +156,7 @@ impl Asked {
             settings,
             limit,
             at_once: AtOnce::Auto,
+            landmarks: USUAL_LANDMARKS,
             saves: false,
         })
     }
@@ -166,6 +169,7 @@ impl Asked {
         ensures settings { result.settings ≡ self.settings }
         ensures limit { result.limit ≡ self.limit }
         ensures at_once { result.at_once ≡ self.at_once }
+        ensures landmarks { result.landmarks ≡ self.landmarks }
     {
         let mut asked = self;
         asked.answer = answer;
@@ -180,9 +184,24 @@ impl Asked {
         ensures settings { result.settings ≡ self.settings }
         ensures limit { result.limit ≡ self.limit }
         ensures at_once { result.at_once ≡ at_once }
+        ensures landmarks { result.landmarks ≡ self.landmarks }
     {
         let mut asked = self;
         asked.at_once = at_once;
+        asked
+    }
+
+    /// Returns this with at most so many landmarks.
+    pub fn with_landmarks(self, landmarks: u32) -> Asked
+        ensures answer { result.answer ≡ self.answer }
+        ensures lines { result.lines ≡ self.lines }
+        ensures settings { result.settings ≡ self.settings }
+        ensures limit { result.limit ≡ self.limit }
+        ensures at_once { result.at_once ≡ self.at_once }
+        ensures landmarks { result.landmarks ≡ landmarks }
+    {
+        let mut asked = self;
+        asked.landmarks = landmarks;
         asked
     }
 
@@ -193,6 +212,7 @@ impl Asked {
         ensures settings { result.settings ≡ settings }
         ensures limit { result.limit ≡ self.limit }
         ensures at_once { result.at_once ≡ self.at_once }
+        ensures landmarks { result.landmarks ≡ self.landmarks }
     {
         let mut asked = self;
         asked.settings = settings;
@@ -206,6 +226,7 @@ impl Asked {
         ensures settings { result.settings ≡ self.settings }
         ensures limit { result.limit ≡ self.limit }
         ensures at_once { result.at_once ≡ self.at_once }
+        ensures landmarks { result.landmarks ≡ self.landmarks }
         ensures saves { result.saves ≡ saves }
     {
         let mut asked = self;

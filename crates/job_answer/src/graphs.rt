@@ -115,6 +115,7 @@ pub fn plan_of(asked: &Asked) -> Plan
     Plan {
         settings: asked.settings,
         at_once: asked.at_once,
+        landmarks: asked.landmarks,
     }
 }
 

@@ -42,9 +42,9 @@ pub use answering::{answer, answer_bytes, answer_question, answer_watched, is_un
 pub use asked::{Answer, Asked, Lines, MAX_AT_ONCE, MAX_BYTES};
 pub use env::Context;
 pub use fault::{Fault, status};
-pub use graphs::{Graphs, GrownNetwork, graphs_by, graphs_for};
+pub use graphs::{Graphs, GrownNetwork, graphs_by, graphs_for, plan_of};
 pub use job_reader::ReadWatch;
-pub use least_costs::AtOnce;
+pub use least_costs::{AtOnce, MAX_LANDMARKS, USUAL_LANDMARKS};
 pub use question::Question;
 pub use sink::write_whole;
 pub use watch::{NoWatch, Phase, Watch};

@@ -14,8 +14,8 @@ use Rattle.route_walks.proofs.Facts.{backward_labels_are_bounds, relaxed_labels_
 use Rattle.csr_graph.specs.Bounds.{AreBounds, bound_of}
 use Rattle.csr_graph.specs.declared.bounds.Bounds.{Bounds}
 use Rattle.csr_graph.specs.declared.bounds.TheConstants.{FINITE_CELLS}
-use Rattle.least_costs.specs.Landmarks.{AreHighest, AreLandmarks, AreLowest, IsCell, IsTold, LandmarksSeen, column}
-use Rattle.least_costs.specs.Network.{IsNetwork, NetworkSeen, graph_of}
+use Rattle.csr_graph.specs.Graph.{Graph}
+use Rattle.least_costs.specs.Landmarks.{AreHighest, AreLandmarks, AreLowest, IsCell, IsLightGraph, IsTold, LandmarksSeen, column}
 use Rattle.least_costs.specs.declared.landmarks.TheConstants.{MAX_UNIT}
 
 -- some units, but not so many as to INF
@@ -120,42 +120,42 @@ cells-tell unit far near label other small is_far is_near =
     ]
 
 -- the cells of labels along which arcs are relaxed tell what walks cost at least
-pub labels-told : (net : NetworkSeen) (unit : ℕ) (both : Bool) (cell label : ℕ → ℕ) → IsNetwork net → unit ≤ MAX_UNIT
-    → All (IsRelaxed label) net.arcs
-    → (both ≡ true → All (IsRelaxedBackward label) net.arcs)
-    → ((v : ℕ) → v < net.n → IsCell unit (cell v) (label v))
-    → IsTold net unit both cell
-labels-told net unit both cell label is small relaxed backward cells v t v-in t-in = (
+pub labels-told : (graph : Graph) (unit : ℕ) (both : Bool) (cell label : ℕ → ℕ) → IsLightGraph graph → unit ≤ MAX_UNIT
+    → All (IsRelaxed label) graph.arcs
+    → (both ≡ true → All (IsRelaxedBackward label) graph.arcs)
+    → ((v : ℕ) → v < graph.n → IsCell unit (cell v) (label v))
+    → IsTold graph unit both cell
+labels-told graph unit both cell label is small relaxed backward cells v t v-in t-in = (
   λ walk walks.
       omega (
         arith,
         cells-tell unit (cell t) (cell v) (label t) (label v) small (cells t t-in) (cells v v-in),
-        relaxed_labels_are_bounds net.n net.arcs label is.few is.ends is.light relaxed v t (label t) v-in (omega arith) walk walks,
+        relaxed_labels_are_bounds graph.n graph.arcs label is.few is.ends is.light relaxed v t (label t) v-in (omega arith) walk walks,
       ),
   λ twins walk walks.
       omega (
         arith,
         cells-tell unit (cell v) (cell t) (label v) (label t) small (cells v v-in) (cells t t-in),
-        backward_labels_are_bounds net.n net.arcs label is.few is.ends is.light (backward twins) v t (label t) v-in (omega arith)
+        backward_labels_are_bounds graph.n graph.arcs label is.few is.ends is.light (backward twins) v t (label t) v-in (omega arith)
             walk walks,
       ),
 )
 
 -- cells that are all 0 tell nothing
-pub none-told : (net : NetworkSeen) (unit : ℕ) (both : Bool) (cell : ℕ → ℕ) → ((v : ℕ) → cell v ≡ 0)
-    → IsTold net unit both cell
-none-told net unit both cell zero v t v-in t-in = (
+pub none-told : (graph : Graph) (unit : ℕ) (both : Bool) (cell : ℕ → ℕ) → ((v : ℕ) → cell v ≡ 0)
+    → IsTold graph unit both cell
+none-told graph unit both cell zero v t v-in t-in = (
   λ walk walks. omega (arith, bound-none unit (cell t - cell v) (omega (arith, zero t))),
   λ _ walk walks. omega (arith, bound-none unit (cell v - cell t) (omega (arith, zero v))),
 )
 
 -- other cells that are the same tell the same, one way at least
-pub told-same : (net : NetworkSeen) (unit : ℕ) (both other : Bool) (cell same : ℕ → ℕ)
-    → ((v : ℕ) → v < net.n → same v ≡ cell v)
+pub told-same : (graph : Graph) (unit : ℕ) (both other : Bool) (cell same : ℕ → ℕ)
+    → ((v : ℕ) → v < graph.n → same v ≡ cell v)
     → (other ≡ true → both ≡ true)
-    → IsTold net unit both cell
-    → IsTold net unit other same
-told-same net unit both other cell same is less told v t v-in t-in =
+    → IsTold graph unit both cell
+    → IsTold graph unit other same
+told-same graph unit both other cell same is less told v t v-in t-in =
     let here = is v v-in in
     let there = is t t-in in
     let tells = told v t v-in t-in in (
@@ -169,15 +169,15 @@ told-same net unit both other cell same is less told v t v-in t-in =
 
 -- one landmark more, or other costs of one
 pub landmarks-more : (seen : LandmarksSeen) (at : ℕ) (both : Bool) (cells labels : List ℕ) → AreLandmarks seen
-    → All (IsRelaxed (slice_index labels)) seen.net.arcs
-    → (both ≡ true → All (IsRelaxedBackward (slice_index labels)) seen.net.arcs)
+    → All (IsRelaxed (slice_index labels)) seen.graph.arcs
+    → (both ≡ true → All (IsRelaxedBackward (slice_index labels)) seen.graph.arcs)
     → (both ≡ true → seen.is_two_way ≡ true)
     → length cells ≡ length seen.cells
-    → ((v : ℕ) → v < seen.net.n → IsCell seen.unit (column seen.count cells at v) (slice_index labels v))
+    → ((v : ℕ) → v < seen.graph.n → IsCell seen.unit (column seen.count cells at v) (slice_index labels v))
     → ((i v : ℕ) → i < seen.count → i ≢ at → column seen.count cells i v ≡ column seen.count seen.cells i v)
-    → AreLandmarks (record { net = seen.net; count = seen.count; cells = cells; unit = seen.unit; is_two_way = both })
+    → AreLandmarks (record { graph = seen.graph; count = seen.count; cells = cells; unit = seen.unit; is_two_way = both })
 landmarks-more seen at both cells labels are relaxed backward less same put others = record {
-  network = are.network;
+  light = are.light;
   unit = are.unit;
   room = same ∙ are.room;
   fit = λ i v i-in v-in.
@@ -188,23 +188,23 @@ landmarks-more seen at both cells labels are relaxed backward less same put othe
   told = λ i i-in.
       elim (cases_eq i at) [
         | inl is ↦
-            subst (λ (k : ℕ). IsTold seen.net seen.unit both (column seen.count cells k)) (sym is)
-            (labels-told seen.net seen.unit both (column seen.count cells at) (slice_index labels) are.network are.unit relaxed
+            subst (λ (k : ℕ). IsTold seen.graph seen.unit both (column seen.count cells k)) (sym is)
+            (labels-told seen.graph seen.unit both (column seen.count cells at) (slice_index labels) are.light are.unit relaxed
             backward put)
         | inr differs ↦
-            told-same seen.net seen.unit seen.is_two_way both (column seen.count seen.cells i) (column seen.count cells i)
+            told-same seen.graph seen.unit seen.is_two_way both (column seen.count seen.cells i) (column seen.count cells i)
             (λ v v-in. others i v i-in differs) less (are.told i i-in)
       ];
 }
 
 -- the cells of landmarks, and the least and the greatest of some targets, are bounds of the way to these
 pub landmarks-bound : (seen : LandmarksSeen) (bounds : Bounds) → AreLandmarks seen
-    → All (λ t. t < seen.net.n) bounds.targets.now
+    → All (λ t. t < seen.graph.n) bounds.targets.now
     → AreLowest seen bounds.targets.now bounds.low.now
     → AreHighest seen bounds.targets.now bounds.high.now
     → bounds.cells.now ≡ seen.cells
     → bounds.unit ≡ seen.unit
-    → AreBounds (graph_of seen.net) bounds
+    → AreBounds seen.graph bounds
 landmarks-bound seen bounds are within lowest highest cells units v i below here room =
     let count = length bounds.low.now in
     let low = slice_index bounds.low.now i in

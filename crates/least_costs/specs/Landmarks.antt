@@ -1,15 +1,17 @@
 -- Landmarks as contracts see them: cells of vertices, whose differences tell what walks cost at least.
 use Rattle.std.specs.Prelude.{◌≡◌, ℕ, ◌+◌, ◌-◌, ◌*◌, ◌<◌, ◌≤◌, Bool, true, false, List, All, length, slice_index}
-use Rattle.route_walks.specs.declared.graph.TheConstants.{INF}
+use Rattle.route_walks.specs.declared.graph.TheConstants.{INF, MAX_VERTICES}
 use Rattle.route_walks.specs.Bounds.{IsBound}
+use Rattle.route_walks.specs.Walk.{IsGraph}
 use Rattle.csr_graph.specs.Bounds.{bound_of}
 use Rattle.csr_graph.specs.declared.bounds.TheConstants.{FINITE_CELLS}
-use Rattle.least_costs.specs.Network.{IsNetwork, NetworkSeen}
+use Rattle.csr_graph.specs.Graph.{Graph}
+use Rattle.least_costs.specs.Network.{AreLight}
 use Rattle.least_costs.specs.declared.landmarks.TheConstants.{MAX_UNIT}
 
--- the cells of some landmarks in a network, vertex by vertex, as many as there are landmarks
+-- the cells of some landmarks in a graph, vertex by vertex, as many as there are landmarks
 pub record LandmarksSeen : Type 0 where
-  pub net : NetworkSeen
+  pub graph : Graph
   pub count : ℕ
   pub cells : List ℕ
   -- how many labels share a cell
@@ -27,20 +29,26 @@ pub record IsCell (unit cell label : ℕ) : Type 0 where
   pub none : FINITE_CELLS ≤ cell → (cell ≡ 65535) × (label ≡ INF)
 
 -- what cells of a landmark differ by tells what walks from one of two vertices to the other cost at least
-abbrev pub IsTold : NetworkSeen → ℕ → Bool → (ℕ → ℕ) → Type 0
-IsTold net unit is_two_way cell =
-    (v t : ℕ) → v < net.n → t < net.n
-    → IsBound net.arcs v t (bound_of unit (cell t - cell v))
-    × (is_two_way ≡ true → IsBound net.arcs v t (bound_of unit (cell v - cell t)))
+abbrev pub IsTold : Graph → ℕ → Bool → (ℕ → ℕ) → Type 0
+IsTold graph unit is_two_way cell =
+    (v t : ℕ) → v < graph.n → t < graph.n
+    → IsBound graph.arcs v t (bound_of unit (cell t - cell v))
+    × (is_two_way ≡ true → IsBound graph.arcs v t (bound_of unit (cell v - cell t)))
+
+-- a graph within the limits, whose arcs have weights below 2^32
+pub record IsLightGraph (graph : Graph) : Type 0 where
+  pub few : graph.n ≤ MAX_VERTICES
+  pub ends : IsGraph graph.n graph.arcs
+  pub light : AreLight graph.arcs
 
 -- what is so of all landmarks
 pub record AreLandmarks (seen : LandmarksSeen) : Type 0 where
-  pub network : IsNetwork seen.net
+  pub light : IsLightGraph seen.graph
   pub unit : seen.unit ≤ MAX_UNIT
-  pub room : length seen.cells ≡ seen.count * seen.net.n
-  pub fit : (i v : ℕ) → i < seen.count → v < seen.net.n → column seen.count seen.cells i v ≤ 65535
+  pub room : length seen.cells ≡ seen.count * seen.graph.n
+  pub fit : (i v : ℕ) → i < seen.count → v < seen.graph.n → column seen.count seen.cells i v ≤ 65535
   pub told : (i : ℕ) → i < seen.count
-      → IsTold seen.net seen.unit seen.is_two_way (column seen.count seen.cells i)
+      → IsTold seen.graph seen.unit seen.is_two_way (column seen.count seen.cells i)
 
 -- by landmark a cell that is at most those of some vertices
 pub record AreLowest (seen : LandmarksSeen) (vertices low : List ℕ) : Type 0 where

@@ -9,6 +9,7 @@ pub mod TaskQueue
 pub mod Each
 pub mod Taken
 pub mod Landmarks
+pub mod Rows
 pub mod Pairs
 pub mod Within
 pub mod Below

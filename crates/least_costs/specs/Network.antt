@@ -1,9 +1,8 @@
 -- A network as contracts see it, and where walks begin in it.
 use Rattle.std.specs.Prelude.{◌≡◌, ℕ, Bool, not, ◌^◌, ◌<◌, ◌≤◌, ◌==◌, ◌&&◌, List, ◌++◌, length, filter}
 use Rattle.std.specs.List.{list_any}
-use Rattle.std.specs.Prelude.{All, IfSome, Option, ⊤}
+use Rattle.std.specs.Prelude.{All, ⊤}
 use Rattle.csr_graph.specs.Graph.{Graph, HaveSameRows}
-use Rattle.near_labels.specs.Meeting.{IsReversed}
 use Rattle.route_walks.specs.declared.graph.ArcRec.{ArcRec}
 use Rattle.route_walks.specs.declared.graph.Seed.{Seed}
 use Rattle.route_walks.specs.declared.graph.TheConstants.{MAX_VERTICES}
@@ -42,11 +41,6 @@ pub record IsNetwork (net : NetworkSeen) : Type 0 where
   pub ends : IsGraph net.n net.arcs
   pub light : AreLight net.arcs
   pub added_ends : IsGraph net.n net.added
-
--- the rows of a network, and those of its reversed arcs, if they were made
-pub record AreRowsOf (net : NetworkSeen) (reversed : Option Graph) : Type 0 where
-  pub network : IsNetwork net
-  pub turned : IfSome reversed (IsReversed (graph_of net))
 
 -- it is the network of n vertices and these arcs, each of which costs what is said
 pub record IsNetworkOf (n : ℕ) (kind : Cost) (arcs : List ArcRec) (net : NetworkSeen) : Type 0 where

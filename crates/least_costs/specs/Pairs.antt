@@ -3,7 +3,7 @@ use Rattle.std.specs.Prelude.{◌≡◌, ◌≢◌, ℕ, ◌+◌, ◌<◌, ◌�
 use Rattle.std.specs.Prelude.{IfSome, None, Some, ⊤, slice_index}
 use denote.Ref.{Bor}
 use Rattle.least_costs.specs.Costs.{AreCostsTo, IsCostTo}
-use Rattle.least_costs.specs.Network.{GrowsTo, NetworkSeen}
+use Rattle.least_costs.specs.Network.{GrowsTo, NetworkSeen, graph_of}
 use Rattle.least_costs.specs.declared.pairs.PairCosts.{PairCosts}
 use Rattle.least_costs.specs.declared.pairs.Pairs.{Pairs}
 use Rattle.least_costs.specs.declared.start.Start.{Start}
@@ -50,7 +50,7 @@ pub record AreAsked (asked : Pairs) : Type 0 where
   pub order : AreBySource asked.pairs.now asked.order.now
   pub within : ArePairsWithin asked.network.now.n asked.pairs.now
   pub grows : GrowsInto asked.network.now asked.grown
-  pub landmarks : IfSome asked.landmarks (λ l. l.now.net ≡ asked.network.now)
+  pub landmarks : IfSome asked.landmarks (λ l. l.now.graph ≡ graph_of asked.network.now)
 
 -- the entries of the order from a place on are of pairs that have these costs
 abbrev pub AreCostsAt : NetworkSeen → List (ℕ × ℕ) → List (ℕ × ℕ) → ℕ → List (Option ℕ) → Type 0

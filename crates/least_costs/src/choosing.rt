@@ -4,67 +4,113 @@ ghost use Rattle.std.specs.Prelude.{◌≡◌, ◌<◌, ◌≤◌, true, All, If
 ghost use Rattle.route_walks.specs.declared.graph.TheConstants.{INF};
 ghost use Rattle.route_walks.specs.Bounds.{IsRelaxedBackward};
 ghost use Rattle.route_walks.specs.Walk.{IsGraph};
-ghost use Rattle.least_costs.specs.declared.landmarks.TheConstants.{MAX_LANDMARKS, MAX_UNIT};
+ghost use Rattle.least_costs.specs.Network.{graph_of};
+ghost use Rattle.least_costs.specs.declared.landmarks.TheConstants.{MAX_UNIT};
 
-use crate::landmarks::{Landmarks, MAX_UNIT};
+use crate::costs::Costs;
+use crate::landmarks::{Landmarks, MAX_LANDMARKS, MAX_UNIT};
 use crate::network::Network;
+use crate::plan::Plan;
 use crate::solver::Solver;
-use obim_engine::{FINITE_CELLS, Gate};
+use obim_engine::{FINITE_CELLS, Gate, OpenGate};
 use route_walks::{ArcRec, INF, Memory, offer};
 use std::alloc::Global;
 use std::sync::Wait;
 use std::thread::Threads;
 use std::time::Clock;
 
-/// Solves that may bring no landmark, besides one for each.
+/// The solves that may give no landmark, before the first one and after it.
 const SPARE_SOLVES: usize = 8;
 
 /// Cells have room for costs so many times as great as the first ones.
 const ROOM_OF_CELLS: u64 = 2;
 
-impl Landmarks {
-    /// Chooses landmarks of a solver's network, and solves each: every one as far as can be from those before it. One
-    /// that reaches less than half of what another one does is left out.
+impl Network {
+    /// Chooses landmarks by a plan, and keeps their costs in place of those that the network had. Each is as far as can be
+    /// from those before it; one that reaches less than half of what another one does is left out. Returns their number.
     ///
-    /// Takes the time of a run from each, and a list of all arcs for a while. There may be fewer than `count`, which is at
-    /// most `MAX_LANDMARKS`.
+    /// Takes the time of a run for each, that of up to 16 more, and a list of all arcs for a while. Frees the reversed
+    /// rows. No cost depends on which vertices they are.
     ///
     /// # Errors
     ///
-    /// Memory was refused.
-    pub fn new<H: Threads + Wait + Clock + Sync, G: Gate + Sync>(
+    /// Memory was refused. The network is as it was.
+    pub fn choose_landmarks<H: Threads + Wait + Clock + Sync>(
+        &mut self,
         rt: &H,
         alloc: Global,
-        solver: &Solver<'_, G>,
-        count: usize,
-    ) -> Result<Landmarks, Memory>
-        requires { count ≤ MAX_LANDMARKS }
-        ensures { IfOk result (λ landmarks. landmarks.net ≡ solver.now.network.now) }
+        plan: Plan,
+    ) -> Result<usize, Memory>
+        ensures { self.new ≡ self.old }
     {
-        let network = solver.network;
-        let arcs = network.rows.arcs(alloc)?;
-        let mut choice = Choice::new(alloc, network)?;
-        let unit = choice.look_around(rt, alloc, solver)?;
-        let mut landmarks = Landmarks::blank(alloc, network, count, unit)?;
-        for _ in 0..count + SPARE_SOLVES {
-            let Some(vertex) = choice.next(network) else {
-                break;
-            };
-            if landmarks.is_full() {
-                break;
-            }
-            let costs = solver.from(rt, alloc, vertex)?;
-            let labels = costs.labels();
-            if choice.takes(vertex, labels) {
-                landmarks.add(
-                    &costs,
-                    greatest(labels),
-                    are_relaxed_backward(&arcs, labels),
-                );
-            }
-        }
-        Ok(landmarks)
+        self.choose_watched(rt, alloc, plan, &OpenGate)
     }
+
+    /// Does what `choose_landmarks` does, and the gate watches the workers.
+    pub(crate) fn choose_watched<H: Threads + Wait + Clock + Sync, G: Gate + Sync>(
+        &mut self,
+        rt: &H,
+        alloc: Global,
+        plan: Plan,
+        gate: &G,
+    ) -> Result<usize, Memory>
+        ensures { self.new ≡ self.old }
+    {
+        let landmarks = chosen(rt, alloc, self, plan, gate)?;
+        let count = landmarks.len();
+        self.keep(landmarks);
+        Ok(count)
+    }
+}
+
+/// Chooses landmarks of a network.
+fn chosen<H: Threads + Wait + Clock + Sync, G: Gate + Sync>(
+    rt: &H,
+    alloc: Global,
+    network: &Network,
+    plan: Plan,
+    gate: &G,
+) -> Result<Landmarks, Memory>
+    ensures { IfOk result (λ landmarks. landmarks.graph ≡ graph_of network.now) }
+{
+    let solver = Solver {
+        network,
+        plan,
+        gate,
+    };
+    let count = (plan.landmarks as usize).min(MAX_LANDMARKS);
+    let arcs = network.rows.arcs(alloc)?;
+    let mut choice = Choice::new(alloc, network)?;
+    let unit = choice.look_around(rt, alloc, &solver)?;
+    let mut landmarks = Landmarks::blank(alloc, network.rows(), count, unit)?;
+    for _ in 0..count + SPARE_SOLVES {
+        let Some(vertex) = choice.next(network) else {
+            break;
+        };
+        if landmarks.is_full() {
+            break;
+        }
+        let costs = solver.from(rt, alloc, vertex)?;
+        let labels = costs.labels();
+        if choice.takes(vertex, labels) {
+            let is_two_way = are_relaxed_backward(&arcs, labels);
+            add_costs(&mut landmarks, &costs, is_two_way);
+        }
+    }
+    Ok(landmarks)
+}
+
+/// Adds a landmark with these costs.
+fn add_costs(landmarks: &mut Landmarks, costs: &Costs, is_two_way: bool)
+    requires graph { landmarks.old.graph ≡ graph_of costs.now.net }
+    requires two_way { is_two_way ≡ true →
+        All (IsRelaxedBackward (slice_index costs.now.labels)) costs.now.net.arcs }
+    ensures { landmarks.new.graph ≡ landmarks.old.graph }
+{
+    // Labels that are least are relaxed along each arc.
+    let _ = costs.start();
+    let labels = costs.labels();
+    landmarks.add(labels, greatest(labels), is_two_way);
 }
 
 /// The vertices that may be landmarks, and how near they are to those that were chosen.

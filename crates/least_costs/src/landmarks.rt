@@ -3,16 +3,16 @@
 ghost use Rattle.std.specs.Prelude.{◌≡◌, ◌≢◌, ◌+◌, ◌*◌, ◌<◌, ◌≤◌, ℕ, true, All, IfOk, length, slice_index};
 ghost use Rattle.route_walks.specs.declared.graph.TheConstants.{INF};
 ghost use Rattle.route_walks.specs.Bounds.{IsRelaxedBackward};
+ghost use Rattle.route_walks.specs.Label.{IsRelaxed};
 ghost use Rattle.csr_graph.specs.Bounds.{AreBounds};
 ghost use Rattle.csr_graph.specs.declared.bounds.TheConstants.{FINITE_CELLS};
-ghost use Rattle.least_costs.specs.Landmarks.{AreHighest, AreLowest, IsCell, column};
-ghost use Rattle.least_costs.specs.Network.{graph_of};
+ghost use Rattle.least_costs.specs.Landmarks.{AreHighest, AreLowest, IsCell, IsLightGraph, column};
 
-use crate::costs::Costs;
-use crate::network::Network;
+use csr_graph::Csr;
 use obim_engine::{Bounds, FINITE_CELLS};
 use route_walks::{INF, Memory};
 use std::alloc::Global;
+use std::fmt;
 use std::marker::Model;
 use std::snapshot::Snapshot;
 
@@ -25,7 +25,7 @@ pub const MAX_UNIT: u64 = 1 << 45;
 /// Vertices of a network from which it was solved. The costs from them tell how far any two vertices are from each other
 /// at least, and so pairs are answered with fewer visits. No cost depends on which vertices they are.
 ///
-/// Contracts see the network, of which nothing is kept. Takes 2 bytes a vertex for each landmark.
+/// Contracts see the rows of the network, of which nothing is kept. Takes 2 bytes a vertex for each landmark.
 #[derive(Drop)]
 pub struct Landmarks {
     cells: Vec<u16>,
@@ -33,7 +33,7 @@ pub struct Landmarks {
     used: usize,
     unit: u64,
     is_two_way: bool,
-    of: Snapshot<Network>,
+    of: Snapshot<Csr>,
 }
 
 impl Model for Landmarks {
@@ -42,7 +42,7 @@ impl Model for Landmarks {
     ghost Value = { LandmarksSeen };
 
     ghost view = { λ l. record {
-      net = l.of.value;
+      graph = l.of.value;
       count = l.count;
       cells = l.cells.items;
       unit = l.unit;
@@ -50,7 +50,7 @@ impl Model for Landmarks {
     } };
 
     ghost invariant = { λ l. AreLandmarks (record {
-      net = l.of.value;
+      graph = l.of.value;
       count = l.count;
       cells = l.cells.items;
       unit = l.unit;
@@ -58,26 +58,34 @@ impl Model for Landmarks {
     }) };
 }
 
+/// Says how many there are.
+impl fmt::Debug for Landmarks {
+    fn fmt<W: fmt::Write>(&self, f: &mut fmt::Formatter<W>) -> fmt::Result {
+        write!(f, "Landmarks({})", self.used)
+    }
+}
+
 impl Landmarks {
     /// Room for so many landmarks, which tell nothing yet.
     pub(crate) fn blank(
         alloc: Global,
-        network: &Network,
+        rows: &Csr,
         count: usize,
         unit: u64,
     ) -> Result<Landmarks, Memory>
+        requires light { IsLightGraph rows.now }
         requires count { count ≤ MAX_LANDMARKS }
         requires unit { unit ≤ MAX_UNIT }
-        ensures { IfOk result (λ landmarks. landmarks.net ≡ network.now) }
+        ensures { IfOk result (λ landmarks. landmarks.graph ≡ rows.now) }
     {
-        let n = network.n() as usize;
+        let n = rows.n() as usize;
         Ok(Landmarks {
             cells: vec![in alloc; 0_u16; count * n]?,
             count,
             used: 0,
             unit,
             is_two_way: true,
-            of: Snapshot::of(network),
+            of: Snapshot::of(rows),
         })
     }
 
@@ -91,20 +99,20 @@ impl Landmarks {
         self.used >= self.count
     }
 
-    /// Adds a landmark with these costs, of which `farthest` is the greatest, unless they don't fit into cells.
-    pub(crate) fn add(&mut self, costs: &Costs, farthest: u64, is_two_way: bool)
-        requires net { costs.now.net ≡ self.old.net }
-        requires farthest { All (λ label. label < INF → label ≤ farthest) costs.now.labels }
+    /// Adds a landmark with these labels, of which `farthest` is the greatest, unless they don't fit into cells.
+    pub(crate) fn add(&mut self, labels: &[u64], farthest: u64, is_two_way: bool)
+        requires count { length labels.now ≡ self.old.graph.n }
+        requires relaxed { All (IsRelaxed (slice_index labels.now)) self.old.graph.arcs }
+        requires farthest { All (λ label. label < INF → label ≤ farthest) labels.now }
         requires two_way { is_two_way ≡ true →
-            All (IsRelaxedBackward (slice_index costs.now.labels)) self.old.net.arcs }
-        ensures { self.new.net ≡ self.old.net }
+            All (IsRelaxedBackward (slice_index labels.now)) self.old.graph.arcs }
+        ensures { self.new.graph ≡ self.old.graph }
     {
         let at = self.used;
         if at >= self.count || self.unit == 0 || farthest / self.unit >= u64::from(FINITE_CELLS) {
             return;
         }
-        let _ = costs.start();
-        let (labels, unit) = (costs.labels(), self.unit);
+        let unit = self.unit;
         put_column(&mut self.cells, labels, self.count, at, unit, farthest);
         self.used = at + 1;
         self.is_two_way = self.is_two_way && is_two_way;
@@ -169,10 +177,10 @@ impl Landmarks {
         low: &'a [u16],
         high: &'a [u16],
     ) -> Bounds<'a>
-        requires targets { All (λ t. t < self.now.net.n) targets.now }
+        requires targets { All (λ t. t < self.now.graph.n) targets.now }
         requires low { AreLowest self.now targets.now low.now }
         requires high { AreHighest self.now targets.now high.now }
-        ensures bounds { AreBounds (graph_of self.now.net) result }
+        ensures bounds { AreBounds self.now.graph result }
         ensures targets { result.targets.now ≡ targets.now }
     {
         let (cells, unit) = (&self.cells, self.unit);

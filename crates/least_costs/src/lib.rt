@@ -20,8 +20,8 @@
 //! }
 //! ```
 //!
-//! `Landmarks` are vertices from which a network was solved once. By them `between_with` finds the costs of pairs with a
-//! fraction of the visits.
+//! A network can be given landmarks: vertices from which it is solved once. By them the costs of far pairs are found with
+//! a fraction of the visits. `Workspace::prepare` gives it some once that saves time.
 //!
 //! `Each` is made of a `TaskQueue`: tasks of any kind that teams do at the same time, before their turn. `Workers` keep
 //! their pool, a `WarmPool`, from one task to the next. Asked for the costs that serve a goal, they go no further, and
@@ -46,6 +46,7 @@ mod near;
 mod network;
 mod pairs;
 mod plan;
+mod preparing;
 mod progress;
 mod solver;
 mod start;
@@ -62,11 +63,12 @@ pub use cost::Cost;
 pub use costs::Costs;
 pub use each::Each;
 pub use fault::NetworkFault;
-pub use landmarks::{Landmarks, MAX_LANDMARKS};
+pub use landmarks::MAX_LANDMARKS;
 pub use near_labels::WalksFound;
 pub use network::{MOST_ARCS, Network};
 pub use pairs::PairCosts;
-pub use plan::{AtOnce, Plan};
+pub use plan::{AtOnce, Plan, USUAL_LANDMARKS};
+pub use preparing::count_sources;
 pub use progress::{Progress, Unwatched};
 pub use solver::Solver;
 pub use start::Start;

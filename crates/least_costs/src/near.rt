@@ -9,6 +9,7 @@ ghost use Rattle.near_labels.specs.Found.{AreWalksFound};
 ghost use Rattle.least_costs.specs.Costs.{AreCostsTo};
 ghost use Rattle.least_costs.specs.Near.{AreCostsWithin, AreLabelsTo};
 ghost use Rattle.least_costs.specs.Network.{graph_of};
+ghost use Rattle.least_costs.specs.Pairs.{ArePairsWithin};
 ghost use Rattle.least_costs.specs.declared.start.Start.TheVariants.{At};
 
 use crate::budget::{SearchBudget, SearchLimit};
@@ -35,6 +36,9 @@ const VISITED_A_VERTEX: usize = 2;
 /// By landmarks so few targets that lie apart are searched one by one.
 const MAX_TARGETS_ONE_BY_ONE: usize = 8;
 
+/// A search by landmarks of more visits is worth a team of its own.
+const MAX_SHORT_VISITS: u32 = 2048;
+
 /// Visits so few are never worth it.
 const MIN_SPENT_VISITS: u64 = 4096;
 
@@ -50,6 +54,10 @@ pub(crate) struct Near {
     by_landmarks: SearchBudget,
     /// The visits of searches from one end to one target.
     spent: u64,
+    /// The sources whose targets weren't near.
+    far: usize,
+    /// True if the last search by landmarks was long.
+    was_long: bool,
 }
 
 impl Near {
@@ -63,6 +71,8 @@ impl Near {
             both_ends: SearchBudget::of(0),
             by_landmarks: SearchBudget::by_landmarks(0),
             spent: 0,
+            far: 0,
+            was_long: false,
         }
     }
 
@@ -74,6 +84,44 @@ impl Near {
     /// Counts anew what searches from one end visit.
     pub(crate) fn forget_spent(&mut self) {
         self.spent = 0;
+    }
+
+    /// The number of sources whose targets weren't near, without landmarks.
+    pub(crate) fn far(&self) -> usize {
+        self.far
+    }
+
+    /// Counts anew the sources whose targets aren't near.
+    pub(crate) fn forget_far(&mut self) {
+        self.far = 0;
+    }
+
+    /// Tells if the last search by landmarks was so long that several are better made side by side.
+    pub(crate) fn was_long(&self) -> bool {
+        self.was_long
+    }
+
+    /// Searches a sample of pairs, and counts those that aren't near.
+    pub(crate) fn count_far(
+        &mut self,
+        alloc: Global,
+        network: &Network,
+        pairs: &[(u32, u32)],
+        sample: usize,
+    ) -> usize
+        requires { ArePairsWithin network.now.n pairs.now }
+    {
+        let mut far: usize = 0;
+        let step = pairs.len() / sample.max(1);
+        for place in 0..sample {
+            let Some((source, target)) = pairs.get(place.saturating_mul(step)) else {
+                break;
+            };
+            if self.costs_to(alloc, network, *source, &[*target]).is_none() {
+                far = far.saturating_add(1);
+            }
+        }
+        far
     }
 
     /// The costs of these targets, if near: from both ends if there is one target and the rows were reversed.
@@ -97,7 +145,10 @@ impl Near {
             Some(labels) => {
                 costs_in_order(alloc, network, Start::At(source), targets, &labels).ok()
             }
-            None => None,
+            None => {
+                self.far = self.far.saturating_add(1);
+                None
+            }
         }
     }
 
@@ -111,7 +162,7 @@ impl Near {
         source: u32,
         targets: &[u32],
     ) -> Option<Vec<Option<u64>>>
-        requires landmarks { landmarks.now.net ≡ network.now }
+        requires landmarks { landmarks.now.graph ≡ graph_of network.now }
         requires source { source < network.now.n }
         requires targets { All (λ t. t < network.now.n) targets.now }
         ensures { IfSome result (λ costs. AreCostsTo network.now (At source) targets.now costs.items) }
@@ -134,7 +185,7 @@ impl Near {
         source: u32,
         targets: &[u32],
     ) -> Option<Vec<Option<u64>>>
-        requires landmarks { landmarks.now.net ≡ network.now }
+        requires landmarks { landmarks.now.graph ≡ graph_of network.now }
         requires source { source < network.now.n }
         requires targets { All (λ t. t < network.now.n) targets.now }
         ensures { IfSome result (λ costs. AreCostsTo network.now (At source) targets.now costs.items) }
@@ -162,7 +213,7 @@ impl Near {
         source: u32,
         targets: &[u32],
     ) -> Option<Vec<Option<u64>>>
-        requires landmarks { landmarks.now.net ≡ network.now }
+        requires landmarks { landmarks.now.graph ≡ graph_of network.now }
         requires source { source < network.now.n }
         requires targets { All (λ t. t < network.now.n) targets.now }
         ensures { IfSome result (λ costs. AreCostsTo network.now (At source) targets.now costs.items) }
@@ -174,6 +225,10 @@ impl Near {
         let bounds = landmarks.toward(source, targets, &low, &high);
         let labels = labels_toward(&mut self.forward, alloc, network, source, &bounds, limit);
         self.by_landmarks.learn(labels.is_some());
+        self.was_long = match &self.forward {
+            Some(space) => space.visits() > MAX_SHORT_VISITS,
+            None => false,
+        };
         costs_in_order(alloc, network, Start::At(source), targets, &labels?).ok()
     }
 

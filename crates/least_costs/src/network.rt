@@ -15,6 +15,7 @@ ghost use Rattle.least_costs.specs.Network.{leads_between, without};
 use crate::between::{list_between, remove_between};
 use crate::cost::Cost;
 use crate::fault::NetworkFault;
+use crate::landmarks::Landmarks;
 use csr_graph::Csr;
 use route_walks::{ArcRec, MAX_ARCS, MAX_VERTICES, Memory, both_ways, unit_weights};
 use std::alloc::Global;
@@ -25,25 +26,28 @@ use std::thread::Threads;
 pub const MOST_ARCS: usize = 1 << 30;
 
 /// A directed graph along whose arcs costs are least. It keeps 8 bytes a vertex and 8 an arc, 16 if arcs are free both
-/// ways, and as much again once its rows are reversed.
+/// ways, and as much again once its rows are reversed. A landmark takes 2 bytes a vertex.
 #[derive(Debug, Drop)]
 pub struct Network {
     pub(crate) rows: Csr,
     reversed: Option<Csr>,
+    landmarks: Option<Landmarks>,
     cost: Cost,
     // Of the rows' arcs those that `with_arcs` added last.
     pub(crate) added: Vec<ArcRec>,
 }
 
 impl Model for Network {
-    ghost use Rattle.least_costs.specs.Network.{AreRowsOf, NetworkSeen};
+    ghost use Rattle.least_costs.specs.Network.{NetworkSeen};
+    ghost use Rattle.least_costs.specs.Rows.{AreRowsOf};
 
     ghost Value = { NetworkSeen };
 
     ghost view = { λ w. record { n = w.rows.n; cost = w.cost; arcs = w.rows.arcs; added = w.added.items } };
 
     ghost invariant = { λ w. AreRowsOf
-        (record { n = w.rows.n; cost = w.cost; arcs = w.rows.arcs; added = w.added.items }) w.reversed };
+        (record { n = w.rows.n; cost = w.cost; arcs = w.rows.arcs; added = w.added.items })
+        w.reversed w.landmarks };
 }
 
 impl Network {
@@ -75,6 +79,7 @@ impl Network {
         Ok(Network {
             rows,
             reversed: None,
+            landmarks: None,
             cost,
             added: Vec::new(alloc),
         })
@@ -99,6 +104,7 @@ impl Network {
         Ok(Network {
             rows,
             reversed: None,
+            landmarks: None,
             cost: self.cost,
             added,
         })
@@ -131,6 +137,7 @@ impl Network {
         Ok(Network {
             rows,
             reversed: None,
+            landmarks: None,
             cost: self.cost,
             added: Vec::new(alloc),
         })
@@ -191,6 +198,7 @@ impl Network {
         Ok(Network {
             rows,
             reversed: None,
+            landmarks: None,
             cost,
             added: Vec::new(alloc),
         })
@@ -228,6 +236,27 @@ impl Network {
     /// Tells if the rows of the reversed arcs were made.
     pub fn has_reversed(&self) -> bool {
         self.reversed.is_some()
+    }
+
+    /// Keeps landmarks of this network in place of those that it had, and frees the reversed rows.
+    pub(crate) fn keep(&mut self, landmarks: Landmarks)
+        requires { landmarks.graph ≡ graph_of self.old }
+        ensures { self.new ≡ self.old }
+    {
+        self.reversed = None;
+        self.landmarks = Some(landmarks);
+    }
+
+    /// Tells if landmarks were chosen.
+    pub fn has_landmarks(&self) -> bool {
+        self.landmarks.is_some()
+    }
+
+    /// The landmarks, if some were chosen.
+    pub(crate) fn landmarks(&self) -> Option<&Landmarks>
+        ensures { IfSome result (λ landmarks. landmarks.now.graph ≡ graph_of self.now) }
+    {
+        self.landmarks.as_ref()
     }
 
     /// The rows of the reversed arcs, if they were made.

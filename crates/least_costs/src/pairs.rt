@@ -59,7 +59,8 @@ impl<'a> Tasks<PairCosts> for Pairs<'a> {
 
 impl<'a, G: Gate + Sync> Solver<'a, G> {
     /// The least cost from the source of each pair to its target; `None` if there is no walk. Each source is solved
-    /// once, and as many at the same time as the plan says.
+    /// once, and as many at the same time as the plan says. If the network has landmarks, they tell which vertices are
+    /// too far from the target, and these are left alone.
     pub fn between<H: Threads + Wait + Clock + Sync>(
         &self,
         rt: &H,
@@ -72,36 +73,6 @@ impl<'a, G: Gate + Sync> Solver<'a, G> {
     {
         let mut kept = Some(Workspace::new());
         let found = self.between_grown(rt, alloc, pairs, None, &mut kept, &mut Unwatched)?;
-        Ok(found.costs)
-    }
-
-    /// Does what `between` does, by landmarks of the same network: they tell which vertices are too far from the target,
-    /// and these are left alone. No cost depends on which landmarks they are.
-    ///
-    /// Takes what `kept` has, and gives it back unless memory is refused.
-    pub fn between_with<H: Threads + Wait + Clock + Sync>(
-        &self,
-        rt: &H,
-        alloc: Global,
-        landmarks: &Landmarks,
-        pairs: &[(u32, u32)],
-        kept: &mut Option<Workspace>,
-        progress: &mut impl Progress,
-    ) -> Result<Vec<Option<u64>>, Memory>
-        requires landmarks { landmarks.now.net ≡ self.now.network.now }
-        requires few { length pairs.now < 2 ^ 32 }
-        requires within { ArePairsWithin self.now.network.now.n pairs.now }
-        ensures { IfOk result (λ costs. ArePairCosts self.now.network.now pairs.now costs.items) }
-    {
-        let order = by_source(alloc, pairs)?;
-        let asked = Pairs {
-            network: self.network,
-            landmarks: Some(landmarks),
-            grown: None,
-            pairs,
-            order: &order,
-        };
-        let found = self.found(rt, alloc, &asked, kept, progress)?;
         Ok(found.costs)
     }
 
@@ -128,7 +99,7 @@ impl<'a, G: Gate + Sync> Solver<'a, G> {
         let order = by_source(alloc, pairs)?;
         let asked = Pairs {
             network: self.network,
-            landmarks: None,
+            landmarks: self.network.landmarks(),
             grown,
             pairs,
             order: &order,
@@ -217,7 +188,7 @@ fn fill_all<H: Threads + Wait + Clock + Sync, G: Gate + Sync>(
 }
 
 /// The costs of the source at a place: by the thread that asks if near, else as made before their turn, and else by
-/// all workers.
+/// all workers. After a long search by landmarks those that are made before their turn come first.
 fn costs_next<H: Threads + Wait + Clock + Sync, G: Gate + Sync>(
     rt: &H,
     alloc: Global,
@@ -231,6 +202,11 @@ fn costs_next<H: Threads + Wait + Clock + Sync, G: Gate + Sync>(
     ensures costs { IfOk result (AreCostsFrom asked.now first) }
     ensures left { AreFinished (AreCostsFrom asked.now) queue.new.made.items }
 {
+    if queue.workers.workspace.near.was_long()
+        && let Some(found) = take_ahead(rt, alloc, queue, asked, first)
+    {
+        return Ok(found);
+    }
     if !queue.was_tried(first)
         && let Some(found) = costs_near(alloc, asked, first, &mut queue.workers.workspace)
     {
@@ -325,7 +301,7 @@ fn search_targets(
     targets: &[u32],
     near: &mut Near,
 ) -> Option<Vec<Option<u64>>>
-    requires landmarks { IfSome asked.now.landmarks (λ l. l.now.net ≡ asked.now.network.now) }
+    requires landmarks { IfSome asked.now.landmarks (λ l. l.now.graph ≡ graph_of asked.now.network.now) }
     requires source { source < asked.now.network.now.n }
     requires targets { All (λ t. t < asked.now.network.now.n) targets.now }
     ensures { IfSome result (λ costs. AreCostsTo asked.now.network.now (At source) targets.now costs.items) }
@@ -369,7 +345,7 @@ fn reach_targets<H: Threads + Wait + Clock + Sync, G: Gate + Sync>(
     targets: &[u32],
     workers: &mut Workers<'_, G>,
 ) -> Result<Closed, Memory>
-    requires landmarks { IfSome asked.now.landmarks (λ l. l.now.net ≡ asked.now.network.now) }
+    requires landmarks { IfSome asked.now.landmarks (λ l. l.now.graph ≡ graph_of asked.now.network.now) }
     requires source { source < asked.now.network.now.n }
     requires targets { All (λ t. t < asked.now.network.now.n) targets.now }
     ensures end { IfOk result (IsEnd (graph_of asked.now.network.now) (seeds_from source)) }

@@ -1,4 +1,4 @@
-//! Settings, and the number of sources at a time.
+//! Settings, and the numbers of sources at a time and of landmarks.
 
 ghost use Rattle.std.specs.Prelude.{◌≡◌, ◌≤◌, max, min};
 ghost use Rattle.least_costs.specs.Teams.{IsAtMost};
@@ -21,6 +21,9 @@ const SHARED_CHUNK: usize = 64;
 const MANY_VERTICES: u32 = 1 << 17;
 
 const MANY_ARCS_A_VERTEX: usize = 8;
+
+/// The landmarks of the usual plan. A vertex has a line of the processor's cache for so many.
+pub const USUAL_LANDMARKS: u32 = 16;
 
 /// The number of sources that are solved at the same time, each by its own share of the workers.
 #[derive(Clone, Copy, Debug, PartialEq, Eq)]
@@ -56,6 +59,8 @@ pub struct Plan {
     /// The number of workers, and what they share.
     pub settings: Settings,
     pub at_once: AtOnce,
+    /// The landmarks that a network is given at most; 0 for none. More than `MAX_LANDMARKS` are as many.
+    pub landmarks: u32,
 }
 
 impl Plan {
@@ -80,6 +85,7 @@ impl Plan {
                 chunk,
             },
             at_once: AtOnce::Auto,
+            landmarks: USUAL_LANDMARKS,
         }
     }
 

@@ -212,7 +212,7 @@ impl<'a, G: Gate + Sync> Workers<'a, G> {
         source: u32,
         targets: &[u32],
     ) -> Result<Closed, Memory>
-        requires landmarks { landmarks.now.net ≡ network.now }
+        requires landmarks { landmarks.now.graph ≡ graph_of network.now }
         requires source { source < network.now.n }
         requires targets { All (λ t. t < network.now.n) targets.now }
         ensures end { IfOk result (IsEnd (graph_of network.now) (seeds_from source)) }

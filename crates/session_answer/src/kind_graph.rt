@@ -21,7 +21,7 @@ use dimacs_text::Ask;
 use job_answer::laws::answer_texts_by_lines_are_unique;
 use job_answer::{
     Answer, Context, Fault, Graphs, NoWatch, Question, answer_question, graphs_by, is_unasked,
-    write_whole,
+    plan_of, write_whole,
 };
 use least_costs::Workspace;
 use obim_engine::Gate;
@@ -110,16 +110,25 @@ impl KindGraph {
         })
     }
 
-    /// Reverses the rows of the network, if searches from both ends gain more than that takes.
-    pub(crate) fn prepare(&mut self, alloc: Global, answer: Answer, kept: &mut Option<Workspace>)
+    /// Makes the network ready for pairs, if searches gain more than that takes.
+    pub(crate) fn prepare<H: Threads + Wait + Clock + Sync, G: Gate + Sync>(
+        &mut self,
+        context: &Context<'_, H, G>,
+        ask: &Ask,
+        kept: &mut Option<Workspace>,
+    )
+        requires within { IsQuestionWithin self.old.graphs.network.n (question_of ask.now) }
         ensures { self.new ≡ self.old }
     {
-        if matches!(answer, Answer::Components) {
+        if matches!(context.asked.answer, Answer::Components) || context.asked.lines.has_walks() {
             return;
         }
-        if let Some(kept) = kept {
-            kept.prepare(alloc, &mut self.graphs.network);
-        }
+        let (Ask::Pairs(pairs), Some(kept)) = (ask, kept) else {
+            return;
+        };
+        let (rt, alloc, gate) = (context.rt, context.alloc, context.gate);
+        let network = &mut self.graphs.network;
+        kept.prepare(rt, alloc, network, plan_of(context.asked), gate, pairs);
     }
 
     /// Replies to what is asked. A short reply is made in memory first, so that nothing was given if memory is refused.

@@ -151,13 +151,13 @@ impl Session {
     {
         let answer = context.asked.answer;
         if matches!(answer, Answer::Distances) {
-            self.weights.prepare(context.alloc, answer, kept);
+            self.weights.prepare(context, &query.ask, kept);
             return self.weights.reply_asked(context, writer, query, kept);
         }
         let Ok(mut graph) = self.taken(context) else {
             return Ok(ReplyOutcome::NotStarted);
         };
-        graph.prepare(context.alloc, answer, kept);
+        graph.prepare(context, &query.ask, kept);
         let reply = graph.reply_asked(context, writer, query, kept);
         self.put(answer, graph);
         reply

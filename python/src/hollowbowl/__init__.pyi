@@ -28,40 +28,41 @@ class Totals(NamedTuple):
 class Graph:
     def __init__(
         self, tails: Iterable[int], heads: Iterable[int], weights: Iterable[_Number] | None = None, n: int | None = None, *,
-        scale: int | None = None, workers: _Workers = None, programs: int = 1, names: Iterable[Hashable] | None = None,
-        keep: bool = True,
+        scale: int | None = None, workers: _Workers = None, landmarks: int | None = None, programs: int = 1,
+        names: Iterable[Hashable] | None = None, keep: bool = True,
     ) -> None: ...
     @classmethod
     def from_edges(
         cls, edges: Iterable[tuple[Any, Any, _Number] | tuple[Any, Any]], *, nodes: Iterable[Hashable] = (),
-        default: _Number | None = None, scale: int | None = None, workers: _Workers = None, programs: int = 1,
-        keep: bool = True,
+        default: _Number | None = None, scale: int | None = None, workers: _Workers = None,
+        landmarks: int | None = None, programs: int = 1, keep: bool = True,
     ) -> Graph: ...
     @classmethod
     def from_gr(
-        cls, path: str | PathLike[str], *, scale: int | None = None, workers: _Workers = None, programs: int = 1,
-        keep: bool = True,
+        cls, path: str | PathLike[str], *, scale: int | None = None, workers: _Workers = None,
+        landmarks: int | None = None, programs: int = 1, keep: bool = True,
     ) -> Graph: ...
     @classmethod
     def from_columns(
         cls, table: Any, source: Any = "source", target: Any = "target", weight: Any = "weight", *,
-        nodes: Iterable[Hashable] = (), scale: int | None = None, workers: _Workers = None, programs: int = 1,
-        keep: bool = True,
+        nodes: Iterable[Hashable] = (), scale: int | None = None, workers: _Workers = None,
+        landmarks: int | None = None, programs: int = 1, keep: bool = True,
     ) -> Graph: ...
     @classmethod
     def from_pandas(
         cls, frame: Any, source: Any = "source", target: Any = "target", weight: Any = "weight", *,
-        nodes: Iterable[Hashable] = (), scale: int | None = None, workers: _Workers = None, programs: int = 1,
-        keep: bool = True,
+        nodes: Iterable[Hashable] = (), scale: int | None = None, workers: _Workers = None,
+        landmarks: int | None = None, programs: int = 1, keep: bool = True,
     ) -> Graph: ...
     @classmethod
     def from_networkx(
         cls, other: Any, weight: str | None = "weight", *, scale: int | None = None, workers: _Workers = None,
-        programs: int = 1, keep: bool = True,
+        landmarks: int | None = None, programs: int = 1, keep: bool = True,
     ) -> Graph: ...
     @classmethod
     def from_scipy(
-        cls, matrix: Any, *, scale: int | None = None, workers: _Workers = None, programs: int = 1, keep: bool = True
+        cls, matrix: Any, *, scale: int | None = None, workers: _Workers = None, landmarks: int | None = None,
+        programs: int = 1, keep: bool = True,
     ) -> Graph: ...
     @property
     def n(self) -> int: ...

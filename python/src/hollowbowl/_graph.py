@@ -31,12 +31,14 @@ class Graph(Costs, Paths, Measures, Arcs):
     """
 
     def __init__(
-        self, tails, heads, weights=None, n=None, *, scale=None, workers=None, programs=1, names=None, keep=True
+        self, tails, heads, weights=None, n=None, *, scale=None, workers=None, landmarks=None, programs=1, names=None,
+        keep=True
     ):
         """The graph of these arcs among `n` vertices; without `n` up to the greatest that an arc has.
 
         Without weights each is 1. With `keep=False` Python keeps no arcs, so no other program can begin if this one is
-        killed. With several programs near questions don't wait for far ones; each has the graph in memory.
+        killed. With several programs near questions don't wait for far ones; each has the graph in memory. Up to
+        `landmarks` vertices, 16 if that is None, serve far pairs once there were some; with 0 none do.
         """
         self._scale = as_scale(scale)
         tails = as_column("tails", tails, MOST_VERTICES - 1)
@@ -48,10 +50,12 @@ class Graph(Costs, Paths, Measures, Arcs):
         if count is None or not least <= count <= MOST_VERTICES:
             raise ValueError(f"n is {n!r}, where a whole number from {least} to {MOST_VERTICES} is wanted")
         self._names = Names(count, names)
-        self._begin(Columns(count, tails, heads, weights), workers, programs, keep)
+        self._begin(Columns(count, tails, heads, weights), workers, landmarks, programs, keep)
 
     @classmethod
-    def from_edges(cls, edges, *, nodes=(), default=None, scale=None, workers=None, programs=1, keep=True):
+    def from_edges(
+        cls, edges, *, nodes=(), default=None, scale=None, workers=None, landmarks=None, programs=1, keep=True
+    ):
         """The graph of edges `(tail, head, weight)` whose ends are any hashable names, in the order in which they come.
 
         With a `default` weight there may be edges `(tail, head)` among them, which have that. `nodes` are names that
@@ -59,11 +63,12 @@ class Graph(Costs, Paths, Measures, Arcs):
         """
         tails, heads, weights, names = _from.edges(edges, nodes, default)
         return cls(
-            tails, heads, weights, len(names), scale=scale, workers=workers, programs=programs, names=names, keep=keep
+            tails, heads, weights, len(names), scale=scale, workers=workers, landmarks=landmarks, programs=programs,
+            names=names, keep=keep
         )
 
     @classmethod
-    def from_gr(cls, path, *, scale=None, workers=None, programs=1, keep=True):
+    def from_gr(cls, path, *, scale=None, workers=None, landmarks=None, programs=1, keep=True):
         """The graph of a file in the `.gr` format, whose vertices count from 1: vertex 0 here is 1 there.
 
         A file that ends with `.gz` is unpacked. What is more than a graph, as a job with queries, is a BadGraph. The
@@ -72,14 +77,14 @@ class Graph(Costs, Paths, Measures, Arcs):
         """
         graph = cls.__new__(cls)
         graph._scale = as_scale(scale)
-        graph._begin(File(path), workers, programs, keep)
+        graph._begin(File(path), workers, landmarks, programs, keep)
         graph._names = Names(graph._wire.state.session.n)
         return graph
 
     @classmethod
     def from_columns(
         cls, table, source="source", target="target", weight="weight", *, nodes=(), scale=None, workers=None,
-        programs=1, keep=True
+        landmarks=None, programs=1, keep=True
     ):
         """The graph of a table's rows, by the names of its columns; with `weight=None` each weighs 1.
 
@@ -87,41 +92,48 @@ class Graph(Costs, Paths, Measures, Arcs):
         A table is anything with `table[name]`: a DataFrame of pandas or polars, a table of Arrow, lists by name.
         """
         edges = _from.columns(table, source, target, weight)
-        return cls.from_edges(edges, nodes=nodes, default=1, scale=scale, workers=workers, programs=programs, keep=keep)
+        return cls.from_edges(
+            edges, nodes=nodes, default=1, scale=scale, workers=workers, landmarks=landmarks, programs=programs,
+            keep=keep
+        )
 
     @classmethod
     def from_pandas(
         cls, frame, source="source", target="target", weight="weight", *, nodes=(), scale=None, workers=None,
-        programs=1, keep=True
+        landmarks=None, programs=1, keep=True
     ):
         """The graph of a DataFrame's rows (`from_columns`), as `networkx.from_pandas_edgelist` takes it."""
         return cls.from_columns(
-            frame, source, target, weight, nodes=nodes, scale=scale, workers=workers, programs=programs, keep=keep
+            frame, source, target, weight, nodes=nodes, scale=scale, workers=workers, landmarks=landmarks,
+            programs=programs, keep=keep
         )
 
     @classmethod
-    def from_networkx(cls, other, weight="weight", *, scale=None, workers=None, programs=1, keep=True):
+    def from_networkx(cls, other, weight="weight", *, scale=None, workers=None, landmarks=None, programs=1, keep=True):
         """The graph of a networkx graph, in which an edge without a weight has 1, and with `weight=None` each.
 
         Undirected edges go both ways.
         """
         tails, heads, weights, names = _from.networkx(other, weight)
         return cls(
-            tails, heads, weights, len(names), scale=scale, workers=workers, programs=programs, names=names, keep=keep
+            tails, heads, weights, len(names), scale=scale, workers=workers, landmarks=landmarks, programs=programs,
+            names=names, keep=keep
         )
 
     @classmethod
-    def from_scipy(cls, matrix, *, scale=None, workers=None, programs=1, keep=True):
+    def from_scipy(cls, matrix, *, scale=None, workers=None, landmarks=None, programs=1, keep=True):
         """The graph of a sparse matrix of scipy: an arc for each entry that is stored, from its row to its column.
 
         A stored zero is an arc of weight 0. Entries of one place are added up first, as scipy means them.
         """
         tails, heads, weights, n = _from.scipy(matrix)
-        return cls(tails, heads, weights, n, scale=scale, workers=workers, programs=programs, keep=keep)
+        return cls(
+            tails, heads, weights, n, scale=scale, workers=workers, landmarks=landmarks, programs=programs, keep=keep
+        )
 
-    def _begin(self, kept, workers, programs, keep):
+    def _begin(self, kept, workers, landmarks, programs, keep):
         try:
-            self._wire = Wire(kept, as_options(workers), keep, as_programs(programs, keep))
+            self._wire = Wire(kept, as_options(workers, landmarks), keep, as_programs(programs, keep))
         except BaseException:
             kept.close()
             raise

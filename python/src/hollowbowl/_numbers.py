@@ -17,6 +17,7 @@ MOST_VERTICES = 2**28
 MOST_WEIGHT = 2**32 - 1
 MOST_WORKERS = 64
 MOST_PROGRAMS = 64
+MOST_LANDMARKS = 64
 
 # Rows of so many bytes are made without a look at the memory.
 _FEW_BYTES = 1 << 26
@@ -54,14 +55,21 @@ def as_seconds(timeout):
     return min(float(timeout), threading.TIMEOUT_MAX)
 
 
-def as_options(workers):
-    """How many workers, as options of the program; ValueError if it takes no such number."""
-    if workers is None:
-        return []
-    number = workers if workers == "auto" else whole(workers)
-    if number is None or (number != "auto" and not 1 <= number <= MOST_WORKERS):
-        raise ValueError(f"workers is {workers!r}, where a whole number from 1 to {MOST_WORKERS}, or 'auto', is wanted")
-    return ["--workers", str(number)]
+def as_options(workers, landmarks):
+    """How many workers and landmarks, as options of the program; ValueError if it takes no such number."""
+    options = []
+    if workers is not None:
+        number = workers if workers == "auto" else whole(workers)
+        if number is None or (number != "auto" and not 1 <= number <= MOST_WORKERS):
+            wanted = f"a whole number from 1 to {MOST_WORKERS}, or 'auto', is wanted"
+            raise ValueError(f"workers is {workers!r}, where {wanted}")
+        options += ["--workers", str(number)]
+    if landmarks is not None:
+        number = whole(landmarks)
+        if number is None or not 0 <= number <= MOST_LANDMARKS:
+            raise ValueError(f"landmarks is {landmarks!r}, where a whole number from 0 to {MOST_LANDMARKS} is wanted")
+        options += ["--landmarks", str(number)]
+    return options
 
 
 def as_programs(programs, keep):

@@ -94,6 +94,7 @@ fn expect_plain<H: Threads + Wait + Clock + Abort + Sync>(
     let plan = Plan {
         settings: Plan::usual(workers).settings,
         at_once: AtOnce::Most(2),
+        landmarks: 0,
     };
     let (n, solver) = (network.n(), Solver::new(network, plan));
     let mut each = solver.each(alloc, &SOURCES);

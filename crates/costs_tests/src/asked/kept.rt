@@ -107,16 +107,21 @@ pub fn ask_in_vain<H: Threads + Wait + Clock + Sync>(
     Ok(())
 }
 
-pub fn prepare(alloc: Global, network: &mut Network, kept: &mut Option<Workspace>)
+pub fn prepare<H: Threads + Wait + Clock + Sync>(
+    rt: &H,
+    alloc: Global,
+    network: &mut Network,
+    kept: &mut Option<Workspace>,
+)
     ensures { network.new ≡ network.old }
 {
     if let Some(kept) = kept {
-        kept.prepare(alloc, network);
+        kept.prepare(rt, alloc, network, Plan::usual(1), &OpenGate, &[]);
     }
 }
 
 #[test]
-fn rows_are_reversed_after_wide_searches_in_vain(rt: HostRuntime) -> Result<(), Fail> {
+fn networks_are_prepared_after_searches_in_vain(rt: HostRuntime) -> Result<(), Fail> {
     let alloc = rt.alloc();
     for (is_wide, searches) in [(true, false), (true, true), (false, true)] {
         let mut network = if is_wide {
@@ -125,11 +130,12 @@ fn rows_are_reversed_after_wide_searches_in_vain(rt: HostRuntime) -> Result<(), 
             path(&rt, alloc)?
         };
         let mut kept = Some(Workspace::new().searching(searches));
-        prepare(alloc, &mut network, &mut kept);
-        assert!(rt; !network.has_reversed());
+        prepare(&rt, alloc, &mut network, &mut kept);
+        assert!(rt; !network.has_reversed() && !network.has_landmarks());
         ask_in_vain(&rt, alloc, &network, &mut kept)?;
-        prepare(alloc, &mut network, &mut kept);
+        prepare(&rt, alloc, &mut network, &mut kept);
         assert!(rt; network.has_reversed() == (is_wide && searches));
+        assert!(rt; network.has_landmarks() == (!is_wide && searches));
     }
     Ok(())
 }

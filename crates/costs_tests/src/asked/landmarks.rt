@@ -5,7 +5,7 @@ ghost use Rattle.std.specs.Prelude.{◌≡◌};
 use crate::asked::draws::Draws;
 use crate::asked::kept::are_within;
 use crate::asked::{network_of, path, six};
-use least_costs::{Cost, Landmarks, Network, Plan, Solver, Unwatched, Workspace};
+use least_costs::{Cost, Network, Plan, Solver, Unwatched, Workspace};
 use obim_engine::Gate;
 use route_walks::{ArcRec, Memory};
 use std::alloc::Global;
@@ -17,7 +17,7 @@ use std::thread::Threads;
 use std::time::Clock;
 
 /// The workers, true if the thread that asks searches, and the landmarks.
-const CALLS: [(u32, bool, usize); 6] = [
+const CALLS: [(u32, bool, u32); 6] = [
     (1, true, 8),
     (1, false, 8),
     (2, false, 3),
@@ -75,25 +75,42 @@ fn push_street(
     Ok(())
 }
 
+/// The costs of pairs by landmarks of a network, of which there are at most so many.
+fn costs_by<H: Threads + Wait + Clock + Abort + Sync>(
+    rt: &H,
+    alloc: Global,
+    network: &mut Network,
+    (workers, searches, count): (u32, bool, u32),
+    pairs: &[(u32, u32)],
+) -> Result<Vec<Option<u64>>, Fail> {
+    let within = pairs.len() < 1000 && are_within(network.n(), pairs);
+    assert!(rt; within);
+    let plan = Plan {
+        landmarks: count,
+        ..Plan::usual(workers)
+    };
+    let chosen = network.choose_landmarks(rt, alloc, plan)?;
+    assert!(rt; chosen <= count as usize && network.has_landmarks());
+    let mut kept = Some(Workspace::new().searching(searches));
+    let solver = Solver::new(network, plan);
+    let found = solver.between_grown(rt, alloc, pairs, None, &mut kept, &mut Unwatched)?;
+    assert!(rt; kept.is_some());
+    Ok(found.costs)
+}
+
 /// Asserts that pairs cost by landmarks what they cost without.
 fn expect_same<H: Threads + Wait + Clock + Abort + Sync>(
     rt: &H,
     alloc: Global,
-    network: &Network,
+    network: &mut Network,
     pairs: &[(u32, u32)],
 ) -> Result<(), Fail> {
     let within = pairs.len() < 1000 && are_within(network.n(), pairs);
     assert!(rt; within);
     let want = Solver::new(network, Plan::usual(1)).between(rt, alloc, pairs)?;
-    for (workers, searches, count) in CALLS {
-        assert!(rt; count <= 64);
-        let solver = Solver::new(network, Plan::usual(workers));
-        let landmarks = Landmarks::new(rt, alloc, &solver, count)?;
-        assert!(rt; landmarks.len() <= count);
-        let mut kept = Some(Workspace::new().searching(searches));
-        let found = solver.between_with(rt, alloc, &landmarks, pairs, &mut kept, &mut Unwatched)?;
-        assert!(rt; kept.is_some());
-        assert!(rt; found.as_slice() == want.as_slice(), "{workers} workers");
+    for call in CALLS {
+        let found = costs_by(rt, alloc, network, call, pairs)?;
+        assert!(rt; found.as_slice() == want.as_slice(), "{} workers", call.0);
     }
     Ok(())
 }
@@ -120,9 +137,9 @@ fn random_streets(rt: HostRuntime) -> Result<(), Fail> {
             state: seed << 40 | 0x9E37_79B9,
         };
         let arcs = streets(alloc, &mut draws, 20, 8)?;
-        let network = network_of(&rt, alloc, 400, &arcs, Cost::Weight)?;
+        let mut network = network_of(&rt, alloc, 400, &arcs, Cost::Weight)?;
         let pairs = drawn_pairs(alloc, &mut draws, 400)?;
-        expect_same(&rt, alloc, &network, &pairs)?;
+        expect_same(&rt, alloc, &mut network, &pairs)?;
     }
     Ok(())
 }
@@ -140,9 +157,9 @@ fn random_arcs(rt: HostRuntime) -> Result<(), Fail> {
             state: seed << 40 | 0x9E37_79B9,
         };
         let arcs = draws.arcs(alloc, 200, count)?;
-        let network = network_of(&rt, alloc, 200, &arcs, cost)?;
+        let mut network = network_of(&rt, alloc, 200, &arcs, cost)?;
         let pairs = drawn_pairs(alloc, &mut draws, 200)?;
-        expect_same(&rt, alloc, &network, &pairs)?;
+        expect_same(&rt, alloc, &mut network, &pairs)?;
     }
     Ok(())
 }
@@ -151,18 +168,18 @@ fn random_arcs(rt: HostRuntime) -> Result<(), Fail> {
 #[test]
 fn paths_and_great_weights(rt: HostRuntime) -> Result<(), Fail> {
     let alloc = rt.alloc();
-    let network = path(&rt, alloc)?;
+    let mut network = path(&rt, alloc)?;
     expect_same(
         &rt,
         alloc,
-        &network,
+        &mut network,
         &[(0, 2_999), (2_999, 0), (7, 7), (100, 1_900)],
     )?;
-    let network = six(&rt, alloc)?;
+    let mut network = six(&rt, alloc)?;
     expect_same(
         &rt,
         alloc,
-        &network,
+        &mut network,
         &[(3, 1), (0, 5), (5, 0), (0, 3), (3, 5), (0, 0)],
     )?;
     let mut arcs = Vec::new(alloc);
@@ -171,11 +188,11 @@ fn paths_and_great_weights(rt: HostRuntime) -> Result<(), Fail> {
         arcs.push(ArcRec::new(v + 1, v, u32::MAX - v))?;
         arcs.push(ArcRec::new(v, (v * 7) % 51, u32::MAX))?;
     }
-    let network = network_of(&rt, alloc, 60, &arcs, Cost::Weight)?;
+    let mut network = network_of(&rt, alloc, 60, &arcs, Cost::Weight)?;
     expect_same(
         &rt,
         alloc,
-        &network,
+        &mut network,
         &[(0, 50), (50, 0), (3, 44), (44, 3), (0, 55), (55, 0)],
     )
 }
@@ -195,22 +212,25 @@ impl Gate for Counter {
 fn visits_of<H: Threads + Wait + Clock + Abort + Sync>(
     rt: &H,
     alloc: Global,
-    network: &Network,
-    count: usize,
+    network: &mut Network,
+    count: u32,
     pairs: &[(u32, u32)],
 ) -> Result<u64, Fail> {
-    let within = pairs.len() < 1000 && count <= 64 && are_within(network.n(), pairs);
+    let within = pairs.len() < 1000 && are_within(network.n(), pairs);
     assert!(rt; within);
-    let solver = Solver::new(network, Plan::usual(1));
-    let landmarks = Landmarks::new(rt, alloc, &solver, count)?;
+    let plan = Plan {
+        landmarks: count,
+        ..Plan::usual(1)
+    };
+    network.choose_landmarks(rt, alloc, plan)?;
     let counted = Solver {
         network,
-        plan: Plan::usual(1),
+        plan,
         gate: Counter {
             visits: AtomicU64::new(0),
         },
     };
-    counted.between_with(rt, alloc, &landmarks, pairs, &mut None, &mut Unwatched)?;
+    counted.between_grown(rt, alloc, pairs, None, &mut None, &mut Unwatched)?;
     Ok(counted.gate.visits.load(Ordering::SeqCst))
 }
 
@@ -220,17 +240,17 @@ fn fewer_visits(rt: HostRuntime) -> Result<(), Fail> {
     let alloc = rt.alloc();
     let mut draws = Draws { state: 11 };
     let arcs = streets(alloc, &mut draws, 60, u32::MAX)?;
-    let network = network_of(&rt, alloc, 3_601, &arcs, Cost::Weight)?;
+    let mut network = network_of(&rt, alloc, 3_601, &arcs, Cost::Weight)?;
     let mut pairs = Vec::new(alloc);
     for _ in 0..40 {
         pairs.push((draws.below(3_600), draws.below(3_600)))?;
     }
     let (all, few) = (
-        visits_of(&rt, alloc, &network, 0, &pairs)?,
-        visits_of(&rt, alloc, &network, 8, &pairs)?,
+        visits_of(&rt, alloc, &mut network, 0, &pairs)?,
+        visits_of(&rt, alloc, &mut network, 8, &pairs)?,
     );
     assert!(rt; few.saturating_mul(5) < all, "{few} of {all} visits");
-    let vain = visits_of(&rt, alloc, &network, 8, &[(0, 3_600), (3_600, 0)])?;
+    let vain = visits_of(&rt, alloc, &mut network, 8, &[(0, 3_600), (3_600, 0)])?;
     assert!(rt; vain <= 2, "{vain} visits");
     Ok(())
 }

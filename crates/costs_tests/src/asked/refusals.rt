@@ -6,10 +6,10 @@ ghost use Rattle.least_costs.specs.Network.{GrowsTo};
 ghost use Rattle.least_costs.specs.Pairs.{GrowsInto};
 
 use crate::asked::kept::{ask_in_vain, prepare};
-use crate::asked::{expect_costs, expect_within, six, tree};
+use crate::asked::{expect_costs, expect_within, path, six, tree};
 use least_costs::{
-    AtOnce, Cost, Costs, CostsBelow, CostsWithin, Landmarks, Network, NetworkFault, PairCosts,
-    Plan, Solver, Start, Unwatched, WarmPool, Workers, Workspace,
+    AtOnce, Cost, Costs, CostsBelow, CostsWithin, Network, NetworkFault, PairCosts, Plan, Solver,
+    Start, Unwatched, WarmPool, Workers, Workspace,
 };
 use obim_engine::{Goal, OpenGate};
 use route_walks::{ArcRec, EXAMPLE_ARCS, Memory, arcs, refusable, tried_again};
@@ -398,6 +398,7 @@ fn refused_of_each<H: Threads + Wait + Clock + Abort + Sync>(
     let plan = Plan {
         settings: Plan::usual(workers).settings,
         at_once: AtOnce::Most(at_once),
+        landmarks: 0,
     };
     let solver = Solver::new(network, plan);
     let mut each = solver.each(alloc, &[0, 0, 0, 0]);
@@ -507,19 +508,25 @@ fn of_network_reverse(rt: HostRuntime) -> Result<(), Fail> {
     Ok(())
 }
 
-// It then waits for more fruitless searches before it reverses the rows.
+// It then waits for more searches in vain before it reverses the rows, or chooses landmarks.
 #[test]
 fn of_workspace_prepare(rt: HostRuntime) -> Result<(), Fail> {
     let alloc = rt.alloc();
-    let mut network = tree(&rt, alloc)?;
-    let mut kept = Some(Workspace::new());
-    ask_in_vain(&rt, alloc, &network, &mut kept)?;
-    refusable!(alloc, prepare(alloc, &mut network, &mut kept));
-    if !network.has_reversed() {
+    for is_wide in [true, false] {
+        let mut network = if is_wide {
+            tree(&rt, alloc)?
+        } else {
+            path(&rt, alloc)?
+        };
+        let mut kept = Some(Workspace::new());
         ask_in_vain(&rt, alloc, &network, &mut kept)?;
-        prepare(alloc, &mut network, &mut kept);
+        refusable!(alloc, prepare(&rt, alloc, &mut network, &mut kept));
+        if !network.has_reversed() && !network.has_landmarks() {
+            ask_in_vain(&rt, alloc, &network, &mut kept)?;
+            prepare(&rt, alloc, &mut network, &mut kept);
+        }
+        assert!(rt; network.has_reversed() == is_wide && network.has_landmarks() != is_wide);
     }
-    assert!(rt; network.has_reversed());
     Ok(())
 }
 
@@ -555,31 +562,28 @@ fn of_workers_near_within(rt: HostRuntime) -> Result<(), Fail> {
     Ok(())
 }
 
-fn with_landmarks<H: Threads + Wait + Clock + Abort + Sync>(
-    rt: &H,
-    alloc: Global,
-    searches: bool,
-) -> Result<(), Fail> {
-    let network = six(rt, alloc)?;
-    let solver = Solver::new(&network, Plan::usual(1));
-    let landmarks = tried_again!(rt, alloc, Memory, Landmarks::new(rt, alloc, &solver, 2));
-    let mut kept = Some(Workspace::new().searching(searches));
-    let costs = tried_again!(
-        rt,
-        alloc,
-        Memory,
-        solver.between_with(rt, alloc, &landmarks, &PAIRS, &mut kept, &mut Unwatched)
-    );
+// Pairs cost the same by the landmarks, and without them if memory is refused.
+#[test]
+fn of_network_choose_landmarks(rt: HostRuntime) -> Result<(), Fail> {
+    let alloc = rt.alloc();
+    let mut network = six(&rt, alloc)?;
+    let plan = Plan::usual(1);
+    let chosen = refusable!(alloc, network.choose_landmarks(&rt, alloc, plan));
+    assert!(rt; chosen.is_ok() == network.has_landmarks());
+    let solver = Solver::new(&network, plan);
+    let costs = solver.between(&rt, alloc, &PAIRS)?;
     assert!(rt; costs.as_slice() == [Some(0), Some(15)].as_slice());
     Ok(())
 }
 
 #[test]
-fn of_landmarks_new(rt: HostRuntime) -> Result<(), Fail> {
-    with_landmarks(&rt, rt.alloc(), true)
-}
-
-#[test]
-fn of_solver_between_with(rt: HostRuntime) -> Result<(), Fail> {
-    with_landmarks(&rt, rt.alloc(), false)
+fn of_solver_between_by_landmarks(rt: HostRuntime) -> Result<(), Fail> {
+    let alloc = rt.alloc();
+    let mut network = six(&rt, alloc)?;
+    let plan = Plan::usual(1);
+    network.choose_landmarks(&rt, alloc, plan)?;
+    let solver = Solver::new(&network, plan);
+    let costs = tried_again!(&rt, alloc, Memory, solver.between(&rt, alloc, &PAIRS));
+    assert!(rt; costs.as_slice() == [Some(0), Some(15)].as_slice());
+    Ok(())
 }

@@ -44,7 +44,11 @@ fn plan_of(rt: &impl Abort, workers: u32, fitted: bool, at_once: AtOnce) -> Plan
     } else {
         even
     };
-    Plan { settings, at_once }
+    Plan {
+        settings,
+        at_once,
+        landmarks: 0,
+    }
 }
 
 fn expect_next(

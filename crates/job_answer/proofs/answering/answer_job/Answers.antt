@@ -21,7 +21,7 @@ returns-in_err-graphs-clause-says g c =
 pub returns-clause-reply : goal.returns-clause-reply
 returns-clause-reply g c =
     c.answer_question.ensures.reply (content_of c.args.job)
-    (record { graphs = rw c.reverse_if.ensures c.in_ok-graphs.ensures.graphs; asks = refl })
+    (record { graphs = rw c.prepare.ensures c.in_ok-graphs.ensures.graphs; asks = refl })
 
 pub returns-clause-says : goal.returns-clause-says
 returns-clause-says g c =
@@ -32,4 +32,4 @@ returns-clause-says g c =
     (untold-if _ _ c.has_no_sources.ensures c.if-has_no_sources.false)
     c.answer_question.ensures.kinds
     (c.answer_question.ensures.prefix job
-    (record { graphs = rw c.reverse_if.ensures c.in_ok-graphs.ensures.graphs; asks = refl }))
+    (record { graphs = rw c.prepare.ensures c.in_ok-graphs.ensures.graphs; asks = refl }))

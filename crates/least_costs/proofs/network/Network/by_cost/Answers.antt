@@ -21,6 +21,7 @@ invariant_of-result g c =
         added_ends = subst (IsGraph rows.n) (sym c.new.ensures.items) (All-nil (IsArcBelow rows.n));
       };
       turned = tt;
+      told = tt;
     }
 
 pub returns-clause-network : goal.returns-clause-network

@@ -29,6 +29,7 @@ invariant_of-result g c =
             c.in_ok-added.ensures.ends);
       };
       turned = tt;
+      told = tt;
     }
 
 pub returns-clause-grown : goal.returns-clause-grown

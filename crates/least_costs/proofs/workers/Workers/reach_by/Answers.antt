@@ -4,7 +4,7 @@ use Rattle.route_walks.specs.Label.{IsLeast}
 use Rattle.route_walks.specs.Operators.{seeds_from}
 use Rattle.csr_graph.specs.Bounds.{AreBounds}
 use Rattle.label_words.specs.Closed.{closed_labels}
-use Rattle.least_costs.specs.Network.{NetworkSeen, graph_of}
+use Rattle.csr_graph.specs.Graph.{Graph}
 use Rattle.least_costs.proofs.workers.Workers.reach_by.Goals as goal
 
 pub returns-clause-least : goal.returns-clause-least
@@ -12,7 +12,7 @@ returns-clause-least g c =
     let net = c.args.network.now in
     let labels = closed_labels c.in_ok-reached.reached.closed in
     let are =
-    subst (λ (x : NetworkSeen). AreBounds (graph_of x) c.toward-bounds.result) c.requires.landmarks
+    subst (λ (graph : Graph). AreBounds graph c.toward-bounds.result) c.requires.landmarks
     c.toward-bounds.ensures.bounds in
     subst (All (λ (t : ℕ). IsLeast net.arcs (seeds_from c.args.source) t (slice_index labels t)))
     c.toward-bounds.ensures.targets (c.in_ok-reached.ensures.wanted are)
