@@ -85,8 +85,8 @@ IsReplyBy form.Listed terms graph job line text = text ≡ listing_text graph (p
 abbrev pub out_of_memory : List ℕ
 out_of_memory = codes "out of memory"
 
--- A request that is whole is answered, by the number of its last line. One that is wrong is refused in a line, and so is one for which memory was
--- refused, while it was read or for its reply.
+-- A request that is whole is answered, by the number of its last line. One that is wrong is refused in a line, and so is
+-- one for which memory was refused, while it was read or for its reply.
 abbrev pub IsReplyFor : Terms → Content → Outcome → List ℕ → Type 0
 IsReplyFor terms graph (whole line job head) text = IsReplyBy head.form (terms_by head terms) graph job line text
 IsReplyFor terms graph (wrong line what) text = text ≡ refusal_text line (words_of what)
