@@ -6,7 +6,7 @@ ghost use Rattle.least_costs.specs.Network.{GrowsTo};
 ghost use Rattle.least_costs.specs.Pairs.{GrowsInto};
 
 use crate::asked::kept::{ask_in_vain, prepare};
-use crate::asked::{expect_costs, expect_within, path, six, tree};
+use crate::asked::{expect_costs, expect_within, six, tree};
 use least_costs::{
     AtOnce, Cost, Costs, CostsBelow, CostsWithin, Network, NetworkFault, PairCosts, Plan, Solver,
     Start, Unwatched, WarmPool, Workers, Workspace,
@@ -508,25 +508,19 @@ fn of_network_reverse(rt: HostRuntime) -> Result<(), Fail> {
     Ok(())
 }
 
-// It then waits for more searches in vain before it reverses the rows, or chooses landmarks.
+// It then waits for more fruitless searches before it reverses the rows.
 #[test]
 fn of_workspace_prepare(rt: HostRuntime) -> Result<(), Fail> {
     let alloc = rt.alloc();
-    for is_wide in [true, false] {
-        let mut network = if is_wide {
-            tree(&rt, alloc)?
-        } else {
-            path(&rt, alloc)?
-        };
-        let mut kept = Some(Workspace::new());
+    let mut network = tree(&rt, alloc)?;
+    let mut kept = Some(Workspace::new());
+    ask_in_vain(&rt, alloc, &network, &mut kept)?;
+    refusable!(alloc, prepare(&rt, alloc, &mut network, &mut kept));
+    if !network.has_reversed() {
         ask_in_vain(&rt, alloc, &network, &mut kept)?;
-        refusable!(alloc, prepare(&rt, alloc, &mut network, &mut kept));
-        if !network.has_reversed() && !network.has_landmarks() {
-            ask_in_vain(&rt, alloc, &network, &mut kept)?;
-            prepare(&rt, alloc, &mut network, &mut kept);
-        }
-        assert!(rt; network.has_reversed() == is_wide && network.has_landmarks() != is_wide);
+        prepare(&rt, alloc, &mut network, &mut kept);
     }
+    assert!(rt; network.has_reversed());
     Ok(())
 }
 
@@ -567,7 +561,10 @@ fn of_workers_near_within(rt: HostRuntime) -> Result<(), Fail> {
 fn of_network_choose_landmarks(rt: HostRuntime) -> Result<(), Fail> {
     let alloc = rt.alloc();
     let mut network = six(&rt, alloc)?;
-    let plan = Plan::usual(1);
+    let plan = Plan {
+        landmarks: 2,
+        ..Plan::usual(1)
+    };
     let chosen = refusable!(alloc, network.choose_landmarks(&rt, alloc, plan));
     assert!(rt; chosen.is_ok() == network.has_landmarks());
     let solver = Solver::new(&network, plan);
