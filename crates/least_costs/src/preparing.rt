@@ -12,7 +12,8 @@ use std::sync::Wait;
 use std::thread::Threads;
 use std::time::Clock;
 
-/// Landmarks are chosen once so many pairs were far for each of them: that took as long as choosing does.
+/// Landmarks are chosen once so many pairs were far for each of them. Pairs anywhere take about as long as choosing does,
+/// and nearer ones less.
 const FAR_PAIRS_A_LANDMARK: usize = 2;
 
 /// Or if the pairs have so many sources for each of them, and most of a sample are far.
@@ -23,8 +24,8 @@ const SAMPLE_PAIRS: usize = 16;
 
 impl Workspace {
     /// Makes a network ready for pairs, if searches serve them. Its rows are reversed once searches have visited so much
-    /// of it that this saves time. It is given the landmarks of the plan once far pairs have taken as long as choosing
-    /// them, or if these pairs are many and far.
+    /// of it that this saves time. It is given the landmarks of the plan after enough far pairs, or if these pairs are many
+    /// and far.
     pub fn prepare<H: Threads + Wait + Clock + Sync, G: Gate + Sync>(
         &mut self,
         rt: &H,
