@@ -10,10 +10,9 @@ import time
 class Session:
     """The program with its two pipes."""
 
-    def __init__(self, program, workers, graph):
-        self.process = subprocess.Popen(
-            [program, "--session", "--workers", str(workers)], stdin=subprocess.PIPE, stdout=subprocess.PIPE, bufsize=0
-        )
+    def __init__(self, program, workers, graph, *options):
+        command = [program, "--session", "--workers", str(workers), *options]
+        self.process = subprocess.Popen(command, stdin=subprocess.PIPE, stdout=subprocess.PIPE, bufsize=0)
         self.ask(graph)
 
     def ask(self, request):
