@@ -8,8 +8,12 @@ input closed, and with its input left open until its last reply has come.
 
 import itertools
 import random
+import struct
 import subprocess
 import sys
+
+
+FAR = 2**64 - 1
 
 
 def wrong(text):
@@ -75,7 +79,7 @@ KINDS = ["distances", "levels", "components"]
 WORDS = {
     "ss": (KINDS, ["each", "walks", "raw", "totals"]),
     "within": (KINDS[:2], ["each", "walks"]),
-    "p2p": (KINDS, ["each", "walks"]),
+    "p2p": (KINDS, ["each", "walks", "raw"]),
     "walk": (KINDS[:2], []),
     "add": ([], []),
     "cut": ([], []),
@@ -127,6 +131,12 @@ def job_options(workers, answer, lines, request):
     return ["--workers", workers, "--answer", answer, *lines]
 
 
+def bytes_of(lines):
+    """The bytes of the pairs of these lines."""
+    costs = [line.split()[3] for line in lines.splitlines()]
+    return struct.pack(f"<{len(costs)}Q", *(FAR if cost == "inf" else int(cost) for cost in costs)).decode("latin-1")
+
+
 def job_reply(program, session, n, arcs, request, line):
     """What a session replies to a whole request that ends on a line, by jobs alone; and the arcs from then on."""
     workers, answer, _ = session
@@ -148,6 +158,8 @@ def job_reply(program, session, n, arcs, request, line):
     output, error, status = run(program, job_options(*session, request), text)
     if status:
         wrong(f"job ended with {status}: {error}")
+    if form == "p2p" and request[1] == "raw" and (request[0] or answer) != "components":
+        output = bytes_of(output)
     return f"{output}r {n} {len(arcs)} {line}\n", arcs
 
 

@@ -13,9 +13,7 @@ import struct
 import sys
 
 import session_jobs
-from session_jobs import LETTERS, head_of, in_pieces, records, run, wrong
-
-FAR = 2**64 - 1
+from session_jobs import FAR, LETTERS, head_of, in_pieces, records, run, wrong
 
 
 class Model:
@@ -78,12 +76,14 @@ class Model:
                 lines.append(f"d {vertex} {cost}\n" + (self.walk(found, kind, vertex) if word == "walks" else ""))
         return "".join(lines)
 
-    def pair(self, source, target, kind, has_walk):
-        """The lines of a pair."""
+    def pair(self, source, target, kind, word):
+        """The lines of a pair, or its bytes."""
         found = self.labels(source, kind)
+        if word == "raw":
+            return struct.pack("<Q", found[target][0] if target in found else FAR).decode("latin-1")
         if target not in found:
             return f"q {source} {target} inf\n"
-        return f"q {source} {target} {found[target][0]}\n" + (self.walk(found, kind, target) if has_walk else "")
+        return f"q {source} {target} {found[target][0]}\n" + (self.walk(found, kind, target) if word == "walks" else "")
 
     def own_word(self):
         """The word that says as the session's options do."""
@@ -100,8 +100,9 @@ class Model:
         if kind == "components":
             return self.block()
         if form in ("p2p", "walk"):
-            has_walk = form == "walk" or (word or self.own_word()) == "walks"
-            return "".join(self.pair(*row, kind, has_walk) for row in rows)
+            # Of the session's options a pair takes the walks alone.
+            pair_word = "walks" if form == "walk" or (word is None and self.walks) else word
+            return "".join(self.pair(*row, kind, pair_word) for row in rows)
         if form == "ss" and word is None:
             bound = self.bound
         # Lines of text alone have a bound.

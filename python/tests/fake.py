@@ -18,6 +18,9 @@ def say(*pieces):
         os.write(1, piece)
         time.sleep({pause})
 
+def cost(number):
+    return number.to_bytes(8, "little")
+
 def rest():
     while sys.stdin.buffer.readline():
         pass

@@ -206,14 +206,14 @@ class Refused(Case):
     LOOK = "read(2)\nsay(b'a 1 2 7\\nr 2 1 6\\n')\n"
 
     def test_undoing(self):
-        body = self.LOOK + "read(2)\nsay(b'x 1\\nr 2 0 8\\n')\nread(2)\nsay(b'e 10 out of memory\\n')\nread(2)\nsay(b'q 1 2 inf\\nr 2 0 12\\n')\nrest()"
+        body = self.LOOK + "read(2)\nsay(b'x 1\\nr 2 0 8\\n')\nread(2)\nsay(b'e 10 out of memory\\n')\nread(2)\nsay(cost(2**64 - 1), b'r 2 0 12\\n')\nrest()"
         with fake(body), Graph([0], [1], [7]) as graph:
             with self.assertRaisesRegex(ChangeStays, "^there is no memory to put the arcs back"), graph.changed(remove=[(0, 1)]):
                 self.assertEqual(graph.m, 0)
             self.assertEqual((graph.m, graph.has_path(0, 1)), (0, False))
 
     def test_undoing_for_nobody(self):
-        body = self.LOOK + "read(2)\nsay(b'x 1\\nr 2 0 8\\n')\nread(2)\nsay(b'e 10 out of memory\\n')\nread(2)\nsay(b'q 1 2 inf\\nr 2 0 12\\n')\nrest()"
+        body = self.LOOK + "read(2)\nsay(b'x 1\\nr 2 0 8\\n')\nread(2)\nsay(b'e 10 out of memory\\n')\nread(2)\nsay(cost(2**64 - 1), b'r 2 0 12\\n')\nrest()"
         with fake(body), Graph([0], [1], [7]) as graph:
             graph.changed(remove=[(0, 1)]).__enter__()
             with self.assertRaises(ChangeStays):
@@ -221,10 +221,10 @@ class Refused(Case):
             self.assertEqual((graph.m, graph.has_path(0, 1)), (0, False))
 
     def test_a_change(self):
-        first = self.LOOK + "read(2)\nsay(b'e 8 out of memory\\n')\nread(2)\nsay(b'q 1 2 7\\nr 2 1 10\\n')\nrest()"
+        first = self.LOOK + "read(2)\nsay(b'e 8 out of memory\\n')\nread(2)\nsay(cost(7), b'r 2 1 10\\n')\nrest()"
         second = (
             self.LOOK + "read(2)\nsay(b'x 1\\nr 2 0 8\\n')\nread(2)\nsay(b'e 10 out of memory\\n')\n"
-            "read(2)\nsay(b'x 0\\ng 1\\nr 2 1 12\\n')\nread(2)\nsay(b'q 1 2 7\\nr 2 1 14\\n')\nrest()"
+            "read(2)\nsay(b'x 0\\ng 1\\nr 2 1 12\\n')\nread(2)\nsay(cost(7), b'r 2 1 14\\n')\nrest()"
         )
         for body, version in ((first, 0), (second, 2)):
             with fake(body), Graph([0], [1], [7]) as graph:

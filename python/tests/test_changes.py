@@ -283,7 +283,7 @@ class Replies(Case):
                 ask(graph)
 
     def test_an_older_program(self):
-        body = "read(2)\nsay(b'e 5 unknown line\\n')\nread(2)\nsay(b'q 1 2 7\\nr 2 1 8\\n')\nrest()"
+        body = "read(2)\nsay(b'e 5 unknown line\\n')\nread(2)\nsay(cost(7), b'r 2 1 8\\n')\nrest()"
         for ask, form in (
             (lambda graph: graph.remove([(0, 1)], missing="ignore"), "cut"),
             (lambda graph: graph.set_weights([(0, 1, 5)], missing="add"), "set"),

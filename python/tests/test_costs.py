@@ -48,6 +48,18 @@ class Costs(Case):
                 self.check(graph, n, arcs, wanted)
                 self.check(graph, n, [(tail, head, 1) for tail, head, _ in arcs], fewest, hops=True)
 
+    def test_of_nothing(self):
+        """Without sources, targets or pairs nothing is found, and the graph answers what is asked next."""
+        with Graph([0, 1], [1, 2], [3, 4]) as graph:
+            for how in ({}, {"hops": True}, {"dtype": float}):
+                self.assertEqual(whole(graph.matrix([], [1], **how)), [])
+                self.assertEqual(whole(graph.matrix([0, 2], [], **how)), [[], []])
+                self.assertEqual(whole(graph.matrix([], [], **how)), [])
+                self.assertEqual(ints(graph.pairs([], [], **how)), [])
+                self.assertEqual(whole(graph.distances([], **how)), [])
+                self.assertEqual(graph.distance(0, 2), 7)
+            self.assertEqual((graph.totals([]), list(graph.rows([]))), ([], []))
+
     def check(self, graph, n, arcs, wanted, **costs):
         """What is asked in all ways has the costs that are wanted."""
         self.assertEqual(whole(graph.distances(range(n), **costs)), wanted)

@@ -162,7 +162,7 @@ class Changes(Case):
         # The cost is how many requests of two lines there were, with a row each in parts of one.
         body = (
             "count = 0\nwhile words := sys.stdin.buffer.readline().split():\n    read()\n    count += 1\n"
-            "    say(b's 1\\n' + bytes(16) if b'raw' in words else b'q 1 2 %d\\n' % count, b'r 2 1 %d\\n' % (2 * count + 4))\n"
+            "    say(b's 1\\n' + bytes(16) if b'ss' in words else cost(count), b'r 2 1 %d\\n' % (2 * count + 4))\n"
         )
         with fake(body), Graph([0], [1], [7]) as graph, by_requests_of(1000):
             with mock.patch.object(hollowbowl._asking.Sizes, "of", lambda self, question: 1):

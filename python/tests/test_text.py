@@ -310,9 +310,6 @@ class Text(unittest.TestCase):
         self.assertEqual((ints(vertices), ints(costs)), ([0, 1, 2], [0, 2**53 + 1, INF - 1]))
         labels = _text.components_in(b"k 1 1\nk 2 16777219\n", 2)
         self.assertEqual(ints(labels), [0, 16777218])
-        for count in (2, 200):
-            body = b"".join(b"q 1 2 9007199254740993\nq 1 3 inf\n" for _ in range(count // 2))
-            self.assertEqual(ints(_text.pair_costs(body, [0] * count, [1, 2] * (count // 2))), [2**53 + 1, INF] * (count // 2))
 
     def test_columns_are_small(self):
         from hollowbowl import _columns

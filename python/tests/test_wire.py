@@ -1,5 +1,6 @@
 """Replies in pieces, replies that are none to what was asked, and refusals."""
 
+import itertools
 import os
 import resource
 import signal
@@ -19,7 +20,7 @@ class Replies(Case):
     """Replies in pieces, and replies that are none to what was asked."""
 
     def test_byte_by_byte(self):
-        with fake('for line in (6, 8):\n    read(2)\n    say(*[bytes([each]) for each in b"q 1 2 7\\nr 2 1 %d\\n" % line])', 0.005):
+        with fake('for line in (6, 8):\n    read(2)\n    say(*[bytes([each]) for each in cost(7) + b"r 2 1 %d\\n" % line])', 0.005):
             with Graph(*ARC) as graph:
                 self.assertEqual([graph.distance(0, 1), graph.distance(0, 1)], [7, 7])
 
@@ -36,8 +37,8 @@ class Replies(Case):
                 self.assertEqual(caught.exception.status, 9)
 
     def test_a_line_cut_short(self):
-        for status, kind in ((3, OutOfMemory), (7, Ended)):
-            with fake(f'read(2)\nsay(b"q 1 2")\nos._exit({status})'), Graph(*ARC) as graph, self.assertRaises(kind):
+        for (status, kind), piece in itertools.product(((3, OutOfMemory), (7, Ended)), ("cost(7)[:5]", 'cost(7), b"r 2"')):
+            with fake(f'read(2)\nsay({piece})\nos._exit({status})'), Graph(*ARC) as graph, self.assertRaises(kind):
                 graph.distance(0, 1)
 
     def out_of_step(self, reply, ask, lines=2):
@@ -51,7 +52,8 @@ class Replies(Case):
 
     def test_a_reply_to_something_else(self):
         far = bytes(8) + b"\7" + bytes(7)
-        for reply in (b"q 1 2 7\nr 3 1 6\n", b"q 1 2 7\nr 2 2 6\n", b"q 2 1 7\nr 2 1 6\n", b"q 1 2 x\nr 2 1 6\n", b"r 2 1 6\n", b"q 1 2 7\nr 2 1 6\nr 2 1 6\n", b"e 4 out of range\n", b"e 7 out of range\n", b"e x\n", b"q 1 2 7\nq 1 2 7\nr 2 1 6\n", b"q 1 2 7\nr 2 1 5\n", b"q 1 2 7\nr 2 1 7\n", b"q 1 2 7\nr 2 1\n"):
+        cost = b"\7" + bytes(7)
+        for reply in (cost + b"r 3 1 6\n", cost + b"r 2 2 6\n", b"q 1 2 inf\nr 2 1 6\n", b"x" * 300, cost + b"r 2 1 6\nr 2 1 6\n", b"e 4 out of range\n", b"e 7 out of range\n", b"e is none\n", cost + cost + b"r 2 1 6\n", cost + b"r 2 1 5\n", cost + b"r 2 1 7\n", cost + b"r 2 1\n"):
             self.out_of_step(reply, lambda graph: graph.distance(0, 1))
         for reply in (b"s 2\n" + far + b"r 2 1 6\n", b"s 1\n" + far + b"r 2 2 6\n", b"s 1\n" + far + b"s 1\n", b"r 2 1 6\n", b"s 1\n" + far + b"r 2 1 6\nq 1 2 7\n", b"x" * 300):
             self.out_of_step(reply, lambda graph: graph.distances(0))
@@ -140,7 +142,7 @@ class Refusals(Case):
             self.assertEqual((ints(graph.distances(0)), ints(graph.components()), graph.m), ([0, 3], [0, 0], 1))
 
     def test_memory(self):
-        with fake('read(2)\nsay(b"e 6 out of memory\\n")\nread(2)\nsay(b"q 1 2 7\\nr 2 1 8\\n")\nrest()'), Graph(*ARC) as graph:
+        with fake('read(2)\nsay(b"e 6 out of memory\\n")\nread(2)\nsay(cost(7), b"r 2 1 8\\n")\nrest()'), Graph(*ARC) as graph:
             with self.assertRaises(OutOfMemory) as caught:
                 graph.distance(0, 1)
             self.assertIsInstance(caught.exception, MemoryError)
@@ -149,7 +151,7 @@ class Refusals(Case):
     def test_memory_within_an_add(self):
         body = (
             'for count in (1, 2):\n    read(11)\n    say(b"g 10\\nr 2 %d %d\\n" % (10 * count + 1, 11 * count + 4))\n'
-            'read(2)\nsay(b"e 28 out of memory\\n")\nread(2)\nsay(b"q 1 2 7\\nr 2 21 30\\n")\nrest()'
+            'read(2)\nsay(b"e 28 out of memory\\n")\nread(2)\nsay(cost(7), b"r 2 21 30\\n")\nrest()'
         )
         with fake(body), Graph(*ARC) as graph, mock.patch.object(hollowbowl._session, "MOST_ITEMS", 10):
             with self.assertRaises(OutOfMemory) as caught:

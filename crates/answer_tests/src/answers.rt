@@ -281,11 +281,16 @@ const ASKED: [(Answer, Lines, u64, bool); 9] = [
     (Answer::Components, Lines::Each { walks: true }, 0, false),
     (Answer::Components, Lines::Each { walks: false }, 0, true),
     (Answer::Levels, Lines::Totals, 1 << 36, true),
-    (Answer::Levels, Lines::Raw, (1 << 36) + 1, false),
+    (
+        Answer::Levels,
+        Lines::Raw { pairs: false },
+        (1 << 36) + 1,
+        false,
+    ),
     (Answer::Components, WALKS_WITHIN, 0, false),
     (Answer::Distances, WALKS_WITHIN, 0, true),
     (Answer::Distances, WITHIN_ALL, 0, false),
-    (Answer::Components, Lines::Raw, 0, true),
+    (Answer::Components, Lines::Raw { pairs: true }, 0, true),
 ];
 
 /// The greatest bound there is.

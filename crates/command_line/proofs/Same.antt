@@ -51,8 +51,8 @@ one_asked answer (Each walks) limit is too =
     let only : IsProp (IsAsked answer (Each walks) limit) = hlevel props in only is too
 one_asked answer (Within walks bound) limit is too =
     let only : IsProp (IsAsked answer (Within walks bound) limit) = hlevel props in only is too
-one_asked answer Raw limit is too =
-    let only : IsProp (IsAsked answer Raw limit) = hlevel props in only is too
+one_asked answer (Raw pairs) limit is too =
+    let only : IsProp (IsAsked answer (Raw pairs) limit) = hlevel props in only is too
 one_asked answer Totals limit is too =
     let only : IsProp (IsAsked answer Totals limit) = hlevel props in only is too
 

@@ -4,7 +4,7 @@ use Rattle.std.proofs.Common.{codes, refl, sym, ap, ap₂, subst, arith, slice_i
 use Rattle.std.specs.Str.Parse.{IsNumeral, without_leading_plus}
 use Rattle.clap.specs.Words.{Text}
 use Rattle.obim_engine.specs.declared.settings.Settings.{Settings}
-use Rattle.job_answer.specs.LineWalks.{bound_in, has_walks, is_raw, is_totals}
+use Rattle.job_answer.specs.LineWalks.{bound_in, has_raw_pairs, has_walks, is_raw, is_totals}
 use Rattle.job_answer.specs.declared.asked.Answer.{Answer}
 use Rattle.job_answer.specs.declared.asked.Answer.TheVariants.{Distances, Levels, Components}
 use Rattle.job_answer.specs.declared.asked.Lines.{Lines}
@@ -107,25 +107,26 @@ one_landmarks text one other is too =
     ∙ sym too.most_is
 
 -- the lines, by what is said of them
-pub lines_by : Bool → Option ℕ → Bool → Bool → Lines
-lines_by walks bound true short = Raw
-lines_by walks bound false true = Totals
-lines_by walks None false false = Each walks
-lines_by walks (Some bound) false false = Within walks bound
+pub lines_by : Bool → Option ℕ → Bool → Bool → Bool → Lines
+lines_by walks bound true pairs short = Raw pairs
+lines_by walks bound false pairs true = Totals
+lines_by walks None false pairs false = Each walks
+lines_by walks (Some bound) false pairs false = Within walks bound
 
-pub lines_again : (lines : Lines) → lines_by (has_walks lines) (bound_in lines) (is_raw lines) (is_totals lines) ≡ lines
+pub lines_again : (lines : Lines)
+    → lines_by (has_walks lines) (bound_in lines) (is_raw lines) (has_raw_pairs lines) (is_totals lines) ≡ lines
 unfolding lines_by
 lines_again (Each walks) = refl
 lines_again (Within walks bound) = refl
-lines_again Raw = refl
+lines_again (Raw pairs) = refl
 lines_again Totals = refl
 
 pub same_lines : (one other : Lines) → has_walks one ≡ has_walks other → bound_in one ≡ bound_in other
-    → is_raw one ≡ is_raw other → is_totals one ≡ is_totals other → one ≡ other
-same_lines one other walks bound bytes short =
+    → is_raw one ≡ is_raw other → has_raw_pairs one ≡ has_raw_pairs other → is_totals one ≡ is_totals other → one ≡ other
+same_lines one other walks bound bytes pairs short =
     let is = lines_again one in
     let too = lines_again other in
-    sym is ∙ rw (walks, bound, bytes, short) too
+    sym is ∙ rw (walks, bound, bytes, pairs, short) too
 
 pub one_hyphen : (texts : List Text) (one other : Bool) → AreHyphens texts one → AreHyphens texts other → one ≡ other
 one_hyphen texts one other is too = is.1 ∙ sym too.1
@@ -146,4 +147,5 @@ pub one_lines : (cost form flag : Option Text) (kind : Answer) (walks : Bool) (o
     → AsksLines cost form flag kind walks one → AsksLines cost form flag kind walks other → one ≡ other
 one_lines cost form flag kind walks one other is too =
     same_lines one other (is.walked ∙ sym too.walked) (one_cost cost _ _ is.asks_within too.asks_within)
-    (one_form form _ _ is.asks_labels too.asks_labels) (one_flag flag _ _ is.asks_totals too.asks_totals)
+    (one_form form _ _ is.asks_labels too.asks_labels) (is.pairs ∙ sym too.pairs)
+    (one_flag flag _ _ is.asks_totals too.asks_totals)

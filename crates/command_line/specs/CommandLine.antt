@@ -17,7 +17,7 @@ use Rattle.obim_engine.specs.declared.settings.TheConstants.{MAX_CHUNK, MAX_SHIF
 use Rattle.obim_engine.specs.declared.settings.Settings.{Settings}
 use Rattle.job_answer.specs.declared.asked.TheConstants.{MAX_AT_ONCE, MAX_BYTES}
 use Rattle.route_walks.specs.declared.graph.TheConstants.{INF}
-use Rattle.job_answer.specs.LineWalks.{bound_in, has_walks, is_raw, is_totals}
+use Rattle.job_answer.specs.LineWalks.{bound_in, has_raw_pairs, has_walks, is_raw, is_totals}
 use Rattle.job_answer.specs.declared.asked.Answer.{Answer}
 use Rattle.job_answer.specs.declared.asked.Answer.TheVariants.{Distances, Levels, Components}
 use Rattle.job_answer.specs.declared.asked.Lines.{Lines}
@@ -179,12 +179,13 @@ pub record AsksSettings (workers shift chunk : Option Text) (settings : Settings
   pub chunk_is : settings.chunk ≡ unwrap_or chunk_size (usual_chunk settings.workers)
 
 -- The lines: of the values of `--within`, `--labels` and `--totals`, for this kind of answer, with walks or not. The
--- components have the lines of all vertices.
+-- components have the lines of all vertices, and pairs have text.
 pub record AsksLines (within labels totals : Option Text) (kind : Answer) (walks : Bool) (lines : Lines) : Type 0 where
   pub walked : has_walks lines ≡ walks
   pub asks_within : AsksCost within (bound_in lines)
   pub asks_labels : NamesLabels labels (is_raw lines)
   pub asks_totals : IsFlag totals (is_totals lines)
+  pub pairs : has_raw_pairs lines ≡ false
   pub plain : kind ≡ Components → lines ≡ Each walks
 
 -- a session has neither figures nor progress

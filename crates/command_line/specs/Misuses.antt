@@ -1,6 +1,6 @@
 -- What comes of the values of options: what they ask for, or a misuse.
 use Rattle.std.specs.Prelude.{◌≡◌, ℕ, ⊤, Bool, false, Option, None, Result, Ok, Err}
-use Rattle.job_answer.specs.LineWalks.{bound_in, has_walks, is_raw, is_totals}
+use Rattle.job_answer.specs.LineWalks.{bound_in, has_raw_pairs, has_walks, is_raw, is_totals}
 use Rattle.job_answer.specs.declared.asked.Answer.{Answer}
 use Rattle.job_answer.specs.declared.asked.Answer.TheVariants.{Components}
 use Rattle.job_answer.specs.declared.asked.Lines.{Lines}
@@ -24,9 +24,10 @@ refusal_of misuse.Memory = refusal.Memory
 abbrev pub SuitsKind : Answer → Option ℕ → Bool → Bool → Type 0
 SuitsKind kind within raw totals = kind ≡ Components → (within ≡ None) × (raw ≡ false) × (totals ≡ false)
 
--- the lines with walks or not, within this bound, as bytes or not, in short or not
+-- the lines with walks or not, within this bound, as bytes or not, in short or not, and those of pairs as text
 pub record AreLines (walks : Bool) (within : Option ℕ) (raw totals : Bool) (lines : Lines) : Type 0 where
   pub walked : has_walks lines ≡ walks
   pub bound : bound_in lines ≡ within
   pub bytes : is_raw lines ≡ raw
   pub short : is_totals lines ≡ totals
+  pub pairs : has_raw_pairs lines ≡ false

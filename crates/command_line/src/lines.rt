@@ -43,7 +43,7 @@ fn lines_of(
                 "--labels raw takes no --walks, --within or --totals"
             )?));
         }
-        return Ok(Lines::Raw);
+        return Ok(Lines::Raw { pairs: false });
     }
     if totals {
         if walks || within.is_some() {

@@ -30,7 +30,7 @@ pub enum HeadLines {
     Each,
     /// The word `walks`: a line a vertex or pair, with its walk.
     Walks,
-    /// The word `raw`: eight bytes a vertex.
+    /// The word `raw`: eight bytes a vertex or pair.
     Raw,
     /// The word `totals`: a line a source.
     Totals,
@@ -223,10 +223,8 @@ fn fits(kind: Option<HeadKind>, lines: Option<HeadLines>, form: HeadForm) -> boo
         (Some(HeadKind::Components), HeadForm::Sources | HeadForm::Pairs) => lines.is_none(),
         (Some(HeadKind::Components), _) => false,
         (_, HeadForm::Sources) => true,
-        (_, HeadForm::Within | HeadForm::Pairs) => matches!(
-            lines,
-            None | Some(HeadLines::Each | HeadLines::Walks)
-        ),
+        (_, HeadForm::Pairs) => !matches!(lines, Some(HeadLines::Totals)),
+        (_, HeadForm::Within) => matches!(lines, None | Some(HeadLines::Each | HeadLines::Walks)),
         (_, HeadForm::Walk) => lines.is_none(),
         (_, HeadForm::Added | HeadForm::Removed | HeadForm::Replaced | HeadForm::Listed) =>
             kind.is_none() && lines.is_none(),

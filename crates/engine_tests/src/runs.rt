@@ -12,6 +12,7 @@ mod orders;
 mod pieces;
 mod pools;
 mod refusals;
+mod searches;
 mod watched;
 mod widths;
 

@@ -156,13 +156,13 @@ fn is_right(
     rt: &impl Abort,
     alloc: Global,
     room: &mut Room,
-    csr: &Csr,
-    reversed: &Csr,
+    ways: (&Csr, &Csr),
     want: &Want,
     question: Question,
 ) -> Option<bool>
-    requires { IsReversed csr.now reversed.now }
+    requires { IsReversed ways.0.now ways.1.now }
 {
+    let (csr, reversed) = ways;
     let (n, s) = (csr.n(), want.source);
     let count = n as usize;
     let (forward, backward) = (&mut room.forward, &mut room.backward);
@@ -223,17 +223,16 @@ fn expect_answers(
     rt: &impl Abort,
     alloc: Global,
     room: &mut Room,
-    csr: &Csr,
-    reversed: &Csr,
+    ways: (&Csr, &Csr),
     want: &Want,
     question: Question,
 ) -> u32
-    requires { IsReversed csr.now reversed.now }
+    requires { IsReversed ways.0.now ways.1.now }
 {
     let mut unanswered = 0_u32;
     for visits in VISITS {
         room.forward.allow(visits, usize::MAX);
-        match is_right(rt, alloc, room, csr, reversed, want, question) {
+        match is_right(rt, alloc, room, ways, want, question) {
             Some(right) => assert!(rt; right, "from {} by {visits} visits", want.source),
             None => {
                 assert!(rt; visits < ENOUGH, "from {}", want.source);
@@ -265,7 +264,7 @@ fn expect_from(
     };
     let mut unanswered = 0_u32;
     for question in QUESTIONS {
-        let more = expect_answers(rt, alloc, room, csr, reversed, &want, question);
+        let more = expect_answers(rt, alloc, room, (csr, reversed), &want, question);
         unanswered = unanswered.saturating_add(more);
     }
     Ok(unanswered)
@@ -315,11 +314,11 @@ fn expect_after_many(
 {
     room.forward.allow(1, usize::MAX);
     for _ in 0..100_u32 {
-        let right = is_right(rt, alloc, room, csr, reversed, &FROM_0, question);
+        let right = is_right(rt, alloc, room, (csr, reversed), &FROM_0, question);
         assert!(rt; right.is_none());
     }
     room.forward.allow(20, usize::MAX);
-    let right = is_right(rt, alloc, room, csr, reversed, &FROM_0, question);
+    let right = is_right(rt, alloc, room, (csr, reversed), &FROM_0, question);
     assert!(rt; right == Some(true));
 }
 

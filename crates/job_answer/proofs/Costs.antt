@@ -78,7 +78,7 @@ line_is_walk law printed n arcs source labels hops parents light within least fe
       | inr finite ↦
           let here = least.least v below in
           let reached : slice_index labels v < INF = omega (arith, here.capped) in
-          let goes = printed n arcs source labels hops parents light.graph within least fewest before v below reached in
+          let goes = printed INF n arcs source labels hops parents light.graph fewest before v below reached in
           let test : (get_or labels v 0 == INF) ≡ false = grind (arith, nat_tests) in
           let shown : walk_line (slice_index hops) (slice_index parents) v (get_or labels v 0)
           ≡ walk_text (get_or labels v 0) (printed_walk (slice_index parents) (slice_index hops v) v) = rw test refl in

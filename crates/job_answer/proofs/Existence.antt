@@ -11,7 +11,7 @@ use Rattle.route_walks.proofs.Facts.{both_ways-graph, graph-append}
 use Rattle.route_walks.specs.Existence.{LeastLabelsExist}
 use Rattle.walk_report.specs.Existence.{HopsAndParentsExist}
 use Rattle.route_walks.specs.Label.{AreLeastLabels}
-use Rattle.answer_lines.specs.Lines.{components_text, distances_text, grown_text, label_text, pair_text}
+use Rattle.answer_lines.specs.Lines.{components_text, distances_text, grown_text, label_text}
 use Rattle.answer_lines.specs.Raw.{raw_text}
 use Rattle.answer_lines.specs.Totals.{totals_text}
 use Rattle.dimacs_text.specs.Jobs.{IsAddedWithin, IsArcWithin, IsPairWithin, IsQuestionWithin}
@@ -21,13 +21,14 @@ use Rattle.job_answer.specs.declared.asked.Answer.TheVariants.{Distances, Levels
 use Rattle.job_answer.specs.declared.asked.Lines.{Lines}
 use Rattle.job_answer.specs.declared.asked.Lines.TheVariants as lines
 use Rattle.job_answer.specs.declared.graphs.GrownNetwork.{GrownNetwork}
-use Rattle.job_answer.specs.AnswerText.{AreBlocks, ArePairBlocks, AreWalksFrom, Growth, IsComponentsBlock, IsGrownPair}
-use Rattle.job_answer.specs.AnswerText.{IsGrownText, IsPairBlock, arcs_for, growth_for, growth_from, pair_walk_text}
+use Rattle.job_answer.specs.AnswerText.{AreBlocks, AreWalksFrom, Growth, IsComponentsBlock, IsGrownText, IsPairBlock}
+use Rattle.job_answer.specs.AnswerText.{IsPairLabel, arcs_for, growth_for, growth_from, pair_label_text, pair_walk_text}
 use Rattle.job_answer.specs.AnswerText.{vertex_text, walks_text}
 use Rattle.job_answer.specs.Existence.{AskedJobsHaveAnswers, AskedJobsHaveAnswersByLines}
 use Rattle.job_answer.specs.Graphs.{GrowsInto, growth_of}
 use Rattle.job_answer.specs.Outcome.{is_unasked}
-use Rattle.job_answer.specs.Within.{HasNoSources, IsGrownLines, IsLinesBlock, IsTextBy, text_within}
+use Rattle.job_answer.specs.Within.{AreLinesPairs, HasNoSources, IsGrownLines, IsGrownLinesPair, IsLinesBlock}
+use Rattle.job_answer.specs.Within.{IsLinesPair, IsTextBy, text_within}
 use Rattle.job_answer.proofs.Replies.{sources-text}
 use Rattle.least_costs.proofs.Facts.{start-seeds}
 use Rattle.least_costs.specs.Network.{NetworkSeen}
@@ -76,25 +77,36 @@ module _ (labelled : LeastLabelsExist) (walked : HopsAndParentsExist) (n : ℕ) 
         text_within source bound (vertex_text (slice_index hops) (slice_index parents)) labels,
         record { labels = labels; hops = hops; parents = parents; walked = are; written = refl },
       )
-  block-exists lines.Raw source within =
+  block-exists (lines.Raw pairs) source within =
       let found = labels-exist source within in
       (raw_text source found.0, record { labels = found.0; least = found.1; written = refl })
   block-exists lines.Totals source within =
       let found = labels-exist source within in
       (totals_text source found.0, record { labels = found.0; least = found.1; written = refl })
 
-  pair-exists : (walks : Bool) (pair : ℕ × ℕ) → IsPairWithin n pair
-      → (text : List ℕ) × IsPairBlock walks n arcs pair text
-  pair-exists false pair within =
+  pair-label-exists : (raw : Bool) (pair : ℕ × ℕ) → IsPairWithin n pair
+      → (text : List ℕ) × IsPairLabel raw n arcs pair text
+  pair-label-exists raw pair within =
       let found = labels-exist pair.0 within.0 in (
-        pair_text pair.0 pair.1 (slice_index found.0 pair.1),
+        pair_label_text raw pair (slice_index found.0 pair.1),
         record { labels = found.0; least = found.1; written = refl },
       )
+
+  pair-exists : (walks : Bool) (pair : ℕ × ℕ) → IsPairWithin n pair
+      → (text : List ℕ) × IsPairBlock walks n arcs pair text
+  pair-exists false pair within = pair-label-exists false pair within
   pair-exists true pair within =
       let (labels, hops, parents, are) = walks-exist pair.0 within.0 in (
         pair_walk_text pair labels (slice_index hops) (slice_index parents),
         record { labels = labels; hops = hops; parents = parents; walked = are; written = refl },
       )
+
+  lines-pair-exists : (by : Lines) (pair : ℕ × ℕ) → IsPairWithin n pair
+      → (text : List ℕ) × IsLinesPair by n arcs pair text
+  lines-pair-exists (lines.Each walks) pair within = pair-exists walks pair within
+  lines-pair-exists (lines.Within walks bound) pair within = pair-exists walks pair within
+  lines-pair-exists (lines.Raw pairs) pair within = pair-label-exists pairs pair within
+  lines-pair-exists lines.Totals pair within = pair-label-exists false pair within
 
   components-exist : (text : List ℕ) × IsComponentsBlock n arcs text
   components-exist =
@@ -127,13 +139,13 @@ module _ (labelled : LeastLabelsExist) (walked : HopsAndParentsExist) (n : ℕ) 
       grown-exists n (λ along. IsLinesBlock by n along source)
       (λ along ends. block-exists labelled walked n along few ends by source within) arcs growth graph grows
 
-  pub pairs-exist : (walks : Bool) (pairs : List (ℕ × ℕ)) → All (IsPairWithin n) pairs
-      → (text : List ℕ) × ArePairBlocks walks n arcs growth pairs text
-  pairs-exist walks pairs within =
-      blocks-exist (IsPairWithin n) (IsGrownPair walks n arcs growth)
+  pub pairs-exist : (by : Lines) (pairs : List (ℕ × ℕ)) → All (IsPairWithin n) pairs
+      → (text : List ℕ) × AreLinesPairs by n arcs growth pairs text
+  pairs-exist by pairs within =
+      blocks-exist (IsPairWithin n) (IsGrownLinesPair by n arcs growth)
       (λ pair below.
-      grown-exists n (λ along. IsPairBlock walks n along pair)
-      (λ along ends. pair-exists labelled walked n along few ends walks pair below) arcs growth graph grows)
+      grown-exists n (λ along. IsLinesPair by n along pair)
+      (λ along ends. lines-pair-exists labelled walked n along few ends by pair below) arcs growth graph grows)
       pairs within
 
   sources-exist : (kind : Answer) (by : Lines) (sources : List ℕ) → kind ≢ Components → All (λ v. v < n) sources
@@ -155,17 +167,20 @@ module _ (labelled : LeastLabelsExist) (walked : HopsAndParentsExist) (n : ℕ) 
   text-exists Distances by (from_sources all) within asked sources =
       sources-exist Distances by all (λ same. cc) within.1
   text-exists Levels by (from_sources all) within asked sources = sources-exist Levels by all (λ same. cc) within.1
-  text-exists Distances (lines.Each walks) (of_pairs pairs) within asked sources = pairs-exist walks pairs within.1
-  text-exists Levels (lines.Each walks) (of_pairs pairs) within asked sources = pairs-exist walks pairs within.1
+  text-exists Distances (lines.Each walks) (of_pairs pairs) within asked sources =
+      pairs-exist (lines.Each walks) pairs within.1
+  text-exists Levels (lines.Each walks) (of_pairs pairs) within asked sources =
+      pairs-exist (lines.Each walks) pairs within.1
   text-exists Distances (lines.Within walks bound) (of_pairs pairs) within asked sources = absurd (sources tt)
   text-exists Levels (lines.Within walks bound) (of_pairs pairs) within asked sources = absurd (sources tt)
-  text-exists Distances lines.Raw (of_pairs pairs) within asked sources = pairs-exist false pairs within.1
-  text-exists Levels lines.Raw (of_pairs pairs) within asked sources = pairs-exist false pairs within.1
-  text-exists Distances lines.Totals (of_pairs pairs) within asked sources = pairs-exist false pairs within.1
-  text-exists Levels lines.Totals (of_pairs pairs) within asked sources = pairs-exist false pairs within.1
+  text-exists Distances (lines.Raw raw) (of_pairs pairs) within asked sources =
+      pairs-exist (lines.Raw raw) pairs within.1
+  text-exists Levels (lines.Raw raw) (of_pairs pairs) within asked sources = pairs-exist (lines.Raw raw) pairs within.1
+  text-exists Distances lines.Totals (of_pairs pairs) within asked sources = pairs-exist lines.Totals pairs within.1
+  text-exists Levels lines.Totals (of_pairs pairs) within asked sources = pairs-exist lines.Totals pairs within.1
   text-exists Components (lines.Each walks) question within asked sources = all-exist
   text-exists Components (lines.Within walks bound) question within asked sources = all-exist
-  text-exists Components lines.Raw question within asked sources = all-exist
+  text-exists Components (lines.Raw pairs) question within asked sources = all-exist
   text-exists Components lines.Totals question within asked sources = all-exist
 
 -- what a network grows to is a graph of its vertices

@@ -18,13 +18,14 @@ use Rattle.job_answer.specs.declared.graphs.Graphs.{Graphs}
 use Rattle.job_answer.specs.Bytes.{WritesPrefix}
 use Rattle.job_answer.specs.Graphs.{AreGraphsFor, GrowAlike, growth_of}
 use Rattle.job_answer.specs.Outcome.{IsReplyFault, IsUnasked, IsWritingFault, is_unasked}
-use Rattle.job_answer.specs.AnswerText.{IsBlock, IsPairBlock, AreWalksFrom, AreBlocks, AreAskedBlocks}
+use Rattle.job_answer.specs.AnswerText.{IsBlock, IsPairBlock, IsPairLabel, AreWalksFrom, AreBlocks, AreAskedBlocks}
 use Rattle.job_answer.specs.AnswerText.{Growth, IsComponentsBlock, IsGrownBlock, IsGrownPair, IsGrownText}
 use Rattle.job_answer.specs.AnswerText.{IsTextFor, arcs_for, growth_for}
 use Rattle.job_answer.specs.declared.asked.Lines.{Lines}
 use Rattle.job_answer.specs.declared.asked.Lines.TheVariants as lines
-use Rattle.job_answer.specs.Within.{AreBlocksInShort, AreBlocksWithin, AreLinesBlocks, HasNoSources, IsAnswerTextBy}
-use Rattle.job_answer.specs.Within.{IsGrownLines, IsLinesBlock, IsTextBy, IsTextInShort}
+use Rattle.job_answer.specs.Within.{AreBlocksInShort, AreBlocksWithin, AreLinesBlocks, AreLinesPairs, HasNoSources}
+use Rattle.job_answer.specs.Within.{IsAnswerTextBy, IsGrownLines, IsGrownLinesPair, IsLinesBlock, IsLinesPair, IsTextBy}
+use Rattle.job_answer.specs.Within.{IsTextInShort}
 
 module _ (law : LeastLabelsFollowTheArcs) (walked : HopsAndParentsFollowTheArcs) (n : ℕ) (one other : List ArcRec)
     (same : HaveSameArcs one other) where
@@ -66,7 +67,7 @@ module _ (law : LeastLabelsFollowTheArcs) (walked : HopsAndParentsFollowTheArcs)
     walked = walks-over source block.labels block.hops block.parents block.walked;
     written = block.written;
   }
-  lines-over lines.Raw source text block = record {
+  lines-over (lines.Raw pairs) source text block = record {
     labels = block.labels;
     least = law n one other (seeds_from source) block.labels same block.least;
     written = block.written;
@@ -77,13 +78,17 @@ module _ (law : LeastLabelsFollowTheArcs) (walked : HopsAndParentsFollowTheArcs)
     written = block.written;
   }
 
-  pair-over : (walks : Bool) (pair : ℕ × ℕ) (text : List ℕ) → IsPairBlock walks n one pair text
-      → IsPairBlock walks n other pair text
-  pair-over false pair text block = record {
+  pair-label-over : (raw : Bool) (pair : ℕ × ℕ) (text : List ℕ) → IsPairLabel raw n one pair text
+      → IsPairLabel raw n other pair text
+  pair-label-over raw pair text block = record {
     labels = block.labels;
     least = law n one other (seeds_from pair.0) block.labels same block.least;
     written = block.written;
   }
+
+  pair-over : (walks : Bool) (pair : ℕ × ℕ) (text : List ℕ) → IsPairBlock walks n one pair text
+      → IsPairBlock walks n other pair text
+  pair-over false pair text block = pair-label-over false pair text block
   pair-over true pair text block = record {
     labels = block.labels;
     hops = block.hops;
@@ -91,6 +96,13 @@ module _ (law : LeastLabelsFollowTheArcs) (walked : HopsAndParentsFollowTheArcs)
     walked = walks-over pair.0 block.labels block.hops block.parents block.walked;
     written = block.written;
   }
+
+  lines-pair-over : (by : Lines) (pair : ℕ × ℕ) (text : List ℕ) → IsLinesPair by n one pair text
+      → IsLinesPair by n other pair text
+  lines-pair-over (lines.Each walks) pair text block = pair-over walks pair text block
+  lines-pair-over (lines.Within walks bound) pair text block = pair-over walks pair text block
+  lines-pair-over (lines.Raw pairs) pair text block = pair-label-over pairs pair text block
+  lines-pair-over lines.Totals pair text block = pair-label-over false pair text block
 
 components-over : LeastLabelsFollowTheArcs → (n : ℕ) (one other : List ArcRec) → HaveSameArcs one other
     → (text : List ℕ) → IsComponentsBlock n one text
@@ -180,7 +192,11 @@ module _ (law : LeastLabelsFollowTheArcs) (walked : HopsAndParentsFollowTheArcs)
   short-over by absent text blocks = blocks
   short-over by (from_sources sources) text blocks = sources-over by sources text blocks
   short-over by (of_pairs pairs) text blocks =
-      asked-over law walked false n one other first second same alike (of_pairs pairs) text blocks
+      blocks-over (IsGrownLinesPair by n one first) (IsGrownLinesPair by n other second)
+      (λ pair.
+      grown-over (λ along. IsLinesPair by n along pair)
+      (λ these those are. lines-pair-over law walked n these those are by pair) one other first second same alike)
+      pairs text blocks
 
   text-in-short-over : (kind : Answer) (by : Lines) (question : Question) (text : List ℕ)
       → IsTextInShort kind by n one first question text → IsTextInShort kind by n other second question text
@@ -193,7 +209,7 @@ module _ (law : LeastLabelsFollowTheArcs) (walked : HopsAndParentsFollowTheArcs)
       → IsTextBy kind by n one first question text → IsTextBy kind by n other second question text
   text-over-by kind (lines.Each walks) question text is =
       text-over law walked walks n one other first second same alike kind question text is
-  text-over-by kind lines.Raw question text is = text-in-short-over kind lines.Raw question text is
+  text-over-by kind (lines.Raw pairs) question text is = text-in-short-over kind (lines.Raw pairs) question text is
   text-over-by kind lines.Totals question text is = text-in-short-over kind lines.Totals question text is
   text-over-by Distances (lines.Within walks bound) question text is = within-over walks bound question text is
   text-over-by Levels (lines.Within walks bound) question text is = within-over walks bound question text is
@@ -238,13 +254,27 @@ pub sources-text : (kind : Answer) (by : Lines) (n : ℕ) (arcs : List ArcRec) (
     → AreLinesBlocks by n arcs growth sources text ↔ IsTextBy kind by n arcs growth (from_sources sources) text
 sources-text Distances (lines.Each walks) n arcs growth sources text other = (λ is. is, λ is. is)
 sources-text Distances (lines.Within walks bound) n arcs growth sources text other = (λ is. is, λ is. is)
-sources-text Distances lines.Raw n arcs growth sources text other = (λ is. is, λ is. is)
+sources-text Distances (lines.Raw pairs) n arcs growth sources text other = (λ is. is, λ is. is)
 sources-text Distances lines.Totals n arcs growth sources text other = (λ is. is, λ is. is)
 sources-text Levels (lines.Each walks) n arcs growth sources text other = (λ is. is, λ is. is)
 sources-text Levels (lines.Within walks bound) n arcs growth sources text other = (λ is. is, λ is. is)
-sources-text Levels lines.Raw n arcs growth sources text other = (λ is. is, λ is. is)
+sources-text Levels (lines.Raw pairs) n arcs growth sources text other = (λ is. is, λ is. is)
 sources-text Levels lines.Totals n arcs growth sources text other = (λ is. is, λ is. is)
 sources-text Components by n arcs growth sources text other = absurd (other refl)
+
+-- so are the texts of the pairs, where no bound asks for sources
+pub pairs-text : (kind : Answer) (by : Lines) (n : ℕ) (arcs : List ArcRec) (growth : Option Growth)
+    (pairs : List (ℕ × ℕ)) (text : List ℕ) → kind ≢ Components → ¬ (HasNoSources kind by (of_pairs pairs))
+    → AreLinesPairs by n arcs growth pairs text ↔ IsTextBy kind by n arcs growth (of_pairs pairs) text
+pairs-text Distances (lines.Each walks) n arcs growth pairs text other sources = (λ is. is, λ is. is)
+pairs-text Distances (lines.Within walks bound) n arcs growth pairs text other sources = absurd (sources tt)
+pairs-text Distances (lines.Raw raw) n arcs growth pairs text other sources = (λ is. is, λ is. is)
+pairs-text Distances lines.Totals n arcs growth pairs text other sources = (λ is. is, λ is. is)
+pairs-text Levels (lines.Each walks) n arcs growth pairs text other sources = (λ is. is, λ is. is)
+pairs-text Levels (lines.Within walks bound) n arcs growth pairs text other sources = absurd (sources tt)
+pairs-text Levels (lines.Raw raw) n arcs growth pairs text other sources = (λ is. is, λ is. is)
+pairs-text Levels lines.Totals n arcs growth pairs text other sources = (λ is. is, λ is. is)
+pairs-text Components by n arcs growth pairs text other sources = absurd (other refl)
 
 -- the test says whether a job is asked
 pub asked-if : (kind : Answer) (job : Content) → is_unasked kind job.question ≡ false → ¬ (IsUnasked kind job)

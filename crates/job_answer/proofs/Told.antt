@@ -173,7 +173,7 @@ pub bound-served : (lines : Lines) (labels : List ℕ) (limit : ℕ) → IsServe
     → min (bound_of lines + 1) INF ≤ limit
 bound-served (lines.Each walks) labels limit served = omega (arith, served)
 bound-served (lines.Within walks bound) labels limit served = served
-bound-served lines.Raw labels limit served = omega (arith, served)
+bound-served (lines.Raw pairs) labels limit served = omega (arith, served)
 bound-served lines.Totals labels limit served = omega (arith, served)
 
 module _ (exist : LeastLabelsExist) (led : HopsAndParentsExist) (agree : WalksBelowAgree) (n : ℕ) (arcs : List ArcRec)
@@ -244,7 +244,7 @@ module _ (exist : LeastLabelsExist) (led : HopsAndParentsExist) (agree : WalksBe
             (walks-alike bound limit n arcs source labels some-least.0 served low (omega (arith, asked bound refl)) up some-least.1
             agree graph walks hops parents are found);
       }
-  told lines.Raw walks lined asked served found = absurd lined
+  told (lines.Raw pairs) walks lined asked served found = absurd lined
   told lines.Totals walks lined asked served found = absurd lined
 
 -- each label within the bound of lines that have walks has one, unless it is INF
@@ -275,7 +275,7 @@ pub everywhere-least : (net : NetworkSeen) (lines : Lines) (costs : BelowSeen) �
     → AreLeastLabels net.n net.arcs (seeds_at net.n Everywhere) costs.labels
 everywhere-least net (lines.Each walks) costs asked are = (whole-costs net Everywhere costs are).least
 everywhere-least net (lines.Within walks bound) costs asked are = absurd asked
-everywhere-least net lines.Raw costs asked are = absurd asked
+everywhere-least net (lines.Raw pairs) costs asked are = absurd asked
 everywhere-least net lines.Totals costs asked are = absurd asked
 
 -- and so are those from a source, where each vertex has a line
@@ -285,10 +285,11 @@ pub each-least : (net : NetworkSeen) (from : Start) (walks : Bool) (costs : Belo
 each-least net from walks costs are = (whole-costs net from costs are).least
 
 -- these are the labels of a block in short
-pub raw-told : (net : NetworkSeen) (source : ℕ) (by : Lines) (costs : BelowSeen) (labels : List ℕ) → by ≡ lines.Raw
+pub raw-told : (net : NetworkSeen) (source : ℕ) (by : Lines) (pairs : Bool) (costs : BelowSeen) (labels : List ℕ)
+    → by ≡ lines.Raw pairs
     → AreCostsFor net (At source) (goal_of by) costs → labels ≡ costs.labels
     → IsLinesBlock by net.n net.arcs source (raw_text source labels)
-raw-told net source by costs labels is are same =
+raw-told net source by pairs costs labels is are same =
     rw (is, same)
     (record {
       labels = costs.labels;

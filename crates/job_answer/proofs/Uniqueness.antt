@@ -8,11 +8,11 @@ use Rattle.route_walks.specs.Label.{AreLeastLabels, LeastLabelsAreUnique}
 use Rattle.route_walks.specs.Operators.{seeds_from, seeds_all}
 use Rattle.walk_report.specs.Hop.{AreHops}
 use Rattle.walk_report.specs.Parent.{AreParents, HopsAndParentsAreUnique}
-use Rattle.answer_lines.specs.Lines.{distances_text, components_text, grown_text, pair_text}
+use Rattle.answer_lines.specs.Lines.{distances_text, components_text, grown_text}
 use Rattle.dimacs_text.specs.Jobs.{Question, absent, from_sources, of_pairs}
 use Rattle.job_answer.specs.declared.asked.Answer.TheVariants.{Distances, Levels, Components}
 use Rattle.job_answer.specs.AnswerText.{AnswerTextsAreUnique, BlocksAreUnique, IsOneBlock, IsOneText, IsBlock}
-use Rattle.job_answer.specs.AnswerText.{IsPairBlock}
+use Rattle.job_answer.specs.AnswerText.{IsPairBlock, IsPairLabel, pair_label_text}
 use Rattle.job_answer.specs.AnswerText.{AreWalksFrom, AreBlocks, AreAskedBlocks, walks_text, pair_walk_text}
 use Rattle.job_answer.specs.AnswerText.{Growth, IsComponentsBlock, IsGrownBlock, IsGrownPair, IsGrownText, growth_for}
 use Rattle.job_answer.specs.AnswerText.{arcs_for}
@@ -55,12 +55,15 @@ module _ (law : LeastLabelsAreUnique) (walked : HopsAndParentsAreUnique) (n : �
       ∙ ap (λ (parents : List ℕ). walks_text source (slice_index two.hops) (slice_index parents) two.labels) same.2
       ∙ sym two.written
 
-  pair-same : (walks : Bool) → IsOneBlock (IsPairBlock walks n arcs)
-  pair-same false pair first second one two =
+  pub pair-label-same : (raw : Bool) → IsOneBlock (IsPairLabel raw n arcs)
+  pair-label-same raw pair first second one two =
       one.written
-      ∙ ap (λ (labels : List ℕ). pair_text pair.0 pair.1 (slice_index labels pair.1))
+      ∙ ap (λ (labels : List ℕ). pair_label_text raw pair (slice_index labels pair.1))
       (labels-same law n arcs (seeds_from pair.0) one.labels two.labels one.least two.least)
       ∙ sym two.written
+
+  pair-same : (walks : Bool) → IsOneBlock (IsPairBlock walks n arcs)
+  pair-same false pair first second one two = pair-label-same false pair first second one two
   pair-same true pair first second one two =
       let same =
       walks-same pair.0 one.labels one.hops one.parents two.labels two.hops two.parents one.walked two.walked in

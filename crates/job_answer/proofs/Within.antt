@@ -21,16 +21,16 @@ use Rattle.job_answer.specs.declared.asked.Answer.{Answer}
 use Rattle.job_answer.specs.declared.asked.Answer.TheVariants.{Distances, Levels, Components}
 use Rattle.job_answer.specs.declared.asked.Lines.{Lines}
 use Rattle.job_answer.specs.declared.asked.Lines.TheVariants as lines
-use Rattle.job_answer.specs.AnswerText.{AreBlocks, BlocksAreUnique, Growth, IsGrownPair, IsOneBlock}
+use Rattle.job_answer.specs.AnswerText.{AreBlocks, BlocksAreUnique, Growth, IsOneBlock}
 use Rattle.job_answer.specs.AnswerText.{IsGrownText, IsOneText, arcs_for, growth_for, vertex_text, walk_line}
 use Rattle.job_answer.specs.Costs.{IsCostText, IsWalkLine, unasked}
 use Rattle.job_answer.specs.Within.{AnswerTextsByLinesAreUnique, AnswersSayCostsWithin, AreLinesFrom, AreLinesOf}
-use Rattle.job_answer.specs.Within.{AreBlocksInShort, AreBlocksWithin, IsGrownLines, IsLinesBlock}
-use Rattle.job_answer.specs.Within.{IsTextBy, IsTextInShort}
+use Rattle.job_answer.specs.Within.{AreBlocksInShort, AreBlocksWithin, IsGrownLines, IsGrownLinesPair, IsLinesBlock}
+use Rattle.job_answer.specs.Within.{IsLinesPair, IsTextBy, IsTextInShort}
 use Rattle.job_answer.specs.Within.{LinesAreUnique, SaysCostsWithin, beyond, line_within, lines_within, near}
 use Rattle.job_answer.proofs.Costs.{AreLight, blocks_say, grown_says, label_is_cost, light_all, light_arcs, light_kind}
 use Rattle.job_answer.proofs.Costs.{line_is_walk}
-use Rattle.job_answer.proofs.Uniqueness.{asked-same, blocks-same, grown-same, labels-same, walks-same}
+use Rattle.job_answer.proofs.Uniqueness.{asked-same, blocks-same, grown-same, labels-same, pair-label-same, walks-same}
 
 -- ---- there is one
 
@@ -53,7 +53,7 @@ module _ (law : LeastLabelsAreUnique) (walked : HopsAndParentsAreUnique) (blocks
       ∙ ap (λ (hops : List ℕ). text two.labels hops one.parents) same.1
       ∙ ap (λ (parents : List ℕ). text two.labels two.hops parents) same.2
       ∙ sym two.written
-  lines-same lines.Raw source first second one two =
+  lines-same (lines.Raw pairs) source first second one two =
       one.written
       ∙ ap (raw_text source) (labels-same law n arcs (seeds_from source) one.labels two.labels one.least two.least)
       ∙ sym two.written
@@ -62,16 +62,27 @@ module _ (law : LeastLabelsAreUnique) (walked : HopsAndParentsAreUnique) (blocks
       ∙ ap (totals_text source) (labels-same law n arcs (seeds_from source) one.labels two.labels one.least two.least)
       ∙ sym two.written
 
+  lines-pair-same : (lines : Lines) → IsOneBlock (IsLinesPair lines n arcs)
+  lines-pair-same (lines.Each walks) pair = (blocks walks n arcs None).1 pair
+  lines-pair-same (lines.Within walks bound) pair = (blocks walks n arcs None).1 pair
+  lines-pair-same (lines.Raw pairs) pair = pair-label-same law walked n arcs pairs pair
+  lines-pair-same lines.Totals pair = pair-label-same law walked n arcs false pair
+
 pub lines_are_unique : LeastLabelsAreUnique → HopsAndParentsAreUnique → BlocksAreUnique → LinesAreUnique
-lines_are_unique law walked blocks lines n arcs growth source =
-    grown-same (λ along. IsLinesBlock lines n along source)
-    (λ along. lines-same law walked blocks n along lines source) arcs growth
+lines_are_unique law walked blocks lines n arcs growth = (
+  λ source.
+      grown-same (λ along. IsLinesBlock lines n along source)
+      (λ along. lines-same law walked blocks n along lines source) arcs growth,
+  λ pair.
+      grown-same (λ along. IsLinesPair lines n along pair)
+      (λ along. lines-pair-same law walked blocks n along lines pair) arcs growth,
+)
 
 within-same : LinesAreUnique → (walks : Bool) (bound n : ℕ) (arcs : List ArcRec) (growth : Option Growth)
     (question : Question) → IsOneText (AreBlocksWithin walks bound n arcs growth question)
 within-same law walks bound n arcs growth absent first second one two = absurd one
 within-same law walks bound n arcs growth (from_sources sources) first second one two =
-    blocks-same (IsGrownLines (lines.Within walks bound) n arcs growth) (law (lines.Within walks bound) n arcs growth)
+    blocks-same (IsGrownLines (lines.Within walks bound) n arcs growth) (law (lines.Within walks bound) n arcs growth).0
     sources first second one two
 within-same law walks bound n arcs growth (of_pairs pairs) first second one two = absurd one
 
@@ -80,9 +91,9 @@ module _ (blocks : BlocksAreUnique) (law : LinesAreUnique) (by : Lines) (n : ℕ
   short-same : (question : Question) → IsOneText (AreBlocksInShort by n arcs growth question)
   short-same absent first second one two = absurd one
   short-same (from_sources sources) first second one two =
-      blocks-same (IsGrownLines by n arcs growth) (law by n arcs growth) sources first second one two
+      blocks-same (IsGrownLines by n arcs growth) (law by n arcs growth).0 sources first second one two
   short-same (of_pairs pairs) first second one two =
-      blocks-same (IsGrownPair false n arcs growth) (blocks false n arcs growth).1 pairs first second one two
+      blocks-same (IsGrownLinesPair by n arcs growth) (law by n arcs growth).1 pairs first second one two
 
   text-in-short-same : (kind : Answer) (question : Question) → IsOneText (IsTextInShort kind by n arcs growth question)
   text-in-short-same Distances question = short-same question
@@ -101,8 +112,8 @@ text-same blocks law Distances (lines.Within walks bound) n arcs growth question
 text-same blocks law Levels (lines.Within walks bound) n arcs growth question =
     within-same law walks bound n arcs growth question
 text-same blocks law Components (lines.Within walks bound) n arcs growth question = (blocks walks n arcs growth).2
-text-same blocks law kind lines.Raw n arcs growth question =
-    text-in-short-same blocks law lines.Raw n arcs growth kind question
+text-same blocks law kind (lines.Raw pairs) n arcs growth question =
+    text-in-short-same blocks law (lines.Raw pairs) n arcs growth kind question
 text-same blocks law kind lines.Totals n arcs growth question =
     text-in-short-same blocks law lines.Totals n arcs growth kind question
 

@@ -8,6 +8,7 @@ use Rattle.route_walks.specs.Operators.{seeds_from, seeds_all, unit_weights, bot
 use Rattle.dimacs_text.specs.Jobs.{Content, Question, absent, from_sources, of_pairs}
 use Rattle.answer_lines.specs.Lines.{source_text, label_text, pair_text, walk_text}
 use Rattle.answer_lines.specs.Lines.{distances_text, components_text, grown_text}
+use Rattle.answer_lines.specs.Raw.{raw_label}
 use Rattle.walk_report.specs.Hop.{AreHops}
 use Rattle.walk_report.specs.Parent.{AreParents}
 use Rattle.walk_report.specs.Printed.{printed_walk}
@@ -63,11 +64,16 @@ abbrev pub IsBlock : Bool → ℕ → List ArcRec → ℕ → List ℕ → Type 
 IsBlock true n arcs source text = IsWalksBlock n arcs source text
 IsBlock false n arcs source text = IsSourceBlock n arcs source text
 
--- the line of a pair: the least label of its target from its source
-pub record IsPairLine (n : ℕ) (arcs : List ArcRec) (pair : ℕ × ℕ) (text : List ℕ) : Type 0 where
+-- the label of a pair as bytes, or its line
+abbrev pub pair_label_text : Bool → ℕ × ℕ → ℕ → List ℕ
+pair_label_text true pair label = raw_label label
+pair_label_text false pair label = pair_text pair.0 pair.1 label
+
+-- the bytes or the line of a pair: the least label of its target from its source
+pub record IsPairLabel (raw : Bool) (n : ℕ) (arcs : List ArcRec) (pair : ℕ × ℕ) (text : List ℕ) : Type 0 where
   pub labels : List ℕ
   pub least : AreLeastLabels n arcs (seeds_from pair.0) labels
-  pub written : text ≡ pair_text pair.0 pair.1 (slice_index labels pair.1)
+  pub written : text ≡ pair_label_text raw pair (slice_index labels pair.1)
 
 -- the line of a pair, and that of its walk
 abbrev pub pair_walk_text : ℕ × ℕ → List ℕ → (ℕ → ℕ) → (ℕ → ℕ) → List ℕ
@@ -84,7 +90,7 @@ pub record IsWalkedPair (n : ℕ) (arcs : List ArcRec) (pair : ℕ × ℕ) (text
 -- the lines of one pair, with its walk or without
 abbrev pub IsPairBlock : Bool → ℕ → List ArcRec → ℕ × ℕ → List ℕ → Type 0
 IsPairBlock true n arcs pair text = IsWalkedPair n arcs pair text
-IsPairBlock false n arcs pair text = IsPairLine n arcs pair text
+IsPairBlock false n arcs pair text = IsPairLabel false n arcs pair text
 
 -- a block for each query, in order, by a relation of a query and its block
 abbrev pub AreBlocks : {Query : Type 0} → (Query → List ℕ → Type 0) → List Query → List ℕ → Type 0

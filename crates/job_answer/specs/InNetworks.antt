@@ -1,14 +1,13 @@
 -- The texts of an answer by the networks in which its costs are least.
-use Rattle.std.specs.Prelude.{ℕ, Bool, List}
+use Rattle.std.specs.Prelude.{ℕ, List}
 use Rattle.dimacs_text.specs.Jobs.{Question}
 use Rattle.least_costs.specs.declared.start.Start.{Start}
 use Rattle.job_answer.specs.declared.asked.Answer.{Answer}
 use Rattle.job_answer.specs.declared.asked.Lines.{Lines}
 use Rattle.job_answer.specs.declared.graphs.Graphs.{Graphs}
-use Rattle.job_answer.specs.AnswerText.{ArePairBlocks}
 use Rattle.job_answer.specs.Graphs.{growth_of}
 use Rattle.job_answer.specs.Solves.{IsGrownStart}
-use Rattle.job_answer.specs.Within.{AreLinesBlocks, IsGrownLines, IsTextBy}
+use Rattle.job_answer.specs.Within.{AreLinesBlocks, AreLinesPairs, IsGrownLines, IsTextBy}
 
 -- the text of an answer kind, by the lines that blocks of sources have
 abbrev pub IsTextIn : Graphs → Answer → Lines → Question → List ℕ → Type 0
@@ -26,6 +25,6 @@ IsBlockIn graphs lines = IsGrownLines lines graphs.network.n graphs.network.arcs
 abbrev pub IsStartIn : Graphs → Lines → Start → List ℕ → Type 0
 IsStartIn graphs lines = IsGrownStart lines graphs.network.n graphs.network.arcs (growth_of graphs.grown)
 
--- the blocks of the pairs, in their order, with walks or without
-abbrev pub ArePairsIn : Graphs → Bool → List (ℕ × ℕ) → List ℕ → Type 0
-ArePairsIn graphs walks = ArePairBlocks walks graphs.network.n graphs.network.arcs (growth_of graphs.grown)
+-- the texts of the pairs, in their order
+abbrev pub ArePairsIn : Graphs → Lines → List (ℕ × ℕ) → List ℕ → Type 0
+ArePairsIn graphs lines = AreLinesPairs lines graphs.network.n graphs.network.arcs (growth_of graphs.grown)

@@ -32,42 +32,49 @@ AreReachedWithin bound labels walks =
 abbrev pub has_walks : Lines → Bool
 has_walks (lines.Each walks) = walks
 has_walks (lines.Within walks bound) = walks
-has_walks lines.Raw = false
+has_walks (lines.Raw pairs) = false
 has_walks lines.Totals = false
 
 -- the bound, if there is one
 abbrev pub bound_in : Lines → Option ℕ
 bound_in (lines.Each walks) = None
 bound_in (lines.Within walks bound) = Some bound
-bound_in lines.Raw = None
+bound_in (lines.Raw pairs) = None
 bound_in lines.Totals = None
 
 -- the greatest label whose vertex has a line
 abbrev pub bound_of : Lines → ℕ
 bound_of (lines.Each walks) = INF
 bound_of (lines.Within walks bound) = bound
-bound_of lines.Raw = INF
+bound_of (lines.Raw pairs) = INF
 bound_of lines.Totals = INF
 
 -- whether the labels from a source stand as bytes
 abbrev pub is_raw : Lines → Bool
 is_raw (lines.Each walks) = false
 is_raw (lines.Within walks bound) = false
-is_raw lines.Raw = true
+is_raw (lines.Raw pairs) = true
 is_raw lines.Totals = false
+
+-- whether the costs of pairs stand as bytes
+abbrev pub has_raw_pairs : Lines → Bool
+has_raw_pairs (lines.Each walks) = false
+has_raw_pairs (lines.Within walks bound) = false
+has_raw_pairs (lines.Raw pairs) = pairs
+has_raw_pairs lines.Totals = false
 
 -- whether a line says what they come to
 abbrev pub is_totals : Lines → Bool
 is_totals (lines.Each walks) = false
 is_totals (lines.Within walks bound) = false
-is_totals lines.Raw = false
+is_totals (lines.Raw pairs) = false
 is_totals lines.Totals = true
 
 -- the block of a source has lines of vertices
 abbrev pub HasVertexLines : Lines → Type 0
 HasVertexLines (lines.Each walks) = ⊤
 HasVertexLines (lines.Within walks bound) = ⊤
-HasVertexLines lines.Raw = ⊥
+HasVertexLines (lines.Raw pairs) = ⊥
 HasVertexLines lines.Totals = ⊥
 
 -- hops and parents of the labels below a limit, as `hops_below` and `parents` give them

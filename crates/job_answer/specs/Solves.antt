@@ -39,7 +39,7 @@ IsStartBlock lines start.Everywhere n arcs text = IsComponentsBlock n arcs text
 abbrev pub goal_of : Lines → Goal
 goal_of (lines.Each walks) = goal.EachVertex
 goal_of (lines.Within walks bound) = goal.Within bound
-goal_of lines.Raw = goal.EachVertex
+goal_of (lines.Raw pairs) = goal.EachVertex
 goal_of lines.Totals = goal.EachVertex
 
 -- lines that may be asked for from a start: from everywhere a line of each vertex
@@ -47,7 +47,7 @@ abbrev pub IsStartLines : Start → Lines → Type 0
 IsStartLines (start.At source) lines = IsLinesAsked lines
 IsStartLines start.Everywhere (lines.Each walks) = ⊤
 IsStartLines start.Everywhere (lines.Within walks bound) = ⊥
-IsStartLines start.Everywhere lines.Raw = ⊥
+IsStartLines start.Everywhere (lines.Raw pairs) = ⊥
 IsStartLines start.Everywhere lines.Totals = ⊥
 
 -- the same in the graph and after it grows

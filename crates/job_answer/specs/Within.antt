@@ -13,8 +13,9 @@ use Rattle.job_answer.specs.declared.asked.Answer.{Answer}
 use Rattle.job_answer.specs.declared.asked.Answer.TheVariants.{Distances, Levels, Components}
 use Rattle.job_answer.specs.declared.asked.Lines.{Lines}
 use Rattle.job_answer.specs.declared.asked.Lines.TheVariants as lines
-use Rattle.job_answer.specs.AnswerText.{AreBlocks, ArePairBlocks, AreWalksFrom, Growth, IsBlock, IsComponentsBlock}
-use Rattle.job_answer.specs.AnswerText.{IsGrownText, IsTextFor, IsOneBlock, IsOneText, arcs_for, growth_for, vertex_text}
+use Rattle.job_answer.specs.AnswerText.{AreBlocks, AreWalksFrom, Growth, IsBlock, IsComponentsBlock, IsGrownText}
+use Rattle.job_answer.specs.AnswerText.{IsOneBlock, IsOneText, IsPairBlock, IsPairLabel, IsTextFor, arcs_for, growth_for}
+use Rattle.job_answer.specs.AnswerText.{vertex_text}
 use Rattle.job_answer.specs.Costs.{IsCostText, IsWalkLine}
 use Rattle.job_answer.specs.Short.{IsRawBlock, IsTotalsBlock}
 
@@ -57,7 +58,7 @@ abbrev pub IsLinesBlock : Lines → ℕ → List ArcRec → ℕ → List ℕ →
 IsLinesBlock (lines.Each walks) n arcs source text = IsBlock walks n arcs source text
 IsLinesBlock (lines.Within true bound) n arcs source text = IsWalksWithin bound n arcs source text
 IsLinesBlock (lines.Within false bound) n arcs source text = IsBlockWithin bound n arcs source text
-IsLinesBlock lines.Raw n arcs source text = IsRawBlock n arcs source text
+IsLinesBlock (lines.Raw pairs) n arcs source text = IsRawBlock n arcs source text
 IsLinesBlock lines.Totals n arcs source text = IsTotalsBlock n arcs source text
 
 -- the same in the graph and after it grows
@@ -67,6 +68,21 @@ IsGrownLines lines n arcs growth source text = IsGrownText (λ along. IsLinesBlo
 -- the blocks of the sources, in their order
 abbrev pub AreLinesBlocks : Lines → ℕ → List ArcRec → Option Growth → List ℕ → List ℕ → Type 0
 AreLinesBlocks lines n arcs growth sources text = AreBlocks (IsGrownLines lines n arcs growth) sources text
+
+-- the text of a pair: its line, with its walk if the lines have walks, or its label as bytes
+abbrev pub IsLinesPair : Lines → ℕ → List ArcRec → ℕ × ℕ → List ℕ → Type 0
+IsLinesPair (lines.Each walks) n arcs pair text = IsPairBlock walks n arcs pair text
+IsLinesPair (lines.Within walks bound) n arcs pair text = IsPairBlock walks n arcs pair text
+IsLinesPair (lines.Raw pairs) n arcs pair text = IsPairLabel pairs n arcs pair text
+IsLinesPair lines.Totals n arcs pair text = IsPairLabel false n arcs pair text
+
+-- the same in the graph and after it grows
+abbrev pub IsGrownLinesPair : Lines → ℕ → List ArcRec → Option Growth → ℕ × ℕ → List ℕ → Type 0
+IsGrownLinesPair lines n arcs growth pair text = IsGrownText (λ along. IsLinesPair lines n along pair) arcs growth text
+
+-- the texts of the pairs, in their order
+abbrev pub AreLinesPairs : Lines → ℕ → List ArcRec → Option Growth → List (ℕ × ℕ) → List ℕ → Type 0
+AreLinesPairs lines n arcs growth pairs text = AreBlocks (IsGrownLinesPair lines n arcs growth) pairs text
 
 -- pairs are asked for
 abbrev pub IsOfPairs : Question → Type 0
@@ -87,11 +103,11 @@ IsTextWithin Distances walks bound n arcs growth question text = AreBlocksWithin
 IsTextWithin Levels walks bound n arcs growth question text = AreBlocksWithin walks bound n arcs growth question text
 IsTextWithin Components walks bound n arcs growth question text = IsGrownText (IsComponentsBlock n) arcs growth text
 
--- the text has the blocks in short of the sources that are asked for, or the lines of the pairs
+-- the text has the blocks in short of the sources that are asked for, or the lines or bytes of the pairs
 abbrev pub AreBlocksInShort : Lines → ℕ → List ArcRec → Option Growth → Question → List ℕ → Type 0
 AreBlocksInShort lines n arcs growth absent text = ⊥
 AreBlocksInShort lines n arcs growth (from_sources sources) text = AreLinesBlocks lines n arcs growth sources text
-AreBlocksInShort lines n arcs growth (of_pairs pairs) text = ArePairBlocks false n arcs growth pairs text
+AreBlocksInShort lines n arcs growth (of_pairs pairs) text = AreLinesPairs lines n arcs growth pairs text
 
 -- the text is one of an answer kind in short, that of components in lines
 abbrev pub IsTextInShort : Answer → Lines → ℕ → List ArcRec → Option Growth → Question → List ℕ → Type 0
@@ -104,7 +120,8 @@ abbrev pub IsTextBy : Answer → Lines → ℕ → List ArcRec → Option Growth
 IsTextBy kind (lines.Each walks) n arcs growth question text = IsTextFor kind walks n arcs growth question text
 IsTextBy kind (lines.Within walks bound) n arcs growth question text =
     IsTextWithin kind walks bound n arcs growth question text
-IsTextBy kind lines.Raw n arcs growth question text = IsTextInShort kind lines.Raw n arcs growth question text
+IsTextBy kind (lines.Raw pairs) n arcs growth question text =
+    IsTextInShort kind (lines.Raw pairs) n arcs growth question text
 IsTextBy kind lines.Totals n arcs growth question text = IsTextInShort kind lines.Totals n arcs growth question text
 
 -- the text answers the job
@@ -115,7 +132,7 @@ IsAnswerTextBy kind lines job text =
 -- the job has pairs, and a bound asks for sources
 abbrev pub HasNoSources : Answer → Lines → Question → Type 0
 HasNoSources kind (lines.Each walks) question = ⊥
-HasNoSources kind lines.Raw question = ⊥
+HasNoSources kind (lines.Raw pairs) question = ⊥
 HasNoSources kind lines.Totals question = ⊥
 HasNoSources Components (lines.Within walks bound) question = ⊥
 HasNoSources Distances (lines.Within walks bound) question = IsOfPairs question
@@ -123,10 +140,12 @@ HasNoSources Levels (lines.Within walks bound) question = IsOfPairs question
 
 -- ---- what it says
 
--- by the same lines a source has only one block
+-- by the same lines a source has only one block, and a pair only one text
 abbrev pub LinesAreUnique : Type 0
 LinesAreUnique =
-    (lines : Lines) (n : ℕ) (arcs : List ArcRec) (growth : Option Growth) → IsOneBlock (IsGrownLines lines n arcs growth)
+    (lines : Lines) (n : ℕ) (arcs : List ArcRec) (growth : Option Growth)
+    → IsOneBlock (IsGrownLines lines n arcs growth)
+    × IsOneBlock (IsGrownLinesPair lines n arcs growth)
 
 -- the lines of a vertex within a bound: none if each walk there costs more; else 'd V COST' with the cost of the
 -- cheapest, and perhaps that of a walk

@@ -144,6 +144,8 @@ fn answer_job<H: Threads + Wait + Clock + Sync, W: Write, G: Gate + Sync>(
     watch.end(rt, Phase::Rows);
     let mut kept = Workspace::new().searching(has_many_sources(&ask));
     prepare(context, &mut graphs, &ask, &mut kept);
+    watch.see_landmarks(graphs.network.landmark_count());
+    watch.end(rt, Phase::Preparing);
     let question = Question {
         graphs: &graphs,
         ask: &ask,
@@ -239,7 +241,9 @@ fn has_no_sources(answer: Answer, lines: Lines, ask: &Ask) -> bool
     ensures { IsTrue result ↔ HasNoSources answer lines (question_of ask.now) }
 {
     match (answer, lines) {
-        (Answer::Components, _) | (_, Lines::Each { .. } | Lines::Raw | Lines::Totals) => false,
+        (Answer::Components, _) | (_, Lines::Each { .. } | Lines::Raw { .. } | Lines::Totals) => {
+            false
+        }
         (_, Lines::Within { .. }) => matches!(ask, Ask::Pairs(_)),
     }
 }
@@ -294,7 +298,7 @@ fn put_text<H: Threads + Wait + Clock + Sync, W: Write, G: Gate + Sync>(
         }
         (_, Ask::Pairs(pairs)) => {
             let queries = PairQueries { graphs, pairs };
-            put_pairs(context, sink, queries, lines.has_walks(), kept, watch)
+            put_pairs(context, sink, queries, lines, kept, watch)
         }
         (_, Ask::Absent) => unreachable!(),
     }

@@ -3,7 +3,8 @@
 ghost use Rattle.std.specs.Prelude.{◌≡◌, ◌↔◌, false, IsSome, IsTrue, IfSome};
 ghost use Rattle.job_answer.specs.Choices.{IsAsked, IsLinesAsked};
 ghost use Rattle.job_answer.specs.declared.asked.Lines.TheVariants as lines;
-ghost use Rattle.job_answer.specs.LineWalks.{bound_in, bound_of, has_walks, is_raw, is_totals};
+ghost use Rattle.job_answer.specs.LineWalks.{bound_in, bound_of, has_raw_pairs, has_walks, is_raw};
+ghost use Rattle.job_answer.specs.LineWalks.{is_totals};
 ghost use Rattle.job_answer.specs.Solves.{goal_of};
 
 use least_costs::{AtOnce, USUAL_LANDMARKS};
@@ -28,8 +29,9 @@ pub enum Lines {
     Each { walks: bool },
     /// Those of vertices that cost at most the bound, which is less than `INF`.
     Within { walks: bool, bound: u64 },
-    /// The label of each vertex as 8 bytes, little-endian, after the line of the source.
-    Raw,
+    /// The label of each vertex as 8 bytes, little-endian, after the line of the source. Those of pairs stand as bytes too
+    /// if asked for, without their lines.
+    Raw { pairs: bool },
     /// One line instead of a block: the number of vertices reached, the sum of their costs, the greatest, and the least
     /// vertex with it.
     Totals,
@@ -41,6 +43,7 @@ impl Lines {
         ensures walks { has_walks result ≡ walks }
         ensures within { bound_in result ≡ within }
         ensures raw { is_raw result ≡ false }
+        ensures raw_pairs { has_raw_pairs result ≡ false }
         ensures totals { is_totals result ≡ false }
     {
         match within {
@@ -55,8 +58,15 @@ impl Lines {
     {
         match self {
             Lines::Each { walks } | Lines::Within { walks, .. } => walks,
-            Lines::Raw | Lines::Totals => false,
+            Lines::Raw { .. } | Lines::Totals => false,
         }
+    }
+
+    /// Tells if the labels of pairs are asked for as bytes.
+    pub(crate) fn has_raw_pairs(self) -> bool
+        ensures { result ≡ has_raw_pairs self }
+    {
+        matches!(self, Lines::Raw { pairs: true })
     }
 
     /// Tells if each vertex has its line and nothing else.
@@ -70,7 +80,7 @@ impl Lines {
         ensures { result ≡ bound_of self }
     {
         match self {
-            Lines::Each { .. } | Lines::Raw | Lines::Totals => INF,
+            Lines::Each { .. } | Lines::Raw { .. } | Lines::Totals => INF,
             Lines::Within { bound, .. } => bound,
         }
     }
@@ -80,7 +90,7 @@ impl Lines {
         ensures { IsTrue result ↔ IsLinesAsked self }
     {
         match self {
-            Lines::Each { .. } | Lines::Raw | Lines::Totals => true,
+            Lines::Each { .. } | Lines::Raw { .. } | Lines::Totals => true,
             Lines::Within { bound, .. } => bound < INF,
         }
     }
@@ -89,7 +99,7 @@ impl Lines {
         ensures { result ≡ goal_of self }
     {
         match self {
-            Lines::Each { .. } | Lines::Raw | Lines::Totals => Goal::EachVertex,
+            Lines::Each { .. } | Lines::Raw { .. } | Lines::Totals => Goal::EachVertex,
             Lines::Within { bound, .. } => Goal::Within(bound),
         }
     }
@@ -106,8 +116,8 @@ pub const MAX_BYTES: u64 = 68719476736;
 pub struct Asked {
     /// The kind of labels.
     pub answer: Answer,
-    /// The lines of a source's block. A pair has its line, with its walk if these lines have walks. Components have the
-    /// lines of all vertices, and no walks.
+    /// The lines of a source's block. A pair has its line, with its walk if these lines have walks, or its label as bytes.
+    /// Components have the lines of all vertices, and no walks.
     pub lines: Lines,
     /// The settings of workers.
     pub settings: Settings,

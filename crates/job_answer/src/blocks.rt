@@ -30,7 +30,9 @@ use crate::source_tasks::SourceTasks;
 use crate::team_watch::{SolveCount, TeamWatch, see_round};
 use crate::watch::{Phase, Watch};
 use answer_lines::put_grown;
-use least_costs::{CostsBelow, Network, Start, TaskQueue, Tasks, TeamGate, Workers, Workspace};
+use least_costs::{
+    CostsBelow, Network, NetworkGrowth, Start, TaskQueue, Tasks, TeamGate, Workers, Workspace,
+};
 use obim_engine::Gate;
 use route_walks::laws::least_labels_exist;
 use route_walks::{MAX_VERTICES, Memory};
@@ -241,8 +243,11 @@ pub fn put_solved<H: Threads + Wait + Clock + Sync, W: Write, G: Gate + Sync>(
     if sink.has_stopped() {
         return;
     }
-    let more = &grown.network;
-    let Ok(after) = costs_after(env, network, more, costs, goal, workers, watch) else {
+    let growth = NetworkGrowth {
+        network,
+        grown: &grown.network,
+    };
+    let Ok(after) = costs_after(env, &growth, costs, goal, workers, watch) else {
         return sink.fail(Stop::Memory);
     };
     put_grown_block(alloc, sink, grown, lines, start, &after);
@@ -310,7 +315,7 @@ fn put_source_block<W: Write>(
     lines_are_unique();
     let labels = costs.labels();
     match lines {
-        Lines::Raw => put_raw(sink, source, labels),
+        Lines::Raw { .. } => put_raw(sink, source, labels),
         Lines::Totals => put_totals(sink, source, labels),
         Lines::Each { .. } | Lines::Within { .. } => {
             put_vertices(alloc, sink, network, source, lines, costs)

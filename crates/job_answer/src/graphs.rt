@@ -111,6 +111,7 @@ pub fn graphs_by<H: Threads + Sync>(
 pub fn plan_of(asked: &Asked) -> Plan
     ensures settings { result.settings ≡ asked.now.settings }
     ensures at_once { result.at_once ≡ asked.now.at_once }
+    ensures landmarks { result.landmarks ≡ asked.now.landmarks }
 {
     Plan {
         settings: asked.settings,

@@ -4,7 +4,7 @@ ghost use Rattle.job_answer.specs.AnswerText.{AnswerTextsAreUnique, BlocksAreUni
 ghost use Rattle.job_answer.specs.Costs.{AnswersSayCosts, AnswersSayPairCosts, AnswersSayComponents};
 ghost use Rattle.job_answer.specs.Existence.{AskedJobsHaveAnswers, AskedJobsHaveAnswersByLines};
 ghost use Rattle.job_answer.specs.Parts.{AnswersOfPartsJoin};
-ghost use Rattle.job_answer.specs.Short.{RawLabelsSayTheSame, TotalsAddUp};
+ghost use Rattle.job_answer.specs.Short.{RawLabelsSayTheSame, RawPairsSayTheSame, TotalsAddUp};
 ghost use Rattle.job_answer.specs.Within.{AnswerTextsByLinesAreUnique, AnswersSayCostsWithin, LinesAreUnique};
 
 use route_walks::laws::{
@@ -98,6 +98,13 @@ pub fn answers_say_components()
 /// Raw labels are those of the lines.
 pub fn raw_labels_say_the_same()
     ensures { RawLabelsSayTheSame }
+{
+    least_labels_are_unique();
+}
+
+/// The bytes of a pair are the label that its line says.
+pub fn raw_pairs_say_the_same()
+    ensures { RawPairsSayTheSame }
 {
     least_labels_are_unique();
 }

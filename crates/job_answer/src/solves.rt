@@ -7,7 +7,7 @@ ghost use Rattle.job_answer.specs.Solves.{AreCostsFor, EndsWithSource, IsForQuer
 
 use crate::env::Env;
 use crate::watch::{Phase, Watch};
-use least_costs::{CostsBelow, Network, Start, Workers};
+use least_costs::{CostsBelow, Network, NetworkGrowth, Start, Workers};
 use obim_engine::{Gate, Goal};
 use route_walks::Memory;
 use std::sync::Wait;
@@ -38,20 +38,19 @@ pub fn costs_from<H: Threads + Wait + Clock + Sync, G: Gate + Sync>(
 /// The costs of the grown network from the same start, by what the run before left.
 pub fn costs_after<H: Threads + Wait + Clock + Sync, G: Gate + Sync>(
     env: &Env<'_, H>,
-    network: &Network,
-    grown: &Network,
+    growth: &NetworkGrowth<'_>,
     costs: CostsBelow,
     goal: Goal<'_>,
     workers: &mut Workers<'_, G>,
     watch: &mut impl Watch,
 ) -> Result<CostsBelow, Memory>
-    requires net { costs.net ≡ network.now }
-    requires grown { GrowsTo network.now grown.now }
-    requires goal { IsGoalWithin grown.now.n goal }
-    ensures costs { IfOk result (AreCostsFor grown.now costs.start goal.entry) }
+    requires net { costs.net ≡ growth.now.network.now }
+    requires grown { GrowsTo growth.now.network.now growth.now.grown.now }
+    requires goal { IsGoalWithin growth.now.grown.now.n goal }
+    ensures costs { IfOk result (AreCostsFor growth.now.grown.now costs.start goal.entry) }
 {
     let (rt, alloc) = (env.rt, env.alloc);
-    let costs = workers.costs_for_after(rt, alloc, network, grown, costs, goal)?;
+    let costs = workers.costs_for_after(rt, alloc, growth, costs, goal)?;
     let _ = costs.start();
     watch.see_solves(1);
     watch.end(rt, Phase::Solving);

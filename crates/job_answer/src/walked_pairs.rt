@@ -9,7 +9,6 @@ ghost use Rattle.route_walks.specs.Operators.{seeds_from};
 ghost use Rattle.dimacs_text.specs.Jobs.{IsPairWithin};
 ghost use Rattle.job_answer.specs.AnswerText.{AreBlocks};
 ghost use Rattle.job_answer.specs.Graphs.{AreGraphs, growth_of};
-ghost use Rattle.job_answer.specs.InNetworks.{ArePairsIn};
 ghost use Rattle.job_answer.specs.LineWalks.{HasWalkAt};
 ghost use Rattle.job_answer.specs.Sinks.{Puts};
 ghost use Rattle.job_answer.specs.Solves.{AreEachTold, AreTargetsOf, AreWalkedBelow, IsForQueries, IsWalked};
@@ -27,7 +26,7 @@ use crate::solves::{Solve, costs_after, costs_from, next_source};
 use crate::team_watch::{SolveCount, TeamWatch, see_round};
 use crate::watch::{Phase, Watch};
 use answer_lines::{put_grown, put_pair};
-use least_costs::{Network, Start, TaskQueue, Tasks, TeamGate, Workers, Workspace};
+use least_costs::{Network, NetworkGrowth, Start, TaskQueue, Tasks, TeamGate, Workers, Workspace};
 use obim_engine::{Gate, Goal};
 use route_walks::laws::least_labels_exist;
 use route_walks::{MAX_VERTICES, Memory};
@@ -70,8 +69,8 @@ pub fn put_all_walked<H: Threads + Wait + Clock + Sync, W: Write, G: Gate + Sync
     watch: &mut impl Watch,
 )
     requires graphs { AreGraphs queries.graphs.now }
-    ensures { Puts W.contents (ArePairsIn queries.entry.graphs.now true queries.entry.pairs.now)
-        sink.old sink.new }
+    ensures { Puts W.contents (AreBlocks (IsWalkedBlock queries.entry.graphs.now)
+        queries.entry.pairs.now) sink.old sink.new }
 {
     let (env, asked) = (context.env(), context.asked);
     let teams = teams_for(queries.graphs, asked);
@@ -316,10 +315,13 @@ fn walks_to<H: Threads + Wait + Clock + Sync, G: Gate + Sync>(
         Some(grown) => {
             // The second run goes on from what the first one left, so the labels are copied.
             let labels = costs.labels().to_vec(alloc)?;
-            let more = &grown.network;
-            let costs = costs_after(env, network, more, costs, goal, workers, watch)?;
+            let growth = NetworkGrowth {
+                network,
+                grown: &grown.network,
+            };
+            let costs = costs_after(env, &growth, costs, goal, workers, watch)?;
             let far = costs.limit();
-            let after = walked_from(alloc, more, source, far, costs.into_labels())?;
+            let after = walked_from(alloc, &grown.network, source, far, costs.into_labels())?;
             let before = walked_from(alloc, network, source, limit, labels)?;
             let after = Some(after);
             Ok(BothWalked { before, after })

@@ -9,6 +9,8 @@ pub enum Phase {
     Reading,
     /// Making the rows.
     Rows,
+    /// Reversing them and choosing landmarks, for pairs.
+    Preparing,
     Solving,
     Writing,
 }
@@ -17,6 +19,9 @@ pub enum Phase {
 pub trait Watch {
     /// Sees the vertices and arcs of the rows. For components each arc counts both ways.
     fn see_rows(&mut self, _vertices: u32, _arcs: usize) {}
+
+    /// Sees how many landmarks pairs are searched by.
+    fn see_landmarks(&mut self, _landmarks: usize) {}
 
     /// Sees that labels were worked out `count` times more.
     fn see_solves(&mut self, _count: usize) {}

@@ -11,10 +11,13 @@ pub struct Figures {
     pub arcs: usize,
     /// The number of times that labels were worked out.
     pub solves: usize,
+    /// The landmarks that pairs were searched by.
+    pub landmarks: usize,
     /// The most sources solved at the same time.
     pub at_once: usize,
     pub reading: Duration,
     pub rows: Duration,
+    pub preparing: Duration,
     pub solving: Duration,
     pub writing: Duration,
     // When the last phase ended, by the clock.
@@ -28,9 +31,11 @@ impl Figures {
             vertices: 0,
             arcs: 0,
             solves: 0,
+            landmarks: 0,
             at_once: 1,
             reading: Duration::ZERO,
             rows: Duration::ZERO,
+            preparing: Duration::ZERO,
             solving: Duration::ZERO,
             writing: Duration::ZERO,
             last: clock.monotonic().unwrap_or(Duration::ZERO),
@@ -44,6 +49,10 @@ impl Watch for Figures {
     fn see_rows(&mut self, vertices: u32, arcs: usize) {
         self.vertices = vertices;
         self.arcs = arcs;
+    }
+
+    fn see_landmarks(&mut self, landmarks: usize) {
+        self.landmarks = landmarks;
     }
 
     fn see_solves(&mut self, count: usize) {
@@ -62,6 +71,7 @@ impl Watch for Figures {
         let sum = match phase {
             Phase::Reading => &mut self.reading,
             Phase::Rows => &mut self.rows,
+            Phase::Preparing => &mut self.preparing,
             Phase::Solving => &mut self.solving,
             Phase::Writing => &mut self.writing,
         };

@@ -139,6 +139,10 @@ impl<H: Eprint + Clock> Watch for ProgressReport<'_, H> {
         self.figures.see_rows(vertices, arcs);
     }
 
+    fn see_landmarks(&mut self, landmarks: usize) {
+        self.figures.see_landmarks(landmarks);
+    }
+
     fn see_solves(&mut self, count: usize) {
         self.figures.see_solves(count);
     }

@@ -20,8 +20,10 @@ pub fn print_stats<H: Eprint>(rt: &H, asked: &Asked, figures: &Figures, counter:
     let _ = eprintln!(rt; "arcs: {}", figures.arcs);
     let _ = eprintln!(rt; "solves: {}", figures.solves);
     let _ = eprintln!(rt; "sources at once: {}", figures.at_once);
+    let _ = eprintln!(rt; "landmarks: {}", figures.landmarks);
     let _ = eprintln!(rt; "reading: {} ms", figures.reading.as_millis());
     let _ = eprintln!(rt; "rows: {} ms", figures.rows.as_millis());
+    let _ = eprintln!(rt; "preparing: {} ms", figures.preparing.as_millis());
     let _ = eprintln!(rt; "solving: {} ms", figures.solving.as_millis());
     let _ = eprintln!(rt; "writing: {} ms", figures.writing.as_millis());
     match asked.settings.buckets {

@@ -10,7 +10,6 @@ ghost use Rattle.job_reader.specs.Taken.{TakesAtMost};
 
 use crate::fault::ReadFault;
 use crate::pieces::Pieces;
-use crate::readers::Readers;
 use crate::step::step;
 use dimacs_text::JobReader;
 use std::alloc::Global;
@@ -46,8 +45,8 @@ pub fn read_arcs_from<H: Threads + Clock + Sync, R: Read>(
     if threads < 2 || sure_bytes(job, 0) < MIN_BYTES_FOR_THREADS {
         return Ok(0);
     }
-    let mut pieces = Pieces::new(alloc)?;
-    read_sure(rt, reader, job, limit, Readers::new(threads), &mut pieces)
+    let mut pieces = Pieces::new(alloc, threads)?;
+    read_sure(rt, reader, job, limit, &mut pieces)
 }
 
 fn read_sure<H: Threads + Clock + Sync, R: Read>(
@@ -55,7 +54,6 @@ fn read_sure<H: Threads + Clock + Sync, R: Read>(
     reader: &mut R,
     job: &mut JobReader,
     limit: usize,
-    mut readers: Readers,
     pieces: &mut Pieces,
 ) -> Result<usize, ReadFault>
     requires front { pieces.old.front ≡ [] }
@@ -68,12 +66,12 @@ fn read_sure<H: Threads + Clock + Sync, R: Read>(
     let mut left = limit;
     let mut ended = false;
     for _ in 0..u64::MAX {
-        let next = next_piece(job, &readers, pieces, left, ended);
+        let next = next_piece(job, pieces, left, ended);
         if next == 0 && pieces.front.len() == 0 && pieces.back.len() == 0 {
             return Ok(limit - left);
         }
         // If no more bytes are sure, those at hand are fed first: then more may be.
-        let ends = step(rt, reader, job, &mut readers, pieces, left, next)?;
+        let ends = step(rt, reader, job, pieces, left, next)?;
         left -= pieces.spare.len();
         ended = ended || ends;
         pieces.turn();
@@ -83,13 +81,7 @@ fn read_sure<H: Threads + Clock + Sync, R: Read>(
 }
 
 /// The bytes of the next piece: none after the reader's end.
-fn next_piece(
-    job: &JobReader,
-    readers: &Readers,
-    pieces: &Pieces,
-    left: usize,
-    ended: bool,
-) -> usize
+fn next_piece(job: &JobReader, pieces: &Pieces, left: usize, ended: bool) -> usize
     ensures { result ≤ left }
 {
     let at_hand = pieces.front.len().saturating_add(pieces.back.len());
@@ -97,7 +89,7 @@ fn next_piece(
     if ended || sure < MIN_BYTES_FOR_THREADS {
         0
     } else {
-        readers.piece().min(sure).min(left)
+        pieces.readers.piece().min(sure).min(left)
     }
 }
 

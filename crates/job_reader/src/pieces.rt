@@ -1,9 +1,9 @@
-//! The pieces of a text that are at work.
+//! The pieces of a text that are at work, and the threads that read them.
 
 ghost use Rattle.std.specs.Prelude.{◌≡◌, [], IfOk};
 
 use crate::piece::Piece;
-use crate::readers::PIECE_BYTES;
+use crate::readers::{PIECE_BYTES, Readers};
 use route_walks::Memory;
 use std::alloc::Global;
 use std::mem::swap;
@@ -16,10 +16,11 @@ pub(crate) struct Pieces {
     pub back: Piece,
     /// The one that bytes are read into.
     pub spare: Piece,
+    pub readers: Readers,
 }
 
 impl Pieces {
-    pub(crate) fn new(alloc: Global) -> Result<Pieces, Memory>
+    pub(crate) fn new(alloc: Global, threads: usize) -> Result<Pieces, Memory>
         ensures front { IfOk result (λ pieces. pieces.front ≡ []) }
         ensures back { IfOk result (λ pieces. pieces.back ≡ []) }
     {
@@ -27,6 +28,7 @@ impl Pieces {
             front: Piece::new(alloc, PIECE_BYTES)?,
             back: Piece::new(alloc, PIECE_BYTES)?,
             spare: Piece::new(alloc, PIECE_BYTES)?,
+            readers: Readers::new(threads),
         })
     }
 

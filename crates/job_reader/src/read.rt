@@ -8,7 +8,6 @@ ghost use Rattle.job_reader.specs.Request.{HasTaken, IsRequest, SaysOfText};
 
 use crate::fault::ReadFault;
 use crate::pieces::Pieces;
-use crate::readers::Readers;
 use crate::step::step;
 use crate::watch::ReadWatch;
 use dimacs_text::{Job, JobReader, TextFault};
@@ -34,9 +33,8 @@ pub fn read_job_from<H: Threads + Clock + Sync, R: Read>(
         (R.remaining reader.old) (R.remaining reader.new)) }
     ensures says { IfErr result (SaysOfText (R.remaining reader.old) (R.remaining reader.new)) }
 {
-    let mut pieces = Pieces::new(alloc)?;
-    let readers = Readers::new(threads);
-    read_pieces(rt, alloc, reader, limit, readers, &mut pieces, watch)
+    let mut pieces = Pieces::new(alloc, threads)?;
+    read_pieces(rt, alloc, reader, limit, &mut pieces, watch)
 }
 
 fn read_pieces<H: Threads + Clock + Sync, R: Read>(
@@ -44,7 +42,6 @@ fn read_pieces<H: Threads + Clock + Sync, R: Read>(
     alloc: Global,
     reader: &mut R,
     limit: u64,
-    mut readers: Readers,
     pieces: &mut Pieces,
     watch: &mut impl ReadWatch,
 ) -> Result<Job, ReadFault>
@@ -61,9 +58,9 @@ fn read_pieces<H: Threads + Clock + Sync, R: Read>(
     let mut left = limit as usize;
     let mut ended = false;
     while !ended {
-        let limit = readers.piece().min(left + 1);
+        let limit = pieces.readers.piece().min(left + 1);
         let fed = pieces.front.len();
-        ended = step(rt, reader, &mut job, &mut readers, pieces, left, limit)?;
+        ended = step(rt, reader, &mut job, pieces, left, limit)?;
         if pieces.spare.len() > left {
             return Err(ReadFault::TooLong);
         }
@@ -74,7 +71,7 @@ fn read_pieces<H: Threads + Clock + Sync, R: Read>(
         pieces.turn();
     }
     // The reader has ended, so this feeds the front piece and reads ahead in the last one, and takes nothing.
-    step(rt, &mut empty(), &mut job, &mut readers, pieces, 0, 0)?;
+    step(rt, &mut empty(), &mut job, pieces, 0, 0)?;
     pieces.back.feed_to(&mut job)?;
     let fed = pieces.front.len().saturating_add(pieces.back.len());
     watch.see_text(fed, job.arcs_so_far());

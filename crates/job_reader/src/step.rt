@@ -8,7 +8,6 @@ ghost use Rattle.job_reader.specs.Pieces.{Fills, StepsOn, StopsShort};
 use crate::fault::ReadFault;
 use crate::piece::Piece;
 use crate::pieces::Pieces;
-use crate::readers::Readers;
 use dimacs_text::{ArcRuns, JobReader, Parts, ReadAhead, read_side_by_side};
 use route_walks::Memory;
 use std::io::Read;
@@ -21,7 +20,6 @@ pub(crate) fn step<H: Threads + Clock + Sync, R: Read>(
     rt: &H,
     reader: &mut R,
     job: &mut JobReader,
-    readers: &mut Readers,
     pieces: &mut Pieces,
     left: usize,
     limit: usize,
@@ -37,16 +35,20 @@ pub(crate) fn step<H: Threads + Clock + Sync, R: Read>(
     };
     // The byte past the limit is taken only after the front piece was fed: if memory for that is refused,
     // no more than the limit may have been read.
-    let threads = if limit > left { 1 } else { readers.threads() };
+    let threads = if limit > left {
+        1
+    } else {
+        pieces.readers.threads()
+    };
     let count = pieces.front.len();
     let begun = rt.monotonic().unwrap_or(Duration::ZERO);
     let ended = if threads < 2 {
         feed_and_fill(reader, job, &pieces.front, &mut pieces.spare, limit)?
     } else {
-        step_beside(rt, reader, job, pieces, vertices, threads, limit)?
+        step_beside(rt, reader, job, pieces, vertices, limit)?
     };
     let spent = rt.monotonic().unwrap_or(begun).saturating_sub(begun);
-    readers.see(threads, count, spent);
+    pieces.readers.see(threads, count, spent);
     Ok(ended)
 }
 
@@ -66,14 +68,13 @@ fn feed_and_fill<R: Read>(
     spare.fill(reader, limit)
 }
 
-/// Does a step by `threads` threads in all.
+/// Does a step by all the threads that read.
 fn step_beside<H: Threads + Sync, R: Read>(
     rt: &H,
     reader: &mut R,
     job: &mut JobReader,
     pieces: &mut Pieces,
     vertices: u32,
-    threads: usize,
     limit: usize,
 ) -> Result<bool, ReadFault>
     ensures on { IfOk result (StepsOn limit job.old job.new pieces.old.front pieces.new.spare
@@ -83,7 +84,7 @@ fn step_beside<H: Threads + Sync, R: Read>(
 {
     // That of the spare piece was fed.
     let mut ahead = pieces.spare.take_ahead();
-    ahead.open(threads);
+    ahead.open(pieces.readers.threads());
     let ended = feed_fill_and_read(rt, reader, job, pieces, &mut ahead, vertices, limit);
     pieces.back.put_ahead(ahead);
     ended

@@ -18,9 +18,9 @@ use Rattle.least_costs.proofs.Unreached.{unreached-at}
 finite-at : (net : NetworkSeen) (source : ℕ) (hops parents : List ℕ) (are : AreWalks net source hops parents)
     → (v : ℕ) → v < net.n → slice_index hops v ≢ NONE → slice_index are.labels v < INF
 finite-at net source hops parents are v below some =
-    elim (cases_eq (slice_index are.labels v) INF) [
-      | inl is ↦ absurd (some (are.fewest.none v below is))
-      | inr other ↦ omega (arith, other, (are.least.least v below).capped)
+    elim (cases_lt (slice_index are.labels v) INF) [
+      | inl finite ↦ finite
+      | inr past ↦ absurd (some (are.fewest.none v below past))
     ]
 
 pub least-walk : PrintedWalksAreWalks → (net : NetworkSeen) (source : ℕ) (hops parents : List ℕ)
@@ -28,8 +28,7 @@ pub least-walk : PrintedWalksAreWalks → (net : NetworkSeen) (source : ℕ) (ho
     → IsLeastWalk net source v (printed_walk (slice_index parents) (slice_index hops v) v)
 least-walk law net source hops parents are v below some =
     let finite = finite-at net source hops parents are v below some in
-    let goes = law net.n net.arcs source are.labels hops parents are.network.ends are.within are.least are.fewest are.before
-    v below finite in
+    let goes = law INF net.n net.arcs source are.labels hops parents are.network.ends are.fewest are.before v below finite in
     record {
       walk = goes.walk;
       walks = goes.walks;

@@ -14,3 +14,4 @@ pub mod Pairs
 pub mod Within
 pub mod Below
 pub mod Laws
+pub mod Searches

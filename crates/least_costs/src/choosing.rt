@@ -63,6 +63,17 @@ impl Network {
     }
 }
 
+impl Network {
+    /// Keeps no landmark in place of those that it had. A choice of none is not the first.
+    pub(crate) fn give_up_landmarks(&mut self, alloc: Global)
+        ensures { self.new ≡ self.old }
+    {
+        if let Ok(none) = Landmarks::blank(alloc, &self.rows, 0, 0) {
+            self.keep(none);
+        }
+    }
+}
+
 /// Chooses landmarks of a network.
 fn chosen<H: Threads + Wait + Clock + Sync, G: Gate + Sync>(
     rt: &H,

@@ -17,6 +17,7 @@ use crate::costs::costs_in_order;
 use crate::landmarks::Landmarks;
 use crate::network::Network;
 use crate::start::Start;
+use crate::visits::FarVisits;
 use near_labels::{SearchSpace, WalksFound};
 use obim_engine::Bounds;
 use std::alloc::Global;
@@ -34,7 +35,7 @@ const VAIN_IN: u64 = 8;
 const VISITED_A_VERTEX: usize = 2;
 
 /// By landmarks so few targets that lie apart are searched one by one.
-const MAX_TARGETS_ONE_BY_ONE: usize = 8;
+pub(crate) const MAX_TARGETS_ONE_BY_ONE: usize = 8;
 
 /// A search by landmarks of more visits is worth a team of its own.
 const MAX_SHORT_VISITS: u32 = 2048;
@@ -54,8 +55,8 @@ pub(crate) struct Near {
     by_landmarks: SearchBudget,
     /// The visits of searches from one end to one target.
     spent: u64,
-    /// The sources whose targets weren't near.
-    far: usize,
+    /// The visits for sources whose targets weren't near.
+    pub(crate) far: FarVisits,
     /// True if the last search by landmarks was long.
     was_long: bool,
 }
@@ -71,7 +72,7 @@ impl Near {
             both_ends: SearchBudget::of(0),
             by_landmarks: SearchBudget::by_landmarks(0),
             spent: 0,
-            far: 0,
+            far: FarVisits::none(),
             was_long: false,
         }
     }
@@ -84,16 +85,6 @@ impl Near {
     /// Counts anew what searches from one end visit.
     pub(crate) fn forget_spent(&mut self) {
         self.spent = 0;
-    }
-
-    /// The number of sources whose targets weren't near, without landmarks.
-    pub(crate) fn far(&self) -> usize {
-        self.far
-    }
-
-    /// Counts anew the sources whose targets aren't near.
-    pub(crate) fn forget_far(&mut self) {
-        self.far = 0;
     }
 
     /// Tells if the last search by landmarks was so long that several are better made side by side.
@@ -141,15 +132,7 @@ impl Near {
         } else {
             self.labels_to(alloc, network, source, targets)
         };
-        match labels {
-            Some(labels) => {
-                costs_in_order(alloc, network, Start::At(source), targets, &labels).ok()
-            }
-            None => {
-                self.far = self.far.saturating_add(1);
-                None
-            }
-        }
+        costs_in_order(alloc, network, Start::At(source), targets, &labels?).ok()
     }
 
     /// The costs of these targets by landmarks, if not much of the network has to be searched: of all at once if they lie
@@ -224,11 +207,7 @@ impl Near {
         let high = landmarks.high(alloc, targets).ok()?;
         let bounds = landmarks.toward(source, targets, &low, &high);
         let labels = labels_toward(&mut self.forward, alloc, network, source, &bounds, limit);
-        self.by_landmarks.learn(labels.is_some());
-        self.was_long = match &self.forward {
-            Some(space) => space.visits() > MAX_SHORT_VISITS,
-            None => false,
-        };
+        self.see_guided(labels.is_some());
         costs_in_order(alloc, network, Start::At(source), targets, &labels?).ok()
     }
 
@@ -317,6 +296,17 @@ impl Near {
             Some(label) => vec![in alloc; label; 1].ok(),
             None => None,
         }
+    }
+
+    /// Takes note of the last search by landmarks.
+    fn see_guided(&mut self, found: bool) {
+        let visits = match &self.forward {
+            Some(space) => space.visits(),
+            None => 0,
+        };
+        self.by_landmarks.learn(found);
+        self.was_long = visits > MAX_SHORT_VISITS;
+        self.far.see_search(visits);
     }
 
     /// Counts what searches from both ends might have saved of the last search from one end.

@@ -252,6 +252,14 @@ impl Network {
         self.landmarks.is_some()
     }
 
+    /// The number of landmarks that it keeps.
+    pub fn landmark_count(&self) -> usize {
+        match &self.landmarks {
+            Some(landmarks) => landmarks.len(),
+            None => 0,
+        }
+    }
+
     /// The landmarks, if some were chosen.
     pub(crate) fn landmarks(&self) -> Option<&Landmarks>
         ensures { IfSome result (λ landmarks. landmarks.now.graph ≡ graph_of self.now) }

@@ -13,15 +13,16 @@ ghost use Rattle.least_costs.specs.Pairs.{GrowsInto, IsRun};
 ghost use Rattle.least_costs.specs.TaskQueue.{AreFinished};
 
 use crate::costs::costs_at;
+use crate::growth::NetworkGrowth;
 use crate::landmarks::Landmarks;
-use crate::near::Near;
+use crate::near::{MAX_TARGETS_ONE_BY_ONE, Near};
 use crate::network::Network;
 use crate::progress::{Progress, Unwatched};
 use crate::solver::Solver;
 use crate::start::Start;
 use crate::task_queue::{TaskQueue, Tasks};
 use crate::teams::TeamGate;
-use crate::workers::Workers;
+use crate::workers::{Ended, Workers};
 use crate::workspace::Workspace;
 use obim_engine::{Closed, Gate, Goal};
 use route_walks::Memory;
@@ -332,7 +333,8 @@ fn costs_of<H: Threads + Wait + Clock + Sync, G: Gate + Sync>(
     let (network, start) = (asked.network, Start::At(asked.order[first].0));
     let closed = reach_targets(rt, alloc, asked, asked.order[first].0, &targets, workers)?;
     let costs = costs_at(alloc, network, start, &targets, closed.labels())?;
-    let after = costs_grown(rt, alloc, asked, start, &targets, closed, workers)?;
+    let ended = Ended { start, closed };
+    let after = costs_grown(rt, alloc, asked, ended, &targets, workers)?;
     Ok(PairCosts { costs, after })
 }
 
@@ -360,6 +362,11 @@ fn reach_targets<H: Threads + Wait + Clock + Sync, G: Gate + Sync>(
         _ => {
             let goal = Goal::Targets(targets);
             let reached = workers.reach(rt, alloc, network, Start::At(source), goal)?;
+            // To more targets workers mostly run without landmarks, even if there are some.
+            if network.landmark_count() == 0 && targets.len() <= MAX_TARGETS_ONE_BY_ONE {
+                let far = &mut workers.workspace.near.far;
+                far.see_run(reached.closed.labels(), reached.limit);
+            }
             Ok(reached.closed)
         }
     }
@@ -370,22 +377,25 @@ fn costs_grown<H: Threads + Wait + Clock + Sync, G: Gate + Sync>(
     rt: &H,
     alloc: Global,
     asked: &Pairs<'_>,
-    start: Start,
+    ended: Ended,
     targets: &[u32],
-    closed: Closed,
     workers: &mut Workers<'_, G>,
 ) -> Result<Vec<Option<u64>>, Memory>
     requires grows { GrowsInto asked.now.network.now asked.now.grown }
-    requires start { IsStartWithin asked.now.network.now.n start }
+    requires start { IsStartWithin asked.now.network.now.n ended.start }
     requires targets { All (λ t. t < asked.now.network.now.n) targets.now }
-    requires closed { IsEnd (graph_of asked.now.network.now) (seeds_at asked.now.network.now.n start) closed }
-    ensures { IfOk result (λ after. AreGrownCostsTo asked.now.grown start targets.now after.items) }
+    requires closed { IsEnd (graph_of asked.now.network.now) (seeds_at asked.now.network.now.n ended.start) ended.closed }
+    ensures { IfOk result (λ after. AreGrownCostsTo asked.now.grown ended.start targets.now after.items) }
 {
     let Some(grown) = asked.grown else {
         return Ok(Vec::new(alloc));
     };
-    let (network, goal) = (asked.network, Goal::Targets(targets));
-    let after = workers.reach_after(rt, alloc, network, grown, start, closed, goal)?;
+    let growth = NetworkGrowth {
+        network: asked.network,
+        grown,
+    };
+    let (start, goal) = (ended.start, Goal::Targets(targets));
+    let after = workers.reach_after(rt, alloc, &growth, ended, goal)?;
     costs_at(alloc, grown, start, targets, after.closed.labels())
 }
 

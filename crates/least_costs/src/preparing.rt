@@ -3,6 +3,7 @@
 ghost use Rattle.std.specs.Prelude.{◌≡◌};
 ghost use Rattle.least_costs.specs.Pairs.{ArePairsWithin};
 
+use crate::landmarks::MAX_LANDMARKS;
 use crate::network::Network;
 use crate::plan::Plan;
 use crate::workspace::Workspace;
@@ -12,11 +13,10 @@ use std::sync::Wait;
 use std::thread::Threads;
 use std::time::Clock;
 
-/// Landmarks are chosen once so many pairs were far for each of them. Pairs anywhere take about as long as choosing does,
-/// and nearer ones less.
-const FAR_PAIRS_A_LANDMARK: usize = 2;
+/// The landmarks of a first choice. They gain most of what more do.
+const FIRST_LANDMARKS: u32 = 4;
 
-/// Or if the pairs have so many sources for each of them, and most of a sample are far.
+/// Landmarks are chosen at once if the pairs have so many sources for each of them, and most of a sample are far.
 const SOURCES_A_LANDMARK: usize = 4;
 
 /// The pairs of a sample.
@@ -24,8 +24,9 @@ const SAMPLE_PAIRS: usize = 16;
 
 impl Workspace {
     /// Makes a network ready for pairs, if searches serve them. Its rows are reversed once searches have visited so much
-    /// of it that this saves time. It is given the landmarks of the plan after enough far pairs, or if these pairs are many
-    /// and far.
+    /// of it that this saves time. It is given landmarks once far pairs took more visits than a choice does: first a few,
+    /// and then those of the plan; or all at once, if these pairs are many and far. Landmarks that gain little are given
+    /// up.
     pub fn prepare<H: Threads + Wait + Clock + Sync, G: Gate + Sync>(
         &mut self,
         rt: &H,
@@ -38,40 +39,69 @@ impl Workspace {
         requires { ArePairsWithin network.old.n pairs.now }
         ensures { network.new ≡ network.old }
     {
-        if !self.searches || network.has_landmarks() {
+        if !self.searches {
             return;
         }
-        if self.near.wants_reversed(network) {
-            network.reverse(alloc);
-            self.near.forget_spent();
-            self.near.forget_far();
-        }
-        if self.wants_landmarks(alloc, network, plan, pairs) {
-            self.near.forget_far();
+        self.change_means(alloc, network);
+        let landmarks = self.worth_choosing(alloc, network, plan, pairs);
+        if landmarks > 0 {
+            self.near.far.begin_choice();
+            let plan = Plan { landmarks, ..plan };
             // Without them, as after a refusal of memory, the network serves as well.
             let _ = network.choose_watched(rt, alloc, plan, gate);
         }
     }
 
-    /// Tells if landmarks are likely to save more time than choosing them takes.
-    fn wants_landmarks(
+    /// Gives landmarks up if they gain little, and reverses the rows of a network without if that is worth it.
+    fn change_means(&mut self, alloc: Global, network: &mut Network)
+        ensures { network.new ≡ network.old }
+    {
+        if network.landmark_count() > 0 {
+            if self.near.far.gain_little() {
+                self.near.far.forget();
+                network.give_up_landmarks(alloc);
+            }
+        } else if self.near.wants_reversed(network) {
+            network.reverse(alloc);
+            self.near.forget_spent();
+            self.near.far.forget();
+        }
+    }
+
+    /// The number of landmarks that are likely to save more time than choosing them takes; 0 if none are.
+    fn worth_choosing(
         &mut self,
         alloc: Global,
         network: &Network,
         plan: Plan,
         pairs: &[(u32, u32)],
-    ) -> bool
+    ) -> u32
         requires { ArePairsWithin network.now.n pairs.now }
     {
-        let landmarks = plan.landmarks as usize;
-        if landmarks == 0 {
-            return false;
+        let most = plan.landmarks.min(MAX_LANDMARKS as u32);
+        let next = next_choice(network, most);
+        let has_some = network.landmark_count() > 0;
+        if next == 0 || self.near.far.exceed(has_some, next, network.n()) {
+            return next;
         }
-        if self.near.far() >= landmarks.saturating_mul(FAR_PAIRS_A_LANDMARK) {
-            return true;
-        }
-        count_sources(pairs) >= landmarks.saturating_mul(SOURCES_A_LANDMARK)
+        let sources = (most as usize).saturating_mul(SOURCES_A_LANDMARK);
+        if count_sources(pairs) >= sources
             && self.near.count_far(alloc, network, pairs, SAMPLE_PAIRS) > SAMPLE_PAIRS / 2
+        {
+            most
+        } else {
+            0
+        }
+    }
+}
+
+/// The number of landmarks of the next choice, if there are to be `most` in the end: a few at first, all after these or
+/// after some were given up, and else 0.
+fn next_choice(network: &Network, most: u32) -> u32 {
+    match network.landmarks() {
+        None => most.min(FIRST_LANDMARKS),
+        Some(first) if first.is_full() && first.len() < most as usize => most,
+        Some(_) => 0,
     }
 }
 

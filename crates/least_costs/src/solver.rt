@@ -5,6 +5,7 @@ ghost use Rattle.least_costs.specs.Costs.{IsFrom};
 ghost use Rattle.least_costs.specs.Network.{GrowsTo, IsStartWithin};
 
 use crate::costs::Costs;
+use crate::growth::NetworkGrowth;
 use crate::network::Network;
 use crate::plan::Plan;
 use crate::start::Start;
@@ -101,6 +102,10 @@ impl<'a, G: Gate + Sync> Solver<'a, G> {
         ensures start { IfOk result (λ after. after.start ≡ costs.start) }
     {
         let mut workers = Workers::new(self.plan.settings, &self.gate, None);
-        workers.costs_after(rt, alloc, self.network, grown, costs)
+        let growth = NetworkGrowth {
+            network: self.network,
+            grown,
+        };
+        workers.costs_after(rt, alloc, &growth, costs)
     }
 }

@@ -114,9 +114,20 @@ impl<'a, P: Send + Drop, G: Gate + Sync> TaskQueue<'a, P, G> {
         self.most
     }
 
-    /// Returns what all workers keep, for others after them.
+    /// Returns what all workers keep, for others after them, with what the teams counted.
     pub fn into_workspace(self) -> Workspace {
-        self.workers.into_workspace()
+        let TaskQueue {
+            workers,
+            states,
+            ..
+        } = self;
+        let mut kept = workers.into_workspace();
+        for state in &states {
+            if let Some(workspace) = &state.workspace {
+                kept.near.far.add(workspace.near.far);
+            }
+        }
+        kept
     }
 
     /// Tells if the task at a place was tried before its turn.

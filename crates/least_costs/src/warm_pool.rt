@@ -2,14 +2,15 @@
 
 ghost use Rattle.std.specs.Prelude.{◌≡◌, All, IfOk, IfSome, length};
 ghost use Rattle.route_walks.specs.Walk.{AreSeeds};
-ghost use Rattle.csr_graph.specs.Graph.{Graph};
 ghost use Rattle.label_words.specs.Closed.{IsEnd};
 ghost use Rattle.label_words.specs.Paused.{IsPause};
 ghost use Rattle.obim_pool.specs.Sides.{IsSideOf};
-ghost use Rattle.obim_engine.specs.Goal.{HasReached, IsGoalWithin};
+ghost use Rattle.obim_engine.specs.Goal.{HasReached};
+ghost use Rattle.least_costs.specs.Searches.{IsSearchWithin, IsTaskWithin};
 ghost use Rattle.least_costs.specs.Network.{GrowsTo, IsStartWithin, graph_of, seeds_at};
 
 use crate::costs::Costs;
+use crate::growth::NetworkGrowth;
 use crate::network::Network;
 use crate::start::Start;
 use csr_graph::Csr;
@@ -42,6 +43,24 @@ struct Fitted {
     sides: Vec<ObimSide>,
     ghost own: { All (IsSideOf pool.log) sides.items },
     ghost workers: { length sides.items ≡ settings.workers },
+}
+
+/// A run that is asked for: from a start in a network, or on from a pause there, as far as a goal.
+#[derive(Drop)]
+pub(crate) struct Search<'a> {
+    pub network: &'a Network,
+    pub start: Start,
+    pub rest: Option<Paused>,
+    pub goal: Goal<'a>,
+}
+
+/// Such a run over rows, from seeds or from a pause of theirs.
+#[derive(Drop)]
+struct Task<'a> {
+    rows: &'a Csr,
+    seeds: &'a [Seed],
+    rest: Option<Paused>,
+    goal: Goal<'a>,
 }
 
 #[derive(Drop)]
@@ -88,68 +107,60 @@ impl WarmPool {
         ensures net { IfOk result (λ costs. costs.net ≡ network.now) }
         ensures start { IfOk result (λ costs. costs.start ≡ start) }
     {
-        let reached = self.reach(rt, alloc, network, start, Goal::EachVertex, gate)?;
+        let search = Search {
+            network,
+            start,
+            rest: None,
+            goal: Goal::EachVertex,
+        };
+        let reached = self.reach(rt, alloc, search, gate)?;
         Ok(Costs::new(network, start, reached.closed.into_labels()))
     }
 
-    /// Runs from a start, no further than the goal wants.
+    /// Runs from a start, or on from a pause, no further than the goal wants. From a pause only what the arcs that leave
+    /// marked vertices change is visited.
     pub(crate) fn reach<H: Threads + Wait + Clock + Sync, G: Gate + Sync>(
         &mut self,
         rt: &H,
         alloc: Global,
-        network: &Network,
-        start: Start,
-        goal: Goal<'_>,
+        search: Search<'_>,
         gate: &G,
     ) -> Result<GoalResult, Memory>
-        requires start { IsStartWithin network.now.n start }
-        requires goal { IsGoalWithin network.now.n goal }
-        ensures { IfOk result (HasReached goal.entry (graph_of network.now) (seeds_at network.now.n start)) }
+        requires { IsSearchWithin search }
+        ensures { IfOk result (HasReached search.entry.goal (graph_of search.entry.network.now)
+            (seeds_at search.entry.network.now.n search.entry.start)) }
     {
-        let seeds = seeds_of(alloc, network, start)?;
-        match run_over(
-            rt,
-            alloc,
-            &network.rows,
-            &seeds,
-            None,
+        let Search {
+            network,
+            start,
+            rest,
             goal,
-            &mut self.kind,
-            gate,
-        ) {
-            Ok(reached) => Ok(reached),
-            Err(_) => Err(Memory),
-        }
+        } = search;
+        let seeds = seeds_of(alloc, network, start)?;
+        let task = Task {
+            rows: &network.rows,
+            seeds: &seeds,
+            rest,
+            goal,
+        };
+        self.run(rt, alloc, task, gate)
     }
 
-    /// Goes on in a grown network, from a pause of a run from this start. Visits only what the arcs that leave its
-    /// marked vertices change.
-    pub(crate) fn resume<H: Threads + Wait + Clock + Sync, G: Gate + Sync>(
+    fn run<H: Threads + Wait + Clock + Sync, G: Gate + Sync>(
         &mut self,
         rt: &H,
         alloc: Global,
-        grown: &Network,
-        start: Start,
-        rest: Paused,
-        goal: Goal<'_>,
+        task: Task<'_>,
         gate: &G,
     ) -> Result<GoalResult, Memory>
-        requires start { IsStartWithin grown.now.n start }
-        requires rest { IsPause (graph_of grown.now) (seeds_at grown.now.n start) rest }
-        requires goal { IsGoalWithin grown.now.n goal }
-        ensures { IfOk result (HasReached goal.entry (graph_of grown.now) (seeds_at grown.now.n start)) }
+        requires { IsTaskWithin task }
+        ensures { IfOk result (HasReached task.entry.goal task.entry.rows.now task.entry.seeds.now) }
     {
-        let seeds = seeds_of(alloc, grown, start)?;
-        match run_over(
-            rt,
-            alloc,
-            &grown.rows,
-            &seeds,
-            Some(rest),
-            goal,
-            &mut self.kind,
-            gate,
-        ) {
+        let reached = match &mut self.kind {
+            Kind::Even(even) => run_even(rt, alloc, task, even, gate),
+            Kind::Fitted(fitted) => run_fitted(rt, alloc, task, fitted, gate),
+        };
+        match reached {
             Ok(reached) => Ok(reached),
             Err(_) => Err(Memory),
         }
@@ -159,16 +170,16 @@ impl WarmPool {
 /// Makes a pause in the grown network of what a run left before. It marks the tails of the added arcs.
 pub(crate) fn pause_after(
     alloc: Global,
-    network: &Network,
-    grown: &Network,
+    growth: &NetworkGrowth<'_>,
     start: Start,
     closed: Closed,
 ) -> Result<Paused, Memory>
-    requires start { IsStartWithin network.now.n start }
-    requires grown { GrowsTo network.now grown.now }
-    requires closed { IsEnd (graph_of network.now) (seeds_at network.now.n start) closed }
-    ensures { IfOk result (IsPause (graph_of grown.now) (seeds_at grown.now.n start)) }
+    requires start { IsStartWithin growth.now.network.now.n start }
+    requires grown { GrowsTo growth.now.network.now growth.now.grown.now }
+    requires closed { IsEnd (graph_of growth.now.network.now) (seeds_at growth.now.network.now.n start) closed }
+    ensures { IfOk result (IsPause (graph_of growth.now.grown.now) (seeds_at growth.now.grown.now.n start)) }
 {
+    let (network, grown) = (growth.network, growth.grown);
     // The rows are by tail, so that labels which are least along them are a pause of their graph. The start is for the
     // contract alone.
     let _ = (network.rows.n(), start);
@@ -189,51 +200,31 @@ fn seeds_of(alloc: Global, network: &Network, start: Start) -> Result<Vec<Seed>,
     }
 }
 
-/// Runs from these seeds, or from a pause of theirs.
-fn run_over<H: Threads + Wait + Clock + Sync, G: Gate + Sync>(
-    rt: &H,
-    alloc: Global,
-    rows: &Csr,
-    seeds: &[Seed],
-    rest: Option<Paused>,
-    goal: Goal<'_>,
-    kind: &mut Kind,
-    gate: &G,
-) -> Result<GoalResult, RunFault>
-    requires seeds { AreSeeds rows.now.n seeds.now }
-    requires rest { IfSome rest (IsPause rows.now seeds.now) }
-    requires goal { IsGoalWithin rows.now.n goal }
-    ensures { IfOk result (HasReached goal.entry rows.now seeds.now) }
-{
-    match kind {
-        Kind::Even(even) => run_even(rt, alloc, rows, seeds, rest, goal, even, gate),
-        Kind::Fitted(fitted) => run_fitted(rt, alloc, rows, seeds, rest, goal, fitted, gate),
-    }
-}
-
+/// Runs from the seeds of a task, or goes on from its pause.
 fn run_on<H: Threads + Wait + Clock + Sync, P: WorkPool + Sync, G: Gate + Sync>(
     rt: &H,
     alloc: Global,
-    rows: &Csr,
-    seeds: &[Seed],
-    rest: Option<Paused>,
-    goal: Goal<'_>,
+    task: Task<'_>,
     setup: &Setup<'_, P, G>,
     sides: &mut [P::Side],
 ) -> Result<GoalResult, RunFault>
 where
     P::Side: Send,
-    requires seeds { AreSeeds rows.now.n seeds.now }
-    requires rest { IfSome rest (IsPause rows.now seeds.now) }
-    requires goal { IsGoalWithin rows.now.n goal }
+    requires task { IsTaskWithin task }
     requires workers { length sides.old ≡ setup.now.settings.now.workers }
     requires sides { All (P.is_side setup.now.pool.now) sides.old }
-    ensures reached { IfOk result (HasReached goal.entry rows.now seeds.now) }
+    ensures reached { IfOk result (HasReached task.entry.goal task.entry.rows.now task.entry.seeds.now) }
     ensures sides { All (P.is_side setup.now.pool.now) sides.new }
 {
+    let Task {
+        rows,
+        seeds,
+        rest,
+        goal,
+    } = task;
     match rest {
         None => run_until(rt, alloc, rows, seeds, goal, setup, sides),
-        Some(rest) => resume_until(rt, alloc, rows, seeds, rest, goal, setup, sides),
+        Some(rest) => resume_until(rt, alloc, rows, rest, goal, setup, sides),
     }
 }
 
@@ -264,17 +255,12 @@ fn open_fitted(alloc: Global, rows: &Csr, settings: &Settings) -> Result<Fitted,
 fn run_even<H: Threads + Wait + Clock + Sync, G: Gate + Sync>(
     rt: &H,
     alloc: Global,
-    rows: &Csr,
-    seeds: &[Seed],
-    rest: Option<Paused>,
-    goal: Goal<'_>,
+    task: Task<'_>,
     even: &mut Even,
     gate: &G,
 ) -> Result<GoalResult, RunFault>
-    requires seeds { AreSeeds rows.now.n seeds.now }
-    requires rest { IfSome rest (IsPause rows.now seeds.now) }
-    requires goal { IsGoalWithin rows.now.n goal }
-    ensures { IfOk result (HasReached goal.entry rows.now seeds.now) }
+    requires { IsTaskWithin task }
+    ensures { IfOk result (HasReached task.entry.goal task.entry.rows.now task.entry.seeds.now) }
 {
     let before = Worklist::of(&even.sides);
     let setup = Setup {
@@ -282,7 +268,7 @@ fn run_even<H: Threads + Wait + Clock + Sync, G: Gate + Sync>(
         pool: &even.pool,
         gate,
     };
-    let reached = run_on(rt, alloc, rows, seeds, rest, goal, &setup, &mut even.sides)?;
+    let reached = run_on(rt, alloc, task, &setup, &mut even.sides)?;
     gate.end(rt, worklist_since(before, &even.sides));
     Ok(reached)
 }
@@ -290,17 +276,12 @@ fn run_even<H: Threads + Wait + Clock + Sync, G: Gate + Sync>(
 fn run_fitted<H: Threads + Wait + Clock + Sync, G: Gate + Sync>(
     rt: &H,
     alloc: Global,
-    rows: &Csr,
-    seeds: &[Seed],
-    rest: Option<Paused>,
-    goal: Goal<'_>,
+    task: Task<'_>,
     fitted: &mut Fitted,
     gate: &G,
 ) -> Result<GoalResult, RunFault>
-    requires seeds { AreSeeds rows.now.n seeds.now }
-    requires rest { IfSome rest (IsPause rows.now seeds.now) }
-    requires goal { IsGoalWithin rows.now.n goal }
-    ensures { IfOk result (HasReached goal.entry rows.now seeds.now) }
+    requires { IsTaskWithin task }
+    ensures { IfOk result (HasReached task.entry.goal task.entry.rows.now task.entry.seeds.now) }
 {
     let before = Worklist::of(&fitted.sides);
     let setup = Setup {
@@ -308,16 +289,7 @@ fn run_fitted<H: Threads + Wait + Clock + Sync, G: Gate + Sync>(
         pool: &fitted.pool,
         gate,
     };
-    let reached = run_on(
-        rt,
-        alloc,
-        rows,
-        seeds,
-        rest,
-        goal,
-        &setup,
-        &mut fitted.sides,
-    )?;
+    let reached = run_on(rt, alloc, task, &setup, &mut fitted.sides)?;
     gate.end(rt, worklist_since(before, &fitted.sides));
     Ok(reached)
 }

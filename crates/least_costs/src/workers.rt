@@ -13,10 +13,11 @@ ghost use Rattle.least_costs.specs.Network.{GrowsTo, IsStartWithin, graph_of, se
 
 use crate::below::CostsBelow;
 use crate::costs::Costs;
+use crate::growth::NetworkGrowth;
 use crate::landmarks::Landmarks;
 use crate::network::Network;
 use crate::start::Start;
-use crate::warm_pool::{WarmPool, pause_after};
+use crate::warm_pool::{Search, WarmPool, pause_after};
 use crate::workspace::Workspace;
 use near_labels::WalksFound;
 use obim_engine::{Closed, Gate, Goal, GoalResult, Settings};
@@ -25,6 +26,13 @@ use std::alloc::Global;
 use std::sync::Wait;
 use std::thread::Threads;
 use std::time::Clock;
+
+/// The start of a run that ended, and what it left.
+#[derive(Drop)]
+pub(crate) struct Ended {
+    pub start: Start,
+    pub closed: Closed,
+}
 
 /// The workers that solve one start after another, and keep their pool and room for searches from one to the next.
 #[derive(Drop)]
@@ -81,20 +89,21 @@ impl<'a, G: Gate + Sync> Workers<'a, G> {
         &mut self,
         rt: &H,
         alloc: Global,
-        network: &Network,
-        grown: &Network,
+        growth: &NetworkGrowth<'_>,
         costs: Costs,
     ) -> Result<Costs, Memory>
-        requires net { costs.net ≡ network.now }
-        requires grown { GrowsTo network.now grown.now }
-        ensures net { IfOk result (λ after. after.net ≡ grown.now) }
+        requires net { costs.net ≡ growth.now.network.now }
+        requires grown { GrowsTo growth.now.network.now growth.now.grown.now }
+        ensures net { IfOk result (λ after. after.net ≡ growth.now.grown.now) }
         ensures start { IfOk result (λ after. after.start ≡ costs.start) }
     {
         let start = costs.start();
-        let closed = Closed::Settled(costs.into_labels());
-        let goal = Goal::EachVertex;
-        let reached = self.reach_after(rt, alloc, network, grown, start, closed, goal)?;
-        Ok(Costs::new(grown, start, reached.closed.into_labels()))
+        let ended = Ended {
+            start,
+            closed: Closed::Settled(costs.into_labels()),
+        };
+        let reached = self.reach_after(rt, alloc, growth, ended, Goal::EachVertex)?;
+        Ok(Costs::new(growth.grown, start, reached.closed.into_labels()))
     }
 
     /// The costs from a start that serve a goal. Workers go no further, so labels past the limit may be too high.
@@ -116,29 +125,30 @@ impl<'a, G: Gate + Sync> Workers<'a, G> {
         Ok(CostsBelow::new(network, start, reached))
     }
 
-    /// The costs in a network that another one grew to by `with_arcs`, from the same start, that serve a goal. Workers
-    /// go on from what a run left there, whichever goal it had: they visit what the added arcs change, and what the
-    /// goal wants.
+    /// The costs in a grown network, from the same start, that serve a goal. Workers go on from what a run in the network
+    /// before left, whichever goal it had: they visit what the added arcs change, and what the goal wants.
     pub fn costs_for_after<H: Threads + Wait + Clock + Sync>(
         &mut self,
         rt: &H,
         alloc: Global,
-        network: &Network,
-        grown: &Network,
+        growth: &NetworkGrowth<'_>,
         costs: CostsBelow,
         goal: Goal<'_>,
     ) -> Result<CostsBelow, Memory>
-        requires net { costs.net ≡ network.now }
-        requires grown { GrowsTo network.now grown.now }
-        requires goal { IsGoalWithin grown.now.n goal }
-        ensures net { IfOk result (λ after. after.net ≡ grown.now) }
+        requires net { costs.net ≡ growth.now.network.now }
+        requires grown { GrowsTo growth.now.network.now growth.now.grown.now }
+        requires goal { IsGoalWithin growth.now.grown.now.n goal }
+        ensures net { IfOk result (λ after. after.net ≡ growth.now.grown.now) }
         ensures start { IfOk result (λ after. after.start ≡ costs.start) }
         ensures served { IfOk result (λ after. IsServedBy goal.entry after.labels after.limit) }
     {
         let start = costs.start();
-        let closed = costs.into_closed();
-        let reached = self.reach_after(rt, alloc, network, grown, start, closed, goal)?;
-        Ok(CostsBelow::new(grown, start, reached))
+        let ended = Ended {
+            start,
+            closed: costs.into_closed(),
+        };
+        let reached = self.reach_after(rt, alloc, growth, ended, goal)?;
+        Ok(CostsBelow::new(growth.grown, start, reached))
     }
 
     /// Returns the least labels of these targets from a source and the walks to them, found by the thread that asks.
@@ -197,7 +207,13 @@ impl<'a, G: Gate + Sync> Workers<'a, G> {
         ensures { IfOk result (HasReached goal.entry (graph_of network.now) (seeds_at network.now.n start)) }
     {
         let mut warm_pool = self.warm_pool(alloc, network)?;
-        let reached = warm_pool.reach(rt, alloc, network, start, goal, self.gate)?;
+        let search = Search {
+            network,
+            start,
+            rest: None,
+            goal,
+        };
+        let reached = warm_pool.reach(rt, alloc, search, self.gate)?;
         self.workspace.pool = Some(warm_pool);
         Ok(reached)
     }
@@ -224,6 +240,8 @@ impl<'a, G: Gate + Sync> Workers<'a, G> {
         let bounds = landmarks.toward(source, targets, &low, &high);
         let goal = Goal::Toward(&bounds);
         let reached = self.reach(rt, alloc, network, Start::At(source), goal)?;
+        let far = &mut self.workspace.near.far;
+        far.see_guided_run(reached.closed.labels(), &bounds);
         Ok(reached.closed)
     }
 
@@ -232,21 +250,29 @@ impl<'a, G: Gate + Sync> Workers<'a, G> {
         &mut self,
         rt: &H,
         alloc: Global,
-        network: &Network,
-        grown: &Network,
-        start: Start,
-        closed: Closed,
+        growth: &NetworkGrowth<'_>,
+        ended: Ended,
         goal: Goal<'_>,
     ) -> Result<GoalResult, Memory>
-        requires start { IsStartWithin network.now.n start }
-        requires grown { GrowsTo network.now grown.now }
-        requires closed { IsEnd (graph_of network.now) (seeds_at network.now.n start) closed }
-        requires goal { IsGoalWithin grown.now.n goal }
-        ensures { IfOk result (HasReached goal.entry (graph_of grown.now) (seeds_at grown.now.n start)) }
+        requires start { IsStartWithin growth.now.network.now.n ended.start }
+        requires grown { GrowsTo growth.now.network.now growth.now.grown.now }
+        requires closed { IsEnd (graph_of growth.now.network.now)
+            (seeds_at growth.now.network.now.n ended.start) ended.closed }
+        requires goal { IsGoalWithin growth.now.grown.now.n goal }
+        ensures { IfOk result (HasReached goal.entry (graph_of growth.now.grown.now)
+            (seeds_at growth.now.grown.now.n ended.start)) }
     {
-        let mut warm_pool = self.warm_pool(alloc, grown)?;
-        let rest = pause_after(alloc, network, grown, start, closed)?;
-        let reached = warm_pool.resume(rt, alloc, grown, start, rest, goal, self.gate)?;
+        let network = growth.grown;
+        let Ended { start, closed } = ended;
+        let mut warm_pool = self.warm_pool(alloc, network)?;
+        let rest = Some(pause_after(alloc, growth, start, closed)?);
+        let search = Search {
+            network,
+            start,
+            rest,
+            goal,
+        };
+        let reached = warm_pool.reach(rt, alloc, search, self.gate)?;
         self.workspace.pool = Some(warm_pool);
         Ok(reached)
     }

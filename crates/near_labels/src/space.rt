@@ -21,7 +21,7 @@ use route_walks::Memory;
 use route_walks::laws::least_up_to_a_limit;
 use std::alloc::Global;
 use std::marker::Model;
-use walk_report::WalkSpace;
+use walk_report::{LabelsBelow, WalkSpace};
 
 /// Room for searches in graphs of this many vertices, one after another. Takes 9 bytes a vertex, and about 30 for each
 /// vertex that a search reaches.
@@ -148,8 +148,12 @@ impl SearchSpace {
         let reached = search(&mut self.state, csr, source, SearchAim::Walks(targets));
         let found = match reached {
             Some(limit) => {
-                let labels = &self.state.labels;
-                walks_below(walks, alloc, csr, labels, source, limit, targets)
+                let from = LabelsBelow {
+                    labels: &self.state.labels,
+                    source,
+                    limit,
+                };
+                walks_below(walks, alloc, csr, from, targets)
             }
             None => None,
         };

@@ -30,10 +30,7 @@ pub use growing::grow;
 pub use hints::widths::{Widths, widths_of};
 pub use label_words::{Closed, Paused};
 pub use obim_pool::Worklist;
-pub use operators::{
-    components, distances, distances_until, least_labels, least_labels_resumed,
-    least_labels_resumed_until, least_labels_until, levels,
-};
+pub use operators::{components, distances, levels};
 pub use runs::{RunFault, resume, run, run_for};
 pub use settings::{Buckets, MAX_CHUNK, MAX_SHIFT, MAX_WORKERS, Settings, Setup};
 pub use until::{resume_until, run_until};

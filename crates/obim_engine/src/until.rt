@@ -3,9 +3,10 @@
 //! When workers leave is a hint. Their pause shows if the wanted labels are least: no vertex below the limit is marked.
 //! If one is, since the pool lost it, the run goes on to its end.
 
-ghost use Rattle.std.specs.Prelude.{◌≡◌, ◌≤◌, length, None, All, IfOk};
+ghost use Rattle.std.specs.Prelude.{◌≡◌, ◌≤◌, length, None, All, IfOk, List};
 ghost use Rattle.route_walks.specs.Walk.{AreSeeds};
-ghost use Rattle.label_words.specs.Paused.{IsPause};
+ghost use Rattle.route_walks.specs.declared.graph.Seed.{Seed};
+ghost use Rattle.label_words.specs.Paused.{CanGoOn, IsPause};
 ghost use Rattle.obim_engine.specs.Goal.{HasReached, HasStopped, IsGoalWithin};
 ghost use Rattle.obim_engine.specs.Workers.{CanLead};
 
@@ -51,12 +52,11 @@ where
     reach(rt, alloc, opened, &Run::of(csr, goal, setup), sides)
 }
 
-/// Goes on from a pause of this graph and these seeds, as `run_until`. After a fault the pause is gone.
+/// Goes on from a pause, as `run_until` from any seeds of which it is a pause. After a fault the pause is gone.
 pub fn resume_until<H: Threads + Wait + Clock + Sync, P: WorkPool + Sync, G: Gate + Sync>(
     rt: &H,
     alloc: Global,
     csr: &Csr,
-    seeds: &[Seed],
     rest: Paused,
     goal: Goal<'_>,
     setup: &Setup<'_, P, G>,
@@ -64,17 +64,18 @@ pub fn resume_until<H: Threads + Wait + Clock + Sync, P: WorkPool + Sync, G: Gat
 ) -> Result<GoalResult, RunFault>
 where
     P::Side: Send,
-    requires seeds { AreSeeds csr.now.n seeds.now }
-    requires pause { IsPause csr.now seeds.now rest }
+    requires pause { CanGoOn csr.now rest }
     requires goal { IsGoalWithin csr.now.n goal }
     requires workers { length sides.old ≡ setup.now.settings.now.workers }
     requires sides { All (P.is_side setup.now.pool.now) sides.old }
-    ensures reached { IfOk result (HasReached goal.entry csr.now seeds.now) }
+    ensures reached { (seeds : List Seed)
+        → AreSeeds csr.now.n seeds
+        → IsPause csr.now seeds rest
+        → IfOk result (HasReached goal.entry csr.now seeds) }
     ensures sides { All (P.is_side setup.now.pool.now) sides.new }
 {
-    // The words have the labels as their seeds; the caller's seeds are for the contract alone.
-    let _ = seeds;
     let opened = Opened::from_pause(alloc, csr, rest)?;
+    // The words have the labels as their seeds, and what is least from these is least from the others.
     resumed_runs_end_alike();
     reach(rt, alloc, opened, &Run::of(csr, goal, setup), sides)
 }

@@ -51,7 +51,7 @@ lines_by (Some word.Each) None lines = by.Each false
 lines_by (Some word.Each) (Some bound) lines = by.Within false bound
 lines_by (Some word.Walks) None lines = by.Each true
 lines_by (Some word.Walks) (Some bound) lines = by.Within true bound
-lines_by (Some word.Raw) bound lines = by.Raw
+lines_by (Some word.Raw) bound lines = by.Raw true
 lines_by (Some word.Totals) bound lines = by.Totals
 
 -- components have one block, whatever lines are asked for
@@ -70,8 +70,16 @@ terms_by head terms =
           (lines_by (word_for head.form head.lines) head.bound terms.lines);
     }
 
--- The lines of an answer: those that are asked for where sources are. A pair has its line, and its walk if they have walks.
+-- the lines of pairs: each has its line, and its walk if they have walks. By the word for them each has its label as bytes
+abbrev pub lines_for_pairs : Lines → Lines
+lines_for_pairs (by.Each walks) = by.Each walks
+lines_for_pairs (by.Within walks bound) = by.Each walks
+lines_for_pairs (by.Raw false) = by.Each false
+lines_for_pairs (by.Raw true) = by.Raw true
+lines_for_pairs by.Totals = by.Each false
+
+-- The lines of an answer: those that are asked for where sources are, and those of pairs where pairs are.
 abbrev pub lines_for : Lines → Question → Lines
 lines_for lines absent = by.Each false
 lines_for lines (from_sources sources) = lines
-lines_for lines (of_pairs pairs) = by.Each (has_walks lines)
+lines_for lines (of_pairs pairs) = lines_for_pairs lines

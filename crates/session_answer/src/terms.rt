@@ -57,7 +57,7 @@ fn lines_by(word: Option<HeadLines>, bound: Option<u64>, lines: Lines) -> Lines
         None => lines.has_walks(),
         Some(HeadLines::Each) => false,
         Some(HeadLines::Walks) => true,
-        Some(HeadLines::Raw) => return Lines::Raw,
+        Some(HeadLines::Raw) => return Lines::Raw { pairs: true },
         Some(HeadLines::Totals) => return Lines::Totals,
     };
     match bound {
@@ -75,8 +75,10 @@ pub(crate) fn lines_for(lines: Lines, ask: &Ask) -> Lines
     match ask {
         Ask::Absent => Lines::Each { walks: false },
         Ask::Sources(_) => lines,
-        Ask::Pairs(_) => Lines::Each {
-            walks: lines.has_walks(),
+        Ask::Pairs(_) => match lines {
+            Lines::Raw { pairs: true } => lines,
+            Lines::Each { walks } | Lines::Within { walks, .. } => Lines::Each { walks },
+            Lines::Raw { pairs: false } | Lines::Totals => Lines::Each { walks: false },
         },
     }
 }

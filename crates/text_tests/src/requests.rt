@@ -10,7 +10,7 @@ use std::test::Fail;
 /// request lacks lines.
 type Row = (&'static [&'static str], &'static str, Option<u64>);
 
-const ROWS: [Row; 50] = [
+const ROWS: [Row; 51] = [
     // Sections of each kind, and the empty one.
     (
         &["p aux sp ss 2", "s 1", "s 2"],
@@ -144,6 +144,11 @@ const ROWS: [Row; 50] = [
         None,
     ),
     (
+        &["p aux sp raw p2p 1", "q 1 2", "p aux sp levels raw p2p 0"],
+        "3 Pairs([(0, 1)]) None Raw Pairs\n4 Pairs([]) None Levels Raw Pairs\n",
+        None,
+    ),
+    (
         &[" p aux\tsp  walks p2p 1\r", "q 2 1"],
         "3 Pairs([(1, 0)]) None Walks Pairs\n",
         None,
@@ -176,7 +181,7 @@ const ROWS: [Row; 50] = [
     ),
     (
         &[
-            "p aux sp raw p2p 0",
+            "p aux sp totals p2p 0",
             "p aux sp each walk 0",
             "p aux sp levels add 0",
             "p aux sp raw add 0",
@@ -186,11 +191,12 @@ const ROWS: [Row; 50] = [
     ),
     (
         &[
-            "p aux sp components each ss 0",
+            "p aux sp components raw p2p 0",
             "p aux sp components walk 0",
             "p aux sp components within 1 0",
+            "p aux sp components each ss 0",
         ],
-        "e 2 unknown line\ne 3 unknown line\ne 4 unknown line\n",
+        "e 2 unknown line\ne 3 unknown line\ne 4 unknown line\ne 5 unknown line\n",
         None,
     ),
     (

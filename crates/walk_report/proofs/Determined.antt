@@ -62,21 +62,12 @@ hop-same one two =
     let high = two.fewest one.walk.walk one.walk.walks one.walk.costs in
     omega (arith, low, high, one.walk.count, two.walk.count)
 
-module _ {n : ℕ} {arcs : List ArcRec} {s : ℕ} {labels : List ℕ}
-    (least : AreLeastLabels n arcs (seeds_from s) labels) where
-  -- a label that is not below INF is INF
-  label-cases : (v : ℕ) → v < n → (slice_index labels v < INF) ⊎ (slice_index labels v ≡ INF)
-  label-cases v below =
-      elim (cases_lt (slice_index labels v) INF) [
-        | inl finite ↦ inl finite
-        | inr infinite ↦ inr (omega (arith, (least.least v below).capped))
-      ]
-
+module _ {n : ℕ} {arcs : List ArcRec} {s : ℕ} {labels : List ℕ} where
   hops-same : {hops hops' : List ℕ} → AreHops n arcs s labels hops → AreHops n arcs s labels hops' → hops ≡ hops'
   hops-same {hops = hops} {hops' = hops'} one two =
       same_number_lists hops hops' (one.count ∙ sym two.count) (λ v within.
       let below : v < n = omega (arith, one.count) in
-      elim (label-cases v below) [
+      elim (cases_lt (slice_index labels v) INF) [
         | inl finite ↦ hop-same (one.hop v below finite) (two.hop v below finite)
         | inr infinite ↦ one.none v below infinite ∙ sym (two.none v below infinite)
       ])
@@ -86,7 +77,7 @@ module _ {n : ℕ} {arcs : List ArcRec} {s : ℕ} {labels : List ℕ}
   parents-same {hops = hops} {parents = parents} {parents' = parents'} exact one two =
       same_number_lists parents parents' (one.count ∙ sym two.count) (λ v within.
       let below : v < n = omega (arith, one.count) in
-      elim (label-cases v below) [
+      elim (cases_lt (slice_index labels v) INF) [
         | inr infinite ↦
             let none = exact.none v below infinite in
             one.none v below none ∙ sym (two.none v below none)
@@ -103,5 +94,5 @@ module _ {n : ℕ} {arcs : List ArcRec} {s : ℕ} {labels : List ℕ}
 
 pub hops_and_parents_are_unique : HopsAndParentsAreUnique
 hops_and_parents_are_unique n arcs s labels hops hops' parents parents' least one two led led' =
-    let same = hops-same least one two in
-    (same, parents-same least two (rw same at led) led')
+    let same = hops-same one two in
+    (same, parents-same two (rw same at led) led')

@@ -23,7 +23,7 @@ use Rattle.walk_report.specs.Hop.{AreFromOneSource, AreHops}
 use Rattle.walk_report.specs.Parent.{IsParent, Leads}
 use Rattle.walk_report.specs.Search.{IsTightBelow}
 use Rattle.walk_report.specs.Existence.{HopsAndParentsExist}
-use Rattle.walk_report.proofs.LeastWalks.{first-step, hops-below-inf, label-le-cost, labels-up-to}
+use Rattle.walk_report.proofs.LeastWalks.{first-step, label-le-cost, labels-up-to}
 use Rattle.walk_report.proofs.Tails.{AreLeastTails, tails-done}
 
 -- a step is a tight arc that counts 1
@@ -350,6 +350,6 @@ hops_and_parents_exist law n arcs s labels few graph inside least =
       limit = INF;
       few = omega arith;
       least = labels-up-to INF least;
-      exact = hops-below-inf least exact;
+      exact = exact;
     } in
     (hops, parents, exact, tails-done (λ u. u < n) few graph from (λ u below _. below) tails)

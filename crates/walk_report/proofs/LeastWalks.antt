@@ -30,30 +30,12 @@ walk-more arcs s u v w d h within to_u =
       count = omega (arith, length_push to_u.walk arc, to_u.count);
     }
 
--- least labels are least up to each limit, and their hops are those below INF
+-- least labels are least up to each limit
 pub labels-up-to : (limit : ℕ) {n : ℕ} {arcs : List ArcRec} {s : ℕ} {labels : List ℕ}
     → AreLeastLabels n arcs (seeds_from s) labels → AreLeastLabelsUpTo limit n arcs (seeds_from s) labels
 labels-up-to limit {arcs = arcs} {s = s} {labels = labels} least = record {
   count = least.count;
   least = λ v below. least_is_least_up_to limit arcs (seeds_from s) v (slice_index labels v) (least.least v below);
-}
-
-pub hops-below-inf : {n : ℕ} {arcs : List ArcRec} {s : ℕ} {labels hops : List ℕ}
-    → AreLeastLabels n arcs (seeds_from s) labels → AreHops n arcs s labels hops → AreHopsBelow INF n arcs s labels hops
-hops-below-inf least exact = record {
-  count = exact.count;
-  none = λ v below past. exact.none v below (omega (arith, past, (least.least v below).capped));
-  below = exact.below;
-  hop = exact.hop;
-}
-
-pub hops-of-below-inf : {n : ℕ} {arcs : List ArcRec} {s : ℕ} {labels hops : List ℕ}
-    → AreHopsBelow INF n arcs s labels hops → AreHops n arcs s labels hops
-hops-of-below-inf exact = record {
-  count = exact.count;
-  none = λ v below is. exact.none v below (omega (arith, is));
-  below = exact.below;
-  hop = exact.hop;
 }
 
 module _ {limit n : ℕ} {arcs : List ArcRec} {s : ℕ} {labels : List ℕ} (few : limit ≤ INF) (graph : IsGraph n arcs)

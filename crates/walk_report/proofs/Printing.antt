@@ -10,8 +10,7 @@ use Rattle.route_walks.proofs.Facts.{walk-append, cost-append}
 use Rattle.walk_report.specs.declared.hop.TheConstants.{NONE}
 use Rattle.walk_report.specs.Hop.{AreHopsBelow}
 use Rattle.walk_report.specs.Parent.{AreParents, LeadBack}
-use Rattle.walk_report.specs.Printed.{printed_walk, GoesThrough, PrintedWalksAreWalks, PrintedWalksBelowAreWalks}
-use Rattle.walk_report.proofs.LeastWalks.{hops-below-inf}
+use Rattle.walk_report.specs.Printed.{printed_walk, GoesThrough, PrintedWalksAreWalks}
 
 -- a printed walk has a vertex
 pub printed_walk-some : (parent : ℕ → ℕ) (h v : ℕ) → 0 < length (printed_walk parent h v)
@@ -68,10 +67,6 @@ goes {n = n} {arcs = arcs} {parents = parents} graph exact led (suc h) v below l
     (omega (arith, leads.leading.tight)) (omega (arith, leads.leading.nearer)) in
     rw (← leads.leading.tight) (goes-on to_parent v leads.weight leads.within)
 
-pub printed_walks_below_are_walks : PrintedWalksBelowAreWalks
-printed_walks_below_are_walks limit n arcs s labels hops parents graph exact led v below low =
-    goes graph exact led (slice_index hops v) v below low refl
-
 pub printed_walks_are_walks : PrintedWalksAreWalks
-printed_walks_are_walks n arcs s labels hops parents graph within least exact led v below finite =
-    goes graph (hops-below-inf least exact) led (slice_index hops v) v below finite refl
+printed_walks_are_walks limit n arcs s labels hops parents graph exact led v below low =
+    goes graph exact led (slice_index hops v) v below low refl

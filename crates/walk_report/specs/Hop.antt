@@ -20,14 +20,6 @@ pub record IsHop (arcs : List ArcRec) (s v d h : ℕ) : Type 0 where
   pub walk : HasWalk arcs s v d h
   pub fewest : (walk : List ArcRec) → IsWalk arcs s walk v → cost walk ≡ d → h ≤ length walk
 
--- a list of the hops of n vertices from s, with NONE where no walk ends
-pub record AreHops (n : ℕ) (arcs : List ArcRec) (s : ℕ) (labels hops : List ℕ) : Type 0 where
-  pub count : length hops ≡ n
-  pub none : (v : ℕ) → v < n → slice_index labels v ≡ INF → slice_index hops v ≡ NONE
-  pub below : (v : ℕ) → v < n → slice_index labels v < INF → slice_index hops v < NONE
-  pub hop : (v : ℕ) → v < n → slice_index labels v < INF
-      → IsHop arcs s v (slice_index labels v) (slice_index hops v)
-
 -- a list of the hops of those of n vertices whose label is below a limit, with NONE for the others
 pub record AreHopsBelow (limit n : ℕ) (arcs : List ArcRec) (s : ℕ) (labels hops : List ℕ) : Type 0 where
   pub count : length hops ≡ n
@@ -35,6 +27,10 @@ pub record AreHopsBelow (limit n : ℕ) (arcs : List ArcRec) (s : ℕ) (labels h
   pub below : (v : ℕ) → v < n → slice_index labels v < limit → slice_index hops v < NONE
   pub hop : (v : ℕ) → v < n → slice_index labels v < limit
       → IsHop arcs s v (slice_index labels v) (slice_index hops v)
+
+-- a list of the hops of n vertices from s, with NONE where no walk ends
+abbrev pub AreHops : ℕ → List ArcRec → ℕ → List ℕ → List ℕ → Type 0
+AreHops n arcs s labels hops = AreHopsBelow INF n arcs s labels hops
 
 -- labels and hops are those from one source, up to some limit
 pub record AreFromOneSource (n : ℕ) (arcs : List ArcRec) (labels hops : List ℕ) : Type 0 where

@@ -22,22 +22,9 @@ pub record GoesThrough (arcs : List ArcRec) (s v d h : ℕ) (vertices : List ℕ
   pub count : length walk ≡ h
   pub through : s ∷ map (λ arc. arc.head) walk ≡ vertices
 
--- the printed walk of a vertex is a least walk to it, of as many arcs as its hop
+-- the printed walk of a vertex whose label is below a limit is a walk that costs its label and has as many arcs as its hop
 abbrev pub PrintedWalksAreWalks : Type 0
 PrintedWalksAreWalks =
-    (n : ℕ) (arcs : List ArcRec) (s : ℕ) (labels hops parents : List ℕ)
-    → IsGraph n arcs
-    → s < n
-    → AreLeastLabels n arcs (seeds_from s) labels
-    → AreHops n arcs s labels hops
-    → AreParents n arcs labels hops parents
-    → (v : ℕ) → v < n → slice_index labels v < INF
-    → GoesThrough arcs s v (slice_index labels v) (slice_index hops v)
-    (printed_walk (slice_index parents) (slice_index hops v) v)
-
--- so is that of a vertex whose label is below a limit, by the hops below it
-abbrev pub PrintedWalksBelowAreWalks : Type 0
-PrintedWalksBelowAreWalks =
     (limit n : ℕ) (arcs : List ArcRec) (s : ℕ) (labels hops parents : List ℕ)
     → IsGraph n arcs
     → AreHopsBelow limit n arcs s labels hops

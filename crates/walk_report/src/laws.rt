@@ -1,19 +1,15 @@
 //! Laws of printed walks, hops and parents.
 
 ghost use Rattle.walk_report.specs.Parent.{HopsAndParentsFollowTheArcs, HopsAndParentsAreUnique};
-ghost use Rattle.walk_report.specs.Printed.{PrintedWalksAreWalks, PrintedWalksBelowAreWalks, WalksBelowAgree};
+ghost use Rattle.walk_report.specs.Printed.{PrintedWalksAreWalks, WalksBelowAgree};
 ghost use Rattle.walk_report.specs.Existence.{HopsAndParentsExist};
 
 use route_walks::laws::least_labels_exist;
 
-/// A printed walk is a walk from the source, of least cost and with as many arcs as the hop.
+/// A printed walk goes from the source to its vertex, costs the label and has as many arcs as the hop, by the hops below
+/// any limit.
 pub fn printed_walks_are_walks()
     ensures { PrintedWalksAreWalks }
-{}
-
-/// States this for vertices below a limit, by the hops below it.
-pub fn printed_walks_below_are_walks()
-    ensures { PrintedWalksBelowAreWalks }
 {}
 
 /// States that walks below a limit agree if labels are least up to it: labels, hops and printed walks are those of

@@ -13,6 +13,7 @@ mod printed;
 mod space;
 
 pub use hop::{NONE, hops, hops_below};
+pub use lists::LabelsBelow;
 pub use parent::parents;
 pub use printed::walk_to;
 pub use space::WalkSpace;

@@ -1,6 +1,7 @@
 //! Hops and parents that are blank again after each question.
 
-ghost use Rattle.std.specs.Prelude.{◌≡◌, ◌<◌, All, IfOk, length};
+ghost use Rattle.std.specs.Prelude.{◌≡◌, ◌<◌, ◌≤◌, All, IfOk, length};
+ghost use Rattle.route_walks.specs.declared.graph.TheConstants.{INF};
 ghost use Rattle.route_walks.specs.Limit.{AreLeastLabelsUpTo};
 ghost use Rattle.route_walks.specs.Operators.{seeds_from};
 ghost use Rattle.walk_report.specs.Kept.{AreBlank, AreKept};
@@ -12,6 +13,15 @@ use crate::printed::walks_by;
 use csr_graph::Csr;
 use route_walks::Memory;
 use std::alloc::Global;
+
+/// Labels of walks from a source that are least up to a limit.
+#[derive(Clone, Copy, Debug)]
+pub struct LabelsBelow<'a> {
+    pub labels: &'a [u64],
+    pub source: u32,
+    pub limit: u64,
+    ghost within: { limit ≤ INF },
+}
 
 /// Hops, parents, and the queue of a search. Vertices outside the queue have neither.
 #[derive(Drop)]
@@ -39,21 +49,24 @@ impl Lists {
         &mut self,
         alloc: Global,
         csr: &Csr,
-        labels: &[u64],
-        source: u32,
-        limit: u64,
+        from: LabelsBelow<'_>,
         targets: &[u32],
     ) -> Result<Vec<Vec<u32>>, Memory>
         requires blank { AreBlank csr.now.n self.old }
-        requires source { source < csr.now.n }
-        requires least { AreLeastLabelsUpTo limit csr.now.n csr.now.arcs (seeds_from source) labels.now }
+        requires source { from.source < csr.now.n }
+        requires least { AreLeastLabelsUpTo from.limit csr.now.n csr.now.arcs (seeds_from from.source) from.labels.now }
         requires targets { All (λ t. t < csr.now.n) targets.now }
         ensures kept { AreKept csr.now.n self.new }
-        ensures walks { IfOk result (λ walks.
-            AreWalksTo limit csr.now.n csr.now.arcs source labels.now targets.now walks.items) }
+        ensures walks { IfOk result (λ walks. AreWalksTo from.entry.limit csr.now.n csr.now.arcs from.entry.source
+            from.entry.labels.now targets.now walks.items) }
     {
         // The proof alone needs this: it ensures that arcs lead to vertices.
         let _ = csr.n();
+        let LabelsBelow {
+            labels,
+            source,
+            limit,
+        } = from;
         search(csr, labels, source, limit, &mut self.hops, &mut self.queue)?;
         parents_among(csr, labels, &self.hops, &self.queue, &mut self.parents);
         walks_by(alloc, &self.hops, &self.parents, targets)

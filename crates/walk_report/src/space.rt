@@ -5,7 +5,7 @@ ghost use Rattle.route_walks.specs.Limit.{AreLeastLabelsUpTo};
 ghost use Rattle.route_walks.specs.Operators.{seeds_from};
 ghost use Rattle.walk_report.specs.Told.{AreWalksTo};
 
-use crate::lists::Lists;
+use crate::lists::{LabelsBelow, Lists};
 use csr_graph::Csr;
 use route_walks::Memory;
 use std::alloc::Global;
@@ -45,28 +45,23 @@ impl WalkSpace {
         self.lists.hops.len()
     }
 
-    /// The vertices of the printed walk to each target, by labels that are least up to a limit; no vertices if its
-    /// label is not below it. Takes the time of the vertices below the limit, their arcs, and the walks.
+    /// The vertices of the printed walk to each target; no vertices if its label is not below the limit. Takes the time of the vertices below the limit, their arcs, and the walks.
     pub fn walks_to(
         &mut self,
         alloc: Global,
         csr: &Csr,
-        labels: &[u64],
-        source: u32,
-        limit: u64,
+        from: LabelsBelow<'_>,
         targets: &[u32],
     ) -> Result<Vec<Vec<u32>>, Memory>
         requires vertices { self.old ≡ csr.now.n }
-        requires source { source < csr.now.n }
-        requires least { AreLeastLabelsUpTo limit csr.now.n csr.now.arcs (seeds_from source) labels.now }
+        requires source { from.source < csr.now.n }
+        requires least { AreLeastLabelsUpTo from.limit csr.now.n csr.now.arcs (seeds_from from.source) from.labels.now }
         requires targets { All (λ t. t < csr.now.n) targets.now }
         ensures vertices { self.new ≡ self.old }
-        ensures walks { IfOk result (λ walks.
-            AreWalksTo limit csr.now.n csr.now.arcs source labels.now targets.now walks.items) }
+        ensures walks { IfOk result (λ walks. AreWalksTo from.entry.limit csr.now.n csr.now.arcs from.entry.source
+            from.entry.labels.now targets.now walks.items) }
     {
-        let walks = self
-            .lists
-            .walks_to(alloc, csr, labels, source, limit, targets);
+        let walks = self.lists.walks_to(alloc, csr, from, targets);
         self.lists.wipe();
         walks
     }

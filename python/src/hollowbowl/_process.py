@@ -144,17 +144,23 @@ class Process:
         """A line of a reply whose other bytes may look like any line."""
         end = self._data.find(b"\n", self._at)
         while end < 0:
+            if len(self._data) - self._at > _LINE:
+                raise OutOfStep("a line of a reply has no end")
             self._data, self._at = self._data[self._at :] + self._more(), 0
             end = self._data.find(b"\n")
-            if end < 0 and len(self._data) > _LINE:
-                raise OutOfStep("a line of a reply has no end")
         line = self._data[self._at : end + 1]
         self._at = end + 1
         return line
 
+    def line_before_labels(self):
+        """The line that came in place of labels, or None. The eighth byte of a label is less than 16, or 255."""
+        while len(self._data) - self._at < 8:
+            self._data, self._at = self._data[self._at :] + self._more(), 0
+        return self.line() if 16 <= self._data[self._at + 7] < 255 else None
+
     def fill(self, row):
         """Fills a row with the bytes that come, straight from the pipe but for those that are here."""
-        room = memoryview(row).cast("B") if len(row) else memoryview(b"")
+        room = memoryview(row).cast("B") if len(row) else memoryview(bytearray())
         here = self._data[self._at : self._at + len(room)]
         room[: len(here)] = here
         self._at += len(here)

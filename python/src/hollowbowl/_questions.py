@@ -10,7 +10,7 @@ Requests name all that they ask, so no option of the program changes what it ans
 
 from ._errors import OutOfStep
 from ._numbers import labels_for, numpy
-from ._text import arcs_in, components_in, near_in, pair_costs, pairs_text, sources_text, totals_in, walks_in
+from ._text import arcs_in, components_in, near_in, pairs_text, sources_text, totals_in, walks_in
 
 #: The kinds: costs are sums of weights, or numbers of arcs.
 DISTANCES, LEVELS = b"distances", b"levels"
@@ -94,10 +94,18 @@ class Pairs(Question):
         return self._sources[first:last], self._targets[first:last]
 
     def request(self, first, last):
-        return pairs_text(self.kind + b" each p2p", *self._ends(first, last))
+        return pairs_text(self.kind + b" raw p2p", *self._ends(first, last))
+
+    def read(self, process, first, last):
+        # A reply to no pairs has no label whose bytes tell.
+        line = process.line_before_labels() if first < last else None
+        if line is None:
+            process.fill(memoryview(self.costs)[first:last])
+            line = process.line()
+        return None, line
 
     def take(self, body, first, last):
-        self.costs[first:last] = pair_costs(body, *self._ends(first, last))
+        """Nothing is left to look at: the costs came into their places."""
 
 
 class Matrix(Pairs):
@@ -135,6 +143,9 @@ class Walks(Pairs):
 
     def request(self, first, last):
         return pairs_text(self.kind + b" walk", *self._ends(first, last))
+
+    def read(self, process, first, last):
+        return process.text()
 
     def take(self, body, first, last):
         self.found.extend(walks_in(body, *self._ends(first, last)))

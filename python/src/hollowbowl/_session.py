@@ -15,7 +15,7 @@ _MOMENT = 1
 
 # An older program refuses the first line, whose words it doesn't know, and passes by the second. Nothing is worked out
 # for either, where a kind would have arcs with other costs made.
-_PROBE = b"p aux sp each ss 0\np aux sp ss 0\n"
+_PROBE = b"p aux sp raw p2p 0\np aux sp ss 0\n"
 
 _FAULT = re.compile(rb"e ([0-9]+) (.+)\n")
 
@@ -163,7 +163,7 @@ class Session:
         process.write(_PROBE)
         line = process.line()
         if line.startswith(b"e ") and line.endswith(b" unknown line\n"):
-            raise self._too_old("sessions answer one kind alone")
+            raise self._too_old("sessions know no 'raw p2p'")
         if line != b"r %d %d %d\n" % (self.n, self._kept.m, process.lines - 1):
             raise OutOfStep("a reply to nothing is none")
         self.end_of(process, process.line(), m=self._kept.m)

@@ -93,20 +93,6 @@ def _numbers(text, width):
     return numbers.reshape(-1, width)
 
 
-def pair_costs(body, sources, targets):
-    """The costs in the lines of these pairs, 2**64 - 1 where no walk leads."""
-    if numpy is not None and len(sources) > _MANY:
-        rows = _numbers(body.translate(None, b"q").replace(b"inf", b"%d" % INF), 3)
-        _is(len(rows) == len(sources))
-        _is((rows[:, 0] == numpy.asarray(sources) + 1).all() and (rows[:, 1] == numpy.asarray(targets) + 1).all())
-        return rows[:, 2]
-    words = body.split()
-    _is(len(words) == 4 * len(sources))
-    _is(list(map(int, words[1::4])) == [source + 1 for source in _ints(sources)])
-    _is(list(map(int, words[2::4])) == [target + 1 for target in _ints(targets)])
-    return array("Q", [INF if word == b"inf" else int(word) for word in words[3::4]])
-
-
 def arcs_in(body, tails, heads):
     """The arcs in the lines for these pairs, as tuples: of each pair in turn all that there are."""
     words = body.split()

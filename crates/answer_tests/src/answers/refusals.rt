@@ -46,7 +46,7 @@ fn of_answer(rt: HostRuntime) -> Result<(), Fail> {
         (labels, SIX_PAIRS, SIX_PAIRS_ANSWER),
         (three, SIX_SOURCES, SIX_SOURCES_ANSWER),
         (near, SIX, SIX_WITHIN),
-        (asked_by(&rt, Lines::Raw), SIX, SIX_RAW),
+        (asked_by(&rt, Lines::Raw { pairs: false }), SIX, SIX_RAW),
         (totals, SIX, b"t 1 6 57 15 6\n"),
     ];
     for (asked, text, want) in table {

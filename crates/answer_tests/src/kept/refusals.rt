@@ -20,11 +20,13 @@ const JOINED: &[u8] = b"k 1 1\nk 2 1\nk 3 1\nk 4 1\nk 5 1\nk 6 1\n";
 const REQUESTS: &[u8] =
     b"p sp 2 1\na 1 2 7\np aux sp ss 1\ns 1\np aux sp levels totals ss 1\ns 1\np aux sp add 1\na 2 1 3\n\
     p aux sp walk 1\nq 2 1\np aux sp within 2 1\ns 2\np aux sp levels p2p 1\nq 2 1\np aux sp components ss 0\n\
-    p aux sp set 1\na 1 2 5\np aux sp arcs 2\nq 1 2\nq 2 2\np aux sp cut 1\nq 2 1\np aux sp p2p 1\nq 2 1\n";
+    p aux sp set 1\na 1 2 5\np aux sp arcs 2\nq 1 2\nq 2 2\np aux sp cut 1\nq 2 1\np aux sp p2p 1\nq 2 1\n\
+    p aux sp raw p2p 2\nq 2 1\nq 1 2\n";
 
 const REPLIES: &[u8] = b"r 2 1 2\ns 1\nd 1 0\nd 2 7\nr 2 1 4\nt 1 2 1 1 2\nr 2 1 6\ng 1\nr 2 2 8\n\
     q 2 1 3\nw 1 3 2 1\nr 2 2 10\ns 2\nd 2 0\nr 2 2 12\nq 2 1 1\nr 2 2 14\nk 1 1\nk 2 1\nr 2 2 15\n\
-    x 1\ng 1\nr 2 2 17\na 1 2 5\nr 2 2 20\nx 1\nr 2 1 22\nq 2 1 inf\nr 2 1 24\n";
+    x 1\ng 1\nr 2 2 17\na 1 2 5\nr 2 2 20\nx 1\nr 2 1 22\nq 2 1 inf\nr 2 1 24\n\
+    \xff\xff\xff\xff\xff\xff\xff\xff\x05\0\0\0\0\0\0\0r 2 1 27\n";
 
 #[test]
 fn of_graphs_for(rt: HostRuntime) -> Result<(), Fail> {

@@ -33,7 +33,7 @@ const CALLS: [(bool, &[(u32, u32)]); 8] = [
     (false, &[(2, 0), (2, 5)]),
 ];
 
-fn expect_cost<H: Threads + Wait + Clock + Abort + Sync>(
+pub(crate) fn expect_cost<H: Threads + Wait + Clock + Abort + Sync>(
     rt: &H,
     alloc: Global,
     network: &Network,

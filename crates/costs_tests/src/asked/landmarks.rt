@@ -27,7 +27,7 @@ const CALLS: [(u32, bool, u32); 6] = [
 ];
 
 /// Streets between the crossings of a square of this side: some are free, and one in so many leads one way.
-fn streets(
+pub(crate) fn streets(
     alloc: Global,
     draws: &mut Draws,
     side: u32,

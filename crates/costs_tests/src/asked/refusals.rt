@@ -1,15 +1,15 @@
 //! Each call with one allocation refused: `Memory`, and made once more what was worked by hand.
 
+mod pairs;
+
 ghost use Rattle.std.specs.Prelude.{◌≡◌, IfOk, IfSome};
 ghost use Rattle.least_costs.specs.Each.{AreWithin};
 ghost use Rattle.least_costs.specs.Network.{GrowsTo};
-ghost use Rattle.least_costs.specs.Pairs.{GrowsInto};
 
-use crate::asked::kept::{ask_in_vain, prepare};
-use crate::asked::{expect_costs, expect_within, six, tree};
+use crate::asked::{expect_costs, expect_within, six};
 use least_costs::{
-    AtOnce, Cost, Costs, CostsBelow, CostsWithin, Network, NetworkFault, PairCosts, Plan, Solver,
-    Start, Unwatched, WarmPool, Workers, Workspace,
+    AtOnce, Cost, Costs, CostsBelow, CostsWithin, Network, NetworkFault, NetworkGrowth, Plan,
+    Solver, Start, WarmPool, Workers,
 };
 use obim_engine::{Goal, OpenGate};
 use route_walks::{ArcRec, EXAMPLE_ARCS, Memory, arcs, refusable, tried_again};
@@ -277,7 +277,8 @@ fn served_after<H: Threads + Wait + Clock + Sync>(
 {
     let goal = Goal::WalksTo(&[5]);
     let costs = workers.costs_for(rt, alloc, network, Start::At(0), goal)?;
-    workers.costs_for_after(rt, alloc, network, grown, costs, goal)
+    let growth = NetworkGrowth { network, grown };
+    workers.costs_for_after(rt, alloc, &growth, costs, goal)
 }
 
 #[test]
@@ -425,162 +426,5 @@ fn of_each_next(rt: HostRuntime) -> Result<(), Fail> {
         );
         assert!(rt; refused <= 2 - at_once.min(2));
     }
-    Ok(())
-}
-
-const PAIRS: [(u32, u32); 2] = [(3, 1), (0, 5)];
-
-fn pairs_by<H: Threads + Wait + Clock + Sync>(
-    rt: &H,
-    alloc: Global,
-    network: &Network,
-    grown: Option<&Network>,
-    keeps: bool,
-    kept: &mut Option<Workspace>,
-    workers: u32,
-) -> Result<PairCosts, Memory>
-    requires six { network.now.n ≡ 6 }
-    requires grown { GrowsInto network.now grown }
-{
-    let solver = Solver::new(network, Plan::usual(workers));
-    if keeps {
-        return solver.between_grown(rt, alloc, &PAIRS, grown, kept, &mut Unwatched);
-    }
-    let costs = solver.between(rt, alloc, &PAIRS)?;
-    let after = Vec::new(alloc);
-    Ok(PairCosts { costs, after })
-}
-
-fn expect_pairs<H: Threads + Wait + Clock + Abort + Sync>(
-    rt: &H,
-    alloc: Global,
-    network: &Network,
-    grown: Option<&Network>,
-    keeps: bool,
-    workers: u32,
-    after: &[Option<u64>],
-) -> Result<(), Fail>
-    requires six { network.now.n ≡ 6 }
-    requires grown { GrowsInto network.now grown }
-{
-    let mut kept = Some(Workspace::new());
-    let first = refusable!(
-        alloc,
-        pairs_by(rt, alloc, network, grown, keeps, &mut kept, workers)
-    );
-    let found = match first {
-        Ok(found) => found,
-        Err(Memory) => pairs_by(rt, alloc, network, grown, keeps, &mut kept, workers)?,
-    };
-    assert!(rt; found.costs.as_slice() == [Some(0), Some(15)].as_slice());
-    assert!(rt; found.after.as_slice() == after);
-    Ok(())
-}
-
-#[test]
-fn of_solver_between(rt: HostRuntime) -> Result<(), Fail> {
-    let network = six(&rt, rt.alloc())?;
-    expect_pairs(&rt, rt.alloc(), &network, None, false, 1, &[])?;
-    expect_pairs(&rt, rt.alloc(), &network, None, false, 2, &[])
-}
-
-#[test]
-fn of_solver_between_grown(rt: HostRuntime) -> Result<(), Fail> {
-    let mut network = six(&rt, rt.alloc())?;
-    let grown = network.with_arcs(&rt, rt.alloc(), &SHORTER, 1)?;
-    let after = &[Some(0), Some(4)];
-    expect_pairs(&rt, rt.alloc(), &network, Some(&grown), true, 1, after)?;
-    network.reverse(rt.alloc());
-    expect_pairs(&rt, rt.alloc(), &network, None, true, 1, &[])
-}
-
-// A network without reversed rows serves as well.
-#[test]
-fn of_network_reverse(rt: HostRuntime) -> Result<(), Fail> {
-    let alloc = rt.alloc();
-    let mut network = six(&rt, alloc)?;
-    refusable!(alloc, network.reverse(alloc));
-    let solver = Solver::new(&network, Plan::usual(1));
-    let costs = solver.between(&rt, alloc, &PAIRS)?;
-    assert!(rt; costs.as_slice() == [Some(0), Some(15)].as_slice());
-    network.reverse(alloc);
-    assert!(rt; network.has_reversed());
-    Ok(())
-}
-
-// It then waits for more fruitless searches before it reverses the rows.
-#[test]
-fn of_workspace_prepare(rt: HostRuntime) -> Result<(), Fail> {
-    let alloc = rt.alloc();
-    let mut network = tree(&rt, alloc)?;
-    let mut kept = Some(Workspace::new());
-    ask_in_vain(&rt, alloc, &network, &mut kept)?;
-    refusable!(alloc, prepare(&rt, alloc, &mut network, &mut kept));
-    if !network.has_reversed() {
-        ask_in_vain(&rt, alloc, &network, &mut kept)?;
-        prepare(&rt, alloc, &mut network, &mut kept);
-    }
-    assert!(rt; network.has_reversed());
-    Ok(())
-}
-
-// The same workers are asked again, with the lists that the refusal left.
-#[test]
-fn of_workers_near_walks(rt: HostRuntime) -> Result<(), Fail> {
-    let alloc = rt.alloc();
-    let network = six(&rt, alloc)?;
-    let mut workers = Workers::new(Plan::usual(1).settings, &OpenGate, Some(Workspace::new()));
-    let found = refusable!(alloc, workers.near_walks(alloc, &network, 0, &[4]));
-    let walks = match found {
-        Some(walks) => Some(walks),
-        None => workers.near_walks(alloc, &network, 0, &[4]),
-    };
-    let walks = walks.expect(&rt, "a vertex near the source");
-    assert!(rt; walks.labels.as_slice() == [10].as_slice());
-    assert!(rt; walks.walks.len() == 1 && walks.walks[0].as_slice() == [0, 2, 4].as_slice());
-    Ok(())
-}
-
-#[test]
-fn of_workers_near_within(rt: HostRuntime) -> Result<(), Fail> {
-    let alloc = rt.alloc();
-    let network = six(&rt, alloc)?;
-    let mut workers = Workers::new(Plan::usual(1).settings, &OpenGate, Some(Workspace::new()));
-    let found = refusable!(alloc, workers.near_within(alloc, &network, 3, 2));
-    let within = match found {
-        Some(within) => Some(within),
-        None => workers.near_within(alloc, &network, 3, 2),
-    };
-    let within = within.expect(&rt, "a bound near the source");
-    assert!(rt; within.as_slice() == [(1, 0), (2, 0), (3, 0), (4, 0)].as_slice());
-    Ok(())
-}
-
-// Pairs cost the same by the landmarks, and without them if memory is refused.
-#[test]
-fn of_network_choose_landmarks(rt: HostRuntime) -> Result<(), Fail> {
-    let alloc = rt.alloc();
-    let mut network = six(&rt, alloc)?;
-    let plan = Plan {
-        landmarks: 2,
-        ..Plan::usual(1)
-    };
-    let chosen = refusable!(alloc, network.choose_landmarks(&rt, alloc, plan));
-    assert!(rt; chosen.is_ok() == network.has_landmarks());
-    let solver = Solver::new(&network, plan);
-    let costs = solver.between(&rt, alloc, &PAIRS)?;
-    assert!(rt; costs.as_slice() == [Some(0), Some(15)].as_slice());
-    Ok(())
-}
-
-#[test]
-fn of_solver_between_by_landmarks(rt: HostRuntime) -> Result<(), Fail> {
-    let alloc = rt.alloc();
-    let mut network = six(&rt, alloc)?;
-    let plan = Plan::usual(1);
-    network.choose_landmarks(&rt, alloc, plan)?;
-    let solver = Solver::new(&network, plan);
-    let costs = tried_again!(&rt, alloc, Memory, solver.between(&rt, alloc, &PAIRS));
-    assert!(rt; costs.as_slice() == [Some(0), Some(15)].as_slice());
     Ok(())
 }

@@ -11,11 +11,11 @@ use crate::runs::graphs::{SIX_LABELS, rows_of, same_labels, six, street_arcs};
 use crate::runs::hostile::Hostile;
 use crate::runs::pieces::Kind;
 use crate::runs::pools::{Misleading, Useless};
+use crate::runs::searches::{Search, reach};
 use crate::runs::settings;
 use csr_graph::Csr;
 use obim_engine::{
-    Closed, Gate, Goal, OpenGate, RunFault, Settings, Setup, distances, distances_until,
-    resume_until, run_until,
+    Closed, Gate, Goal, OpenGate, RunFault, Settings, Setup, distances, resume_until, run_until,
 };
 use obim_pool::{LockedPool, ObimPool, Scale, WideningPool, WorkPool};
 use route_walks::{ArcRec, EXAMPLE_SEEDS, INF, Memory, Seed};
@@ -185,7 +185,8 @@ fn count_until<H: Threads + Wait + Clock + Abort + Sync>(
     };
     let within = goal.is_within(csr.n());
     assert!(rt; within && 0 < csr.n());
-    let reached = distances_until(rt, alloc, csr, 0, goal, settings, &gate)?;
+    let search = Search { rest: None, goal };
+    let reached = reach(rt, alloc, csr, search, settings, &gate)?;
     let same = agree_up_to(reached.limit, reached.closed.labels(), whole);
     assert!(rt; same, "{wanted:?} by {} workers", settings.workers);
     let stopped = matches!(reached.closed, Closed::Paused(_));
@@ -247,8 +248,7 @@ fn visits_few<H: Threads + Wait + Clock + Abort + Sync>(
     alloc: Global,
     csr: &Csr,
     whole: &[u64],
-    wanted: Wanted,
-    most: u64,
+    (wanted, most): (Wanted, u64),
     settings: &Settings,
 ) -> Result<bool, Fail> {
     for _ in 0..8 {
@@ -270,7 +270,7 @@ fn expect_few<H: Threads + Wait + Clock + Abort + Sync>(
 ) -> Result<(), Fail> {
     for workers in [1, 4] {
         let settings = settings(rt, workers, 4, true);
-        let few = visits_few(rt, alloc, csr, whole, wanted, most, &settings)?;
+        let few = visits_few(rt, alloc, csr, whole, (wanted, most), &settings)?;
         assert!(rt; few, "{wanted:?}: more than {most} visits by {workers}");
     }
     Ok(())
@@ -293,30 +293,22 @@ fn stop_and_go_on<H: Threads + Wait + Clock + Sync, P: WorkPool + Sync>(
     alloc: Global,
     csr: &Csr,
     goal: Goal<'_>,
-    settings: &Settings,
-    pool: &P,
+    setup: &Setup<'_, P, OpenGate>,
     sides: &mut [P::Side],
 ) -> Result<Vec<u64>, RunFault>
 where
     P::Side: Send,
     requires seeds { AreSeeds csr.now.n EXAMPLE_SEEDS }
     requires goal { IsGoalWithin csr.now.n goal }
-    requires workers { length sides.old ≡ settings.now.workers }
-    requires sides { All (P.is_side pool.now) sides.old }
+    requires workers { length sides.old ≡ setup.now.settings.now.workers }
+    requires sides { All (P.is_side setup.now.pool.now) sides.old }
 {
-    let seeds = EXAMPLE_SEEDS;
-    let setup = Setup {
-        settings,
-        pool,
-        gate: &OpenGate,
-    };
-    let reached = run_until(rt, alloc, csr, &seeds, goal, &setup, sides)?;
+    let reached = run_until(rt, alloc, csr, &EXAMPLE_SEEDS, goal, setup, sides)?;
     let rest = match reached.closed {
         Closed::Settled(labels) => return Ok(labels),
         Closed::Paused(rest) => rest,
     };
-    let whole = Goal::EachVertex;
-    let reached = resume_until(rt, alloc, csr, &seeds, rest, whole, &setup, sides)?;
+    let reached = resume_until(rt, alloc, csr, rest, Goal::EachVertex, setup, sides)?;
     Ok(reached.closed.into_labels())
 }
 
@@ -336,29 +328,59 @@ fn over_pool<H: Threads + Wait + Clock + Sync>(
     match kind {
         Kind::Locked => {
             let (pool, mut sides) = LockedPool::open(alloc, workers)?;
-            stop_and_go_on(rt, alloc, csr, goal, settings, &pool, &mut sides)
+            let setup = Setup {
+                settings,
+                pool: &pool,
+                gate: &OpenGate,
+            };
+            stop_and_go_on(rt, alloc, csr, goal, &setup, &mut sides)
         }
         Kind::Obim => {
             let (pool, mut sides) = ObimPool::open(alloc, workers, chunk)?;
-            stop_and_go_on(rt, alloc, csr, goal, settings, &pool, &mut sides)
+            let setup = Setup {
+                settings,
+                pool: &pool,
+                gate: &OpenGate,
+            };
+            stop_and_go_on(rt, alloc, csr, goal, &setup, &mut sides)
         }
         Kind::Widening => {
             let scale = Scale::new(2, 8);
             let (pool, mut sides) = WideningPool::open(alloc, workers, chunk, scale)?;
-            stop_and_go_on(rt, alloc, csr, goal, settings, &pool, &mut sides)
+            let setup = Setup {
+                settings,
+                pool: &pool,
+                gate: &OpenGate,
+            };
+            stop_and_go_on(rt, alloc, csr, goal, &setup, &mut sides)
         }
         Kind::Misleading => {
             let (pool, mut sides) = Misleading::open(alloc, workers)?;
-            stop_and_go_on(rt, alloc, csr, goal, settings, &pool, &mut sides)
+            let setup = Setup {
+                settings,
+                pool: &pool,
+                gate: &OpenGate,
+            };
+            stop_and_go_on(rt, alloc, csr, goal, &setup, &mut sides)
         }
         Kind::Hostile(draws) => {
             let (pool, mut sides) = Hostile::open(alloc, workers, draws)?;
-            stop_and_go_on(rt, alloc, csr, goal, settings, &pool, &mut sides)
+            let setup = Setup {
+                settings,
+                pool: &pool,
+                gate: &OpenGate,
+            };
+            stop_and_go_on(rt, alloc, csr, goal, &setup, &mut sides)
         }
         Kind::Useless(accepts, gives) => {
             let pool = Useless { accepts, gives };
             let mut sides = Useless::sides(alloc, workers)?;
-            stop_and_go_on(rt, alloc, csr, goal, settings, &pool, &mut sides)
+            let setup = Setup {
+                settings,
+                pool: &pool,
+                gate: &OpenGate,
+            };
+            stop_and_go_on(rt, alloc, csr, goal, &setup, &mut sides)
         }
     }
 }

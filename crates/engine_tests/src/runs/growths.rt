@@ -9,11 +9,10 @@ use crate::runs::draws::Draws;
 use crate::runs::gates::{Holding, settings_of};
 use crate::runs::graphs::{SIX_LABELS, fit_rows, random_arcs, rows_of, same_labels, six, star};
 use crate::runs::pieces::{Kind, Piece, Plan, go_on, pause_after, settle};
+use crate::runs::searches::{Search, reach};
 use crate::runs::settings;
 use csr_graph::{Csr, MAX_ARCS};
-use obim_engine::{
-    Closed, Gate, OpenGate, Paused, Recorder, RunFault, Settings, grow, least_labels_resumed,
-};
+use obim_engine::{Closed, Gate, Goal, Paused, Recorder, RunFault, Settings, grow};
 use route_walks::laws::least_labels_follow_the_arcs;
 use route_walks::{
     ArcRec, EXAMPLE_SEEDS, INF, Memory, Seed, arcs, are_seeds, is_graph, plain_labels,
@@ -137,29 +136,24 @@ const PAUSES: &[PauseRow] = &[
     ),
 ];
 
-/// Asserts that a run without visits returns its pause.
-fn expect_same_pause<H: Threads + Wait + Clock + Abort + Sync>(
+/// Returns the pause of a run that goes on without visits.
+fn pause_without_visits<H: Threads + Wait + Clock + Abort + Sync>(
     rt: &H,
     alloc: Global,
     csr: &Csr,
-    at: usize,
-    row: &PauseRow,
     rest: Paused,
-    settings: Settings,
-) -> Result<Paused, Fail>
+    piece: &Piece,
+) -> Result<Paused, RunFault>
+    requires seeds { AreSeeds csr.now.n EXAMPLE_SEEDS }
     requires pause { IsPause csr.now EXAMPLE_SEEDS rest }
-    requires six { csr.now.n ≡ 6 }
     ensures { IfOk result (λ rest. IsPause csr.now EXAMPLE_SEEDS rest) }
 {
-    let (kind, _, _, labels, marked, _) = *row;
     let none = Piece {
-        settings,
-        kind,
+        settings: piece.settings,
+        kind: piece.kind,
         budget: 0,
     };
-    let rest = pause_after(rt, alloc, csr, &EXAMPLE_SEEDS, Some(rest), &none)?;
-    expect_pause(rt, at, &rest, labels, marked);
-    Ok(rest)
+    pause_after(rt, alloc, csr, &EXAMPLE_SEEDS, Some(rest), &none)
 }
 
 /// Asserts a row, and the labels at the end with the shorter arc.
@@ -183,7 +177,8 @@ fn expect_row<H: Threads + Wait + Clock + Abort + Sync>(
     };
     let rest = pause_after(rt, alloc, csr, &seeds, None, &piece)?;
     expect_pause(rt, at, &rest, labels, marked);
-    let rest = expect_same_pause(rt, alloc, csr, at, row, rest, settings)?;
+    let rest = pause_without_visits(rt, alloc, csr, rest, &piece)?;
+    expect_pause(rt, at, &rest, labels, marked);
     let (grown, rest) = grown_pause(alloc, csr, &seeds, rest, &SHORTER)?;
     expect_pause(rt, at, &rest, labels, grown_marked);
     piece.budget = 1;
@@ -360,7 +355,12 @@ fn go_on_grown<H: Threads + Wait + Clock + Abort + Sync, G: Gate + Sync>(
     let labels = settle(rt, alloc, csr, &seeds, None, &mut plan)?;
     let rest = settled_pause(alloc, csr, &seeds, labels)?;
     let (grown, rest) = grown_pause(alloc, csr, &seeds, rest, added)?;
-    least_labels_resumed(rt, alloc, &grown, rest, settings, gate)?;
+    let goal = Goal::EachVertex;
+    let search = Search {
+        rest: Some(rest),
+        goal,
+    };
+    reach(rt, alloc, &grown, search, settings, gate)?;
     Ok(())
 }
 

@@ -1,6 +1,6 @@
 //! Tests of `run` and the operators: a table of graphs, with labels by another program.
 
-ghost use Rattle.std.specs.Prelude.{◌≡◌, IfOk};
+ghost use Rattle.std.specs.Prelude.{IfOk};
 ghost use Rattle.route_walks.specs.Label.{AreLeastLabels};
 ghost use Rattle.route_walks.specs.Walk.{AreSeeds};
 ghost use Rattle.obim_engine.specs.Goal.{IsGoalWithin};
@@ -10,12 +10,11 @@ use crate::runs::pieces::{Kind, Piece, pause_after};
 use crate::runs::settings;
 use csr_graph::Csr;
 use obim_engine::{
-    Goal, OpenGate, RunFault, Settings, Setup, components, distances, distances_until,
-    least_labels, least_labels_resumed, least_labels_resumed_until, least_labels_until, levels,
-    resume_until, run, run_until,
+    Goal, OpenGate, RunFault, Settings, Setup, components, distances, levels, resume_until, run,
+    run_until,
 };
 use obim_pool::{LockedPool, ObimPool};
-use route_walks::{ArcRec, EXAMPLE_ARCS, INF, Memory, Seed, arcs, are_seeds};
+use route_walks::{ArcRec, EXAMPLE_ARCS, EXAMPLE_SEEDS, INF, Seed, arcs, are_seeds};
 use std::alloc::Global;
 use std::process::Abort;
 use std::sync::Wait;
@@ -30,19 +29,11 @@ pub(crate) enum Ask {
     Distances(u32),
     Levels(u32),
     Components,
-    Least(&'static [Seed]),
-    Resumed(&'static [Seed]),
-    DistancesUntil(u32, Goal<'static>),
-    LeastUntil(&'static [Seed], Goal<'static>),
-    ResumedUntil(&'static [Seed], Goal<'static>),
     RunUntil(&'static [Seed], Goal<'static>),
     ResumeUntil(&'static [Seed], Goal<'static>),
 }
 
-use Ask::{
-    Components, Distances, DistancesUntil, Least, LeastUntil, Levels, ResumeUntil, Resumed,
-    ResumedUntil, Run, RunUntil,
-};
+use Ask::{Components, Distances, Levels, ResumeUntil, Run, RunUntil};
 
 const CIRCLE: [ArcRec; 3] = arcs![(2, 1, 5), (0, 1, 0), (1, 0, 0)];
 
@@ -68,6 +59,16 @@ const SEVERAL: [Seed; 3] = [
     },
 ];
 
+const FROM_1: [Seed; 1] = [Seed {
+    vertex: 1,
+    start: 0,
+}];
+
+const FROM_2: [Seed; 1] = [Seed {
+    vertex: 2,
+    start: 0,
+}];
+
 /// The vertex with the greatest label.
 pub(crate) const FARTHEST: Goal<'static> = Goal::Targets(&[5]);
 
@@ -81,42 +82,52 @@ const ROWS: &[(u32, &[ArcRec], Ask, &[u64])] = &[
     (6, &EXAMPLE_ARCS, Levels(4), &[INF, 1, 3, 2, 0, 1]),
     (6, &EXAMPLE_ARCS, Components, &[0; 6]),
     (6, &EXAMPLE_ARCS, Run(&SEVERAL), &[INF, 1, 1, 3, 1, 6]),
-    (6, &EXAMPLE_ARCS, Least(&SEVERAL), &[INF, 1, 1, 3, 1, 6]),
-    (6, &EXAMPLE_ARCS, DistancesUntil(0, FARTHEST), &SIX_LABELS),
     (
         6,
         &EXAMPLE_ARCS,
-        DistancesUntil(0, Goal::WalksTo(&[3, 5])),
+        RunUntil(&EXAMPLE_SEEDS, FARTHEST),
         &SIX_LABELS,
     ),
     (
         6,
         &EXAMPLE_ARCS,
-        DistancesUntil(0, Goal::Within(15)),
+        RunUntil(&EXAMPLE_SEEDS, Goal::WalksTo(&[3, 5])),
         &SIX_LABELS,
     ),
     (
         6,
         &EXAMPLE_ARCS,
-        LeastUntil(&SEVERAL, Goal::Targets(&[0, 1])),
+        RunUntil(&EXAMPLE_SEEDS, Goal::Within(15)),
+        &SIX_LABELS,
+    ),
+    (
+        6,
+        &EXAMPLE_ARCS,
+        RunUntil(&SEVERAL, Goal::Targets(&[0, 1])),
+        &[INF, 1, 1, 3, 1, 6],
+    ),
+    (
+        6,
+        &EXAMPLE_ARCS,
+        ResumeUntil(&SEVERAL, FARTHEST),
         &[INF, 1, 1, 3, 1, 6],
     ),
     (
         3,
         &CIRCLE,
-        DistancesUntil(2, Goal::WalksTo(&[0])),
+        RunUntil(&FROM_2, Goal::WalksTo(&[0])),
         &[5, 5, 0],
     ),
     (
         3,
         &HEAVY,
-        DistancesUntil(0, Goal::Within(u64::MAX)),
+        RunUntil(&EXAMPLE_SEEDS, Goal::Within(u64::MAX)),
         &[0, 4294967295, 8589934590],
     ),
     (
         3,
         &AGAINST,
-        DistancesUntil(1, Goal::Targets(&[2])),
+        RunUntil(&FROM_1, Goal::Targets(&[2])),
         &[5, 0, INF],
     ),
     (3, &CIRCLE, Distances(2), &[5, 5, 0]),
@@ -137,7 +148,7 @@ const ROWS: &[(u32, &[ArcRec], Ask, &[u64])] = &[
     (1, &[], Levels(0), &[0]),
     (1, &[], Components, &[0]),
     (0, &[], Run(&[]), &[]),
-    (0, &[], Least(&[]), &[]),
+    (0, &[], RunUntil(&[], Goal::EachVertex), &[]),
     (0, &[], Components, &[]),
 ];
 
@@ -165,46 +176,23 @@ fn run_from<H: Threads + Wait + Clock + Abort + Sync>(
     Ok(labels)
 }
 
-fn copy_of(alloc: Global, seeds: &[Seed]) -> Result<Vec<Seed>, Memory>
-    ensures { IfOk result (λ copy. copy.items ≡ seeds.now) }
-{
-    Ok(Vec::from_slice(alloc, seeds)?)
-}
-
-fn one_visit_each(settings: &Settings) -> Piece
-    ensures { result.settings ≡ settings.now }
-{
+/// A piece that settles no graph with two marked vertices: one worker visits one of them.
+fn one_visit(rt: &impl Abort) -> Piece {
     Piece {
-        settings: *settings,
+        settings: settings(rt, 1, 2, false),
         kind: Kind::Locked,
         budget: 1,
     }
 }
 
-/// The labels after each worker has visited one vertex and the run went on.
-fn resumed_from<H: Threads + Wait + Clock + Abort + Sync>(
-    rt: &H,
-    alloc: Global,
-    csr: &Csr,
-    seeds: &[Seed],
-    settings: &Settings,
-) -> Result<Vec<u64>, RunFault>
-    requires { AreSeeds csr.now.n seeds.now }
-{
-    let piece = one_visit_each(settings);
-    let rest = pause_after(rt, alloc, csr, seeds, None, &piece)?;
-    least_labels_resumed(rt, alloc, csr, rest, settings, &OpenGate)
-}
-
-/// The labels of a run that stops at a goal. It begins, or goes on after one visit of each worker.
-fn stopped_at<H: Threads + Wait + Clock + Abort + Sync>(
+/// The labels of a run that stops at a goal.
+fn run_as_far<H: Threads + Wait + Clock + Abort + Sync>(
     rt: &H,
     alloc: Global,
     csr: &Csr,
     seeds: &[Seed],
     goal: Goal<'_>,
     settings: &Settings,
-    goes_on: bool,
 ) -> Result<Vec<u64>, RunFault>
     requires seeds { AreSeeds csr.now.n seeds.now }
     requires goal { IsGoalWithin csr.now.n goal }
@@ -215,80 +203,32 @@ fn stopped_at<H: Threads + Wait + Clock + Abort + Sync>(
         pool: &pool,
         gate: &OpenGate,
     };
-    let reached = if goes_on {
-        let piece = one_visit_each(settings);
-        let rest = pause_after(rt, alloc, csr, seeds, None, &piece)?;
-        resume_until(rt, alloc, csr, seeds, rest, goal, &setup, &mut sides)?
-    } else {
-        run_until(rt, alloc, csr, seeds, goal, &setup, &mut sides)?
-    };
+    let reached = run_until(rt, alloc, csr, seeds, goal, &setup, &mut sides)?;
     Ok(reached.closed.into_labels())
 }
 
-/// The labels of an operator that stops at a goal. It begins, or goes on after one visit of each worker.
-fn operated_until<H: Threads + Wait + Clock + Abort + Sync>(
+/// The labels of a run that goes on after one visit, and stops at a goal.
+fn resume_as_far<H: Threads + Wait + Clock + Abort + Sync>(
     rt: &H,
     alloc: Global,
     csr: &Csr,
     seeds: &[Seed],
     goal: Goal<'_>,
     settings: &Settings,
-    goes_on: bool,
 ) -> Result<Vec<u64>, RunFault>
     requires seeds { AreSeeds csr.now.n seeds.now }
     requires goal { IsGoalWithin csr.now.n goal }
 {
-    let reached = if goes_on {
-        let piece = one_visit_each(settings);
-        let rest = pause_after(rt, alloc, csr, seeds, None, &piece)?;
-        least_labels_resumed_until(rt, alloc, csr, rest, goal, settings, &OpenGate)?
-    } else {
-        let seeds = copy_of(alloc, seeds)?;
-        least_labels_until(rt, alloc, csr, seeds, goal, settings, &OpenGate)?
+    let piece = one_visit(rt);
+    let rest = pause_after(rt, alloc, csr, seeds, None, &piece)?;
+    let (pool, mut sides) = ObimPool::open(alloc, settings.workers, settings.chunk)?;
+    let setup = Setup {
+        settings,
+        pool: &pool,
+        gate: &OpenGate,
     };
+    let reached = resume_until(rt, alloc, csr, rest, goal, &setup, &mut sides)?;
     Ok(reached.closed.into_labels())
-}
-
-fn labels_until<H: Threads + Wait + Clock + Abort + Sync>(
-    rt: &H,
-    alloc: Global,
-    csr: &Csr,
-    ask: Ask,
-    goal: Goal<'_>,
-    settings: &Settings,
-) -> Result<Vec<u64>, RunFault>
-    requires { IsGoalWithin csr.now.n goal }
-{
-    match ask {
-        DistancesUntil(source, _) if source < csr.n() => {
-            let reached = distances_until(rt, alloc, csr, source, goal, settings, &OpenGate)?;
-            Ok(reached.closed.into_labels())
-        }
-        LeastUntil(seeds, _) if are_seeds(csr.n(), seeds) => {
-            operated_until(rt, alloc, csr, seeds, goal, settings, false)
-        }
-        ResumedUntil(seeds, _) if are_seeds(csr.n(), seeds) => {
-            operated_until(rt, alloc, csr, seeds, goal, settings, true)
-        }
-        RunUntil(seeds, _) if are_seeds(csr.n(), seeds) => {
-            stopped_at(rt, alloc, csr, seeds, goal, settings, false)
-        }
-        ResumeUntil(seeds, _) if are_seeds(csr.n(), seeds) => {
-            stopped_at(rt, alloc, csr, seeds, goal, settings, true)
-        }
-        _ => panic!(rt; "asked of another graph"),
-    }
-}
-
-fn goal_in(ask: Ask) -> Option<Goal<'static>> {
-    match ask {
-        DistancesUntil(_, goal) => Some(goal),
-        LeastUntil(_, goal) => Some(goal),
-        ResumedUntil(_, goal) => Some(goal),
-        RunUntil(_, goal) => Some(goal),
-        ResumeUntil(_, goal) => Some(goal),
-        _ => None,
-    }
 }
 
 pub(crate) fn labels_of<H: Threads + Wait + Clock + Abort + Sync>(
@@ -298,10 +238,6 @@ pub(crate) fn labels_of<H: Threads + Wait + Clock + Abort + Sync>(
     ask: Ask,
     settings: &Settings,
 ) -> Result<Vec<u64>, RunFault> {
-    if let Some(goal) = goal_in(ask) {
-        assert!(rt; goal.is_within(csr.n()));
-        return labels_until(rt, alloc, csr, ask, goal, settings);
-    }
     match ask {
         Distances(source) if source < csr.n() => {
             distances(rt, alloc, csr, source, settings, &OpenGate)
@@ -311,12 +247,11 @@ pub(crate) fn labels_of<H: Threads + Wait + Clock + Abort + Sync>(
             components(rt, alloc, csr, settings, &OpenGate)
         }
         Run(seeds) if are_seeds(csr.n(), seeds) => run_from(rt, alloc, csr, seeds, settings),
-        Least(seeds) if are_seeds(csr.n(), seeds) => {
-            let seeds = copy_of(alloc, seeds)?;
-            least_labels(rt, alloc, csr, seeds, settings, &OpenGate)
+        RunUntil(seeds, goal) if are_seeds(csr.n(), seeds) && goal.is_within(csr.n()) => {
+            run_as_far(rt, alloc, csr, seeds, goal, settings)
         }
-        Resumed(seeds) if are_seeds(csr.n(), seeds) => {
-            resumed_from(rt, alloc, csr, seeds, settings)
+        ResumeUntil(seeds, goal) if are_seeds(csr.n(), seeds) && goal.is_within(csr.n()) => {
+            resume_as_far(rt, alloc, csr, seeds, goal, settings)
         }
         _ => panic!(rt; "asked of another graph"),
     }

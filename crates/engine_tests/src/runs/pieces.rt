@@ -57,30 +57,37 @@ impl Plan {
 
 const MOST_PIECES: u32 = 100_000;
 
+/// A graph, and what a piece begins with.
+#[derive(Drop)]
+struct Start<'a> {
+    csr: &'a Csr,
+    seeds: &'a [Seed],
+    rest: Option<Paused>,
+    ghost seeds_are: { AreSeeds csr.now.n seeds.now },
+}
+
 /// Goes on from a pause for a piece, or begins.
 fn go_on_over<H: Threads + Wait + Clock + Sync, P: WorkPool + Sync>(
     rt: &H,
     alloc: Global,
-    csr: &Csr,
-    seeds: &[Seed],
-    rest: Option<Paused>,
+    start: Start<'_>,
     piece: &Piece,
     pool: &P,
     sides: &mut [P::Side],
 ) -> Result<Closed, RunFault>
 where
     P::Side: Send,
-    requires seeds { AreSeeds csr.now.n seeds.now }
-    requires pause { IfSome rest (λ rest. IsPause csr.now seeds.now rest) }
+    requires pause { IfSome start.rest (IsPause start.csr.now start.seeds.now) }
     requires workers { length sides.old ≡ piece.now.settings.workers }
     requires sides { All (P.is_side pool.now) sides.old }
-    ensures { IfOk result (λ closed. IsEnd csr.now seeds.now closed) }
+    ensures { IfOk result (λ closed. IsEnd start.entry.csr.now start.entry.seeds.now closed) }
 {
     let Piece {
         settings,
         budget,
         ..
     } = *piece;
+    let Start { csr, seeds, rest } = start;
     match rest {
         None => run_for(
             rt, alloc, csr, seeds, &settings, pool, sides, &OpenGate, budget,
@@ -105,32 +112,33 @@ pub(crate) fn go_on<H: Threads + Wait + Clock + Sync>(
     ensures { IfOk result (λ closed. IsEnd csr.now seeds.now closed) }
 {
     let Settings { workers, chunk, .. } = piece.settings;
+    let start = Start { csr, seeds, rest };
     match piece.kind {
         Kind::Locked => {
             let (pool, mut sides) = LockedPool::open(alloc, workers)?;
-            go_on_over(rt, alloc, csr, seeds, rest, piece, &pool, &mut sides)
+            go_on_over(rt, alloc, start, piece, &pool, &mut sides)
         }
         Kind::Obim => {
             let (pool, mut sides) = ObimPool::open(alloc, workers, chunk)?;
-            go_on_over(rt, alloc, csr, seeds, rest, piece, &pool, &mut sides)
+            go_on_over(rt, alloc, start, piece, &pool, &mut sides)
         }
         Kind::Widening => {
             let scale = Scale::new(2, 8);
             let (pool, mut sides) = WideningPool::open(alloc, workers, chunk, scale)?;
-            go_on_over(rt, alloc, csr, seeds, rest, piece, &pool, &mut sides)
+            go_on_over(rt, alloc, start, piece, &pool, &mut sides)
         }
         Kind::Misleading => {
             let (pool, mut sides) = Misleading::open(alloc, workers)?;
-            go_on_over(rt, alloc, csr, seeds, rest, piece, &pool, &mut sides)
+            go_on_over(rt, alloc, start, piece, &pool, &mut sides)
         }
         Kind::Hostile(draws) => {
             let (pool, mut sides) = Hostile::open(alloc, workers, draws)?;
-            go_on_over(rt, alloc, csr, seeds, rest, piece, &pool, &mut sides)
+            go_on_over(rt, alloc, start, piece, &pool, &mut sides)
         }
         Kind::Useless(accepts, gives) => {
             let pool = Useless { accepts, gives };
             let mut sides = Useless::sides(alloc, workers)?;
-            go_on_over(rt, alloc, csr, seeds, rest, piece, &pool, &mut sides)
+            go_on_over(rt, alloc, start, piece, &pool, &mut sides)
         }
     }
 }

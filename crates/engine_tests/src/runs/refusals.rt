@@ -8,8 +8,7 @@ ghost use Rattle.label_words.specs.Paused.{IsPause};
 use crate::runs::graphs::{SIX_LABELS, same_labels, six};
 use crate::runs::growths::{ONE_VISIT, expect_pause};
 use crate::runs::operators::Ask::{
-    self, Components, Distances, DistancesUntil, Least, LeastUntil, Levels, ResumeUntil, Resumed,
-    ResumedUntil, Run, RunUntil,
+    self, Components, Distances, Levels, ResumeUntil, Run, RunUntil,
 };
 use crate::runs::operators::{FARTHEST, labels_of};
 use crate::runs::pieces::{Kind, Piece, Plan, go_on, pause_after, settle};
@@ -79,34 +78,6 @@ fn of_components(rt: HostRuntime) -> Result<(), Fail> {
 }
 
 #[test]
-fn of_least_labels(rt: HostRuntime) -> Result<(), Fail> {
-    expect_labels(&rt, rt.alloc(), Least(&EXAMPLE_SEEDS), &SIX_LABELS)
-}
-
-#[test]
-fn of_least_labels_resumed(rt: HostRuntime) -> Result<(), Fail> {
-    expect_labels(&rt, rt.alloc(), Resumed(&EXAMPLE_SEEDS), &SIX_LABELS)
-}
-
-#[test]
-fn of_distances_until(rt: HostRuntime) -> Result<(), Fail> {
-    let ask = DistancesUntil(0, FARTHEST);
-    expect_labels(&rt, rt.alloc(), ask, &SIX_LABELS)
-}
-
-#[test]
-fn of_least_labels_until(rt: HostRuntime) -> Result<(), Fail> {
-    let ask = LeastUntil(&EXAMPLE_SEEDS, FARTHEST);
-    expect_labels(&rt, rt.alloc(), ask, &SIX_LABELS)
-}
-
-#[test]
-fn of_least_labels_resumed_until(rt: HostRuntime) -> Result<(), Fail> {
-    let ask = ResumedUntil(&EXAMPLE_SEEDS, FARTHEST);
-    expect_labels(&rt, rt.alloc(), ask, &SIX_LABELS)
-}
-
-#[test]
 fn of_run_until(rt: HostRuntime) -> Result<(), Fail> {
     let ask = RunUntil(&EXAMPLE_SEEDS, FARTHEST);
     expect_labels(&rt, rt.alloc(), ask, &SIX_LABELS)
@@ -146,25 +117,24 @@ fn begun_again<H: Threads + Wait + Clock + Abort + Sync>(
     }
 }
 
-// The outcome of a pause. After a refusal it is gone, and the run goes on from an equal one.
+// The outcome of the first of two equal pauses. After a refusal it is gone, and the run goes on from the other.
 fn gone_on_again<H: Threads + Wait + Clock + Abort + Sync>(
     rt: &H,
     alloc: Global,
     csr: &Csr,
-    seeds: &[Seed],
-    rest: Paused,
-    same: Paused,
+    rests: (Paused, Paused),
     piece: &Piece,
 ) -> Result<Closed, Fail>
-    requires seeds { AreSeeds csr.now.n seeds.now }
-    requires rest { IsPause csr.now seeds.now rest }
-    requires same { IsPause csr.now seeds.now same }
+    requires seeds { AreSeeds csr.now.n EXAMPLE_SEEDS }
+    requires rest { IsPause csr.now EXAMPLE_SEEDS rests.0 }
+    requires same { IsPause csr.now EXAMPLE_SEEDS rests.1 }
 {
-    match refusable!(alloc, go_on(rt, alloc, csr, seeds, Some(rest), piece)) {
+    let (seeds, (rest, same)) = (EXAMPLE_SEEDS, rests);
+    match refusable!(alloc, go_on(rt, alloc, csr, &seeds, Some(rest), piece)) {
         Ok(closed) => Ok(closed),
         Err(fault) => {
             assert!(rt; fault == RunFault::Memory);
-            Ok(go_on(rt, alloc, csr, seeds, Some(same), piece)?)
+            Ok(go_on(rt, alloc, csr, &seeds, Some(same), piece)?)
         }
     }
 }
@@ -221,7 +191,7 @@ fn resumed_again<H: Threads + Wait + Clock + Abort + Sync>(
     let rest = pause_after(rt, alloc, csr, &seeds, None, &piece)?;
     let same = pause_after(rt, alloc, csr, &seeds, None, &piece)?;
     let whole = piece_of(rt, kind, workers, u64::MAX);
-    gone_on_again(rt, alloc, csr, &seeds, rest, same, &whole)
+    gone_on_again(rt, alloc, csr, (rest, same), &whole)
 }
 
 #[test]

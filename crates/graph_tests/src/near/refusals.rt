@@ -16,13 +16,14 @@ fn expect_again(rt: &impl Abort, alloc: Global, question: Question) -> Result<()
     let reversed = csr.reversed(alloc)?;
     let mut room = room_of(alloc, 6)?;
     room.forward.allow(ENOUGH, usize::MAX);
+    let ways = (&csr, &reversed);
     let found = refusable!(
         alloc,
-        is_right(rt, alloc, &mut room, &csr, &reversed, &FROM_0, question)
+        is_right(rt, alloc, &mut room, ways, &FROM_0, question)
     );
     let right = match found {
         Some(right) => Some(right),
-        None => is_right(rt, alloc, &mut room, &csr, &reversed, &FROM_0, question),
+        None => is_right(rt, alloc, &mut room, ways, &FROM_0, question),
     };
     assert!(rt; right == Some(true));
     Ok(())

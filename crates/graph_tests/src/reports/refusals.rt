@@ -3,7 +3,7 @@
 use crate::reports::{are_below, build, distances, distances_below};
 use route_walks::{EXAMPLE_ARCS, Memory, tried_again};
 use std::test::Fail;
-use walk_report::{NONE, WalkSpace, hops, hops_below, parents, walk_to};
+use walk_report::{LabelsBelow, NONE, WalkSpace, hops, hops_below, parents, walk_to};
 
 const HOPS: [u32; 6] = [0, 3, 1, 4, 2, 5];
 
@@ -70,11 +70,16 @@ fn of_walk_space_walks_to(rt: HostRuntime) -> Result<(), Fail> {
     let targets = [3, 5, 0];
     assert!(rt; are_below(6, &targets));
     let mut space = WalkSpace::new(alloc, 6)?;
+    let from = LabelsBelow {
+        labels: &labels,
+        source: 0,
+        limit: 13,
+    };
     let walks = tried_again!(
         rt,
         alloc,
         Memory,
-        space.walks_to(alloc, &csr, &labels, 0, 13, &targets)
+        space.walks_to(alloc, &csr, from, &targets)
     );
     assert_eq!(rt; walks.len(), 3);
     assert_eq!(rt; walks[0].as_slice(), [0, 2, 4, 1, 3].as_slice());

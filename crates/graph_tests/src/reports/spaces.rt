@@ -8,7 +8,7 @@ use route_walks::{EXAMPLE_ARCS, INF};
 use std::alloc::Global;
 use std::process::Abort;
 use std::test::Fail;
-use walk_report::WalkSpace;
+use walk_report::{LabelsBelow, WalkSpace};
 
 /// A question, and the expected walks; empty for none.
 #[derive(Clone, Copy)]
@@ -38,7 +38,12 @@ fn expect_asked(
     let within = source < csr.n() && are_below(csr.n(), targets);
     assert!(rt; within);
     let labels = distances_below(alloc, csr, source, limit)?;
-    let found = space.walks_to(alloc, csr, &labels, source, limit, targets)?;
+    let from = LabelsBelow {
+        labels: &labels,
+        source,
+        limit,
+    };
+    let found = space.walks_to(alloc, csr, from, targets)?;
     assert_eq!(rt; found.len(), walks.len());
     for (walk, want) in found.iter().zip(walks) {
         expect_numbers(rt, walk, want);

@@ -3,7 +3,7 @@ use Rattle.std.proofs.Common.{unwrap_or, is_some, option_map}
 use Rattle.clap.proofs.WalkLemmas.{first_value-rows, raw_values-rows}
 use Rattle.clap.specs.Words.{Text, first_of, first_value, found_of, matched_of, raw_values, rows_of}
 use Rattle.clap.specs.declared.parser.matches.Found.{Found}
-use Rattle.job_answer.specs.LineWalks.{bound_in, has_walks, is_raw, is_totals}
+use Rattle.job_answer.specs.LineWalks.{bound_in, has_raw_pairs, has_walks, is_raw, is_totals}
 use Rattle.job_answer.specs.Choices.{IsAsked}
 use Rattle.job_answer.specs.declared.asked.Answer.{Answer}
 use Rattle.job_answer.specs.declared.asked.Lines.{Lines}
@@ -67,6 +67,7 @@ module _ (found : Found) (options : Options) (asks : AsksFor (rows_of found) opt
     asks_labels = subst (λ text. NamesLabels text (is_raw options.asked.lines)) (sym (first_value-rows found (codes "labels")))
         asks.lines.asks_labels;
     asks_totals = flag_found _ _ asks.lines.asks_totals;
+    pairs = asks.lines.pairs;
     plain = λ components. asks.lines.plain (sym same ∙ components) ∙ ap Each (sym walked);
   }
 
@@ -118,6 +119,7 @@ returns c =
             lines.asks_labels;
         asks_totals = carried IsFlag _ _ _ _ (first_value-rows found (codes "totals")) (ap is_totals lines_are)
             lines.asks_totals;
+        pairs = ap has_raw_pairs lines_are ∙ lines.pairs;
         plain = λ components. lines_are ∙ lines.plain (sym answer ∙ components) ∙ ap Each (sym walks);
       };
       settings = subst (AsksSettings (first_of (codes "workers") rows) (first_of (codes "shift") rows)

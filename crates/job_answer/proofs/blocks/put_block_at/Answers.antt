@@ -12,6 +12,6 @@ returns-in-Some-clause-block g c =
     let tasks = c.args.tasks.now in
     let graphs = tasks.kind.graphs.now in
     let only =
-    c.lines_are_unique.ensures tasks.kind.lines graphs.network.n graphs.network.arcs (growth_of graphs.grown) in
+    (c.lines_are_unique.ensures tasks.kind.lines graphs.network.n graphs.network.arcs (growth_of graphs.grown)).0 in
     puts-only g.W.Write.contents (only _) c.in-Some.ensures.text
     (puts-text g.W.Write.contents c.put_all.ensures.still c.put_all.ensures.put)

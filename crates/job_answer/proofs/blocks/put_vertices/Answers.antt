@@ -29,14 +29,14 @@ returns-then-is_plain g c =
       least = rw (← c.labels-labels.ensures.labels) at least;
       written = refl;
     }) in
-    puts-only g.W.Write.contents (c.lines_are_unique.ensures c.args.lines net.n net.arcs None c.args.source) is_block
+    puts-only g.W.Write.contents ((c.lines_are_unique.ensures c.args.lines net.n net.arcs None).0 c.args.source) is_block
     c.put_labels.ensures
 
 pub returns : goal.returns
 returns g c =
     let net = c.args.network.now in
     let costs = c.args.costs.now in
-    puts-only g.W.Write.contents (c.lines_are_unique.ensures c.args.lines net.n net.arcs None c.args.source)
+    puts-only g.W.Write.contents ((c.lines_are_unique.ensures c.args.lines net.n net.arcs None).0 c.args.source)
     (rw (c.bound-bound.ensures, c.labels-labels.ensures.labels)
     (told c.least_labels_exist.ensures c.hops_and_parents_exist.ensures c.walks_below_agree.ensures net.n net.arcs
     c.args.source costs.limit costs.labels c.requires.vertices c.n.ensures.network.ends c.requires.source

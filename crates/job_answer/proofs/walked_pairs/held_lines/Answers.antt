@@ -2,6 +2,7 @@ use Rattle.std.proofs.Common.{◌≡◌, ◌∙◌, ◌-◌, drop, take, length,
 use Rattle.std.proofs.lemmas.List.{length-drop, take_rest}
 use Rattle.std.proofs.lemmas.List.Elements.{All-drop, All-take}
 use Rattle.dimacs_text.specs.Jobs.{IsPairWithin}
+use Rattle.job_answer.specs.declared.asked.Lines.TheVariants as lines
 use Rattle.job_answer.specs.AnswerText.{AreBlocks}
 use Rattle.job_answer.specs.Graphs.{growth_of}
 use Rattle.job_answer.specs.Tasks.{IsWalkedBlock}
@@ -25,7 +26,7 @@ returns g c =
     (All-drop (IsPairWithin net.n) first pairs c.args.queries.now.within)) in
     let some = pairs-exist c.least_labels_exist.ensures c.hops_and_parents_exist.ensures net.n c.requires.graphs.is.few
     net.arcs (growth_of graphs.grown) c.requires.graphs.is.ends (growth-within net graphs.grown c.requires.graphs.grows)
-    true (take (solve.end - 0) rest) within in
+    (lines.Each true) (take (solve.end - 0) rest) within in
     let bytes = c.put_solved_pairs.new.sink.waiting.now.items in
     let all : solve.end - 0 ≡ solve.end = omega arith in
     let kept : AreBlocks block (take (solve.end - 0) rest) bytes =

@@ -10,9 +10,8 @@ use Rattle.obim_engine.specs.Goal.{HasReached, HasStopped}
 use Rattle.obim_engine.proofs.until.resume_until.Goals as goal
 
 pub returns-clause-reached : goal.returns-clause-reached
-returns-clause-reached g c =
+returns-clause-reached g c seeds within pause =
     let graph = c.args.csr.now in
-    let seeds = c.args.seeds.now in
     let wanted = c.args.goal in
     let run = c.of.result in
     let words = c.in_ok-opened.opened.seat.known.seeds in
@@ -25,6 +24,5 @@ returns-clause-reached g c =
     IfOk-weaker c.reach.result (HasStopped wanted graph (seeds_of c.args.rest.labels))
     (HasReached wanted graph seeds)
     (λ reached is.
-    is.stops seeds
-    (c.resumed_runs_end_alike.ensures graph seeds c.args.rest reached.closed c.requires.seeds c.requires.pause is.end).0)
+    is.stops seeds (c.resumed_runs_end_alike.ensures graph seeds c.args.rest reached.closed within pause is.end).0)
     stopped

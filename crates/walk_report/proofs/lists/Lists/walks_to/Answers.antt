@@ -11,7 +11,7 @@ use Rattle.walk_report.proofs.lists.Lists.walks_to.Goals as goal
 pub returns-clause-walks : goal.returns-clause-walks
 returns-clause-walks c =
     let csr = c.args.csr.now in
-    let labels = c.args.labels.now in
+    let labels = c.args.from.labels.now in
     let targets = c.args.targets.now in
     let hops = c.deref-3.result.now in
     let parents = c.deref-4.result.now in
@@ -21,14 +21,14 @@ returns-clause-walks c =
     c.deref.ensures.value ∙ take_at c.search.new.hops _ c.args.self.now.hops.len (omega arith) in
     let same' : parents ≡ c.parents_among.new.parents =
     c.deref-4.ensures.value ∙ take_at c.parents_among.new.parents _ c.args.self.now.parents.len (omega arith) in
-    let few : c.args.limit ≤ INF = omega (arith, c.ranges.limit.fits) in
-    let exact : AreHopsBelow c.args.limit csr.n csr.arcs c.args.source labels hops =
+    let few : c.args.from.limit ≤ INF = c.args.from.within in
+    let exact : AreHopsBelow c.args.from.limit csr.n csr.arcs c.args.from.source labels hops =
     rw same c.in_ok-search.ensures.exact in
     let led : AreParents csr.n csr.arcs labels hops parents =
     rw (same, same') (rw same_among at c.parents_among.ensures.exact) in
     let back : LeadBack hops parents = rw (same, same') (rw same_among at c.parents_among.ensures.back) in
     IfOk-weaker c.walks_by.result
     (λ walks. walks_in walks.items ≡ map (walk_by hops parents) targets)
-    (λ walks. AreWalksTo c.args.limit csr.n csr.arcs c.args.source labels targets walks.items)
+    (λ walks. AreWalksTo c.args.from.limit csr.n csr.arcs c.args.from.source labels targets walks.items)
     (λ walks is. walks-told few c.n.ensures.in_rows.ends c.requires.least exact led back targets walks.items c.requires.targets is)
     c.walks_by.ensures
