@@ -61,7 +61,7 @@ fn print_costs<H: Print + Threads + Wait + Clock + Sync>(
     let costs = solver.from(rt, alloc, 0)?;
     print_cost(rt, costs.to(2))?;
     print_each(rt, alloc, &solver)?;
-    let grown = network.with_arcs(rt, alloc, &[ArcRec::new(0, 2, 3)], 2)?;
+    let grown = network.with_arcs(alloc, &[ArcRec::new(0, 2, 3)])?;
     let after = solver.costs_after(rt, alloc, &grown, costs)?;
     print_cost(rt, after.to(2))
 }
@@ -145,7 +145,7 @@ fn print_changes<H: Print + Threads + Wait + Clock + Sync>(
 ) -> Result<()>
     requires { network.now.n ≡ 5 }
 {
-    let grown = network.with_arcs(rt, alloc, &NEW_ROAD, 2)?;
+    let grown = network.with_arcs(alloc, &NEW_ROAD)?;
     let changes = changes(rt, alloc, network, &grown, Plan::usual(2), &[0, 1, 3], 2)?;
     for change in changes.iter() {
         println!(rt; "{:?}", change)?;
@@ -160,7 +160,7 @@ fn print_pairs<H: Print + Threads + Wait + Clock + Sync>(
 ) -> Result<()>
     requires { network.old.n ≡ 5 }
 {
-    let mut changed = network.with_arcs(rt, alloc, &NEW_ROAD, 2)?;
+    let mut changed = network.with_arcs(alloc, &NEW_ROAD)?;
     let pairs = [(0, 2), (1, 2), (3, 2), (2, 4)];
     let found = pairs_in_both(rt, alloc, network, &mut changed, Plan::usual(1), &pairs)?;
     println!(rt; "{:?}", found.costs)?;

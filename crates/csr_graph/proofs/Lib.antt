@@ -15,3 +15,4 @@ mod Windows
 mod Weights
 mod BothWays
 mod Adding
+mod Removals

@@ -2,12 +2,13 @@
 //!
 //! A `Csr` is a directed graph in compressed sparse rows: the arcs that leave a vertex are one run of places, from
 //! `first` to `end`, in the order in which they were given. It is built by one thread, by several, or of each arc along
-//! and against.
+//! and against, and made anew with arcs removed and added.
 #![tactic(auto)]
 
 mod bin_sort;
 mod binning;
 mod bounds;
+mod changes;
 mod csr;
 mod free;
 pub mod laws;

@@ -64,6 +64,20 @@ const GROWN: [ArcRec; 9] = arcs![
     (4, 5, 20),
 ];
 
+/// Pairs with an arc, one of them twice, one without, and one outside of the vertices.
+const REMOVED: [(u32, u32); 5] = [(4, 1), (0, 1), (5, 0), (0, 1), (9, 7)];
+
+/// The example without these arcs, and with the added arc.
+const CHANGED: [ArcRec; 7] = arcs![
+    (0, 2, 10),
+    (0, 5, 4),
+    (1, 3, 2),
+    (2, 4, 0),
+    (3, 2, 0),
+    (3, 5, 3),
+    (4, 5, 20),
+];
+
 fn six(rt: &impl Abort, alloc: Global) -> Result<Csr, Fail>
     ensures { IfOk result (λ csr. csr.n ≡ 6 × length csr.arcs ≡ 8) }
 {

@@ -67,7 +67,7 @@ pub fn graphs_for<H: Threads + Sync>(
         Some(added) => added,
     };
     let count = added.len() as u32;
-    let grown = match network.with_arcs(rt, alloc, &added, threads) {
+    let grown = match network.with_arcs(alloc, &added) {
         Ok(grown) => grown,
         Err(_) => return Err(Memory),
     };

@@ -6,25 +6,12 @@ use Rattle.std.specs.List.{Contains}
 use Rattle.std.proofs.lemmas.List.Elements.{All-append, All-cons, All-contains, All-contains_itself, All-filter, All-head}
 use Rattle.std.proofs.lemmas.List.Elements.{All-nil, All-tail, All-weaker, filter-append, filter_passes}
 use Rattle.route_walks.proofs.Facts.{same_arcs-sym}
-use Rattle.std.proofs.lemmas.List.Sums.{count_by-le-length, length-filter}
 use Rattle.csr_graph.specs.Graph.{HaveSameRows, first_place, row_of}
 use Rattle.csr_graph.proofs.Facts.{first_place_all, first_place_next, first_place_zero}
 use Rattle.route_walks.specs.declared.graph.ArcRec.{ArcRec}
 use Rattle.route_walks.specs.Walk.{HaveSameArcs, IsArcBelow, IsGraph}
-use Rattle.least_costs.specs.Network.{HasArcs, NetworkSeen, leads_between, without}
-
--- two tests in either order
-filter_step : {X : Type 0} (p q : X → Bool) (x : X) (xs : List X) (a b : Bool) → p x ≡ a → q x ≡ b
-    → filter p (filter q xs) ≡ filter q (filter p xs)
-    → filter p (filter q (x ∷ xs)) ≡ filter q (filter p (x ∷ xs))
-filter_step p q x xs true true a b same = grind (arith, a, b, same)
-filter_step p q x xs true false a b same = grind (arith, a, b, same)
-filter_step p q x xs false true a b same = grind (arith, a, b, same)
-filter_step p q x xs false false a b same = grind (arith, a, b, same)
-
-filter-filter : {X : Type 0} (p q : X → Bool) (xs : List X) → filter p (filter q xs) ≡ filter q (filter p xs)
-filter-filter p q [] = refl
-filter-filter p q (x ∷ xs) = filter_step p q x xs (p x) (q x) refl refl (filter-filter p q xs)
+use Rattle.csr_graph.specs.Changes.{leads_between, without}
+use Rattle.least_costs.specs.Network.{HasArcs, NetworkSeen}
 
 both_step : {X : Type 0} (p q : X → Bool) (x : X) (xs : List X) (a : Bool) → p x ≡ a
     → filter q (filter p xs) ≡ filter (λ x. p x && q x) xs
@@ -32,11 +19,22 @@ both_step : {X : Type 0} (p q : X → Bool) (x : X) (xs : List X) (a : Bool) →
 both_step p q x xs true is same = grind (arith, is, same)
 both_step p q x xs false is same = grind (arith, is, same)
 
+row_step : (p : ArcRec → Bool) (u : ℕ) (arc : ArcRec) (arcs : List ArcRec) (a b : Bool) → p arc ≡ a
+    → (arc.tail == u) ≡ b → row_of (filter p arcs) u ≡ filter p (row_of arcs u)
+    → row_of (filter p (arc ∷ arcs)) u ≡ filter p (row_of (arc ∷ arcs) u)
+row_step p u arc arcs true true a b same = grind (arith, a, b, same)
+row_step p u arc arcs true false a b same = grind (arith, a, b, same)
+row_step p u arc arcs false true a b same = grind (arith, a, b, same)
+row_step p u arc arcs false false a b same = grind (arith, a, b, same)
+
+-- the row of what passes a test is what passes it of the row
+row_passes : (p : ArcRec → Bool) (arcs : List ArcRec) (u : ℕ) → row_of (filter p arcs) u ≡ filter p (row_of arcs u)
+row_passes p [] u = refl
+row_passes p (arc ∷ arcs) u = row_step p u arc arcs (p arc) (arc.tail == u) refl refl (row_passes p arcs u)
+
 same_rows-filter : (p : ArcRec → Bool) (n : ℕ) (xs ys : List ArcRec) → HaveSameRows n xs ys
     → HaveSameRows n (filter p xs) (filter p ys)
-same_rows-filter p n xs ys same u lt =
-    let leaves = λ (arc : ArcRec). arc.tail == u in
-    filter-filter leaves p xs ∙ ap (filter p) (same u lt) ∙ sym (filter-filter leaves p ys)
+same_rows-filter p n xs ys same u lt = row_passes p xs u ∙ ap (filter p) (same u lt) ∙ sym (row_passes p ys u)
 
 same_rows-append : (n : ℕ) (xs ys more : List ArcRec) → HaveSameRows n xs ys → HaveSameRows n (xs ++ more) (ys ++ more)
 same_rows-append n xs ys more same u lt =
@@ -72,18 +70,6 @@ pub between_rows : (arcs : List ArcRec) (net : NetworkSeen) (tail head : ℕ) �
 between_rows arcs net tail head has lt =
     ap (filter (λ (arc : ArcRec). arc.head == head)) (has.rows tail lt)
     ∙ filter_both (λ (arc : ArcRec). arc.tail == tail) (λ arc. arc.head == head) arcs
-
--- the arcs that are left, and those that are added
-pub left_and_added : (gone : List (ℕ × ℕ)) (rows arcs left all added : List ArcRec) → arcs ≡ rows
-    → left ≡ without gone arcs → all ≡ left ++ added
-    → all ≡ without gone rows ++ added
-left_and_added gone rows arcs left all added listed removed extended =
-    extended ∙ ap (λ (front : List ArcRec). front ++ added) (removed ∙ ap (without gone) listed)
-
--- no more arcs are left than there were
-pub fewer_left : (pairs : List (ℕ × ℕ)) (arcs : List ArcRec) → length (without pairs arcs) ≤ length arcs
-fewer_left pairs arcs =
-    subst (λ (count : ℕ). count ≤ length arcs) (sym (length-filter _ arcs)) (count_by-le-length _ arcs)
 
 -- the arcs of a network from which some were removed, and to which others were added
 pub changed_arcs : (arcs come : List ArcRec) (gone : List (ℕ × ℕ)) (net changed : NetworkSeen)

@@ -1,6 +1,5 @@
 pub mod Near
 pub mod Network
-pub mod Between
 pub mod Faults
 pub mod Costs
 pub mod Walks

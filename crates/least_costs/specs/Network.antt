@@ -1,6 +1,5 @@
 -- A network as contracts see it, and where walks begin in it.
-use Rattle.std.specs.Prelude.{◌≡◌, ℕ, Bool, not, ◌^◌, ◌<◌, ◌≤◌, ◌==◌, ◌&&◌, List, ◌++◌, length, filter}
-use Rattle.std.specs.List.{list_any}
+use Rattle.std.specs.Prelude.{◌≡◌, ℕ, ◌^◌, ◌<◌, ◌≤◌, List, ◌++◌, length}
 use Rattle.std.specs.Prelude.{All, ⊤}
 use Rattle.csr_graph.specs.Graph.{Graph, HaveSameRows}
 use Rattle.route_walks.specs.declared.graph.ArcRec.{ArcRec}
@@ -58,14 +57,6 @@ pub record HasArcs (arcs : List ArcRec) (net : NetworkSeen) : Type 0 where
   pub ends : IsGraph net.n arcs
   pub rows : HaveSameRows net.n net.arcs arcs
   pub count : length net.arcs ≡ length arcs
-
--- an arc leads from the first vertex of a pair to the second
-abbrev pub leads_between : ArcRec → ℕ × ℕ → Bool
-leads_between arc pair = (arc.tail == pair.0) && (arc.head == pair.1)
-
--- the arcs that lead between none of these pairs, in their order
-abbrev pub without : List (ℕ × ℕ) → List ArcRec → List ArcRec
-without pairs arcs = filter (λ arc. not (list_any (leads_between arc) pairs)) arcs
 
 -- the seeds of a start among n vertices
 abbrev pub seeds_at : ℕ → Start → List Seed

@@ -10,9 +10,9 @@ ghost use Rattle.route_walks.specs.Operators.{unit_weights};
 ghost use Rattle.route_walks.specs.Walk.{IsArcBelow, IsGraph, HaveSameArcs};
 ghost use Rattle.least_costs.specs.Faults.{IsFirstOutside, IsNetworkFault, IsGrowthFault};
 ghost use Rattle.least_costs.specs.Network.{AreLight, GrowsTo, HasArcs, IsNetwork, IsNetworkOf, arcs_of, graph_of};
-ghost use Rattle.least_costs.specs.Network.{leads_between, without};
+ghost use Rattle.csr_graph.specs.Changes.{leads_between, without};
 
-use crate::between::{list_between, remove_between};
+use crate::between::list_between;
 use crate::cost::Cost;
 use crate::fault::NetworkFault;
 use crate::landmarks::Landmarks;
@@ -85,22 +85,15 @@ impl Network {
         })
     }
 
-    /// The network with more arcs, by the same cost. Shares nothing with this one. Needs a list of all arcs for a
-    /// while, and keeps that of the added ones.
-    pub fn with_arcs<H: Threads + Sync>(
-        &self,
-        rt: &H,
-        alloc: Global,
-        added: &[ArcRec],
-        threads: usize,
-    ) -> Result<Network, NetworkFault>
+    /// The network with more arcs, by the same cost. Shares nothing with this one. Keeps the list of the added arcs.
+    pub fn with_arcs(&self, alloc: Global, added: &[ArcRec]) -> Result<Network, NetworkFault>
         ensures grown { IfOk result (GrowsTo self.now) }
         ensures kind { IfOk result (λ grown. grown.cost ≡ self.now.cost) }
         ensures added { IfOk result (λ grown. grown.added ≡ arcs_of self.now.cost added.now) }
         ensures fault { IfErr result (IsGrowthFault self.now added.now) }
     {
         let added = self.along(alloc, added)?;
-        let rows = changed_rows(rt, alloc, &self.rows, &[], &added, threads)?;
+        let rows = self.rows.changed(alloc, &[], &added)?;
         Ok(Network {
             rows,
             reversed: None,
@@ -111,19 +104,16 @@ impl Network {
     }
 
     /// Makes the network without the arcs that lead from the first vertex of a pair to the second, and with more arcs,
-    /// by the same cost. All other arcs stay. The added arcs come last in each row. Shares nothing with this one, and
-    /// needs a list of all arcs for a while.
+    /// by the same cost. All other arcs stay. The added arcs come last in each row. Shares nothing with this one.
     ///
     /// # Errors
     ///
     /// An end of an added arc is no vertex, there are too many arcs before any is removed, or memory was refused.
-    pub fn changed<H: Threads + Sync>(
+    pub fn changed(
         &self,
-        rt: &H,
         alloc: Global,
         removed: &[(u32, u32)],
         added: &[ArcRec],
-        threads: usize,
     ) -> Result<Network, NetworkFault>
         ensures arcs { (arcs : List ArcRec) → HasArcs arcs self.now
             → IfOk result (HasArcs (without removed.now arcs ++ arcs_of self.now.cost added.now)) }
@@ -133,7 +123,7 @@ impl Network {
         ensures fault { IfErr result (IsGrowthFault self.now added.now) }
     {
         let added = self.along(alloc, added)?;
-        let rows = changed_rows(rt, alloc, &self.rows, removed, &added, threads)?;
+        let rows = self.rows.changed(alloc, removed, &added)?;
         Ok(Network {
             rows,
             reversed: None,
@@ -370,29 +360,4 @@ fn arcs_along(alloc: Global, cost: Cost, arcs: &[ArcRec]) -> Result<Vec<ArcRec>,
         Cost::One => unit_weights(alloc, arcs),
         Cost::FreeBothWays => both_ways(alloc, arcs),
     }
-}
-
-/// Returns the rows without the arcs between these pairs, and with the added arcs.
-fn changed_rows<H: Threads + Sync>(
-    rt: &H,
-    alloc: Global,
-    rows: &Csr,
-    removed: &[(u32, u32)],
-    added: &[ArcRec],
-    threads: usize,
-) -> Result<Csr, Memory>
-    requires ends { IsGraph rows.now.n added.now }
-    requires count { length rows.now.arcs + length added.now ≤ MAX_ARCS }
-    ensures vertices { IfOk result (λ changed. changed.n ≡ rows.now.n) }
-    ensures in_rows { IfOk result IsInRows }
-    ensures arcs { IfOk result
-        (λ changed. HaveSameArcs changed.arcs (without removed.now rows.now.arcs ++ added.now)) }
-    ensures rows { IfOk result
-        (λ changed. HaveSameRows rows.now.n changed.arcs (without removed.now rows.now.arcs ++ added.now)) }
-{
-    let n = rows.n();
-    let mut arcs = rows.arcs(alloc)?;
-    remove_between(alloc, &mut arcs, removed)?;
-    arcs.extend_from_slice(added)?;
-    Csr::build_from(rt, alloc, n, arcs, threads)
 }

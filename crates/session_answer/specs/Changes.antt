@@ -5,7 +5,7 @@ use Rattle.answer_lines.specs.Lines.{grown_text, removed_text}
 use Rattle.dimacs_text.specs.declared.head.HeadForm.{HeadForm}
 use Rattle.dimacs_text.specs.declared.head.HeadForm.TheVariants as form
 use Rattle.dimacs_text.specs.Jobs.{Content, Question, absent, added_of, from_sources, of_pairs}
-use Rattle.least_costs.specs.Network.{without}
+use Rattle.csr_graph.specs.Changes.{without}
 use Rattle.session_answer.specs.declared.change.Change.{Change}
 
 -- the pairs between which arcs are removed, if some are, and the arcs that are then added, if some are

@@ -18,7 +18,8 @@ use Rattle.job_answer.specs.declared.asked.Answer.{Answer}
 use Rattle.job_answer.specs.declared.asked.Answer.TheVariants as answer
 use Rattle.job_answer.specs.declared.asked.Lines.{Lines}
 use Rattle.job_answer.specs.Graphs.{AreGraphs, cost_for}
-use Rattle.least_costs.specs.Network.{HasArcs, IsNetworkOf, leads_between}
+use Rattle.csr_graph.specs.Changes.{leads_between}
+use Rattle.least_costs.specs.Network.{HasArcs, IsNetworkOf}
 use Rattle.job_answer.specs.Outcome.{is_unasked}
 use Rattle.job_answer.specs.Within.{IsAnswerTextBy}
 use Rattle.session_answer.specs.Changes.{ChangeSeen, change_by, change_text, changed_by, pairs_of}

@@ -4,7 +4,7 @@ ghost use Rattle.std.specs.Prelude.{◌≡◌, ◌≤◌, ◌^◌, ◌++◌, Lis
 ghost use Rattle.route_walks.specs.declared.graph.ArcRec.{ArcRec};
 ghost use Rattle.dimacs_text.specs.Jobs.{Content, added_of, question_of};
 ghost use Rattle.session_answer.specs.Changes.{arcs_left, change_by, change_seen, change_text};
-ghost use Rattle.least_costs.specs.Network.{without};
+ghost use Rattle.csr_graph.specs.Changes.{without};
 ghost use Rattle.session_answer.specs.Changes.{ends_of, pairs_of, question_by, with_added};
 
 use answer_lines::{put_grown, put_removed};

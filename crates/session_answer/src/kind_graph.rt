@@ -74,11 +74,7 @@ impl KindGraph {
     }
 
     /// Makes the network after a change.
-    pub(crate) fn changed<H: Threads + Sync, G>(
-        &self,
-        context: &Context<'_, H, G>,
-        change: &Change,
-    ) -> Result<KindGraph, Memory>
+    pub(crate) fn changed(&self, alloc: Global, change: &Change) -> Result<KindGraph, Memory>
         ensures holds { (graph : Content) → HoldsKind Distances graph self.now
             → HasArcs graph.arcs self.now.graphs.network
             → IfOk result (HoldsKind Distances (changed_by graph (change_seen change.now))) }
@@ -89,13 +85,7 @@ impl KindGraph {
         ensures vertices { IfOk result (λ kept. kept.graphs.network.n ≡ self.now.graphs.network.n) }
     {
         let (removed, added) = (change.removed(), change.added());
-        let threads = context.asked.settings.workers as usize;
-        let (rt, alloc) = (context.rt, context.alloc);
-        let Ok(network) = self
-            .graphs
-            .network
-            .changed(rt, alloc, removed, added, threads)
-        else {
+        let Ok(network) = self.graphs.network.changed(alloc, removed, added) else {
             return Err(Memory);
         };
         let count = network.rows().arc_count();

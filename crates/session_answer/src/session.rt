@@ -328,7 +328,7 @@ impl Session {
     {
         let answer = context.asked.answer;
         let mut session = Session {
-            weights: self.weights.changed(context, change)?,
+            weights: self.weights.changed(context.alloc, change)?,
             levels: None,
             components: None,
         };

@@ -139,7 +139,7 @@ fn expect_grown<H: Threads + Wait + Clock + Abort + Sync>(
 {
     let solver = Solver::new(network, Plan::usual(1));
     let costs = solver.from(rt, alloc, 0)?;
-    let grown = network.with_arcs(rt, alloc, &SHORTER, 2)?;
+    let grown = network.with_arcs(alloc, &SHORTER)?;
     let after = solver.costs_after(rt, alloc, &grown, costs)?;
     expect_costs(rt, row, &grown, &after, want);
     Ok(())
@@ -207,7 +207,7 @@ fn costs_after_arcs_are_removed(rt: HostRuntime) -> Result<(), Fail> {
     let alloc = rt.alloc();
     let network = six(&rt, alloc)?;
     for (row, &(removed, added, want)) in CHANGED.iter().enumerate() {
-        let changed = network.changed(&rt, alloc, removed, added, 2)?;
+        let changed = network.changed(alloc, removed, added)?;
         expect_row(&rt, alloc, row, &changed, Start::At(0), want)?;
     }
     Ok(())
@@ -220,7 +220,7 @@ fn arcs_between_two_vertices(rt: HostRuntime) -> Result<(), Fail> {
     assert!(rt; network.arcs_between(alloc, 3, 5)?.as_slice() == arcs![(3, 5, 3)].as_slice());
     assert!(rt; network.arcs_between(alloc, 5, 3)?.is_empty());
     let more = arcs![(3, 5, 9), (3, 2, 4), (3, 5, 1)];
-    let changed = network.changed(&rt, alloc, &[(3, 2)], &more, 2)?;
+    let changed = network.changed(alloc, &[(3, 2)], &more)?;
     let found = changed.arcs_between(alloc, 3, 5)?;
     assert!(rt; found.as_slice() == arcs![(3, 5, 3), (3, 5, 9), (3, 5, 1)].as_slice());
     let found = changed.arcs_between(alloc, 3, 2)?;
@@ -254,9 +254,9 @@ fn faults_of_networks(rt: HostRuntime) -> Result<(), Fail> {
         let made = Network::new(&rt, alloc, n, arcs.to_vec(alloc)?, Cost::Weight, 1);
         assert!(rt; made.err() == Some(want), "{n} vertices");
     }
-    let grown = six(&rt, alloc)?.with_arcs(&rt, alloc, &OUTSIDE_OF_SIX, 1);
+    let grown = six(&rt, alloc)?.with_arcs(alloc, &OUTSIDE_OF_SIX);
     assert!(rt; grown.err() == Some(NetworkFault::Outside(0)));
-    let changed = six(&rt, alloc)?.changed(&rt, alloc, &[(0, 6)], &OUTSIDE_OF_SIX, 1);
+    let changed = six(&rt, alloc)?.changed(alloc, &[(0, 6)], &OUTSIDE_OF_SIX);
     assert!(rt; changed.err() == Some(NetworkFault::Outside(0)));
     Ok(())
 }

@@ -61,11 +61,11 @@ fn grown_again<H: Threads + Abort + Sync>(
 ) -> Result<Network, Fail>
     ensures { IfOk result (GrowsTo network.now) }
 {
-    match refusable!(alloc, network.with_arcs(rt, alloc, &SHORTER, 2)) {
+    match refusable!(alloc, network.with_arcs(alloc, &SHORTER)) {
         Ok(grown) => Ok(grown),
         Err(fault) => {
             assert!(rt; fault == NetworkFault::Memory);
-            Ok(network.with_arcs(rt, alloc, &SHORTER, 2)?)
+            Ok(network.with_arcs(alloc, &SHORTER)?)
         }
     }
 }
@@ -83,11 +83,11 @@ fn of_network_changed(rt: HostRuntime) -> Result<(), Fail> {
     let alloc = rt.alloc();
     let network = six(&rt, alloc)?;
     let pairs = [(0, 5), (3, 5)];
-    let changed = match refusable!(alloc, network.changed(&rt, alloc, &pairs, &SHORTER, 2)) {
+    let changed = match refusable!(alloc, network.changed(alloc, &pairs, &SHORTER)) {
         Ok(changed) => changed,
         Err(fault) => {
             assert!(rt; fault == NetworkFault::Memory);
-            network.changed(&rt, alloc, &pairs, &SHORTER, 2)?
+            network.changed(alloc, &pairs, &SHORTER)?
         }
     };
     assert!(rt; changed.n() == 6);
@@ -209,7 +209,7 @@ fn expect_again<H: Threads + Wait + Clock + Abort + Sync>(
     want: &[Option<u64>; 6],
 ) -> Result<(), Fail> {
     let network = six(rt, alloc)?;
-    let grown = network.with_arcs(rt, alloc, &SHORTER, 1)?;
+    let grown = network.with_arcs(alloc, &SHORTER)?;
     assert!(rt; grown.n() == 6);
     let costs = costs_of(rt, alloc, call, &network, &grown)?;
     expect_six(rt, &costs, want);
@@ -285,7 +285,7 @@ fn served_after<H: Threads + Wait + Clock + Sync>(
 fn of_workers_costs_for_after(rt: HostRuntime) -> Result<(), Fail> {
     let alloc = rt.alloc();
     let network = six(&rt, alloc)?;
-    let grown = network.with_arcs(&rt, alloc, &SHORTER, 1)?;
+    let grown = network.with_arcs(alloc, &SHORTER)?;
     let mut workers = Workers::new(Plan::usual(1).settings, &OpenGate, None);
     let found = refusable!(
         alloc,

@@ -1,6 +1,8 @@
 //! Each call with one allocation refused: `Memory`, and made once more the rows worked by hand.
 
-use crate::rows::{ADDED, ENTERING, GIVEN, GROWN, UNITS, both_rows, expect_rows, graph_of, six};
+use crate::rows::{
+    ADDED, CHANGED, ENTERING, GIVEN, GROWN, REMOVED, UNITS, both_rows, expect_rows, graph_of, six,
+};
 use csr_graph::Csr;
 use route_walks::{EXAMPLE_ARCS, Memory, is_graph, tried_again};
 use std::test::Fail;
@@ -102,5 +104,15 @@ fn of_csr_with_arcs(rt: HostRuntime) -> Result<(), Fail> {
     let csr = six(&rt, alloc)?;
     let grown = tried_again!(rt, alloc, Memory, csr.with_arcs(alloc, &ADDED));
     expect_rows(&rt, alloc, &grown, 6, &GROWN)?;
+    expect_rows(&rt, alloc, &csr, 6, &EXAMPLE_ARCS)
+}
+
+#[test]
+fn of_csr_changed(rt: HostRuntime) -> Result<(), Fail> {
+    let alloc = rt.alloc();
+    assert!(rt; is_graph(6, &ADDED));
+    let csr = six(&rt, alloc)?;
+    let changed = tried_again!(rt, alloc, Memory, csr.changed(alloc, &REMOVED, &ADDED));
+    expect_rows(&rt, alloc, &changed, 6, &CHANGED)?;
     expect_rows(&rt, alloc, &csr, 6, &EXAMPLE_ARCS)
 }

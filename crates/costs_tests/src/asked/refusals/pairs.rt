@@ -65,7 +65,7 @@ fn expect_between_grown<H: Threads + Wait + Clock + Abort + Sync>(
 #[test]
 fn of_solver_between_grown(rt: HostRuntime) -> Result<(), Fail> {
     let mut network = six(&rt, rt.alloc())?;
-    let grown = network.with_arcs(&rt, rt.alloc(), &SHORTER, 1)?;
+    let grown = network.with_arcs(rt.alloc(), &SHORTER)?;
     let after = &[Some(0), Some(4)];
     expect_between_grown(&rt, rt.alloc(), &network, Some(&grown), after)?;
     network.reverse(rt.alloc());

@@ -5,13 +5,14 @@ use Rattle.route_walks.proofs.Facts.{same_arcs-append, same_arcs-trans}
 use Rattle.route_walks.specs.declared.graph.ArcRec.{ArcRec}
 use Rattle.route_walks.specs.Walk.{HaveSameArcs, IsArcBelow, IsGraph}
 use Rattle.least_costs.specs.declared.cost.Cost.{Cost}
-use Rattle.least_costs.specs.Network.{NetworkSeen, arcs_of, without}
+use Rattle.csr_graph.specs.Changes.{without}
+use Rattle.least_costs.specs.Network.{NetworkSeen, arcs_of}
 use Rattle.least_costs.proofs.Networks.{over-same}
 use Rattle.least_costs.proofs.SameRows.{changed_arcs, same_arcs-filter}
 use Rattle.least_costs.proofs.network.Network.changed.Goals as goal
 
 pub invariant_of-result : goal.invariant_of-result
-invariant_of-result g c =
+invariant_of-result c =
     let before = c.self.inside.rows in
     let rows = c.in_ok-rows.rows in
     let IsLight = λ (arc : ArcRec). arc.weight < 2 ^ 32 in
@@ -31,7 +32,7 @@ invariant_of-result g c =
     }
 
 pub returns-clause-arcs : goal.returns-clause-arcs
-returns-clause-arcs g c arcs has =
+returns-clause-arcs c arcs has =
     let net = c.args.self.now in
     let rows = c.in_ok-rows.rows in
     let gone = c.args.removed.now in
@@ -47,7 +48,7 @@ returns-clause-arcs g c arcs has =
     (subst (λ (w : NetworkSeen). HaveSameRows w.n rows.arcs (without gone w.arcs ++ come)) c.self.view_is same)
 
 pub returns-clause-network : goal.returns-clause-network
-returns-clause-network g c n arcs are =
+returns-clause-network c n arcs are =
     let net = c.args.self.now in
     let rows = c.in_ok-rows.rows in
     let gone = c.args.removed.now in

@@ -8,7 +8,7 @@ use Rattle.least_costs.proofs.Networks.{over-same}
 use Rattle.least_costs.proofs.network.Network.with_arcs.Goals as goal
 
 pub invariant_of-result : goal.invariant_of-result
-invariant_of-result g c =
+invariant_of-result c =
     let before = c.self.inside.rows in
     let rows = c.in_ok-rows.rows in
     let IsLight = λ (arc : ArcRec). arc.weight < 2 ^ 32 in
@@ -33,7 +33,7 @@ invariant_of-result g c =
     }
 
 pub returns-clause-grown : goal.returns-clause-grown
-returns-clause-grown g c =
+returns-clause-grown c =
     rw (← c.self.view_is)
     (record {
       vertices = c.in_ok-rows.ensures.vertices;

@@ -2,12 +2,13 @@ use Rattle.std.proofs.Common.{◌≡◌, ◌∙◌, ◌++◌, List, ap, refl, su
 use Rattle.route_walks.specs.declared.graph.ArcRec.{ArcRec}
 use Rattle.least_costs.specs.declared.cost.Cost.{Cost}
 use Rattle.least_costs.specs.declared.cost.Cost.TheVariants.{Weight}
-use Rattle.least_costs.specs.Network.{HasArcs, IsNetworkOf, arcs_of, without}
+use Rattle.csr_graph.specs.Changes.{without}
+use Rattle.least_costs.specs.Network.{HasArcs, IsNetworkOf, arcs_of}
 use Rattle.session_answer.specs.Changes.{arcs_left, change_seen, changed_by}
 use Rattle.session_answer.proofs.kind_graph.KindGraph.changed.Goals as goal
 
 pub returns-clause-arcs : goal.returns-clause-arcs
-returns-clause-arcs g c graph holds has =
+returns-clause-arcs c graph holds has =
     let change = change_seen c.args.change.now in
     let added = c.added-added.result.now in
     let left = without c.removed-removed.result.now graph.arcs in
@@ -19,7 +20,7 @@ returns-clause-arcs g c graph holds has =
     (c.in-Ok.ensures.arcs graph.arcs has))
 
 pub returns-clause-holds : goal.returns-clause-holds
-returns-clause-holds g c graph holds has =
+returns-clause-holds c graph holds has =
     let change = change_seen c.args.change.now in
     let added = c.added-added.result.now in
     let left = without c.removed-removed.result.now graph.arcs in
@@ -33,5 +34,5 @@ returns-clause-holds g c graph holds has =
       alone = refl;
       count =
           (rw c.rows.ensures at c.arc_count-count.ensures.places)
-          ∙ (returns-clause-arcs g c graph holds has).count;
+          ∙ (returns-clause-arcs c graph holds has).count;
     }

@@ -1,8 +1,8 @@
 use Rattle.std.proofs.Common.{◌∙◌, ◌<◌, ◌^◌, ℕ, [], ◌∷◌, ◌++◌, ap, sym, map, take, get_or}
 use Rattle.std.proofs.lemmas.List.{map-append, take_more}
 use Rattle.std.proofs.lemmas.List.Elements.{All-append, All-cons, All-nil}
-use Rattle.least_costs.specs.Between.{key_of}
-use Rattle.least_costs.proofs.between.keys_of.Goals as goal
+use Rattle.csr_graph.specs.Removal.{key_of}
+use Rattle.csr_graph.proofs.changes.keys_of.Goals as goal
 
 pub loop-tail-preserved : goal.loop-tail-preserved
 loop-tail-preserved c =

@@ -1,6 +1,6 @@
 use Rattle.std.proofs.Common.{◌≡◌, ◌<◌, ◌^◌, All, map, take}
-use Rattle.least_costs.specs.Between.{key_of}
-use Rattle.least_costs.proofs.between.keys_of.Given as goal
+use Rattle.csr_graph.specs.Removal.{key_of}
+use Rattle.csr_graph.proofs.changes.keys_of.Given as goal
 
 abbrev pub invariant-loop-tail : goal.invariant-loop-tail
 invariant-loop-tail l = record {

@@ -1,7 +1,7 @@
 use Rattle.std.proofs.Common.{subst}
 use Rattle.std.proofs.lemmas.List.Sorted.{IsNonDecreasingBy-from_sort}
 use Rattle.std.specs.List.Sorted.{IsPermutation}
-use Rattle.least_costs.proofs.between.sorted_keys.Goals as goal
+use Rattle.csr_graph.proofs.changes.sorted_keys.Goals as goal
 
 pub returns : goal.returns
 returns c = record {
