@@ -8,7 +8,7 @@ import unittest
 from unittest import mock
 
 from common import Case, children, columns, costs_from, cut_at, drawn, ints, the_program, there, waits_for
-from test_wire import size_of
+from test_wire import freed_at_once, size_of
 
 import hollowbowl
 from hollowbowl import Closed, Ended, Graph, Timeout, WrongProcess
@@ -164,10 +164,11 @@ class Programs(Case):
     def test_memory(self):
         """A program that is refused memory for a change begins anew; the change is made."""
         n = 300_000
-        graph, (_, other) = self.begin(2, (range(n - 1), range(1, n), [2] * (n - 1), n))
+        with freed_at_once():
+            graph, (_, other) = self.begin(2, (range(n - 1), range(1, n), [2] * (n - 1), n))
         far = lambda: int(graph.distances(0)[n - 1])
         self.assertEqual(far(), 2 * (n - 1))
-        resource.prlimit(other, resource.RLIMIT_AS, (size_of(other), resource.RLIM_INFINITY))
+        resource.prlimit(other, resource.RLIMIT_DATA, (size_of(other), resource.RLIM_INFINITY))
         graph.add([0], [n - 1], [5])
         self.assertEqual((graph.distance(0, n - 1), far()), (5, 5))
         self.assertNotIn(other, children())

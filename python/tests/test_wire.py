@@ -164,9 +164,7 @@ class Memory(Case):
 
     def test_kinds(self):
         n = 300_000
-        # Lists that were freed go back to the system at once, so nothing of them is left within the limit.
-        at_once = mock.patch.dict(os.environ, MALLOC_MMAP_THRESHOLD_="65536", MALLOC_TRIM_THRESHOLD_="65536")
-        with at_once, Graph(range(n - 1), range(1, n), [2] * (n - 1), n) as graph:
+        with freed_at_once(), Graph(range(n - 1), range(1, n), [2] * (n - 1), n) as graph:
             self.assertEqual(graph.distance(0, 9), 18)
             number = the_program()
             limits = resource.prlimit(number, resource.RLIMIT_DATA)
@@ -177,6 +175,11 @@ class Memory(Case):
                 self.assertEqual(graph.distance(0, 9), 18)
             resource.prlimit(number, resource.RLIMIT_DATA, limits)
             self.assertEqual((int(graph.levels(0)[-1]), int(graph.components()[-1]), the_program()), (n - 1, 0, number))
+
+
+def freed_at_once():
+    """Lets programs that begin within it give freed lists back to the system at once, so that none is left for later."""
+    return mock.patch.dict(os.environ, MALLOC_MMAP_THRESHOLD_="65536", MALLOC_TRIM_THRESHOLD_="65536")
 
 
 def size_of(number):
