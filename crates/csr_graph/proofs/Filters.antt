@@ -1,4 +1,4 @@
--- What a filter keeps where its test passes everywhere or nowhere.
+-- What a filter keeps where its test passes everywhere or nowhere, and two filters in either order.
 use Rattle.std.proofs.Common.{◌≡◌, ap, refl, Bool, true, false, List, [], ◌∷◌, arith}
 use Rattle.std.specs.Prelude.{filter, All}
 use Rattle.std.proofs.lemmas.List.Elements.{All-head, All-tail}

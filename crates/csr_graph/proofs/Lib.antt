@@ -1,5 +1,5 @@
 pub mod Facts
-mod Filters
+pub mod Filters
 mod Items
 mod Bins
 mod Sorting

@@ -151,7 +151,10 @@ fn answer_job<H: Threads + Wait + Clock + Sync, W: Write, G: Gate + Sync>(
         ask: &ask,
         lines: asked.lines,
     };
-    answer_question(context, writer, &question, &mut Some(kept), watch)
+    let mut kept = Some(kept);
+    let answered = answer_question(context, writer, &question, &mut kept, watch);
+    watch.see_search_visits(kept.map_or(0, |kept| kept.search_visits()));
+    answered
 }
 
 /// Makes the network of a job ready for pairs, if these are searched: its rows are reversed, and landmarks are chosen if

@@ -23,6 +23,9 @@ pub trait Watch {
     /// Sees how many landmarks pairs are searched by.
     fn see_landmarks(&mut self, _landmarks: usize) {}
 
+    /// Sees how many vertices the searches for pairs and walks visited, which no gate sees.
+    fn see_search_visits(&mut self, _visits: u64) {}
+
     /// Sees that labels were worked out `count` times more.
     fn see_solves(&mut self, _count: usize) {}
 

@@ -13,6 +13,8 @@ pub struct Figures {
     pub solves: usize,
     /// The landmarks that pairs were searched by.
     pub landmarks: usize,
+    /// The vertices that searches visited.
+    pub search_visits: u64,
     /// The most sources solved at the same time.
     pub at_once: usize,
     pub reading: Duration,
@@ -32,6 +34,7 @@ impl Figures {
             arcs: 0,
             solves: 0,
             landmarks: 0,
+            search_visits: 0,
             at_once: 1,
             reading: Duration::ZERO,
             rows: Duration::ZERO,
@@ -53,6 +56,10 @@ impl Watch for Figures {
 
     fn see_landmarks(&mut self, landmarks: usize) {
         self.landmarks = landmarks;
+    }
+
+    fn see_search_visits(&mut self, visits: u64) {
+        self.search_visits = visits;
     }
 
     fn see_solves(&mut self, count: usize) {

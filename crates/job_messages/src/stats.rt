@@ -48,6 +48,7 @@ fn print_worklist<H: Eprint>(rt: &H, settings: &Settings, figures: &Figures, cou
         visits = visits.saturating_add(count);
         let _ = eprintln!(rt; "visits of worker {worker}: {count}");
     }
+    let _ = eprintln!(rt; "visits of searches: {}", figures.search_visits);
     let rate = hundredths(visits, figures);
     let _ = eprintln!(rt; "visits a vertex: {}.{:02}", rate / 100, rate % 100);
     if misfits(settings, worklist.buckets, rate) {

@@ -53,7 +53,9 @@ pub(crate) struct Near {
     one_end: SearchBudget,
     both_ends: SearchBudget,
     by_landmarks: SearchBudget,
-    /// The visits of searches from one end to one target.
+    /// The visits of all searches.
+    visits: u64,
+    /// Those from one end to one target since the rows were reversed last.
     spent: u64,
     /// The visits for sources whose targets weren't near.
     pub(crate) far: FarVisits,
@@ -71,10 +73,22 @@ impl Near {
             one_end: SearchBudget::of(0),
             both_ends: SearchBudget::of(0),
             by_landmarks: SearchBudget::by_landmarks(0),
+            visits: 0,
             spent: 0,
             far: FarVisits::none(),
             was_long: false,
         }
+    }
+
+    /// The visits of all searches so far.
+    pub(crate) fn visits(&self) -> u64 {
+        self.visits
+    }
+
+    /// Counts what searches of others visited too, after the same choice of landmarks.
+    pub(crate) fn add(&mut self, others: &Near) {
+        self.visits = self.visits.saturating_add(others.visits);
+        self.far.add(others.far);
     }
 
     /// Tells if the rows are worth reversing.
@@ -229,6 +243,7 @@ impl Near {
         let limit = self.one_end.limit(network);
         let found = walks_by(forward, walks, alloc, network, source, targets, limit);
         self.one_end.learn(found.is_some());
+        self.count_visits();
         found
     }
 
@@ -248,6 +263,7 @@ impl Near {
         let limit = self.one_end.limit(network);
         let found = within_by(&mut self.forward, alloc, network, source, bound, limit);
         self.one_end.learn(found.is_some());
+        self.count_visits();
         found
     }
 
@@ -267,6 +283,7 @@ impl Near {
         let limit = self.one_end.limit(network);
         let labels = labels_by(&mut self.forward, alloc, network, source, targets, limit);
         self.one_end.learn(labels.is_some());
+        self.count_visits();
         if targets.len() == 1 {
             self.spend(network, labels.is_some());
         }
@@ -292,6 +309,8 @@ impl Near {
         let limit = self.both_ends.limit(network);
         let label = label_by_both(forward, backward, network, source, targets[0], limit);
         self.both_ends.learn(label.is_some());
+        self.count_visits();
+        self.see_visits(visits_in(&self.backward));
         match label {
             Some(label) => vec![in alloc; label; 1].ok(),
             None => None,
@@ -300,13 +319,21 @@ impl Near {
 
     /// Takes note of the last search by landmarks.
     fn see_guided(&mut self, found: bool) {
-        let visits = match &self.forward {
-            Some(space) => space.visits(),
-            None => 0,
-        };
+        let visits = self.count_visits();
         self.by_landmarks.learn(found);
         self.was_long = visits > MAX_SHORT_VISITS;
         self.far.see_search(visits);
+    }
+
+    /// Counts the visits that the last search made from the source, and returns them.
+    fn count_visits(&mut self) -> u32 {
+        let visits = visits_in(&self.forward);
+        self.see_visits(visits);
+        visits
+    }
+
+    fn see_visits(&mut self, visits: u32) {
+        self.visits = self.visits.saturating_add(u64::from(visits));
     }
 
     /// Counts what searches from both ends might have saved of the last search from one end.
@@ -327,6 +354,14 @@ impl Near {
             self.both_ends = SearchBudget::of(n);
             self.by_landmarks = SearchBudget::by_landmarks(n);
         }
+    }
+}
+
+/// The visits since a search was allowed some.
+fn visits_in(space: &Option<SearchSpace>) -> u32 {
+    match space {
+        Some(space) => space.visits(),
+        None => 0,
     }
 }
 
@@ -463,6 +498,7 @@ fn label_by_both(
         (Some(forward), Some(backward), Some(reversed))
             if forward.vertices() == n && backward.vertices() == n => {
             forward.allow(limit.visits, limit.arcs);
+            backward.allow(limit.visits, limit.arcs);
             forward.cost_between(backward, &network.rows, reversed, source, target)
         }
         _ => None,

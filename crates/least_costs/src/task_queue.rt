@@ -124,7 +124,7 @@ impl<'a, P: Send + Drop, G: Gate + Sync> TaskQueue<'a, P, G> {
         let mut kept = workers.into_workspace();
         for state in &states {
             if let Some(workspace) = &state.workspace {
-                kept.near.far.add(workspace.near.far);
+                kept.near.add(&workspace.near);
             }
         }
         kept

@@ -37,4 +37,9 @@ impl Workspace {
     pub fn searches(&self) -> bool {
         self.searches
     }
+
+    /// The number of vertices visited by searches so far. No gate sees these visits.
+    pub fn search_visits(&self) -> u64 {
+        self.near.visits()
+    }
 }

@@ -131,12 +131,11 @@ pub record HoldsKind (kind : Answer) (graph : Content) (kept : KindGraph) : Type
   pub alone : kept.graphs.grown ≡ None
   pub count : kept.arcs ≡ length graph.arcs
 
--- the network of weights, and those of the other kinds that were made
+-- the network of weights, and that of another kind if one is kept
 pub record HoldsGraph (graph : Content) (session : Session) : Type 0 where
   pub weights : HoldsKind answer.Distances graph session.weights
   pub arcs : HasArcs graph.arcs session.weights.graphs.network
-  pub levels : IfSome session.levels (HoldsKind answer.Levels graph)
-  pub components : IfSome session.components (HoldsKind answer.Components graph)
+  pub other : IfSome session.other (λ other. HoldsKind other.answer graph other.graph)
 
 -- it has as many vertices
 pub record IsBeside (weights kept : KindGraph) : Type 0 where
@@ -146,8 +145,7 @@ pub record IsBeside (weights kept : KindGraph) : Type 0 where
 -- what is so of every session
 pub record AreKept (session : Session) : Type 0 where
   pub weights : AreGraphs session.weights.graphs
-  pub levels : IfSome session.levels (IsBeside session.weights)
-  pub components : IfSome session.components (IsBeside session.weights)
+  pub other : IfSome session.other (λ other. IsBeside session.weights other.graph)
 
 -- the number of its vertices
 abbrev pub vertices_in : Session → ℕ

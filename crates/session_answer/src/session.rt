@@ -34,12 +34,19 @@ use std::time::Clock;
 /// The words of a refusal for want of memory.
 pub(crate) const NO_MEMORY: &str = "out of memory";
 
-/// A graph that is kept: its network of weights, and those of the other kinds as soon as one is asked for.
+/// A graph that is kept: its network of weights, and that of the other kind that was asked for last. Both other kinds
+/// would take several times the memory of the weights.
 #[derive(Drop)]
 pub(crate) struct Session {
     pub(crate) weights: KindGraph,
-    pub(crate) levels: Option<KindGraph>,
-    pub(crate) components: Option<KindGraph>,
+    pub(crate) other: Option<OtherGraph>,
+}
+
+/// The network of levels or components.
+#[derive(Drop)]
+pub(crate) struct OtherGraph {
+    pub(crate) answer: Answer,
+    pub(crate) graph: KindGraph,
 }
 
 impl Session {
@@ -62,8 +69,7 @@ impl Session {
                 graphs,
                 arcs: count,
             },
-            levels: None,
-            components: None,
+            other: None,
         })
     }
 
@@ -195,7 +201,8 @@ impl Session {
         answered
     }
 
-    /// Takes the network of the kind that is asked for, which isn't that of weights, or makes it.
+    /// Takes the network of the kind that is asked for, which isn't that of weights, or makes it. One of another kind goes
+    /// first.
     fn taken<H: Threads + Sync, G>(
         &mut self,
         context: &Context<'_, H, G>,
@@ -208,27 +215,12 @@ impl Session {
         ensures weights { self.new.weights ≡ self.old.weights }
         ensures kept { AreKept self.new }
     {
-        let answer = context.asked.answer;
-        match self.take(answer) {
-            Some(graph) => Ok(graph),
-            None => self.weights.derived(context),
+        if let Some(other) = self.other.take() {
+            if other.answer == context.asked.answer {
+                return Ok(other.graph);
+            }
         }
-    }
-
-    /// Takes the network of a kind, if there is one beside that of weights.
-    fn take(&mut self, answer: Answer) -> Option<KindGraph>
-        requires kept { AreKept self.old }
-        ensures holds { (graph : Content) → HoldsGraph graph self.old → IfSome result (HoldsKind answer graph) }
-        ensures graph { (graph : Content) → HoldsGraph graph self.old → HoldsGraph graph self.new }
-        ensures beside { IfSome result (IsBeside self.new.weights) }
-        ensures weights { self.new.weights ≡ self.old.weights }
-        ensures kept { AreKept self.new }
-    {
-        match answer {
-            Answer::Distances => None,
-            Answer::Levels => self.levels.take(),
-            Answer::Components => self.components.take(),
-        }
+        self.weights.derived(context)
     }
 
     /// Keeps the network of a kind beside that of weights.
@@ -239,11 +231,7 @@ impl Session {
         ensures weights { self.new.weights ≡ self.old.weights }
         ensures kept { AreKept self.new }
     {
-        match answer {
-            Answer::Distances => {}
-            Answer::Levels => self.levels = Some(graph),
-            Answer::Components => self.components = Some(graph),
-        }
+        self.other = Some(OtherGraph { answer, graph });
     }
 
     /// Changes the graph, and replies how many arcs that removes and adds, and to what is asked.
@@ -300,9 +288,8 @@ impl Session {
             (W.contents writer.new) (change_text (change_seen change.now) graph.arcs)) }
         ensures kinds { IfErr result IsWritingFault }
     {
-        // The networks of the other kinds are made again when they are asked for, so there is room for the new one.
-        self.levels = None;
-        self.components = None;
+        // The network of another kind is made again when it is asked for, so there is room for the new one.
+        self.other = None;
         let Ok(changed) = self.changed(context, change) else {
             return Ok(ReplyOutcome::NotStarted);
         };
@@ -329,8 +316,7 @@ impl Session {
         let answer = context.asked.answer;
         let mut session = Session {
             weights: self.weights.changed(context.alloc, change)?,
-            levels: None,
-            components: None,
+            other: None,
         };
         if matches!(answer, Answer::Distances) {
             return Ok(session);

@@ -45,7 +45,8 @@ impl WalkSpace {
         self.lists.hops.len()
     }
 
-    /// The vertices of the printed walk to each target; no vertices if its label is not below the limit. Takes the time of the vertices below the limit, their arcs, and the walks.
+    /// The vertices of the printed walk to each target; no vertices if its label is not below the limit. Takes the time of
+    /// the vertices below the limit, their arcs, and the walks.
     pub fn walks_to(
         &mut self,
         alloc: Global,

@@ -91,6 +91,20 @@ fn costs_of_one_call_after_another(rt: HostRuntime) -> Result<(), Fail> {
     expect_calls(&rt, alloc, &short, &long, &mut kept)
 }
 
+// A search visits the vertices that are nearer than its target, and gives up after 512 visits here.
+#[test]
+fn visits_of_searches_add_up(rt: HostRuntime) -> Result<(), Fail> {
+    let alloc = rt.alloc();
+    let long = path(&rt, alloc)?;
+    let mut kept = Some(Workspace::new());
+    for (pair, visits) in [((10, 13), 3), ((0, 2_999), 515), ((7, 7), 515)] {
+        expect_pairs(&rt, alloc, &long, &[pair], &mut kept)?;
+        let seen = kept.as_ref().map(|kept| kept.search_visits());
+        assert!(rt; seen == Some(visits), "to {}", pair.1);
+    }
+    Ok(())
+}
+
 /// Asks for a far target from many vertices, until rows are worth reversing if frontiers are wide.
 pub fn ask_in_vain<H: Threads + Wait + Clock + Sync>(
     rt: &H,

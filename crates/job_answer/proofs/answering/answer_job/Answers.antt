@@ -20,16 +20,16 @@ returns-in_err-graphs-clause-says g c =
 
 pub returns-clause-reply : goal.returns-clause-reply
 returns-clause-reply g c =
-    c.answer_question.ensures.reply (content_of c.args.job)
+    c.answer_question-answered.ensures.reply (content_of c.args.job)
     (record { graphs = rw c.prepare.ensures c.in_ok-graphs.ensures.graphs; asks = refl })
 
 pub returns-clause-says : goal.returns-clause-says
 returns-clause-says g c =
     let kind = c.args.context.now.asked.now.answer in
     let job = content_of c.args.job in
-    reply-says kind c.args.context.now.asked.now.lines job _ _ c.answer_question.result
+    reply-says kind c.args.context.now.asked.now.lines job _ _ c.answer_question-answered.result
     (asked-if kind job (sym c.is_unasked.ensures ∙ c.if-is_unasked.false))
     (untold-if _ _ c.has_no_sources.ensures c.if-has_no_sources.false)
-    c.answer_question.ensures.kinds
-    (c.answer_question.ensures.prefix job
+    c.answer_question-answered.ensures.kinds
+    (c.answer_question-answered.ensures.prefix job
     (record { graphs = rw c.prepare.ensures c.in_ok-graphs.ensures.graphs; asks = refl }))

@@ -6,5 +6,5 @@ returns-clause-holds g c graph holds =
     let after = changed_by graph (change_seen c.args.change.now) in
     let weights = c.in_ok-changed.ensures.holds graph holds.weights holds.arcs in
     let arcs = c.in_ok-changed.ensures.arcs graph holds.weights holds.arcs in
-    c.put.ensures.graph after (record { weights = weights; arcs = arcs; levels = tt; components = tt })
+    c.put.ensures.graph after (record { weights = weights; arcs = arcs; other = tt })
     (c.in_ok-graph.ensures.holds after weights)
