@@ -28,6 +28,7 @@ class Measures(Case):
                 graph.distance_and_path(2, 0)
             self.assertEqual((graph.closeness(0), graph.closeness(0, hops=True)), (2 / 20, 2 / 2))
             self.assertEqual(list(graph.closeness()), [2 / 20, 1 / 6, 0.0, 0.0])
+            self.assertEqual(list(graph.closeness(wf_improved=True)), [2 / 20 * (2 / 3), 1 / 6 * (1 / 3), 0.0, 0.0])
             self.assertEqual((ints(graph.eccentricity()), graph.eccentricity([0], dtype=float)[0]), ([INF] * 4, float("inf")))
             graph.add([2], [3], [1])
             self.assertEqual((ints(graph.eccentricity()), graph.eccentricity(0)), ([14, INF, INF, INF], 14))
@@ -59,9 +60,10 @@ class Measures(Case):
                 if not other.has_edge(tail, head) or weight + 1 < other[tail][head]["weight"]:
                     other.add_edge(tail, head, weight=weight + 1)
             with Graph.from_networkx(other) as graph:
-                outward = networkx.closeness_centrality(other.reverse(), distance="weight", wf_improved=False)
-                for found, wanted in zip(graph.closeness(), outward.values()):
-                    self.assertAlmostEqual(found, wanted)
+                for improved in (False, True):
+                    outward = networkx.closeness_centrality(other.reverse(), distance="weight", wf_improved=improved)
+                    for found, wanted in zip(graph.closeness(wf_improved=improved), outward.values()):
+                        self.assertAlmostEqual(found, wanted)
                 self.assertEqual(graph.component_count(), networkx.number_weakly_connected_components(other))
 
     def test_names(self):

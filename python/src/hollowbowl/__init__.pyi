@@ -161,7 +161,8 @@ class Graph:
         progress: _Progress = None,
     ) -> Any: ...
     def closeness(
-        self, sources: Any = None, *, hops: bool = False, timeout: _Seconds = None, progress: _Progress = None
+        self, sources: Any = None, *, hops: bool = False, wf_improved: bool = False, timeout: _Seconds = None,
+        progress: _Progress = None,
     ) -> Any: ...
     def eccentricity(
         self, sources: Any = None, *, hops: bool = False, dtype: Any = None, whole: bool = False,

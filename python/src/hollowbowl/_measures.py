@@ -37,15 +37,20 @@ class Measures(Asked):
         is_one, places = self._names.one_or_several("sources", sources)
         return is_one, self._ask(_questions.Totals(kind_of(hops), places), timeout, progress).found
 
-    def closeness(self, sources=None, *, hops=False, timeout=None, progress=None):
+    def closeness(self, sources=None, *, hops=False, wf_improved=False, timeout=None, progress=None):
         """The closeness of each of the sources, or of all vertices: a row of floats, and for a single source a number.
 
-        It is (reached - 1) / sum of the costs from the source, and 0 where that is no number. So it is what networkx
-        gives for the reversed graph with `wf_improved=False`.
+        It is (reached - 1) / sum of the costs from the source, and 0 where that is no number. With `wf_improved` it is
+        multiplied by (reached - 1) / (n - 1), as Wasserman and Faust do, so that a vertex that reaches few others isn't
+        the closest. Both are what networkx gives for the reversed graph.
         """
         is_one, found = self._totals(self if sources is None else sources, hops, timeout, progress)
         scale = 1 if hops or self._scale is None else self._scale
-        each = [scale * (reached - 1) / total if total else 0.0 for reached, total, _, _ in found]
+        others = max(self._names.n - 1, 1)
+        each = [
+            scale * (reached - 1) / total * ((reached - 1) / others if wf_improved else 1) if total else 0.0
+            for reached, total, _, _ in found
+        ]
         return each[0] if is_one else floats_of(each)
 
     def eccentricity(self, sources=None, *, hops=False, dtype=None, whole=False, timeout=None, progress=None):
