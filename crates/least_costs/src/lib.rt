@@ -44,6 +44,7 @@ mod growth;
 mod landmarks;
 pub mod laws;
 mod near;
+mod near_room;
 mod network;
 mod pairs;
 mod plan;

@@ -1,4 +1,4 @@
-use Rattle.least_costs.proofs.near.labels_toward.Goals as goal
+use Rattle.least_costs.proofs.near_room.labels_toward.Goals as goal
 
 pub returns-in-Some : goal.returns-in-Some
 returns-in-Some c =
