@@ -13,7 +13,7 @@ use crate::budget::SearchBudget;
 use crate::costs::costs_in_order;
 use crate::landmarks::Landmarks;
 use crate::near_room::{
-    fit, fit_walks, label_by_both, labels_by, labels_toward, visits_in, walks_by, within_by,
+    fit, fit_walks, label_by_both, labels_by, labels_toward, walks_by, within_by,
 };
 use crate::network::Network;
 use crate::start::Start;
@@ -309,7 +309,7 @@ impl Near {
         let label = label_by_both(forward, backward, network, source, targets[0], limit);
         self.both_ends.learn(label.is_some());
         self.count_visits();
-        self.see_visits(visits_in(&self.backward));
+        self.count_backward_visits();
         match label {
             Some(label) => vec![in alloc; label; 1].ok(),
             None => None,
@@ -326,12 +326,20 @@ impl Near {
 
     /// Counts the visits that the last search made from the source, and returns them.
     fn count_visits(&mut self) -> u32 {
-        let visits = visits_in(&self.forward);
-        self.see_visits(visits);
+        let visits = match &self.forward {
+            Some(space) => space.visits(),
+            None => 0,
+        };
+        self.visits = self.visits.saturating_add(u64::from(visits));
         visits
     }
 
-    fn see_visits(&mut self, visits: u32) {
+    /// Counts those that it made from the target.
+    fn count_backward_visits(&mut self) {
+        let visits = match &self.backward {
+            Some(space) => space.visits(),
+            None => 0,
+        };
         self.visits = self.visits.saturating_add(u64::from(visits));
     }
 

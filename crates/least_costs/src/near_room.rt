@@ -16,14 +16,6 @@ use obim_engine::Bounds;
 use std::alloc::Global;
 use walk_report::WalkSpace;
 
-/// The visits since a search was allowed some.
-pub(crate) fn visits_in(space: &Option<SearchSpace>) -> u32 {
-    match space {
-        Some(space) => space.visits(),
-        None => 0,
-    }
-}
-
 /// Makes room for `n` vertices, unless it has room for as many. Returns true if it made room.
 pub(crate) fn fit(space: &mut Option<SearchSpace>, alloc: Global, n: u32) -> bool {
     match space {
