@@ -153,8 +153,15 @@ fn answer_job<H: Threads + Wait + Clock + Sync, W: Write, G: Gate + Sync>(
     };
     let mut kept = Some(kept);
     let answered = answer_question(context, writer, &question, &mut kept, watch);
-    watch.see_search_visits(kept.map_or(0, |kept| kept.search_visits()));
+    show_searches(&kept, watch);
     answered
+}
+
+/// Shows a watch what searches visited.
+fn show_searches(kept: &Option<Workspace>, watch: &mut impl Watch) {
+    if let Some(kept) = kept {
+        watch.see_search_visits(kept.search_visits());
+    }
 }
 
 /// Makes the network of a job ready for pairs, if these are searched: its rows are reversed, and landmarks are chosen if
