@@ -8,7 +8,6 @@ use Rattle.std.proofs.lemmas.List.Elements.{All-nil, All-tail, All-weaker, filte
 use Rattle.route_walks.proofs.Facts.{same_arcs-sym}
 use Rattle.csr_graph.specs.Graph.{HaveSameRows, first_place, row_of}
 use Rattle.csr_graph.proofs.Facts.{first_place_all, first_place_next, first_place_zero}
-use Rattle.csr_graph.proofs.Filters.{filter-filter}
 use Rattle.route_walks.specs.declared.graph.ArcRec.{ArcRec}
 use Rattle.route_walks.specs.Walk.{HaveSameArcs, IsArcBelow, IsGraph}
 use Rattle.csr_graph.specs.Changes.{leads_between, without}
@@ -20,11 +19,22 @@ both_step : {X : Type 0} (p q : X → Bool) (x : X) (xs : List X) (a : Bool) →
 both_step p q x xs true is same = grind (arith, is, same)
 both_step p q x xs false is same = grind (arith, is, same)
 
+row_step : (p : ArcRec → Bool) (u : ℕ) (arc : ArcRec) (arcs : List ArcRec) (a b : Bool) → p arc ≡ a
+    → (arc.tail == u) ≡ b → row_of (filter p arcs) u ≡ filter p (row_of arcs u)
+    → row_of (filter p (arc ∷ arcs)) u ≡ filter p (row_of (arc ∷ arcs) u)
+row_step p u arc arcs true true a b same = grind (arith, a, b, same)
+row_step p u arc arcs true false a b same = grind (arith, a, b, same)
+row_step p u arc arcs false true a b same = grind (arith, a, b, same)
+row_step p u arc arcs false false a b same = grind (arith, a, b, same)
+
+-- the row of what passes a test is what passes it of the row
+row_passes : (p : ArcRec → Bool) (arcs : List ArcRec) (u : ℕ) → row_of (filter p arcs) u ≡ filter p (row_of arcs u)
+row_passes p [] u = refl
+row_passes p (arc ∷ arcs) u = row_step p u arc arcs (p arc) (arc.tail == u) refl refl (row_passes p arcs u)
+
 same_rows-filter : (p : ArcRec → Bool) (n : ℕ) (xs ys : List ArcRec) → HaveSameRows n xs ys
     → HaveSameRows n (filter p xs) (filter p ys)
-same_rows-filter p n xs ys same u lt =
-    let here = λ (arc : ArcRec). arc.tail == u in
-    filter-filter here p xs ∙ ap (filter p) (same u lt) ∙ sym (filter-filter here p ys)
+same_rows-filter p n xs ys same u lt = row_passes p xs u ∙ ap (filter p) (same u lt) ∙ sym (row_passes p ys u)
 
 same_rows-append : (n : ℕ) (xs ys more : List ArcRec) → HaveSameRows n xs ys → HaveSameRows n (xs ++ more) (ys ++ more)
 same_rows-append n xs ys more same u lt =
