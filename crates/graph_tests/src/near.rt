@@ -333,3 +333,46 @@ fn searches_that_give_up_leave_nothing(rt: HostRuntime) -> Result<(), Fail> {
     }
     Ok(())
 }
+
+/// The vertices along a side of a grid of streets that all cost 1.
+const SIDE: u32 = 20;
+
+/// The streets of the grid, to the right and down.
+fn streets(alloc: Global) -> Result<Vec<ArcRec>, Memory> {
+    let mut streets = Vec::new(alloc);
+    for tail in 0..SIDE * SIDE {
+        let weight = 1;
+        if tail % SIDE + 1 < SIDE {
+            let head = tail + 1;
+            streets.push(ArcRec { tail, head, weight })?;
+        }
+        if tail + SIDE < SIDE * SIDE {
+            let head = tail + SIDE;
+            streets.push(ArcRec { tail, head, weight })?;
+        }
+    }
+    Ok(streets)
+}
+
+// Each crossing lies on a shortest path from corner to corner, so each has the same sum.
+#[test]
+fn equal_sums_lead_straight_on(rt: HostRuntime) -> Result<(), Fail> {
+    let alloc = rt.alloc();
+    let (n, far) = (SIDE * SIDE, 2 * (SIDE - 1));
+    let csr = build(&rt, alloc, n, &streets(alloc)?)?;
+    let cells: Vec<u16> = (0..n).map(|v| (v % SIDE + v / SIDE) as u16).collect(alloc)?;
+    let bounds = Bounds {
+        targets: &[n - 1],
+        cells: &cells,
+        low: &[far as u16],
+        high: &[u16::MAX],
+        unit: 1,
+        base: 0,
+    };
+    let mut space = SearchSpace::new(alloc, n)?;
+    space.allow(n, usize::MAX);
+    let found = space.labels_toward(alloc, &csr, 0, &bounds);
+    assert!(rt; found.is_some_and(|labels| labels.as_slice() == [u64::from(far)].as_slice()));
+    assert_eq!(rt; space.visits(), far);
+    Ok(())
+}

@@ -1,4 +1,4 @@
-//! Searches within a limit, in room that is there or not.
+//! Searches within a limit, in room that is there or not. They return `None` if there is none, or the limit doesn't do.
 
 ghost use Rattle.std.specs.Prelude.{◌≡◌, ◌<◌, All, IfSome};
 ghost use Rattle.route_walks.specs.declared.graph.TheConstants.{INF};
@@ -35,7 +35,7 @@ pub(crate) fn fit_walks(space: &mut Option<WalkSpace>, alloc: Global, n: u32) {
     }
 }
 
-/// Does what `walks_to` does, within the limit.
+/// The least labels of these targets, and walks to them, within the limit.
 pub(crate) fn walks_by(
     space: &mut Option<SearchSpace>,
     walks: &mut Option<WalkSpace>,
@@ -59,7 +59,7 @@ pub(crate) fn walks_by(
     }
 }
 
-/// Does what `labels_to` does, within the limit.
+/// The least labels of these targets, within the limit.
 pub(crate) fn labels_by(
     space: &mut Option<SearchSpace>,
     alloc: Global,
@@ -104,7 +104,7 @@ pub(crate) fn labels_toward(
     }
 }
 
-/// Does what `within` does, within the limit.
+/// The vertices within the bound, each with its label, within the limit.
 pub(crate) fn within_by(
     space: &mut Option<SearchSpace>,
     alloc: Global,
@@ -126,7 +126,7 @@ pub(crate) fn within_by(
     }
 }
 
-/// Does what `label_between` does, within the limit.
+/// The least label of the target, by a search from both ends within the limit.
 pub(crate) fn label_by_both(
     forward: &mut Option<SearchSpace>,
     backward: &mut Option<SearchSpace>,

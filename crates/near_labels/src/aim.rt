@@ -36,7 +36,7 @@ impl<'a> SearchAim<'a> {
         }
     }
 
-    /// Tells if what is asked for is known, if no key below `next` waits. The targets before the place `seen` are
+    /// Tells if what is asked for is known, if no lower sum than `next` waits. The targets before the place `seen` are
     /// known. A hint.
     pub(crate) fn is_reached(&self, labels: &[u64], seen: &mut usize, next: u64) -> bool
         requires { All (λ t. t < length labels.now) (targets_of self.now) }

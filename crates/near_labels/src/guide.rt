@@ -13,13 +13,28 @@ pub(crate) enum Guide<'a> {
     Bounds(&'a Bounds<'a>),
 }
 
+/// A vertex that waits. The lowest sum comes first, and of equal sums the vertex that is nearest to the targets.
+#[derive(Clone, Copy, Debug, PartialEq, Eq, PartialOrd, Ord)]
+pub(crate) struct Waiting {
+    /// Its label and the rest of the way; `INF` if it is wanted for nothing.
+    pub sum: u64,
+    /// The rest of the way by bounds, up to 2^32 - 1; 0 if there are none.
+    pub rest: u32,
+    pub vertex: u32,
+}
+
 impl Guide<'_> {
-    /// The number by which a vertex with this label waits; `INF` if it is wanted for nothing.
+    /// The place at which a vertex with this label waits.
     #[inline(always)]
-    pub(crate) fn key(&self, v: u32, label: u64) -> u64 {
-        match self {
-            Guide::Bounds(bounds) => label.saturating_add(bounds.bound(v)),
-            _ => label,
+    pub(crate) fn waiting(&self, v: u32, label: u64) -> Waiting {
+        let rest = match self {
+            Guide::Bounds(bounds) => bounds.bound(v),
+            _ => 0,
+        };
+        Waiting {
+            sum: label.saturating_add(rest),
+            rest: rest.min(u64::from(u32::MAX)) as u32,
+            vertex: v,
         }
     }
 }

@@ -74,7 +74,7 @@ pub(crate) fn begin(state: &mut State, csr: &Csr, source: u32, guide: Guide<'_>)
     state.lower(source, 0, guide)
 }
 
-/// Visits vertices until no lower label is asked for than the key by which the next one waits.
+/// Visits vertices until no lower label is asked for than the sum by which the next one waits.
 fn go_on(state: &mut State, csr: &Csr, source: u32, aim: &SearchAim<'_>, guide: Guide<'_>) -> bool
     requires noted { AreNoted state.old.labels.items state.old.marks.items state.old.noted.items }
     requires pause { IsPause csr.now (seeds_from source) (rest_of state.old.labels.items state.old.marks.items) }
@@ -90,12 +90,13 @@ fn go_on(state: &mut State, csr: &Csr, source: u32, aim: &SearchAim<'_>, guide: 
         if state.relaxed > state.arcs {
             return true;
         }
-        let Some(Reverse((key, u))) = state.queue.pop() else {
+        let Some(Reverse(next)) = state.queue.pop() else {
             return true;
         };
-        if aim.is_reached(&state.labels, &mut seen, key) {
+        if aim.is_reached(&state.labels, &mut seen, next.sum) {
             return true;
         }
+        let u = next.vertex;
         if u < n && state.marks[u as usize] && !state.visit(csr, source, u, guide) {
             return false;
         }

@@ -10,7 +10,7 @@ ghost use Rattle.label_words.specs.Paused.{IsPause, AreMarkedFar, AreUnmarkedBel
 ghost use Rattle.near_labels.specs.Noted.{AreNoted, IsBlank, rest_of};
 ghost use Rattle.near_labels.specs.Meeting.{IsLeastMeeting};
 
-use crate::guide::Guide;
+use crate::guide::{Guide, Waiting};
 use csr_graph::{Bounds, Csr, Target};
 use route_walks::{INF, Memory, offer};
 use std::alloc::Global;
@@ -23,7 +23,7 @@ pub(crate) struct State {
     pub labels: Vec<u64>,
     pub marks: Vec<bool>,
     pub noted: Vec<u32>,
-    pub queue: BinaryHeap<Reverse<(u64, u32)>>,
+    pub queue: BinaryHeap<Reverse<Waiting>>,
     /// The visits, and arcs relaxed, before a search gives up.
     pub visits: u32,
     pub arcs: usize,
@@ -91,8 +91,8 @@ impl State {
         }
     }
 
-    /// Lowers the label of `v`, marks it, and lets it wait by its key, unless that is `INF`. Returns
-    /// false if memory is refused.
+    /// Lowers the label of `v`, marks it, and lets it wait, unless its sum is `INF`. Returns false if memory is
+    /// refused.
     #[inline(always)]
     pub(crate) fn lower(&mut self, v: u32, label: u64, guide: Guide<'_>) -> bool
         requires noted { AreNoted self.old.labels.items self.old.marks.items self.old.noted.items }
@@ -104,11 +104,11 @@ impl State {
         ensures noted { AreNoted self.new.labels.items self.new.marks.items self.new.noted.items }
     {
         self.meet(v, label, guide);
-        let key = guide.key(v, label);
+        let waiting = guide.waiting(v, label);
         if !self.note(v) {
             return false;
         }
-        if !let_wait(&mut self.queue, v, key) {
+        if !let_wait(&mut self.queue, waiting) {
             return false;
         }
         let place = v as usize;
@@ -192,9 +192,10 @@ impl State {
             IsPause csr.now (seeds_from source) (rest_of self.new.labels.items self.new.marks.items) }
         ensures count { length self.new.labels.items ≡ length self.old.labels.items }
     {
-        let Some(Reverse((_, u))) = self.queue.pop() else {
+        let Some(Reverse(next)) = self.queue.pop() else {
             return true;
         };
+        let u = next.vertex;
         if u < csr.n() && self.marks[u as usize] {
             self.visit(csr, source, u, guide)
         } else {
@@ -205,7 +206,7 @@ impl State {
     /// The lowest label that waits, or a lower one; `INF` if none does. A hint.
     pub(crate) fn next_label(&self) -> u64 {
         match self.queue.peek() {
-            Some(Reverse((label, _))) => *label,
+            Some(Reverse(next)) => next.sum,
             None => INF,
         }
     }
@@ -271,13 +272,13 @@ impl State {
     }
 }
 
-/// Lets `v` wait by a key, unless that is `INF`. Returns false if memory is refused.
+/// Lets a vertex wait, unless its sum is `INF`. Returns false if memory is refused.
 #[inline(always)]
-fn let_wait(queue: &mut BinaryHeap<Reverse<(u64, u32)>>, v: u32, key: u64) -> bool {
-    if key == INF {
+fn let_wait(queue: &mut BinaryHeap<Reverse<Waiting>>, waiting: Waiting) -> bool {
+    if waiting.sum == INF {
         return true;
     }
-    match queue.push(Reverse((key, v))) {
+    match queue.push(Reverse(waiting)) {
         Ok(()) => true,
         Err(_) => false,
     }
