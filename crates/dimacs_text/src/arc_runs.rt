@@ -17,8 +17,8 @@ use std::alloc::Global;
 use std::sync::atomic::{AtomicUsize, Ordering};
 use std::thread::{Threads, for_each_mut};
 
-/// Bytes of the shortest line of an arc, with its line feed.
-const SHORTEST_ARC_BYTES: usize = 8;
+/// The bytes of the shortest line of an arc, `a 1 1 0` and a line feed.
+pub const SHORTEST_ARC_BYTES: usize = 8;
 
 /// Bytes of a part: few, so that no thread is waited for long.
 const PART_BYTES: usize = 1 << 15;

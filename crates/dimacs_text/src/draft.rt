@@ -129,7 +129,7 @@ impl Draft {
     }
 
     /// The number of vertices, if arcs of the graph may come next.
-    pub fn arcs_ahead(&self) -> Option<u32> {
+    pub fn vertices_if_arcs_come(&self) -> Option<u32> {
         self.stage.missing_arcs().map(|_| self.vertices)
     }
 

@@ -29,7 +29,7 @@ mod stage;
 pub use answer_lines::{
     put_components, put_distances, put_grown, put_label, put_labels, put_pair, put_source, put_walk,
 };
-pub use arc_runs::{ArcRuns, Parts, ReadAhead, read_side_by_side};
+pub use arc_runs::{ArcRuns, Parts, ReadAhead, SHORTEST_ARC_BYTES, read_side_by_side};
 pub use explanation::{Beginning, Expected, ExplainedFault, Explanation, MAX_KEPT_BYTES, Place};
 pub use fault::{LineKind, TextFault};
 pub use form::{Form, Item, Limit, MAX_ADDED, MAX_QUERIES, MAX_TEXT_ARCS, Section};

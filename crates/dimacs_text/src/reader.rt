@@ -17,7 +17,7 @@ ghost use Rattle.dimacs_text.specs.Reading.{IsReadAhead, Reads};
 ghost use Rattle.dimacs_text.specs.Reading.{HasRead, HasReadLines, HasReadText, IsLineEnd, IsOpenComment};
 ghost use Rattle.dimacs_text.specs.GraphTexts.{HasFault, HasGraph, IsGraphOver, IsGraphText};
 
-use crate::arc_runs::{ArcRun, ReadAhead};
+use crate::arc_runs::{ArcRun, ReadAhead, SHORTEST_ARC_BYTES};
 use crate::draft::Draft;
 use crate::explanation::ExplainedFault;
 use crate::fault::{LineKind, TextFault};
@@ -25,9 +25,6 @@ use crate::job::Job;
 use crate::line::{after_last_feed, begins_comment, line_end};
 use route_walks::Memory;
 use std::alloc::Global;
-
-/// Bytes of the shortest line of an arc, `a 1 1 0` and a line feed.
-const SHORTEST_ARC_BYTES: usize = 8;
 
 /// The lines that were read, all of them whole.
 #[derive(Debug, Drop)]
@@ -274,8 +271,8 @@ impl JobReader {
     }
 
     /// The number of vertices, if arcs of the graph may come next: what `Parts::new` asks for.
-    pub fn arcs_ahead(&self) -> Option<u32> {
-        self.lines.draft.arcs_ahead()
+    pub fn vertices_if_arcs_come(&self) -> Option<u32> {
+        self.lines.draft.vertices_if_arcs_come()
     }
 
     /// The number of arcs of the graph that were read, and the number that the problem line counts. `None` before that

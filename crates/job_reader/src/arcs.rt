@@ -11,14 +11,11 @@ ghost use Rattle.job_reader.specs.Taken.{TakesAtMost};
 use crate::fault::ReadFault;
 use crate::pieces::Pieces;
 use crate::step::step;
-use dimacs_text::JobReader;
+use dimacs_text::{JobReader, SHORTEST_ARC_BYTES};
 use std::alloc::Global;
 use std::io::Read;
 use std::thread::Threads;
 use std::time::Clock;
-
-/// The bytes of the shortest line of an arc, `a 1 1 0` and a line feed.
-const SHORTEST_ARC_BYTES: usize = 8;
 
 /// The fewest sure bytes that are worth threads.
 const MIN_BYTES_FOR_THREADS: usize = 1 << 20;

@@ -30,7 +30,7 @@ pub(crate) fn step<H: Threads + Clock + Sync, R: Read>(
     ensures short { IfErr result (StopsShort left (R.remaining reader.old) (R.remaining reader.new)) }
     ensures back { pieces.new.back ≡ pieces.old.back }
 {
-    let Some(vertices) = job.arcs_ahead() else {
+    let Some(vertices) = job.vertices_if_arcs_come() else {
         return feed_and_fill(reader, job, &pieces.front, &mut pieces.spare, limit);
     };
     // The byte past the limit is taken only after the front piece was fed: if memory for that is refused,

@@ -30,7 +30,7 @@ fn expect_count(
     ahead: Option<u32>,
 ) {
     assert!(rt; reader.arcs_so_far() == so_far);
-    assert!(rt; reader.arcs_ahead() == ahead);
+    assert!(rt; reader.vertices_if_arcs_come() == ahead);
 }
 
 #[test]
