@@ -15,6 +15,7 @@ mod refusals;
 mod searches;
 mod watched;
 mod widths;
+mod yielding;
 
 ghost use Rattle.std.specs.Prelude.{◌≡◌};
 

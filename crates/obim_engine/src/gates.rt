@@ -1,11 +1,9 @@
-//! Gates for tests.
+//! A gate for tests.
 
 use crate::gate::Gate;
 use std::alloc::Global;
 use std::fmt;
-use std::sync::atomic::{AtomicU64, Ordering};
 use std::sync::{Mutex, Wait};
-use std::thread::yield_now;
 
 /// Keeps the vertices that passed, in order, under a lock: for tests.
 #[derive(Drop)]
@@ -37,32 +35,5 @@ impl Gate for Recorder {
     fn pass<H: Wait>(&self, rt: &H, _worker: u32, vertex: u32) {
         // If memory is refused a vertex is left out, which a test notices.
         let _ = self.passed.lock(rt).push(vertex);
-    }
-}
-
-/// Yields the processor before one visit in eight, at random: for tests.
-#[derive(Debug, Drop)]
-pub struct Yielding {
-    state: AtomicU64,
-}
-
-impl Yielding {
-    /// Draws from this seed on.
-    pub fn new(seed: u64) -> Yielding {
-        Yielding {
-            state: AtomicU64::new(seed),
-        }
-    }
-}
-
-impl Gate for Yielding {
-    fn pass<H: Wait>(&self, _rt: &H, _worker: u32, _vertex: u32) {
-        // Knuth's increment, and a mix of the bits (splitmix64).
-        let mut bits = self.state.fetch_add(1442695040888963407, Ordering::Relaxed);
-        bits = (bits ^ bits >> 30).wrapping_mul(0xbf58476d1ce4e5b9);
-        bits = (bits ^ bits >> 27).wrapping_mul(0x94d049bb133111eb);
-        if bits >> 61 == 0 {
-            yield_now();
-        }
     }
 }

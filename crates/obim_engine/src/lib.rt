@@ -24,7 +24,7 @@ mod worker;
 
 pub use csr_graph::{Bounds, FINITE_CELLS};
 pub use gate::{Gate, OpenGate};
-pub use gates::{Recorder, Yielding};
+pub use gates::Recorder;
 pub use goal::{Goal, GoalResult};
 pub use growing::grow;
 pub use hints::widths::{Widths, widths_of};

@@ -13,8 +13,7 @@ use crate::runs::{RunFault, solve};
 use crate::settings::{Buckets, MAX_SHIFT, MAX_WORKERS, Settings, Setup};
 use crate::shared::Run;
 use csr_graph::Csr;
-use obim_pool::{ObimPool, WideningPool, WorkPool, Worklist};
-use route_walks::laws::least_labels_follow_the_arcs;
+use obim_pool::{ObimPool, ObimSide, WideningPool, WorkPool, Worklist};
 use route_walks::{Memory, Seed, seeds_all, seeds_from, unit_weights};
 use std::alloc::Global;
 use std::sync::Wait;
@@ -54,7 +53,7 @@ pub fn levels<H: Threads + Wait + Clock + Sync, G: Gate + Sync>(
 {
     let units = unit_rows(alloc, csr)?;
     // What is least in the rows is least for the list that they were built of.
-    least_labels_follow_the_arcs();
+    route_walks::laws::least_labels_follow_the_arcs();
     distances(rt, alloc, &units, source, settings, gate)
 }
 
@@ -74,7 +73,7 @@ pub fn components<H: Threads + Wait + Clock + Sync, G: Gate + Sync>(
     let both = both_rows(rt, alloc, csr, settings.workers as usize)?;
     let seeds = seeds_all(alloc, csr.n())?;
     // What is least in the rows is least for the list that they were built of.
-    least_labels_follow_the_arcs();
+    route_walks::laws::least_labels_follow_the_arcs();
     least_labels(rt, alloc, &both, seeds, settings, gate)
 }
 
@@ -108,9 +107,7 @@ fn least_labels<H: Threads + Wait + Clock + Sync, G: Gate + Sync>(
                 pool: &pool,
                 gate,
             };
-            let labels = solve_by(rt, alloc, csr, opened, &setup, &mut sides)?;
-            gate.end(rt, Worklist::of(&sides));
-            Ok(labels)
+            solve_by(rt, alloc, csr, opened, &setup, &mut sides)
         }
         Buckets::Even(_) => {
             let (pool, mut sides) = ObimPool::open(alloc, workers, chunk)?;
@@ -120,24 +117,24 @@ fn least_labels<H: Threads + Wait + Clock + Sync, G: Gate + Sync>(
                 pool: &pool,
                 gate,
             };
-            let labels = solve_by(rt, alloc, csr, opened, &setup, &mut sides)?;
-            gate.end(rt, Worklist::of(&sides));
-            Ok(labels)
+            solve_by(rt, alloc, csr, opened, &setup, &mut sides)
         }
     }
 }
 
-/// Runs on open words to the end.
-fn solve_by<H: Threads + Wait + Clock + Sync, P: WorkPool + Sync, G: Gate + Sync>(
+/// Runs on open words to the end, and shows the gate what the worklist did.
+fn solve_by<H, P, G>(
     rt: &H,
     alloc: Global,
     csr: &Csr,
     opened: Opened,
     setup: &Setup<'_, P, G>,
-    sides: &mut [P::Side],
+    sides: &mut [ObimSide],
 ) -> Result<Vec<u64>, RunFault>
 where
-    P::Side: Send,
+    H: Threads + Wait + Clock + Sync,
+    P: WorkPool<Side = ObimSide> + Sync,
+    G: Gate + Sync,
     requires seat { CanLead csr.now MAX_WORKERS opened.seat }
     requires some { 1 ≤ length sides.old }
     requires few { length sides.old ≤ MAX_WORKERS }
@@ -145,8 +142,10 @@ where
     ensures { IfOk result
         (λ labels. AreLeastLabels csr.now.n csr.now.arcs opened.seat.known.seeds labels.items) }
 {
-    let run = Run::whole(csr, setup.settings, setup.pool, setup.gate, None);
-    solve(rt, alloc, opened, &run, sides)
+    let run = Run::whole(csr, setup, None);
+    let labels = solve(rt, alloc, opened, &run, sides)?;
+    setup.gate.end(rt, Worklist::of(sides));
+    Ok(labels)
 }
 
 fn unit_rows(alloc: Global, csr: &Csr) -> Result<Csr, Memory>

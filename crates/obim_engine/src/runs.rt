@@ -13,10 +13,9 @@ use crate::goal::Goal;
 use crate::group::run_group;
 use crate::hints::pace::Pace;
 use crate::opened::Opened;
-use crate::settings::{MAX_WORKERS, Settings};
+use crate::settings::{MAX_WORKERS, Settings, Setup};
 use crate::shared::{Run, Shared};
 use csr_graph::Csr;
-use label_words::laws::resumed_runs_end_alike;
 use label_words::{Closed, Paused, WorkSeat};
 use obim_pool::WorkPool;
 use route_walks::Seed;
@@ -80,7 +79,12 @@ where
     ensures sides { All (P.is_side pool.now) sides.new }
 {
     let opened = Opened::from_seeds(alloc, csr, seeds)?;
-    let run = Run::whole(csr, settings, pool, gate, None);
+    let setup = Setup {
+        settings,
+        pool,
+        gate,
+    };
+    let run = Run::whole(csr, &setup, None);
     solve(rt, alloc, opened, &run, sides)
 }
 
@@ -106,7 +110,12 @@ where
     ensures sides { All (P.is_side pool.now) sides.new }
 {
     let opened = Opened::from_seeds(alloc, csr, seeds)?;
-    let run = Run::whole(csr, settings, pool, gate, Some(budget));
+    let setup = Setup {
+        settings,
+        pool,
+        gate,
+    };
+    let run = Run::whole(csr, &setup, Some(budget));
     run_workers(rt, alloc, opened, &run, sides)
 }
 
@@ -137,8 +146,13 @@ where
     // The words have the labels as their seeds; the caller's seeds are for the contract alone.
     let _ = seeds;
     let opened = Opened::from_pause(alloc, csr, rest)?;
-    resumed_runs_end_alike();
-    let run = Run::whole(csr, settings, pool, gate, Some(budget));
+    label_words::laws::resumed_runs_end_alike();
+    let setup = Setup {
+        settings,
+        pool,
+        gate,
+    };
+    let run = Run::whole(csr, &setup, Some(budget));
     run_workers(rt, alloc, opened, &run, sides)
 }
 

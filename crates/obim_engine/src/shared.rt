@@ -5,7 +5,7 @@ ghost use Rattle.obim_engine.specs.declared.settings.TheConstants.{MAX_SHIFT};
 
 use crate::goal::Goal;
 use crate::hints::pace::Pace;
-use crate::settings::{Settings, Setup};
+use crate::settings::Setup;
 use csr_graph::Csr;
 use label_words::Words;
 
@@ -40,23 +40,17 @@ impl<'a, P, G> Run<'a, P, G> {
     }
 
     /// A run to its end, or as far as the budget goes.
-    pub(crate) fn whole(
-        csr: &'a Csr,
-        settings: &Settings,
-        pool: &'a P,
-        gate: &'a G,
-        budget: Option<u64>,
-    ) -> Run<'a, P, G>
+    pub(crate) fn whole(csr: &'a Csr, setup: &Setup<'a, P, G>, budget: Option<u64>) -> Run<'a, P, G>
         ensures csr { result.csr.now ≡ csr.now }
-        ensures pool { result.pool.now ≡ pool.now }
+        ensures pool { result.pool.now ≡ setup.now.pool.now }
         ensures budget { result.budget ≡ budget }
         ensures goal { result.goal ≡ Goal.EachVertex }
     {
         Run {
             csr,
-            pool,
-            gate,
-            shift: settings.shift(),
+            pool: setup.pool,
+            gate: setup.gate,
+            shift: setup.settings.shift(),
             budget,
             goal: Goal::EachVertex,
         }

@@ -17,7 +17,6 @@ use crate::runs::{RunFault, run_workers, solve};
 use crate::settings::{MAX_WORKERS, Setup};
 use crate::shared::Run;
 use csr_graph::Csr;
-use label_words::laws::resumed_runs_end_alike;
 use label_words::{Closed, Paused};
 use obim_pool::WorkPool;
 use route_walks::{INF, Seed};
@@ -76,7 +75,7 @@ where
 {
     let opened = Opened::from_pause(alloc, csr, rest)?;
     // The words have the labels as their seeds, and what is least from these is least from the others.
-    resumed_runs_end_alike();
+    label_words::laws::resumed_runs_end_alike();
     reach(rt, alloc, opened, &Run::of(csr, goal, setup), sides)
 }
 
@@ -111,7 +110,7 @@ where
         return Ok(GoalResult { closed, limit });
     }
     let opened = Opened::from_pause(alloc, run.csr, rest)?;
-    resumed_runs_end_alike();
+    label_words::laws::resumed_runs_end_alike();
     let labels = solve(rt, alloc, opened, &run.to_end(), sides)?;
     Ok(settled(labels))
 }
