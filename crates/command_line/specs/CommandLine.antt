@@ -25,11 +25,10 @@ use Rattle.job_answer.specs.declared.asked.Lines.TheVariants.{Each}
 use Rattle.least_costs.specs.declared.landmarks.TheConstants.{MAX_LANDMARKS}
 use Rattle.least_costs.specs.declared.plan.AtOnce.{AtOnce}
 use Rattle.least_costs.specs.declared.plan.AtOnce.TheVariants as at_once
-use Rattle.least_costs.specs.declared.plan.TheConstants.{USUAL_LANDMARKS}
+use Rattle.least_costs.specs.declared.plan.TheConstants.{CHUNK_OF_TWO, SHARED_CHUNK, USUAL_LANDMARKS}
 use Rattle.command_line.specs.declared.options.Options.{Options}
 use Rattle.command_line.specs.declared.refusals.Refusal.{Refusal}
 use Rattle.command_line.specs.declared.refusals.Refusal.TheVariants as refusal
-use Rattle.command_line.specs.declared.values.TheConstants.{CHUNK_OF_TWO, SHARED_CHUNK}
 
 -- ---- the arguments of the command
 

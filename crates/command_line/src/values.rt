@@ -9,6 +9,7 @@ ghost use Rattle.command_line.specs.declared.values.Misuse.TheVariants as misuse
 
 use clap::ArgMatches;
 use job_answer::{Answer, AtOnce, MAX_AT_ONCE, MAX_LANDMARKS, USUAL_LANDMARKS};
+use least_costs::{CHUNK_OF_TWO, SHARED_CHUNK};
 use obim_engine::{MAX_CHUNK, MAX_SHIFT, MAX_WORKERS, Settings};
 use route_walks::INF;
 use std::alloc::{AllocError, Global};
@@ -57,12 +58,6 @@ pub(crate) const CHUNK: Numbers = Numbers {
 
 /// The greatest value of `--within`: `INF` is no cost.
 pub(crate) const MAX_COST: u64 = INF - 1;
-
-/// The usual chunk of two workers, which gain more by sharing seldom.
-pub(crate) const CHUNK_OF_TWO: usize = 128;
-
-/// The usual chunk of more workers.
-pub(crate) const SHARED_CHUNK: usize = 64;
 
 /// The reason why values of options ask for no answer.
 #[derive(Drop)]

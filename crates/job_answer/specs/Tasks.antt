@@ -14,7 +14,7 @@ use Rattle.job_answer.specs.InNetworks.{IsBlockIn}
 
 -- the text is the block of a source
 abbrev pub IsSourceBlock : SourceTasks → ℕ → List ℕ → Type 0
-IsSourceBlock of = IsBlockIn of.kind.graphs.now of.kind.lines
+IsSourceBlock of = IsBlockIn of.question.graphs.now of.question.lines
 
 -- the text is the block of the source at a place
 abbrev pub IsBlockText : SourceTasks → ℕ → BlockText → Type 0

@@ -14,12 +14,11 @@ ghost use Rattle.job_answer.specs.Sinks.{Puts};
 ghost use Rattle.job_answer.specs.Within.{HasNoSources, IsAnswerTextBy};
 
 use crate::asked::{Answer, Asked, Lines};
-use crate::block_kind::BlockKind;
 use crate::blocks::{put_solved, put_sources};
 use crate::env::Context;
 use crate::fault::Fault;
 use crate::graphs::{Graphs, graphs_for, plan_of};
-use crate::laws::{blocks_are_unique, lines_are_unique};
+use crate::laws;
 use crate::pair_queries::PairQueries;
 use crate::pairs::put_pairs;
 use crate::question::Question;
@@ -30,13 +29,11 @@ use dimacs_text::{Ask, Job};
 use job_reader::{ReadWatch, read_job_from};
 use least_costs::{Start, Workers, Workspace, count_sources};
 use obim_engine::Gate;
-use route_walks::laws::{least_labels_exist, least_labels_follow_the_arcs};
 use std::alloc::Global;
 use std::io::{Read, Write};
 use std::sync::Wait;
 use std::thread::Threads;
 use std::time::Clock;
-use walk_report::laws::{hops_and_parents_exist, hops_and_parents_follow_the_arcs};
 
 /// With at least this many sources, pairs are searched by the thread that asks: its searches take room, and reversing
 /// the rows takes time.
@@ -222,8 +219,8 @@ pub fn answer_question<H: Threads + Wait + Clock + Sync, W: Write, G: Gate + Syn
     ensures kinds { IfErr result IsWritingFault }
 {
     // What is least in the network is least for the arcs that it was made of, and so are its walks.
-    least_labels_follow_the_arcs();
-    hops_and_parents_follow_the_arcs();
+    route_walks::laws::least_labels_follow_the_arcs();
+    walk_report::laws::hops_and_parents_follow_the_arcs();
     let asked = asked_for(context.asked, question.graphs, question.ask);
     let context = Context {
         rt: context.rt,
@@ -273,10 +270,10 @@ fn write_text<H: Threads + Wait + Clock + Sync, W: Write, G: Gate + Sync>(
     ensures kinds { IfErr result IsWritingFault }
 {
     // So what is a prefix of this text is one of the text that another run would write.
-    blocks_are_unique();
-    lines_are_unique();
-    least_labels_exist();
-    hops_and_parents_exist();
+    laws::blocks_are_unique();
+    laws::lines_are_unique();
+    route_walks::laws::least_labels_exist();
+    walk_report::laws::hops_and_parents_exist();
     let mut waiting = Vec::new(context.alloc);
     let mut sink = Sink {
         writer,
@@ -301,11 +298,8 @@ fn put_text<H: Threads + Wait + Clock + Sync, W: Write, G: Gate + Sync>(
 {
     let (graphs, lines) = (question.graphs, question.lines);
     match (context.asked.answer, question.ask) {
-        (Answer::Components, _) => put_all(context, sink, graphs, kept, watch),
-        (_, Ask::Sources(sources)) => {
-            let kind = BlockKind { graphs, lines };
-            put_sources(context, sink, kind, sources, kept, watch)
-        }
+        (Answer::Components, _) => put_all(context, sink, question, kept, watch),
+        (_, Ask::Sources(sources)) => put_sources(context, sink, *question, sources, kept, watch),
         (_, Ask::Pairs(pairs)) => {
             let queries = PairQueries { graphs, pairs };
             put_pairs(context, sink, queries, lines, kept, watch)
@@ -317,23 +311,24 @@ fn put_text<H: Threads + Wait + Clock + Sync, W: Write, G: Gate + Sync>(
 fn put_all<H: Threads + Wait + Clock + Sync, W: Write, G: Gate + Sync>(
     context: &Context<'_, H, G>,
     sink: &mut Sink<'_, W>,
-    graphs: &Graphs,
+    question: &Question<'_>,
     kept: &mut Option<Workspace>,
     watch: &mut impl Watch,
 )
-    requires graphs { AreGraphs graphs.now }
-    ensures { Puts W.contents (IsStartIn graphs.now (Each false) Everywhere) sink.old sink.new }
+    requires graphs { AreGraphs question.now.graphs.now }
+    ensures { Puts W.contents (IsStartIn question.now.graphs.now (Each false) Everywhere) sink.old sink.new }
 {
     // Components have neither walks nor costs, so their block is the same by all lines.
-    let kind = BlockKind {
-        graphs,
+    let question = Question {
+        graphs: question.graphs,
+        ask: question.ask,
         lines: Lines::Each { walks: false },
     };
     let mut workers = Workers::new(context.asked.settings, context.gate, kept.take());
     put_solved(
         &context.env(),
         sink,
-        &kind,
+        &question,
         Start::Everywhere,
         &mut workers,
         watch,

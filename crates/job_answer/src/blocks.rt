@@ -17,13 +17,15 @@ ghost use Rattle.job_answer.specs.Within.{IsLinesBlock};
 ghost use Rattle.least_costs.specs.declared.start.Start.TheVariants.{At};
 
 use crate::asked::Lines;
-use crate::block_kind::BlockKind;
 use crate::env::{Context, Env};
 use crate::graphs::{GrownNetwork, teams_for};
-use crate::laws::{blocks_are_unique, lines_are_unique};
+use crate::laws;
 use crate::line_walks::{LineWalks, walks_below};
-use crate::lines::{put_components, put_labels, put_raw, put_totals, put_within};
+use crate::lines::{
+    put_all_labels, put_component_lines, put_raw_block, put_totals_line, put_within,
+};
 use crate::near_block::{near_block, put_near};
+use crate::question::Question;
 use crate::sink::{NoWriter, Sink, Stop, most_bytes};
 use crate::solves::{costs_after, costs_from};
 use crate::source_tasks::SourceTasks;
@@ -34,14 +36,12 @@ use least_costs::{
     CostsBelow, Network, NetworkGrowth, Start, TaskQueue, Tasks, TeamGate, Workers, Workspace,
 };
 use obim_engine::Gate;
-use route_walks::laws::least_labels_exist;
 use route_walks::{MAX_VERTICES, Memory};
 use std::alloc::Global;
 use std::io::Write;
 use std::sync::Wait;
 use std::thread::Threads;
 use std::time::Clock;
-use walk_report::laws::{hops_and_parents_exist, walks_below_agree};
 
 /// The block of a source, in memory.
 #[derive(Drop)]
@@ -57,20 +57,20 @@ impl<'a> Tasks<BlockText> for SourceTasks<'a> {
 pub fn put_sources<H: Threads + Wait + Clock + Sync, W: Write, G: Gate + Sync>(
     context: &Context<'_, H, G>,
     sink: &mut Sink<'_, W>,
-    kind: BlockKind<'_>,
+    question: Question<'_>,
     sources: &[u32],
     kept: &mut Option<Workspace>,
     watch: &mut impl Watch,
 )
-    requires graphs { AreGraphs kind.graphs.now }
-    requires sources { All (λ source. source < kind.graphs.now.network.n) sources.now }
-    ensures { Puts W.contents (AreBlocksIn kind.entry.graphs.now kind.entry.lines sources.now)
+    requires graphs { AreGraphs question.graphs.now }
+    requires sources { All (λ source. source < question.graphs.now.network.n) sources.now }
+    ensures { Puts W.contents (AreBlocksIn question.entry.graphs.now question.entry.lines sources.now)
         sink.old sink.new }
 {
     let (env, asked) = (context.env(), context.asked);
-    let teams = teams_for(kind.graphs, asked);
+    let teams = teams_for(question.graphs, asked);
     let tasks = SourceTasks {
-        kind,
+        question,
         sources,
         solves: SolveCount::new(),
     };
@@ -87,13 +87,13 @@ fn put_blocks<H: Threads + Wait + Clock + Sync, W: Write, G: Gate + Sync>(
     queue: &mut TaskQueue<'_, BlockText, G>,
     watch: &mut impl Watch,
 )
-    requires graphs { AreGraphs tasks.now.kind.graphs.now }
+    requires graphs { AreGraphs tasks.now.question.graphs.now }
     requires made { AreFinished (IsBlockText tasks.now) queue.old.made.items }
     ensures { Puts W.contents (AreBlocks (IsSourceBlock tasks.now) tasks.now.sources.now)
         sink.old sink.new }
 {
     // So what is a prefix of these blocks is one of the blocks that another run would write.
-    lines_are_unique();
+    laws::lines_are_unique();
     for place in 0..tasks.sources.len() {
         put_block_at(env, sink, tasks, place, queue, watch);
     }
@@ -108,14 +108,14 @@ fn put_block_at<H: Threads + Wait + Clock + Sync, W: Write, G: Gate + Sync>(
     queue: &mut TaskQueue<'_, BlockText, G>,
     watch: &mut impl Watch,
 )
-    requires graphs { AreGraphs tasks.now.kind.graphs.now }
+    requires graphs { AreGraphs tasks.now.question.graphs.now }
     requires place { place < length tasks.now.sources.now }
     requires made { AreFinished (IsBlockText tasks.now) queue.old.made.items }
     ensures left { AreFinished (IsBlockText tasks.now) queue.new.made.items }
     ensures block { Puts W.contents (IsSourceBlock tasks.now (slice_index tasks.now.sources.now place))
         sink.old sink.new }
 {
-    lines_are_unique();
+    laws::lines_are_unique();
     if sink.has_stopped() {
         return;
     }
@@ -128,7 +128,7 @@ fn put_block_at<H: Threads + Wait + Clock + Sync, W: Write, G: Gate + Sync>(
         return;
     }
     let start = Start::At(tasks.sources[place]);
-    put_solved(env, sink, &tasks.kind, start, &mut queue.workers, watch);
+    put_solved(env, sink, &tasks.question, start, &mut queue.workers, watch);
 }
 
 /// The block of the source at a place, if it was made before.
@@ -138,7 +138,7 @@ fn take_block<H: Threads + Wait + Clock + Sync, G: Gate + Sync>(
     tasks: &SourceTasks<'_>,
     place: usize,
 ) -> Option<BlockText>
-    requires graphs { AreGraphs tasks.now.kind.graphs.now }
+    requires graphs { AreGraphs tasks.now.question.graphs.now }
     requires made { AreFinished (IsBlockText tasks.now) queue.old.made.items }
     ensures left { AreFinished (IsBlockText tasks.now) queue.new.made.items }
     ensures text { IfSome result (IsBlockText tasks.now place) }
@@ -149,7 +149,7 @@ fn take_block<H: Threads + Wait + Clock + Sync, G: Gate + Sync>(
         tasks,
         &|place: usize, workers: &mut Workers<'_, TeamGate<'_, G>>| -> Option<BlockText>
             requires sync { IsSync H.row × IsSync G.row }
-            requires graphs { AreGraphs tasks.now.kind.graphs.now }
+            requires graphs { AreGraphs tasks.now.question.graphs.now }
             ensures { IfSome result (IsBlockText tasks.entry.now place) }
         { make_block(env, tasks, place, workers) },
         place,
@@ -163,7 +163,7 @@ fn make_block<H: Threads + Wait + Clock + Sync, G: Gate + Sync>(
     place: usize,
     workers: &mut Workers<'_, G>,
 ) -> Option<BlockText>
-    requires graphs { AreGraphs tasks.now.kind.graphs.now }
+    requires graphs { AreGraphs tasks.now.question.graphs.now }
     ensures { IfSome result (IsBlockText tasks.now place) }
 {
     if place >= tasks.sources.len() {
@@ -173,33 +173,33 @@ fn make_block<H: Threads + Wait + Clock + Sync, G: Gate + Sync>(
         solves: &tasks.solves,
     };
     let source = tasks.sources[place];
-    held_block(env, &tasks.kind, source, workers, &mut watch)
+    held_block(env, &tasks.question, source, workers, &mut watch)
 }
 
 /// The block of a source, in memory.
 fn held_block<H: Threads + Wait + Clock + Sync, G: Gate + Sync>(
     env: &Env<'_, H>,
-    kind: &BlockKind<'_>,
+    question: &Question<'_>,
     source: u32,
     workers: &mut Workers<'_, G>,
     watch: &mut impl Watch,
 ) -> Option<BlockText>
-    requires graphs { AreGraphs kind.now.graphs.now }
-    requires source { source < kind.now.graphs.now.network.n }
-    ensures { IfSome result (λ text. IsBlockIn kind.now.graphs.now kind.now.lines source text.bytes.items) }
+    requires graphs { AreGraphs question.now.graphs.now }
+    requires source { source < question.now.graphs.now.network.n }
+    ensures { IfSome result (λ text. IsBlockIn question.now.graphs.now question.now.lines source text.bytes.items) }
 {
     // The block that is kept is the one that there is.
-    least_labels_exist();
-    hops_and_parents_exist();
+    route_walks::laws::least_labels_exist();
+    walk_report::laws::hops_and_parents_exist();
     let (mut nobody, mut bytes) = (NoWriter, Vec::new(env.alloc));
     let mut sink = Sink {
         writer: &mut nobody,
         waiting: &mut bytes,
-        piece: most_bytes(kind.graphs),
+        piece: most_bytes(question.graphs),
         stop: None,
     };
     let start = Start::At(source);
-    put_solved(env, &mut sink, kind, start, workers, watch);
+    put_solved(env, &mut sink, question, start, workers, watch);
     if sink.has_stopped() {
         return None;
     }
@@ -210,20 +210,20 @@ fn held_block<H: Threads + Wait + Clock + Sync, G: Gate + Sync>(
 pub fn put_solved<H: Threads + Wait + Clock + Sync, W: Write, G: Gate + Sync>(
     env: &Env<'_, H>,
     sink: &mut Sink<'_, W>,
-    kind: &BlockKind<'_>,
+    question: &Question<'_>,
     start: Start,
     workers: &mut Workers<'_, G>,
     watch: &mut impl Watch,
 )
-    requires graphs { AreGraphs kind.now.graphs.now }
-    requires lines { IsStartLines start kind.now.lines }
-    requires start { IsStartWithin kind.now.graphs.now.network.n start }
-    ensures { Puts W.contents (IsStartIn kind.now.graphs.now kind.now.lines start)
+    requires graphs { AreGraphs question.now.graphs.now }
+    requires lines { IsStartLines start question.now.lines }
+    requires start { IsStartWithin question.now.graphs.now.network.n start }
+    ensures { Puts W.contents (IsStartIn question.now.graphs.now question.now.lines start)
         sink.old sink.new }
 {
-    lines_are_unique();
-    blocks_are_unique();
-    let (graphs, lines) = (kind.graphs, kind.lines);
+    laws::lines_are_unique();
+    laws::blocks_are_unique();
+    let (graphs, lines) = (question.graphs, question.lines);
     let (alloc, network) = (env.alloc, &graphs.network);
     if let Some(near) = near_block(alloc, graphs, lines, start, workers) {
         watch.see_solves(1);
@@ -290,9 +290,9 @@ fn put_block<W: Write>(
     ensures { Puts W.contents (IsStartBlock lines start network.now.n network.now.arcs)
         sink.old sink.new }
 {
-    blocks_are_unique();
+    laws::blocks_are_unique();
     match start {
-        Start::Everywhere => put_components(sink, costs.labels()),
+        Start::Everywhere => put_component_lines(sink, costs.labels()),
         Start::At(source) => put_source_block(alloc, sink, network, source, lines, costs),
     }
 }
@@ -312,11 +312,11 @@ fn put_source_block<W: Write>(
     ensures { Puts W.contents (IsLinesBlock lines network.now.n network.now.arcs source)
         sink.old sink.new }
 {
-    lines_are_unique();
+    laws::lines_are_unique();
     let labels = costs.labels();
     match lines {
-        Lines::Raw { .. } => put_raw(sink, source, labels),
-        Lines::Totals => put_totals(sink, source, labels),
+        Lines::Raw { .. } => put_raw_block(sink, source, labels),
+        Lines::Totals => put_totals_line(sink, source, labels),
         Lines::Each { .. } | Lines::Within { .. } => {
             put_vertices(alloc, sink, network, source, lines, costs)
         }
@@ -339,14 +339,14 @@ fn put_vertices<W: Write>(
     ensures { Puts W.contents (IsLinesBlock lines network.now.n network.now.arcs source)
         sink.old sink.new }
 {
-    lines_are_unique();
-    least_labels_exist();
-    hops_and_parents_exist();
-    walks_below_agree();
+    laws::lines_are_unique();
+    route_walks::laws::least_labels_exist();
+    walk_report::laws::hops_and_parents_exist();
+    walk_report::laws::walks_below_agree();
     let _ = (network.n(), costs.limit());
     let labels = costs.labels();
     if lines.is_plain() {
-        return put_labels(sink, source, labels);
+        return put_all_labels(sink, source, labels);
     }
     let Ok(walks) = walks_for(alloc, network, source, lines, costs) else {
         return sink.fail(Stop::Memory);

@@ -1,16 +1,16 @@
 //! The networks of an answer: of a job's arcs, and with the added ones.
 
-ghost use Rattle.std.specs.Prelude.{◌≡◌, ◌≤◌, ◌^◌, List, None, length, IfOk, IfSome, ℕ};
+ghost use Rattle.std.specs.Prelude.{◌≡◌, ◌≤◌, ◌^◌, All, List, None, length, IfOk, IfSome, ℕ};
 ghost use Rattle.least_costs.specs.Network.{HasArcs, IsNetworkOf, arcs_of};
 ghost use Rattle.least_costs.specs.declared.cost.Cost.TheVariants.{Weight};
 ghost use Rattle.route_walks.specs.declared.graph.ArcRec.{ArcRec};
 ghost use Rattle.route_walks.specs.declared.graph.TheConstants.{MAX_VERTICES};
-ghost use Rattle.dimacs_text.specs.Jobs.{added_of};
+ghost use Rattle.dimacs_text.specs.Jobs.{IsArcWithin, added_of};
+ghost use Rattle.dimacs_text.specs.declared.form.TheConstants.{MAX_TEXT_ARCS};
 ghost use Rattle.job_answer.specs.AnswerText.{arcs_for, growth_from};
 ghost use Rattle.job_answer.specs.Graphs.{AreGraphs, AreGraphsFor, cost_for};
 
 use crate::asked::{Answer, Asked};
-use least_costs::laws::networks_grow;
 use least_costs::{Cost, Network, Plan};
 use route_walks::{ArcRec, Memory};
 use std::alloc::Global;
@@ -31,8 +31,7 @@ pub struct GrownNetwork {
     pub network: Network,
 }
 
-/// Makes the networks of an answer, with rows by up to `threads` threads. Frees the lists of arcs. The ends of all arcs
-/// must be vertices.
+/// Makes the networks of an answer, with rows by up to `threads` threads. Frees the lists of arcs.
 pub fn graphs_for<H: Threads + Sync>(
     rt: &H,
     alloc: Global,
@@ -43,6 +42,8 @@ pub fn graphs_for<H: Threads + Sync>(
     threads: usize,
 ) -> Result<Graphs, Memory>
     requires vertices { n ≤ MAX_VERTICES }
+    requires count { length arcs.items ≤ MAX_TEXT_ARCS }
+    requires arcs { All (IsArcWithin n) arcs.items }
     requires added { IfSome added (λ added. length added.items ≤ 2 ^ 20) }
     ensures graphs { IfOk result (AreGraphsFor answer n arcs.items
         (growth_from (arcs_for answer) arcs.items (added_of added))) }
@@ -50,11 +51,8 @@ pub fn graphs_for<H: Threads + Sync>(
     ensures arcs { IfOk result (λ graphs. HasArcs (arcs_of (cost_for answer) arcs.items) graphs.network) }
     ensures grown { IfOk result (λ graphs. added ≡ None → graphs.grown ≡ None) }
 {
-    networks_grow();
-    let network = match Network::new(rt, alloc, n, arcs, cost_for(answer), threads) {
-        Ok(network) => network,
-        Err(_) => return Err(Memory),
-    };
+    least_costs::laws::networks_grow();
+    let network = Network::of_graph(rt, alloc, n, arcs, cost_for(answer), threads)?;
     // Whatever network it is, its ends are vertices.
     let _ = network.n();
     let added = match added {
@@ -67,10 +65,10 @@ pub fn graphs_for<H: Threads + Sync>(
         Some(added) => added,
     };
     let count = added.len() as u32;
-    let grown = match network.with_arcs(alloc, &added) {
-        Ok(grown) => grown,
-        Err(_) => return Err(Memory),
+    let Ok(grown) = network.with_arcs(alloc, &added) else {
+        return Err(Memory);
     };
+    // The ends of the grown one are vertices too.
     let _ = grown.n();
     let grown = Some(GrownNetwork {
         count,

@@ -17,7 +17,6 @@
 
 mod answering;
 mod asked;
-mod block_kind;
 mod blocks;
 mod env;
 mod fault;

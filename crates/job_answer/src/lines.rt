@@ -20,7 +20,7 @@ use std::io::Write;
 const LINES_A_LOOK: usize = 512;
 
 /// Puts the lines of components.
-pub fn put_components<W: Write>(sink: &mut Sink<'_, W>, labels: &[u64])
+pub fn put_component_lines<W: Write>(sink: &mut Sink<'_, W>, labels: &[u64])
     requires vertices { length labels.now ≤ MAX_VERTICES }
     requires finite { All (λ label. label < INF) labels.now }
     ensures { Puts W.contents (Is (components_text labels.now)) sink.old sink.new }
@@ -34,7 +34,7 @@ pub fn put_components<W: Write>(sink: &mut Sink<'_, W>, labels: &[u64])
 }
 
 /// Puts the lines of a source.
-pub fn put_labels<W: Write>(sink: &mut Sink<'_, W>, source: u32, labels: &[u64])
+pub fn put_all_labels<W: Write>(sink: &mut Sink<'_, W>, source: u32, labels: &[u64])
     requires source { source < MAX_VERTICES }
     requires vertices { length labels.now ≤ MAX_VERTICES }
     ensures { Puts W.contents (Is (distances_text source labels.now)) sink.old sink.new }
@@ -49,7 +49,7 @@ pub fn put_labels<W: Write>(sink: &mut Sink<'_, W>, source: u32, labels: &[u64])
 }
 
 /// Puts the line of a source and its labels as bytes.
-pub fn put_raw<W: Write>(sink: &mut Sink<'_, W>, source: u32, labels: &[u64])
+pub fn put_raw_block<W: Write>(sink: &mut Sink<'_, W>, source: u32, labels: &[u64])
     requires source { source < MAX_VERTICES }
     ensures { Puts W.contents (Is (raw_text source labels.now)) sink.old sink.new }
 {
@@ -61,7 +61,7 @@ pub fn put_raw<W: Write>(sink: &mut Sink<'_, W>, source: u32, labels: &[u64])
 }
 
 /// Puts the line of a source's totals.
-pub fn put_totals<W: Write>(sink: &mut Sink<'_, W>, source: u32, labels: &[u64])
+pub fn put_totals_line<W: Write>(sink: &mut Sink<'_, W>, source: u32, labels: &[u64])
     requires vertices { length labels.now ≤ MAX_VERTICES }
     ensures { Puts W.contents (Is (totals_text source labels.now)) sink.old sink.new }
 {

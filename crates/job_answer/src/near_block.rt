@@ -8,12 +8,11 @@ ghost use Rattle.job_answer.specs.Solves.{IsStartBlock, IsStartLines};
 
 use crate::asked::Lines;
 use crate::graphs::Graphs;
-use crate::laws::{blocks_are_unique, lines_are_unique};
+use crate::laws;
 use crate::lines::put_listed;
 use crate::sink::Sink;
 use least_costs::{Network, Start, Workers};
 use obim_engine::Gate;
-use route_walks::laws::{least_labels_are_unique, least_labels_exist};
 use std::alloc::Global;
 use std::io::Write;
 
@@ -67,11 +66,11 @@ pub(crate) fn put_near<W: Write>(
     ensures { Puts W.contents (IsStartBlock lines start network.now.n network.now.arcs)
         sink.old sink.new }
 {
-    lines_are_unique();
-    blocks_are_unique();
+    laws::lines_are_unique();
+    laws::blocks_are_unique();
     // Whatever the least labels are: the list has those within the bound.
-    least_labels_exist();
-    least_labels_are_unique();
+    route_walks::laws::least_labels_exist();
+    route_walks::laws::least_labels_are_unique();
     let _ = network.n();
     put_listed(sink, near.source, &near.found);
 }

@@ -12,7 +12,7 @@ ghost use Rattle.least_costs.specs.Pairs.{pair_at};
 ghost use Rattle.job_answer.specs.Tasks.{IsWalkedBlock};
 
 use crate::graphs::Graphs;
-use crate::laws::blocks_are_unique;
+use crate::laws;
 use crate::pair_queries::PairQueries;
 use crate::sink::Sink;
 use crate::solves::Solve;
@@ -20,10 +20,8 @@ use answer_lines::{put_pair, put_walk};
 use least_costs::{WalksFound, Workers};
 use obim_engine::Gate;
 use route_walks::Memory;
-use route_walks::laws::least_labels_exist;
 use std::alloc::Global;
 use std::io::Write;
-use walk_report::laws::hops_and_parents_exist;
 
 /// The walks from a source to some targets, if these are near and no arcs are added.
 pub(crate) fn near_walks<G: Gate + Sync>(
@@ -61,11 +59,12 @@ pub(crate) fn put_found<W: Write>(
     ensures { Puts W.contents (AreBlocks (IsWalkedBlock queries.now.graphs.now)
         (slice_range queries.now.pairs.now solve.first solve.end)) sink.old sink.new }
 {
-    blocks_are_unique();
+    laws::blocks_are_unique();
     // Whatever the least labels are, and the walks by them: these are the same.
-    least_labels_exist();
-    hops_and_parents_exist();
+    route_walks::laws::least_labels_exist();
+    walk_report::laws::hops_and_parents_exist();
     let pairs = queries.pairs;
+    // Its ends are vertices.
     let _ = queries.graphs.network.n();
     for place in 0..targets.len() {
         let (source, target) = pairs[solve.first + place];

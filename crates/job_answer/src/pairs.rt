@@ -15,13 +15,12 @@ ghost use Rattle.job_answer.specs.Solves.{AreCostsAfter, HasCostAfter, with_grow
 use crate::asked::Lines;
 use crate::env::Context;
 use crate::graphs::{Graphs, plan_of};
-use crate::laws::lines_are_unique;
+use crate::laws;
 use crate::pair_queries::PairQueries;
 use crate::sink::{Sink, Stop};
 use crate::walked_pairs::put_all_walked;
 use crate::watch::{Phase, Watch};
 use answer_lines::{put_grown, put_pair};
-use least_costs::laws::costs_are_labels;
 use least_costs::{PairCosts, Progress, Solver, Workspace};
 use obim_engine::Gate;
 use route_walks::{INF, MAX_VERTICES, Memory};
@@ -93,13 +92,8 @@ fn costs_between<H: Threads + Wait + Clock + Sync, G: Gate + Sync>(
     };
     watch.see_answered(0, pairs.len());
     let mut watch = PairWatch { watch };
-    match &graphs.grown {
-        None => solver.between_grown(rt, alloc, pairs, None, kept, &mut watch),
-        Some(grown) => {
-            let grown = Some(&grown.network);
-            solver.between_grown(rt, alloc, pairs, grown, kept, &mut watch)
-        }
-    }
+    let grown = graphs.grown.as_ref().map(|grown| &grown.network);
+    solver.between_grown(rt, alloc, pairs, grown, kept, &mut watch)
 }
 
 /// Puts the line of each pair, or its label as bytes.
@@ -116,8 +110,8 @@ fn put_costs<W: Write>(
     ensures { Puts W.contents (ArePairsIn queries.now.graphs.now lines queries.now.pairs.now)
         sink.old sink.new }
 {
-    lines_are_unique();
-    costs_are_labels();
+    laws::lines_are_unique();
+    least_costs::laws::costs_are_labels();
     let (graphs, pairs, raw) = (queries.graphs, queries.pairs, lines.has_raw_pairs());
     for place in 0..pairs.len() {
         let put = put_costs_at(sink.waiting, graphs, raw, pairs[place], place, costs);

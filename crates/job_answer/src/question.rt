@@ -7,7 +7,7 @@ use crate::graphs::Graphs;
 use dimacs_text::Ask;
 
 /// A question to kept networks, and the lines of its sources. Pairs have their walks if these lines have walks.
-#[derive(Drop)]
+#[derive(Clone, Copy)]
 pub struct Question<'a> {
     pub graphs: &'a Graphs,
     pub ask: &'a Ask,

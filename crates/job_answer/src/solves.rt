@@ -51,6 +51,7 @@ pub fn costs_after<H: Threads + Wait + Clock + Sync, G: Gate + Sync>(
 {
     let (rt, alloc) = (env.rt, env.alloc);
     let costs = workers.costs_for_after(rt, alloc, growth, costs, goal)?;
+    // Up to which limit they are least.
     let _ = costs.start();
     watch.see_solves(1);
     watch.end(rt, Phase::Solving);

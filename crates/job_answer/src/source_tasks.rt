@@ -2,14 +2,14 @@
 
 ghost use Rattle.std.specs.Prelude.{◌<◌, All};
 
-use crate::block_kind::BlockKind;
+use crate::question::Question;
 use crate::team_watch::SolveCount;
 
 /// The sources whose blocks are asked for, a task for each.
 #[derive(Drop)]
 pub struct SourceTasks<'a> {
-    pub kind: BlockKind<'a>,
+    pub question: Question<'a>,
     pub sources: &'a [u32],
     pub solves: SolveCount,
-    ghost within: { All (λ source. source < kind.graphs.now.network.n) sources.now },
+    ghost within: { All (λ source. source < question.graphs.now.network.n) sources.now },
 }

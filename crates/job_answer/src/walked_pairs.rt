@@ -17,7 +17,7 @@ ghost use Rattle.job_answer.specs.Tasks.{AreLines, IsLinesText, IsWalkedBlock};
 
 use crate::env::{Context, Env};
 use crate::graphs::{Graphs, teams_for};
-use crate::laws::blocks_are_unique;
+use crate::laws;
 use crate::line_walks::{LineWalks, put_walk_line, walks_below};
 use crate::near_pairs::{near_walks, put_found};
 use crate::pair_queries::PairQueries;
@@ -28,14 +28,12 @@ use crate::watch::{Phase, Watch};
 use answer_lines::{put_grown, put_pair};
 use least_costs::{Network, NetworkGrowth, Start, TaskQueue, Tasks, TeamGate, Workers, Workspace};
 use obim_engine::{Gate, Goal};
-use route_walks::laws::least_labels_exist;
 use route_walks::{MAX_VERTICES, Memory};
 use std::alloc::Global;
 use std::io::Write;
 use std::sync::Wait;
 use std::thread::Threads;
 use std::time::Clock;
-use walk_report::laws::{hops_and_parents_exist, walks_below_agree};
 
 /// The pairs that are asked for with walks. A task is for neighbouring pairs of one source, at the place of the first.
 #[derive(Drop)]
@@ -97,7 +95,7 @@ fn put_all_lines<H: Threads + Wait + Clock + Sync, W: Write, G: Gate + Sync>(
     ensures { Puts W.contents (AreBlocks (IsWalkedBlock tasks.now.queries.graphs.now)
         tasks.now.queries.pairs.now) sink.old sink.new }
 {
-    blocks_are_unique();
+    laws::blocks_are_unique();
     let count = tasks.queries.pairs.len();
     let mut first = 0;
     while first < count {
@@ -124,7 +122,7 @@ fn put_lines_at<H: Threads + Wait + Clock + Sync, W: Write, G: Gate + Sync>(
     ensures blocks { Puts W.contents (AreBlocks (IsWalkedBlock tasks.now.queries.graphs.now)
         (take result (drop first tasks.now.queries.pairs.now))) sink.old sink.new }
 {
-    blocks_are_unique();
+    laws::blocks_are_unique();
     let queries = &tasks.queries;
     let count = queries.pairs.len();
     if sink.has_stopped() {
@@ -201,8 +199,8 @@ fn held_lines<H: Threads + Wait + Clock + Sync, G: Gate + Sync>(
     ensures { IfSome result (IsLinesText queries.now.graphs.now queries.now.pairs.now first) }
 {
     // The lines that are kept are those that there are.
-    least_labels_exist();
-    hops_and_parents_exist();
+    route_walks::laws::least_labels_exist();
+    walk_report::laws::hops_and_parents_exist();
     let graphs = queries.graphs;
     let pairs = &queries.pairs[first..];
     let solve = Solve::of_queries(pairs, 0);
@@ -238,7 +236,7 @@ fn put_solved_pairs<H: Threads + Wait + Clock + Sync, W: Write, G: Gate + Sync>(
     ensures { Puts W.contents (AreBlocks (IsWalkedBlock queries.now.graphs.now)
         (slice_range queries.now.pairs.now solve.first solve.end)) sink.old sink.new }
 {
-    blocks_are_unique();
+    laws::blocks_are_unique();
     let (graphs, pairs) = (queries.graphs, queries.pairs);
     let source = pairs[solve.first].0;
     let Ok(targets) = targets_of(env.alloc, pairs, solve) else {
@@ -342,9 +340,9 @@ fn walked_from(
     ensures walked { IfOk result (AreWalkedBelow limit network.now.n network.now.arcs source) }
 {
     // Whatever the least labels are, and the walks by them: below the limit these are the same.
-    least_labels_exist();
-    hops_and_parents_exist();
-    walks_below_agree();
+    route_walks::laws::least_labels_exist();
+    walk_report::laws::hops_and_parents_exist();
+    walk_report::laws::walks_below_agree();
     let _ = network.n();
     let walks = walks_below(alloc, network, source, &labels, limit)?;
     Ok(Walked { labels, walks })
@@ -368,7 +366,7 @@ fn put_walked<W: Write>(
     ensures { Puts W.contents (AreBlocks (IsWalkedBlock queries.now.graphs.now)
         (slice_range queries.now.pairs.now solve.first solve.end)) sink.old sink.new }
 {
-    blocks_are_unique();
+    laws::blocks_are_unique();
     let (graphs, pairs) = (queries.graphs, queries.pairs);
     for at in solve.first..solve.end {
         put_pair_at(alloc, sink, graphs, pairs[at], walked, after);
@@ -390,7 +388,7 @@ fn put_pair_at<W: Write>(
     requires after { IsWalkedAfter graphs.now.grown pair after.now }
     ensures { Puts W.contents (IsWalkedBlock graphs.now pair) sink.old sink.new }
 {
-    blocks_are_unique();
+    laws::blocks_are_unique();
     if sink.has_stopped() {
         return;
     }

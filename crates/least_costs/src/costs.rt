@@ -7,7 +7,6 @@ ghost use Rattle.near_labels.specs.Noted.{AreLeastOf};
 
 use crate::network::Network;
 use crate::start::Start;
-use route_walks::laws::{inf_means_no_walk, least_labels_exist};
 use route_walks::{INF, Memory};
 use std::alloc::Global;
 use std::marker::Model;
@@ -53,7 +52,7 @@ impl Costs {
         ensures none { IfNone result (IsUnreached self.now.net self.now.start v) }
     {
         // A walk costs less than `INF`, so a label of `INF` means that there is none.
-        inf_means_no_walk();
+        route_walks::laws::inf_means_no_walk();
         let label = self.labels[v as usize];
         if label == INF { None } else { Some(label) }
     }
@@ -106,8 +105,8 @@ pub(crate) fn costs_at(
     ensures { IfOk result (λ costs. AreCostsTo network.now start vertices.now costs.items) }
 {
     // A label of `INF` that is least means that there is no walk.
-    least_labels_exist();
-    inf_means_no_walk();
+    route_walks::laws::least_labels_exist();
+    route_walks::laws::inf_means_no_walk();
     let _ = network.n();
     let mut costs = Vec::with_capacity(alloc, vertices.len())?;
     for v in vertices {
@@ -129,8 +128,8 @@ pub(crate) fn costs_in_order(
     requires least { AreLeastOf network.now.arcs (seeds_at network.now.n start) vertices.now labels.now }
     ensures { IfOk result (λ costs. AreCostsTo network.now start vertices.now costs.items) }
 {
-    least_labels_exist();
-    inf_means_no_walk();
+    route_walks::laws::least_labels_exist();
+    route_walks::laws::inf_means_no_walk();
     let _ = (network.n(), vertices.len());
     let mut costs = Vec::with_capacity(alloc, labels.len())?;
     for label in labels {

@@ -3,8 +3,6 @@
 ghost use Rattle.least_costs.specs.Laws.{CostsAreLabels, CostsFollowTheArcs, NetworksGrow};
 ghost use Rattle.least_costs.specs.Teams.{TeamsShareWorkers};
 
-use route_walks::laws::{inf_means_no_walk, least_labels_exist};
-
 /// States that a grown network is that of the arcs before and the added ones, whatever an arc costs.
 pub fn networks_grow()
     ensures { NetworksGrow }
@@ -20,8 +18,8 @@ pub fn costs_follow_the_arcs()
 pub fn costs_are_labels()
     ensures { CostsAreLabels }
 {
-    least_labels_exist();
-    inf_means_no_walk();
+    route_walks::laws::least_labels_exist();
+    route_walks::laws::inf_means_no_walk();
 }
 
 /// States that each worker is in one team, and that each team has a worker if there are no more teams than workers.

@@ -71,7 +71,7 @@ pub use landmarks::MAX_LANDMARKS;
 pub use near_labels::WalksFound;
 pub use network::{MOST_ARCS, Network};
 pub use pairs::PairCosts;
-pub use plan::{AtOnce, Plan, USUAL_LANDMARKS};
+pub use plan::{AtOnce, CHUNK_OF_TWO, Plan, SHARED_CHUNK, USUAL_LANDMARKS};
 pub use preparing::count_sources;
 pub use progress::{Progress, Unwatched};
 pub use solver::Solver;

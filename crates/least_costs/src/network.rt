@@ -75,6 +75,25 @@ impl Network {
             Some(place) => return Err(NetworkFault::Outside(place)),
             None => {}
         }
+        Ok(Network::of_graph(rt, alloc, n, arcs, cost, threads)?)
+    }
+
+    /// Makes the network of `new` of arcs whose ends are known to be vertices, and looks at none.
+    pub fn of_graph<H: Threads + Sync>(
+        rt: &H,
+        alloc: Global,
+        n: u32,
+        arcs: Vec<ArcRec>,
+        cost: Cost,
+        threads: usize,
+    ) -> Result<Network, Memory>
+        requires vertices { n ≤ MAX_VERTICES }
+        requires count { length arcs.items ≤ MOST_ARCS }
+        requires ends { IsGraph n arcs.items }
+        requires weights { AreLight arcs.items }
+        ensures network { IfOk result (IsNetworkOf n cost arcs.items) }
+        ensures arcs { IfOk result (HasArcs (arcs_of cost arcs.items)) }
+    {
         let rows = rows_of(rt, alloc, n, arcs, cost, threads)?;
         Ok(Network {
             rows,

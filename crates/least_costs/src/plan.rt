@@ -10,11 +10,11 @@ use crate::network::Network;
 use csr_graph::Csr;
 use obim_engine::{Buckets, MAX_CHUNK, MAX_WORKERS, Settings};
 
-/// The vertices of a chunk of two workers, which gain more by sharing seldom.
-const CHUNK_OF_TWO: usize = 128;
+/// The usual vertices of a chunk of two workers, which gain more by sharing seldom.
+pub const CHUNK_OF_TWO: usize = 128;
 
-/// The vertices of a chunk of more workers.
-const SHARED_CHUNK: usize = 64;
+/// The usual vertices of a chunk of more workers.
+pub const SHARED_CHUNK: usize = 64;
 
 /// A graph of so many vertices, and so many arcs a vertex, is faster with all workers at one source: the labels of
 /// several don't fit into the processors' caches.

@@ -253,7 +253,13 @@ where
     ensures { AreFinished (T.is_part round.now.tasks.now) made.new.items }
 {
     work_all(rt, round, states);
-    gather::<P, T>(round.tasks, states, made)
+    let mut whole = true;
+    for at in 0..states.len() {
+        let state = &mut states[at];
+        let kept = made.append(&mut state.made).is_ok();
+        whole = whole && kept && state.whole;
+    }
+    whole
 }
 
 /// Lets the teams work at the same time.
@@ -357,27 +363,6 @@ where
             break;
         }
     }
-}
-
-/// Moves what the teams made to one list. Returns true if nothing is missing.
-fn gather<P: Send + Drop, T: Tasks<P>>(
-    tasks: &T,
-    states: &mut [TeamState<P>],
-    made: &mut Vec<FinishedTask<P>>,
-) -> bool
-    requires made { AreFinished (T.is_part tasks.now) made.old.items }
-    requires states { All (λ state. AreFinished (T.is_part tasks.now) state.made.items) states.old }
-    ensures { AreFinished (T.is_part tasks.now) made.new.items }
-{
-    // The tasks are for the contract alone.
-    let _ = tasks;
-    let mut whole = true;
-    for at in 0..states.len() {
-        let state = &mut states[at];
-        let kept = made.append(&mut state.made).is_ok();
-        whole = whole && kept && state.whole;
-    }
-    whole
 }
 
 /// The places from one on, at most `most` and below `len`, and the place after them. `None` if memory is refused.

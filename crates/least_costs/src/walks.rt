@@ -9,11 +9,9 @@ use crate::costs::Costs;
 use crate::network::Network;
 use crate::start::Start;
 use route_walks::Memory;
-use route_walks::laws::inf_means_no_walk;
 use std::alloc::Global;
 use std::marker::Model;
 use std::snapshot::Snapshot;
-use walk_report::laws::printed_walks_are_walks;
 use walk_report::{hops, parents, walk_to};
 
 /// The least walks from a source, of the fewest arcs. Takes 8 bytes a vertex, and keeps nothing of the network.
@@ -70,8 +68,8 @@ impl Walks {
         ensures none { IfOk result (λ found. IfNone found
             (IsUnreached self.now.net (At self.now.source) v)) }
     {
-        inf_means_no_walk();
-        printed_walks_are_walks();
+        route_walks::laws::inf_means_no_walk();
+        walk_report::laws::printed_walks_are_walks();
         walk_to(alloc, &self.hops, &self.parents, v)
     }
 }

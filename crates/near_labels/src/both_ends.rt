@@ -8,7 +8,7 @@ ghost use Rattle.near_labels.specs.Noted.{AreNoted, IsBlank, rest_of};
 ghost use Rattle.near_labels.specs.Meeting.{IsReversed};
 
 use crate::guide::Guide;
-use crate::laws::meeting_is_least;
+use crate::laws;
 use crate::search::begin;
 use crate::state::State;
 use csr_graph::Csr;
@@ -113,7 +113,7 @@ fn cost_seen(
     requires target { target < csr.now.n }
     ensures { IfSome result (λ cost. IsLeast csr.now.arcs (seeds_from source) target cost) }
 {
-    meeting_is_least();
+    laws::meeting_is_least();
     let _ = (csr.n(), reversed.n(), source, target);
     let cost = forward.least_meeting(&backward.labels);
     let waits = forward

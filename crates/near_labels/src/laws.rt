@@ -2,12 +2,10 @@
 
 ghost use Rattle.near_labels.specs.Meeting.{MeetingIsLeast};
 
-use label_words::laws::pauses_are_least_up_to;
-
 /// States that the least sum of a vertex's two labels is the least cost from the source to the target. The lowest
 /// marked labels of the two sides must have no lower sum.
 pub fn meeting_is_least()
     ensures { MeetingIsLeast }
 {
-    pauses_are_least_up_to();
+    label_words::laws::pauses_are_least_up_to();
 }

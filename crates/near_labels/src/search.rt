@@ -13,7 +13,6 @@ use crate::aim::{SearchAim, farthest};
 use crate::guide::Guide;
 use crate::state::State;
 use csr_graph::{Bounds, Csr};
-use label_words::laws::{far_pauses_are_least, pauses_are_least_up_to};
 use std::cmp::Reverse;
 
 /// Searches from the source of a blank state until labels serve the aim. Returns the limit up to which they are least;
@@ -113,7 +112,7 @@ fn limit_reached(state: &State, csr: &Csr, source: u32, aim: &SearchAim<'_>) -> 
         AreLeastLabelsUpTo limit csr.now.n csr.now.arcs (seeds_from source) state.now.labels.items) }
     ensures served { IfSome result (IsServedBy aim.now state.now.labels.items) }
 {
-    pauses_are_least_up_to();
+    label_words::laws::pauses_are_least_up_to();
     let _ = (csr.n(), source);
     let limit = aim.limit_of(&state.labels);
     if state.is_unmarked_below(limit) {
@@ -132,7 +131,7 @@ fn is_done_toward(state: &State, csr: &Csr, source: u32, bounds: &Bounds<'_>) ->
         All (λ t. IsLeast csr.now.arcs (seeds_from source) t (slice_index state.now.labels.items t))
         bounds.now.targets.now }
 {
-    far_pauses_are_least();
+    label_words::laws::far_pauses_are_least();
     let _ = (csr.n(), source);
     let limit = farthest(&state.labels, bounds.targets);
     state.is_marked_far(bounds, limit)

@@ -18,7 +18,6 @@ use crate::state::State;
 use crate::walks::{WalksFound, walks_below};
 use csr_graph::{Bounds, Csr};
 use route_walks::Memory;
-use route_walks::laws::least_up_to_a_limit;
 use std::alloc::Global;
 use std::marker::Model;
 use walk_report::{LabelsBelow, WalkSpace};
@@ -233,7 +232,7 @@ fn least_of(
     requires near { All (λ v. slice_index labels.now v ≤ limit) vertices.now }
     ensures { IfSome result (λ found. AreLeastOf csr.now.arcs (seeds_from source) vertices.now found.items) }
 {
-    least_up_to_a_limit();
+    route_walks::laws::least_up_to_a_limit();
     // Whose labels they are, and up to where they are least, is for the contract alone.
     let _ = (csr.n(), source, limit);
     labels_of(alloc, labels, vertices)
@@ -256,7 +255,7 @@ fn list_within(
     ensures within { IfSome result (λ found.
         AreThoseWithin bound csr.now.n csr.now.arcs (seeds_from source) found.items) }
 {
-    least_up_to_a_limit();
+    route_walks::laws::least_up_to_a_limit();
     let _ = (csr.n(), source, limit);
     if !state.sort_noted() {
         return None;

@@ -93,7 +93,7 @@ fn run<
     match parse_options(rt.alloc(), words) {
         Ok(options) if !options.typed && terminals.input => print_error(rt, NO_JOB, USAGE_STATUS),
         Ok(options) if options.session => serve(rt, input, output, &options, terminals.error),
-        Ok(options) => answer_job(rt, input, output, &options, terminals.error),
+        Ok(options) => run_job(rt, input, output, &options, terminals.error),
         Err(refusal) => print_refusal(rt, refusal),
     }
 }
@@ -129,7 +129,7 @@ fn progress_mode(options: &Options, is_terminal: bool) -> ProgressMode {
 }
 
 /// Answers a job, and returns the status. If the pipe of the answer is closed, nothing is printed.
-fn answer_job<H: AllocGlobal + Eprint + Threads + Wait + Clock + Sync, R: Read, W: Write>(
+fn run_job<H: AllocGlobal + Eprint + Threads + Wait + Clock + Sync, R: Read, W: Write>(
     rt: &H,
     input: &mut Input<R>,
     output: &mut Output<W>,

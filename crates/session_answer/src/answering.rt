@@ -12,7 +12,6 @@ use crate::initial_graph::{InitialGraph, read_initial_graph, read_some};
 use crate::query::Query;
 use crate::session::Session;
 use dimacs_text::Ask;
-use job_answer::laws::answer_texts_by_lines_are_unique;
 use job_answer::{Asked, Context, Fault};
 use least_costs::Workspace;
 use obim_engine::Gate;
@@ -76,7 +75,7 @@ fn answer_by<H: Threads + Wait + Clock + Sync, R: Read, W: Write, G: Gate + Sync
         (W.contents writer.old) (W.contents writer.new)) }
     ensures says { IfErr result (EndsBy context.now.asked.now.limit (R.remaining reader.old) (R.remaining reader.new)) }
 {
-    answer_texts_by_lines_are_unique();
+    job_answer::laws::answer_texts_by_lines_are_unique();
     let threads = context.asked.settings.workers as usize;
     let (rt, alloc) = (context.rt, context.alloc);
     let initial = read_initial_graph(rt, alloc, reader, buffer, context.asked.limit, threads)?;
@@ -138,7 +137,7 @@ fn converse<H: Threads + Wait + Clock + Sync, R: Read, W: Write, G: Gate + Sync>
         heard before (W.contents writer.old)
         → IfErr result (EndsAfterGraph graph.n first heard (R.remaining reader.old) (R.remaining reader.new)) }
 {
-    answer_texts_by_lines_are_unique();
+    job_answer::laws::answer_texts_by_lines_are_unique();
     for _ in 0..u64::MAX {
         let count = read_some(reader, buffer)?;
         if count == 0 {

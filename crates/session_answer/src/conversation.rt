@@ -20,7 +20,6 @@ ghost use Rattle.session_answer.specs.Terms.{terms_of};
 use crate::kind_graph::ReplyOutcome;
 use crate::session::{NO_MEMORY, Session, refuse};
 use dimacs_text::{LineKind, begins_comment};
-use job_answer::laws::answer_texts_by_lines_are_unique;
 use job_answer::{Context, Fault};
 use least_costs::Workspace;
 use obim_engine::Gate;
@@ -67,7 +66,7 @@ impl Conversation {
         ensures kept { OnOk result (IsConsistent self.new) }
         ensures kinds { IfErr result IsWritingFault }
     {
-        answer_texts_by_lines_are_unique();
+        job_answer::laws::answer_texts_by_lines_are_unique();
         let mut at = 0;
         while let Some(end) = next_feed(bytes, at) {
             self.end_line(context, writer, &bytes[at..end])?;
@@ -166,7 +165,7 @@ impl Conversation {
         ensures kept { OnOk result (IsConsistent self.new) }
         ensures kinds { IfErr result IsWritingFault }
     {
-        answer_texts_by_lines_are_unique();
+        job_answer::laws::answer_texts_by_lines_are_unique();
         self.unfinished.extend_from_slice(rest)?;
         let line = replace(&mut self.unfinished, Vec::new(context.alloc));
         self.take_line(context, writer, &line)
@@ -195,7 +194,7 @@ impl Conversation {
         ensures in_comment { self.new.in_comment ≡ self.old.in_comment }
         ensures kinds { IfErr result IsWritingFault }
     {
-        answer_texts_by_lines_are_unique();
+        job_answer::laws::answer_texts_by_lines_are_unique();
         let events = self.requests.read(line);
         let ReplyOutcome::Written = self.reply(context, writer, events.ended)? else {
             // What ends before the line asks nothing.
@@ -311,7 +310,7 @@ impl Conversation {
             before (W.contents writer.old)
             → IfErr result (EndsShort graph.n first (lines heard)) }
     {
-        answer_texts_by_lines_are_unique();
+        job_answer::laws::answer_texts_by_lines_are_unique();
         self.end_last_line(context, writer)?;
         match self.requests.lacking() {
             None => Ok(()),

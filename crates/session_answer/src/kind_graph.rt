@@ -18,7 +18,6 @@ use crate::query::Query;
 use crate::terms::lines_for;
 use answer_lines::put_ready;
 use dimacs_text::Ask;
-use job_answer::laws::answer_texts_by_lines_are_unique;
 use job_answer::{
     Answer, Context, Fault, Graphs, NoWatch, Question, answer_question, graphs_by, is_unasked,
     plan_of, write_whole,
@@ -140,7 +139,7 @@ impl KindGraph {
             (question_of query.now.ask) query.now.line) (W.contents writer.old) (W.contents writer.new)) }
         ensures kinds { IfErr result IsWritingFault }
     {
-        answer_texts_by_lines_are_unique();
+        job_answer::laws::answer_texts_by_lines_are_unique();
         if !self.is_short(context, &query.ask) {
             self.answer(context, writer, query, kept)?;
             return Ok(ReplyOutcome::Written);
@@ -244,7 +243,7 @@ impl KindGraph {
             (question_of query.now.ask) query.now.line) (W.contents writer.old) (W.contents writer.new)) }
         ensures kinds { IfErr result IsWritingFault }
     {
-        answer_texts_by_lines_are_unique();
+        job_answer::laws::answer_texts_by_lines_are_unique();
         self.write_body(context, writer, &query.ask, kept)?;
         let n = self.graphs.network.n();
         let mut ready = Vec::new(context.alloc);

@@ -19,7 +19,6 @@ use crate::query::Query;
 use crate::terms::asked_by;
 use answer_lines::put_refusal;
 use dimacs_text::{HeadForm, Job};
-use job_answer::laws::answer_texts_by_lines_are_unique;
 use job_answer::{Answer, Context, Fault, graphs_for, write_whole};
 use least_costs::Workspace;
 use obim_engine::Gate;
@@ -190,7 +189,7 @@ impl Session {
         ensures vertices { vertices_in self.new ≡ vertices_in self.old }
         ensures kinds { IfErr result IsWritingFault }
     {
-        answer_texts_by_lines_are_unique();
+        job_answer::laws::answer_texts_by_lines_are_unique();
         let answer = context.asked.answer;
         if matches!(answer, Answer::Distances) {
             return self.weights.answer(context, writer, query, kept);

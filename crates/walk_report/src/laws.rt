@@ -4,8 +4,6 @@ ghost use Rattle.walk_report.specs.Parent.{HopsAndParentsFollowTheArcs, HopsAndP
 ghost use Rattle.walk_report.specs.Printed.{PrintedWalksAreWalks, WalksBelowAgree};
 ghost use Rattle.walk_report.specs.Existence.{HopsAndParentsExist};
 
-use route_walks::laws::least_labels_exist;
-
 /// A printed walk goes from the source to its vertex, costs the label and has as many arcs as the hop, by the hops below
 /// any limit.
 pub fn printed_walks_are_walks()
@@ -32,5 +30,5 @@ pub fn hops_and_parents_are_unique()
 pub fn hops_and_parents_exist()
     ensures { HopsAndParentsExist }
 {
-    least_labels_exist();
+    route_walks::laws::least_labels_exist();
 }

@@ -1,14 +1,14 @@
 //! Each call with one allocation refused: `Memory` or `Spawn`, and made once more what was worked by hand.
 
 use crate::kept::asked;
-use dimacs_text::Ask;
+use dimacs_text::{Ask, read_job};
 use job_answer::{
     Answer, Context, Fault, Lines, NoWatch, Question, answer_question, graphs_by, graphs_for,
     is_unasked, write_whole,
 };
 use least_costs::Workspace;
 use obim_engine::OpenGate;
-use route_walks::{ArcRec, EXAMPLE_ARCS, Memory, refusable, tried_again};
+use route_walks::{Memory, refusable, tried_again};
 use session_answer::answer_session;
 use std::test::Fail;
 
@@ -28,26 +28,30 @@ const REPLIES: &[u8] = b"r 2 1 2\ns 1\nd 1 0\nd 2 7\nr 2 1 4\nt 1 2 1 1 2\nr 2 1
     x 1\ng 1\nr 2 2 17\na 1 2 5\nr 2 2 20\nx 1\nr 2 1 22\nq 2 1 inf\nr 2 1 24\n\
     \xff\xff\xff\xff\xff\xff\xff\xff\x05\0\0\0\0\0\0\0r 2 1 27\n";
 
+/// A graph of six vertices.
+const GRAPH: &[u8] =
+    b"p sp 6 8\na 1 2 17\na 1 3 10\na 2 4 2\na 3 5 0\na 4 3 0\na 4 6 3\na 5 2 0\na 5 6 20\n";
+
 #[test]
 fn of_graphs_for(rt: HostRuntime) -> Result<(), Fail> {
     let alloc = rt.alloc();
-    let (arcs, same) = (EXAMPLE_ARCS.to_vec(alloc)?, EXAMPLE_ARCS.to_vec(alloc)?);
+    let (job, same) = (read_job(alloc, GRAPH)?, read_job(alloc, GRAPH)?);
     let graphs = tried_again!(
         rt,
         alloc,
         Memory,
-        graphs_for(&rt, alloc, Answer::Distances, 6, arcs, None, 2),
-        graphs_for(&rt, alloc, Answer::Distances, 6, same, None, 2)
+        graphs_for(&rt, alloc, Answer::Distances, job.n, job.arcs, None, 2),
+        graphs_for(&rt, alloc, Answer::Distances, same.n, same.arcs, None, 2)
     );
-    assert!(rt; graphs.network.rows().arc_count() == EXAMPLE_ARCS.len());
+    assert!(rt; graphs.network.rows().arc_count() == 8);
     Ok(())
 }
 
 #[test]
 fn of_graphs_by(rt: HostRuntime) -> Result<(), Fail> {
     let alloc = rt.alloc();
-    let arcs: Vec<ArcRec> = EXAMPLE_ARCS.to_vec(alloc)?;
-    let weights = graphs_for(&rt, alloc, Answer::Distances, 6, arcs, None, 2)?;
+    let job = read_job(alloc, GRAPH)?;
+    let weights = graphs_for(&rt, alloc, Answer::Distances, job.n, job.arcs, None, 2)?;
     // The network of components has each arc both ways.
     for (answer, count) in [(Answer::Levels, 8), (Answer::Components, 16)] {
         let graphs = tried_again!(
@@ -66,8 +70,8 @@ fn of_graphs_by(rt: HostRuntime) -> Result<(), Fail> {
 fn of_answer_question(rt: HostRuntime) -> Result<(), Fail> {
     let alloc = rt.alloc();
     let asked = asked(&rt, Answer::Components);
-    let arcs: Vec<ArcRec> = EXAMPLE_ARCS.to_vec(alloc)?;
-    let graphs = graphs_for(&rt, alloc, asked.answer, 6, arcs, None, 2)?;
+    let job = read_job(alloc, GRAPH)?;
+    let graphs = graphs_for(&rt, alloc, asked.answer, job.n, job.arcs, None, 2)?;
     let question = Question {
         graphs: &graphs,
         ask: &Ask::Absent,

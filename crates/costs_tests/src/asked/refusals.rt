@@ -54,6 +54,24 @@ fn of_network_new(rt: HostRuntime) -> Result<(), Fail> {
     Ok(())
 }
 
+#[test]
+fn of_network_of_graph(rt: HostRuntime) -> Result<(), Fail> {
+    let alloc = rt.alloc();
+    let (mut arcs, mut again) = (Vec::with_capacity(alloc, 1)?, Vec::with_capacity(alloc, 1)?);
+    arcs.push(ArcRec::new(0, 1, 7))?;
+    again.push(ArcRec::new(0, 1, 7))?;
+    let network = tried_again!(
+        rt,
+        alloc,
+        Memory,
+        Network::of_graph(&rt, alloc, 2, arcs, Cost::Weight, 1),
+        Network::of_graph(&rt, alloc, 2, again, Cost::Weight, 1)
+    );
+    let costs = Solver::new(&network, Plan::usual(1)).from(&rt, alloc, 0)?;
+    assert!(rt; network.n() == 2 && costs.to(1) == Some(7));
+    Ok(())
+}
+
 fn grown_again<H: Threads + Abort + Sync>(
     rt: &H,
     alloc: Global,

@@ -80,7 +80,7 @@ returns-in-Ok-3 g c =
         | else-not-options w ↦ inr (typed _ w.if-not-options.false)
       ];
       one = c.if-options.false;
-      replied = c.answer_job.ensures;
+      replied = c.run_job.ensures;
     }))
 
 pub returns-in-Err : goal.returns-in-Err

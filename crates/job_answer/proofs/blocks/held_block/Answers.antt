@@ -6,11 +6,11 @@ use Rattle.job_answer.proofs.blocks.held_block.Goals as goal
 
 pub returns : goal.returns
 returns g c =
-    let graphs = c.args.kind.now.graphs.now in
+    let graphs = c.args.question.now.graphs.now in
     let net = graphs.network in
     let some = lines-exist c.least_labels_exist.ensures c.hops_and_parents_exist.ensures net.n c.requires.graphs.is.few
     net.arcs (growth_of graphs.grown) c.requires.graphs.is.ends (growth-within net graphs.grown c.requires.graphs.grows)
-    c.args.kind.now.lines c.args.source c.requires.source in
+    c.args.question.now.lines c.args.source c.requires.source in
     let kept = kept-text _ some _ _ refl c.new-bytes.ensures.items refl refl
     (sym c.has_stopped.ensures ∙ c.if-has_stopped.false) c.put_solved.ensures in
     let same = c.put_solved.ensures.still.waiting in

@@ -7,8 +7,8 @@ use Rattle.job_answer.proofs.Starts.{labels-finite}
 use Rattle.job_answer.proofs.Told.{everywhere-least}
 use Rattle.job_answer.proofs.blocks.put_block.Goals as goal
 
-pub put_components-requires-clause-finite : goal.put_components-requires-clause-finite
-put_components-requires-clause-finite g c =
+pub put_component_lines-requires-clause-finite : goal.put_component_lines-requires-clause-finite
+put_component_lines-requires-clause-finite g c =
     let net = c.args.network.now in
     let least : AreLeastLabels net.n net.arcs (seeds_at net.n Everywhere) c.args.costs.now.labels =
     everywhere-least net c.args.lines c.args.costs.now (rw c.in-Everywhere.is at c.requires.lines)
@@ -25,4 +25,4 @@ returns-in-Everywhere g c =
     rw c.in-Everywhere.is
     (puts-only g.W.Write.contents (c.blocks_are_unique.ensures false net.n net.arcs None).2
     (record { labels = c.labels.result.now; least = rw (← c.labels.ensures.labels) at least; written = refl })
-    c.put_components.ensures)
+    c.put_component_lines.ensures)

@@ -10,8 +10,8 @@ returns-then-has_stopped-clause-block g c =
 pub returns-in-Some-clause-block : goal.returns-in-Some-clause-block
 returns-in-Some-clause-block g c =
     let tasks = c.args.tasks.now in
-    let graphs = tasks.kind.graphs.now in
+    let graphs = tasks.question.graphs.now in
     let only =
-    (c.lines_are_unique.ensures tasks.kind.lines graphs.network.n graphs.network.arcs (growth_of graphs.grown)).0 in
+    (c.lines_are_unique.ensures tasks.question.lines graphs.network.n graphs.network.arcs (growth_of graphs.grown)).0 in
     puts-only g.W.Write.contents (only _) c.in-Some.ensures.text
     (puts-text g.W.Write.contents c.put_all.ensures.still c.put_all.ensures.put)

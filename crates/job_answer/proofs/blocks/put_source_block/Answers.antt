@@ -10,7 +10,7 @@ returns-in-Raw g c =
     (raw-told net c.args.source c.args.lines c.in-Raw.pairs c.args.costs.now
     c.labels-labels.result.now c.in-Raw.is c.requires.costs
     c.labels-labels.ensures.labels)
-    c.put_raw.ensures
+    c.put_raw_block.ensures
 
 pub returns-in-Totals : goal.returns-in-Totals
 returns-in-Totals g c =
@@ -18,4 +18,4 @@ returns-in-Totals g c =
     puts-only g.W.Write.contents ((c.lines_are_unique.ensures c.args.lines net.n net.arcs None).0 c.args.source)
     (totals-told net c.args.source c.args.lines c.args.costs.now c.labels-labels.result.now c.in-Totals.is c.requires.costs
     c.labels-labels.ensures.labels)
-    c.put_totals.ensures
+    c.put_totals_line.ensures

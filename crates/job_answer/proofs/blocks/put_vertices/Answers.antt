@@ -30,7 +30,7 @@ returns-then-is_plain g c =
       written = refl;
     }) in
     puts-only g.W.Write.contents ((c.lines_are_unique.ensures c.args.lines net.n net.arcs None).0 c.args.source) is_block
-    c.put_labels.ensures
+    c.put_all_labels.ensures
 
 pub returns : goal.returns
 returns g c =

@@ -1,7 +1,7 @@
 use Rattle.std.specs.Slice.Iter.{chunks_rest}
 use Rattle.answer_lines.specs.Raw.{raw_labels, raw_text}
 use Rattle.job_answer.proofs.Sinks.{Lacks}
-use Rattle.job_answer.proofs.lines.put_raw.Given as goal
+use Rattle.job_answer.proofs.lines.put_raw_block.Given as goal
 
 abbrev pub invariant-loop-group : goal.invariant-loop-group
 invariant-loop-group g l = record {

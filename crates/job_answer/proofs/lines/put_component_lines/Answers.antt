@@ -4,7 +4,7 @@ use Rattle.route_walks.specs.declared.graph.TheConstants.{INF}
 use Rattle.answer_lines.specs.Lines.{component_lines}
 use Rattle.answer_lines.proofs.Facts.{component_lines-append, All-rest}
 use Rattle.job_answer.proofs.Sinks.{lacks-more, puts-line, puts-nothing}
-use Rattle.job_answer.proofs.lines.put_components.Goals as goal
+use Rattle.job_answer.proofs.lines.put_component_lines.Goals as goal
 
 pub loop-group-init : goal.loop-group-init
 loop-group-init g c =

@@ -2,7 +2,7 @@ use Rattle.std.proofs.Common.{◌≡◌, ◌+◌, length}
 use Rattle.std.specs.Slice.Iter.{chunks_rest}
 use Rattle.answer_lines.specs.Lines.{label_lines, distances_text}
 use Rattle.job_answer.proofs.Sinks.{Lacks}
-use Rattle.job_answer.proofs.lines.put_labels.Given as goal
+use Rattle.job_answer.proofs.lines.put_all_labels.Given as goal
 
 abbrev pub invariant-loop-group : goal.invariant-loop-group
 invariant-loop-group g l = record {

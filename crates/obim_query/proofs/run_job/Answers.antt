@@ -4,7 +4,7 @@ use Rattle.job_answer.specs.declared.fault.Fault.{Fault}
 use Rattle.job_answer.specs.Choices.{status_of}
 use Rattle.job_answer.specs.Outcome.{IsReply}
 use Rattle.obim_query.specs.Replied.{HasReplied}
-use Rattle.obim_query.proofs.answer_job.Goals as goal
+use Rattle.obim_query.proofs.run_job.Goals as goal
 
 -- what a reply says, by the status of its fault
 replied_by : (asked : Asked) (taken_from taken_to given_from given_to : Option (List ℕ)) (fault : Fault) (status : ℕ)

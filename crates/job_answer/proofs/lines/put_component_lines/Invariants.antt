@@ -4,7 +4,7 @@ use Rattle.std.specs.Prelude.{All}
 use Rattle.route_walks.specs.declared.graph.TheConstants.{INF}
 use Rattle.answer_lines.specs.Lines.{component_lines, components_text}
 use Rattle.job_answer.proofs.Sinks.{Lacks}
-use Rattle.job_answer.proofs.lines.put_components.Given as goal
+use Rattle.job_answer.proofs.lines.put_component_lines.Given as goal
 
 abbrev pub invariant-loop-group : goal.invariant-loop-group
 invariant-loop-group g l = record {

@@ -1,7 +1,7 @@
 use Rattle.std.proofs.Common.{◌≡◌, refl}
 use Rattle.answer_lines.specs.Totals.{totals_line, totals_text}
 use Rattle.job_answer.proofs.Sinks.{puts-line}
-use Rattle.job_answer.proofs.lines.put_totals.Goals as goal
+use Rattle.job_answer.proofs.lines.put_totals_line.Goals as goal
 
 pub returns : goal.returns
 returns g c =
