@@ -6,10 +6,10 @@ use Rattle.obim_engine.specs.declared.settings.Buckets.{Buckets}
 use Rattle.obim_engine.specs.declared.settings.Settings.{Settings}
 use Rattle.least_costs.specs.declared.plan.AtOnce.{AtOnce}
 use Rattle.job_answer.specs.Choices.{IsAsked}
-use Rattle.job_answer.specs.declared.asked.Answer.{Answer}
-use Rattle.job_answer.specs.declared.asked.Asked.{Asked}
-use Rattle.job_answer.specs.declared.asked.Lines.{Lines}
-use Rattle.job_answer.specs.declared.asked.Lines.TheVariants.{Each, Within, Raw, Totals}
+use Rattle.job_answer.specs.declared.question.asked.Answer.{Answer}
+use Rattle.job_answer.specs.declared.question.asked.Asked.{Asked}
+use Rattle.job_answer.specs.declared.question.asked.Lines.{Lines}
+use Rattle.job_answer.specs.declared.question.asked.Lines.TheVariants.{Each, Within, Raw, Totals}
 use Rattle.command_line.specs.declared.options.Options.{Options}
 
 -- settings of these fields

@@ -15,13 +15,13 @@ use Rattle.obim_engine.specs.declared.settings.Buckets.{Buckets}
 use Rattle.obim_engine.specs.declared.settings.Buckets.TheVariants.{Even, Widening}
 use Rattle.obim_engine.specs.declared.settings.TheConstants.{MAX_CHUNK, MAX_SHIFT, MAX_WORKERS}
 use Rattle.obim_engine.specs.declared.settings.Settings.{Settings}
-use Rattle.job_answer.specs.declared.asked.TheConstants.{MAX_AT_ONCE, MAX_BYTES}
+use Rattle.job_answer.specs.declared.question.asked.TheConstants.{MAX_AT_ONCE, MAX_BYTES}
 use Rattle.route_walks.specs.declared.graph.TheConstants.{INF}
 use Rattle.job_answer.specs.LineWalks.{bound_in, has_raw_pairs, has_walks, is_raw, is_totals}
-use Rattle.job_answer.specs.declared.asked.Answer.{Answer}
-use Rattle.job_answer.specs.declared.asked.Answer.TheVariants.{Distances, Levels, Components}
-use Rattle.job_answer.specs.declared.asked.Lines.{Lines}
-use Rattle.job_answer.specs.declared.asked.Lines.TheVariants.{Each}
+use Rattle.job_answer.specs.declared.question.asked.Answer.{Answer}
+use Rattle.job_answer.specs.declared.question.asked.Answer.TheVariants.{Distances, Levels, Components}
+use Rattle.job_answer.specs.declared.question.asked.Lines.{Lines}
+use Rattle.job_answer.specs.declared.question.asked.Lines.TheVariants.{Each}
 use Rattle.least_costs.specs.declared.landmarks.TheConstants.{MAX_LANDMARKS}
 use Rattle.least_costs.specs.declared.plan.AtOnce.{AtOnce}
 use Rattle.least_costs.specs.declared.plan.AtOnce.TheVariants as at_once

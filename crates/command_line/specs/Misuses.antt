@@ -1,9 +1,9 @@
 -- What comes of the values of options: what they ask for, or a misuse.
 use Rattle.std.specs.Prelude.{◌≡◌, ℕ, ⊤, Bool, false, Option, None, Result, Ok, Err}
 use Rattle.job_answer.specs.LineWalks.{bound_in, has_raw_pairs, has_walks, is_raw, is_totals}
-use Rattle.job_answer.specs.declared.asked.Answer.{Answer}
-use Rattle.job_answer.specs.declared.asked.Answer.TheVariants.{Components}
-use Rattle.job_answer.specs.declared.asked.Lines.{Lines}
+use Rattle.job_answer.specs.declared.question.asked.Answer.{Answer}
+use Rattle.job_answer.specs.declared.question.asked.Answer.TheVariants.{Components}
+use Rattle.job_answer.specs.declared.question.asked.Lines.{Lines}
 use Rattle.command_line.specs.declared.refusals.Refusal.{Refusal}
 use Rattle.command_line.specs.declared.refusals.Refusal.TheVariants as refusal
 use Rattle.command_line.specs.declared.values.Misuse.{Misuse}

@@ -5,7 +5,7 @@ use Rattle.std.proofs.Math.Seq.{take-add}
 use Rattle.std.proofs.lemmas.List.{append-nil, take_all, take_more}
 use Rattle.job_answer.specs.AnswerText.{AreBlocks}
 use Rattle.job_answer.specs.Sinks.{Puts}
-use Rattle.job_answer.specs.declared.sink.Sink.{Sink}
+use Rattle.job_answer.specs.declared.output.sink.Sink.{Sink}
 use Rattle.job_answer.proofs.Sinks.{puts-as, puts-nothing, puts-then}
 
 -- ---- as texts

@@ -15,7 +15,7 @@ use Rattle.route_walks.specs.Walk.{IsArcBelow, IsGraph, IsWalk, cost}
 use Rattle.route_walks.specs.Component.{IsComponentLabel, LeastLabelsAreComponents}
 use Rattle.route_walks.specs.Label.{AreLeastLabels, InfMeansNoWalk}
 use Rattle.route_walks.specs.Operators.{both_ways, seeds_from, unit_weight, unit_weights}
-use Rattle.job_answer.specs.declared.asked.Answer.{Answer}
+use Rattle.job_answer.specs.declared.question.asked.Answer.{Answer}
 use Rattle.route_walks.proofs.Facts.{attained-by_walk, walk-of_attained}
 use Rattle.answer_lines.specs.Lines.{cost_text, label_text, label_lines, pair_text, walk_text}
 use Rattle.dimacs_text.specs.Jobs.{Content, Question, from_sources, of_pairs}
@@ -24,7 +24,7 @@ use Rattle.answer_lines.specs.Lines.{component_lines}
 use Rattle.walk_report.specs.Hop.{AreHops}
 use Rattle.walk_report.specs.Parent.{AreParents}
 use Rattle.walk_report.specs.Printed.{printed_walk, PrintedWalksAreWalks}
-use Rattle.job_answer.specs.declared.asked.Answer.TheVariants.{Distances, Levels, Components}
+use Rattle.job_answer.specs.declared.question.asked.Answer.TheVariants.{Distances, Levels, Components}
 use Rattle.job_answer.specs.AnswerText.{AreAskedBlocks, AreBlocks, IsBlock, IsPairBlock, vertex_lines, walk_line}
 use Rattle.job_answer.specs.AnswerText.{IsComponentsBlock, IsGrownBlock, IsGrownPair, IsGrownText, arcs_for}
 use Rattle.job_answer.specs.AnswerText.{growth_for, growth_from}

@@ -16,11 +16,11 @@ use Rattle.answer_lines.specs.Raw.{raw_text}
 use Rattle.answer_lines.specs.Totals.{totals_text}
 use Rattle.dimacs_text.specs.Jobs.{IsAddedWithin, IsArcWithin, IsPairWithin, IsQuestionWithin}
 use Rattle.dimacs_text.specs.Jobs.{Question, absent, from_sources, of_pairs}
-use Rattle.job_answer.specs.declared.asked.Answer.{Answer}
-use Rattle.job_answer.specs.declared.asked.Answer.TheVariants.{Distances, Levels, Components}
-use Rattle.job_answer.specs.declared.asked.Lines.{Lines}
-use Rattle.job_answer.specs.declared.asked.Lines.TheVariants as lines
-use Rattle.job_answer.specs.declared.graphs.GrownNetwork.{GrownNetwork}
+use Rattle.job_answer.specs.declared.question.asked.Answer.{Answer}
+use Rattle.job_answer.specs.declared.question.asked.Answer.TheVariants.{Distances, Levels, Components}
+use Rattle.job_answer.specs.declared.question.asked.Lines.{Lines}
+use Rattle.job_answer.specs.declared.question.asked.Lines.TheVariants as lines
+use Rattle.job_answer.specs.declared.question.graphs.GrownNetwork.{GrownNetwork}
 use Rattle.job_answer.specs.AnswerText.{AreBlocks, AreWalksFrom, Growth, IsComponentsBlock, IsGrownText, IsPairBlock}
 use Rattle.job_answer.specs.AnswerText.{IsPairLabel, arcs_for, growth_for, growth_from, pair_label_text, pair_walk_text}
 use Rattle.job_answer.specs.AnswerText.{vertex_text, walks_text}

@@ -11,19 +11,19 @@ use Rattle.std.specs.List.{All}
 use Rattle.std.proofs.lemmas.List.Elements.{All-get_or}
 use Rattle.route_walks.specs.declared.graph.ArcRec.{ArcRec}
 use Rattle.answer_lines.specs.Lines.{grown_text}
-use Rattle.job_answer.specs.declared.graphs.GrownNetwork.{GrownNetwork}
-use Rattle.job_answer.specs.declared.walked_pairs.Walked.{Walked}
+use Rattle.job_answer.specs.declared.question.graphs.GrownNetwork.{GrownNetwork}
+use Rattle.job_answer.specs.declared.output.walked_pairs.Walked.{Walked}
 use Rattle.least_costs.specs.declared.start.Start.{Start}
 use Rattle.least_costs.specs.declared.start.Start.TheVariants.{At, Everywhere}
 use Rattle.job_answer.specs.AnswerText.{AreBlocks, AreBothTexts, BlocksAreUnique, Growth, IsGrownPair, IsGrownText}
 use Rattle.job_answer.specs.AnswerText.{IsOneText, IsPairBlock, IsPairLabel, pair_label_text}
 use Rattle.route_walks.specs.Walk.{HaveSameArcs}
-use Rattle.job_answer.specs.declared.asked.Answer.{Answer}
-use Rattle.job_answer.specs.declared.asked.Answer.TheVariants.{Distances, Levels, Components}
+use Rattle.job_answer.specs.declared.question.asked.Answer.{Answer}
+use Rattle.job_answer.specs.declared.question.asked.Answer.TheVariants.{Distances, Levels, Components}
 use Rattle.job_answer.specs.AnswerText.{arcs_for, growth_from}
 use Rattle.job_answer.specs.Graphs.{GrowAlike, GrowsInto, cost_for, growth_of}
-use Rattle.job_answer.specs.declared.asked.Lines.{Lines}
-use Rattle.job_answer.specs.declared.asked.Lines.TheVariants as lines
+use Rattle.job_answer.specs.declared.question.asked.Lines.{Lines}
+use Rattle.job_answer.specs.declared.question.asked.Lines.TheVariants as lines
 use Rattle.job_answer.specs.LineWalks.{has_raw_pairs, has_walks}
 use Rattle.job_answer.specs.Within.{AreLinesPairs, IsGrownLinesPair, LinesAreUnique}
 use Rattle.job_answer.specs.Solves.{AreCostsAfter, IsRest, IsStartBlock, IsWalked}

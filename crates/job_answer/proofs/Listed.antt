@@ -16,8 +16,8 @@ use Rattle.least_costs.specs.Network.{IsNetwork, IsStartWithin, NetworkSeen}
 use Rattle.least_costs.specs.declared.start.Start.{Start}
 use Rattle.least_costs.specs.declared.start.Start.TheVariants.{At}
 use Rattle.answer_lines.specs.Lines.{label_text, source_text}
-use Rattle.job_answer.specs.declared.asked.Lines.{Lines}
-use Rattle.job_answer.specs.declared.near_block.NearBlock.{NearBlock}
+use Rattle.job_answer.specs.declared.question.asked.Lines.{Lines}
+use Rattle.job_answer.specs.declared.output.near_block.NearBlock.{NearBlock}
 use Rattle.job_answer.specs.NearBlock.{IsNearBlock}
 use Rattle.job_answer.specs.Solves.{IsStartBlock}
 use Rattle.job_answer.specs.Within.{lines_within, listed_text}

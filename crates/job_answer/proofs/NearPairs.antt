@@ -23,8 +23,8 @@ use Rattle.near_labels.specs.declared.walks.WalksFound.{WalksFound}
 use Rattle.least_costs.specs.Network.{IsNetwork}
 use Rattle.least_costs.specs.Pairs.{pair_at}
 use Rattle.dimacs_text.specs.Jobs.{IsPairWithin}
-use Rattle.job_answer.specs.declared.graphs.Graphs.{Graphs}
-use Rattle.job_answer.specs.declared.solves.Solve.{Solve}
+use Rattle.job_answer.specs.declared.question.graphs.Graphs.{Graphs}
+use Rattle.job_answer.specs.declared.solving.solves.Solve.{Solve}
 use Rattle.job_answer.specs.AnswerText.{IsPairBlock, walk_line}
 use Rattle.job_answer.specs.NearPairs.{found_text, walk_part}
 use Rattle.job_answer.specs.Solves.{AreTargetsOf, IsForQueries}

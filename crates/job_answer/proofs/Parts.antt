@@ -1,7 +1,7 @@
 -- The blocks of some queries and those of others, one after the other.
 use Rattle.std.proofs.Common.{refl}
-use Rattle.job_answer.specs.declared.asked.Answer.TheVariants.{Distances, Levels, Components}
-use Rattle.job_answer.specs.declared.asked.Lines.TheVariants as lines
+use Rattle.job_answer.specs.declared.question.asked.Answer.TheVariants.{Distances, Levels, Components}
+use Rattle.job_answer.specs.declared.question.asked.Lines.TheVariants as lines
 use Rattle.job_answer.specs.AnswerText.{IsGrownBlock, IsGrownPair, arcs_for, growth_for}
 use Rattle.job_answer.specs.Parts.{AnswersOfPartsJoin}
 use Rattle.job_answer.specs.Within.{IsGrownLines, IsGrownLinesPair}

@@ -4,8 +4,8 @@ use Rattle.std.specs.List.{All}
 use Rattle.std.proofs.lemmas.List.Elements.{All-from_get_or, All-get_or}
 use Rattle.dimacs_text.specs.Jobs.{IsPairWithin}
 use Rattle.least_costs.specs.Pairs.{pair_at}
-use Rattle.job_answer.specs.declared.graphs.GrownNetwork.{GrownNetwork}
-use Rattle.job_answer.specs.declared.solves.Solve.{Solve}
+use Rattle.job_answer.specs.declared.question.graphs.GrownNetwork.{GrownNetwork}
+use Rattle.job_answer.specs.declared.solving.solves.Solve.{Solve}
 use Rattle.job_answer.specs.Solves.{AreCostsAfter, AreEachTold, AreTargetsOf, HasCostAfter, IsForQueries}
 
 -- a place of a pair is one of its cost in the grown network

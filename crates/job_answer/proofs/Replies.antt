@@ -12,17 +12,17 @@ use Rattle.answer_lines.specs.Lines.{grown_text}
 use Rattle.std.specs.Prelude.{Result, Ok, Err, IfErr, IsTrue, OnErr}
 use Rattle.job_answer.specs.declared.fault.Fault.{Fault}
 use Rattle.job_answer.specs.declared.fault.Fault.TheVariants.{Read, TooLong, Text, NoAsk, NoSources, Memory, Spawn, Write}
-use Rattle.job_answer.specs.declared.asked.Answer.{Answer}
-use Rattle.job_answer.specs.declared.asked.Answer.TheVariants.{Distances, Levels, Components}
-use Rattle.job_answer.specs.declared.graphs.Graphs.{Graphs}
+use Rattle.job_answer.specs.declared.question.asked.Answer.{Answer}
+use Rattle.job_answer.specs.declared.question.asked.Answer.TheVariants.{Distances, Levels, Components}
+use Rattle.job_answer.specs.declared.question.graphs.Graphs.{Graphs}
 use Rattle.job_answer.specs.Bytes.{WritesPrefix}
 use Rattle.job_answer.specs.Graphs.{AreGraphsFor, GrowAlike, growth_of}
 use Rattle.job_answer.specs.Outcome.{IsReplyFault, IsUnasked, IsWritingFault, is_unasked}
 use Rattle.job_answer.specs.AnswerText.{IsBlock, IsPairBlock, IsPairLabel, AreWalksFrom, AreBlocks, AreAskedBlocks}
 use Rattle.job_answer.specs.AnswerText.{Growth, IsComponentsBlock, IsGrownBlock, IsGrownPair, IsGrownText}
 use Rattle.job_answer.specs.AnswerText.{IsTextFor, arcs_for, growth_for}
-use Rattle.job_answer.specs.declared.asked.Lines.{Lines}
-use Rattle.job_answer.specs.declared.asked.Lines.TheVariants as lines
+use Rattle.job_answer.specs.declared.question.asked.Lines.{Lines}
+use Rattle.job_answer.specs.declared.question.asked.Lines.TheVariants as lines
 use Rattle.job_answer.specs.Within.{AreBlocksInShort, AreBlocksWithin, AreLinesBlocks, AreLinesPairs, HasNoSources}
 use Rattle.job_answer.specs.Within.{IsAnswerTextBy, IsGrownLines, IsGrownLinesPair, IsLinesBlock, IsLinesPair, IsTextBy}
 use Rattle.job_answer.specs.Within.{IsTextInShort}

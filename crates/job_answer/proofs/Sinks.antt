@@ -6,8 +6,8 @@ use Rattle.std.specs.Io.KnownBytes.{Appends}
 use Rattle.route_walks.specs.declared.refusal.Memory.{Memory}
 use Rattle.job_answer.specs.AnswerText.{IsOneText}
 use Rattle.job_answer.specs.Bytes.{Writes, WritesPrefix}
-use Rattle.job_answer.specs.declared.sink.Sink.{Sink}
-use Rattle.job_answer.specs.declared.sink.Stop.{Stop}
+use Rattle.job_answer.specs.declared.output.sink.Sink.{Sink}
+use Rattle.job_answer.specs.declared.output.sink.Stop.{Stop}
 use Rattle.job_answer.specs.Sinks.{Ends, Is, IsStill, Puts, PutsText, Stops, due}
 use Rattle.job_answer.proofs.Known.{appends-nothing, appends-then}
 

@@ -25,9 +25,9 @@ use Rattle.walk_report.specs.Printed.{WalksBelowAgree}
 use Rattle.answer_lines.specs.Lines.{label_lines, label_text, source_text, walk_text}
 use Rattle.answer_lines.specs.Raw.{raw_text}
 use Rattle.answer_lines.specs.Totals.{totals_text}
-use Rattle.job_answer.specs.declared.asked.Lines.{Lines}
-use Rattle.job_answer.specs.declared.asked.Lines.TheVariants as lines
-use Rattle.job_answer.specs.declared.line_walks.LineWalks.{LineWalks}
+use Rattle.job_answer.specs.declared.question.asked.Lines.{Lines}
+use Rattle.job_answer.specs.declared.question.asked.Lines.TheVariants as lines
+use Rattle.job_answer.specs.declared.output.line_walks.LineWalks.{LineWalks}
 use Rattle.job_answer.specs.AnswerText.{AreWalksFrom, vertex_lines, vertex_text}
 use Rattle.job_answer.specs.LineWalks.{AreReachedWithin, AreWalksBelow, AreWalksFor, HasVertexLines, bound_of, has_walks}
 use Rattle.job_answer.specs.LineWalks.{text_by}

@@ -10,7 +10,7 @@ use Rattle.walk_report.specs.Hop.{AreHops}
 use Rattle.walk_report.specs.Parent.{AreParents, HopsAndParentsAreUnique}
 use Rattle.answer_lines.specs.Lines.{distances_text, components_text, grown_text}
 use Rattle.dimacs_text.specs.Jobs.{Question, absent, from_sources, of_pairs}
-use Rattle.job_answer.specs.declared.asked.Answer.TheVariants.{Distances, Levels, Components}
+use Rattle.job_answer.specs.declared.question.asked.Answer.TheVariants.{Distances, Levels, Components}
 use Rattle.job_answer.specs.AnswerText.{AnswerTextsAreUnique, BlocksAreUnique, IsOneBlock, IsOneText, IsBlock}
 use Rattle.job_answer.specs.AnswerText.{IsPairBlock, IsPairLabel, pair_label_text}
 use Rattle.job_answer.specs.AnswerText.{AreWalksFrom, AreBlocks, AreAskedBlocks, walks_text, pair_walk_text}

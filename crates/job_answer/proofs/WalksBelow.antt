@@ -15,7 +15,7 @@ use Rattle.route_walks.specs.Walk.{IsGraph}
 use Rattle.walk_report.specs.declared.hop.TheConstants.{NONE}
 use Rattle.walk_report.specs.Existence.{HopsAndParentsExist}
 use Rattle.walk_report.specs.Printed.{printed_walk, WalksBelowAgree}
-use Rattle.job_answer.specs.declared.walked_pairs.Walked.{Walked}
+use Rattle.job_answer.specs.declared.output.walked_pairs.Walked.{Walked}
 use Rattle.job_answer.specs.AnswerText.{AreWalksFrom, IsPairBlock}
 use Rattle.job_answer.specs.LineWalks.{AreWalksBelow}
 use Rattle.job_answer.specs.Solves.{AreWalkedBelow, walked_text}

@@ -17,10 +17,10 @@ use Rattle.answer_lines.specs.Raw.{raw_text}
 use Rattle.answer_lines.specs.Totals.{totals_text}
 use Rattle.dimacs_text.specs.Jobs.{Content, Question, absent, from_sources, of_pairs}
 use Rattle.dimacs_text.specs.Jobs.{IsQuestionWithin, IsWithinLimits}
-use Rattle.job_answer.specs.declared.asked.Answer.{Answer}
-use Rattle.job_answer.specs.declared.asked.Answer.TheVariants.{Distances, Levels, Components}
-use Rattle.job_answer.specs.declared.asked.Lines.{Lines}
-use Rattle.job_answer.specs.declared.asked.Lines.TheVariants as lines
+use Rattle.job_answer.specs.declared.question.asked.Answer.{Answer}
+use Rattle.job_answer.specs.declared.question.asked.Answer.TheVariants.{Distances, Levels, Components}
+use Rattle.job_answer.specs.declared.question.asked.Lines.{Lines}
+use Rattle.job_answer.specs.declared.question.asked.Lines.TheVariants as lines
 use Rattle.job_answer.specs.AnswerText.{AreBlocks, BlocksAreUnique, Growth, IsOneBlock}
 use Rattle.job_answer.specs.AnswerText.{IsGrownText, IsOneText, arcs_for, growth_for, vertex_text, walk_line}
 use Rattle.job_answer.specs.Costs.{IsCostText, IsWalkLine, unasked}

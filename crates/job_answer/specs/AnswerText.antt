@@ -12,8 +12,8 @@ use Rattle.answer_lines.specs.Raw.{raw_label}
 use Rattle.walk_report.specs.Hop.{AreHops}
 use Rattle.walk_report.specs.Parent.{AreParents}
 use Rattle.walk_report.specs.Printed.{printed_walk}
-use Rattle.job_answer.specs.declared.asked.Answer.{Answer}
-use Rattle.job_answer.specs.declared.asked.Answer.TheVariants as answer
+use Rattle.job_answer.specs.declared.question.asked.Answer.{Answer}
+use Rattle.job_answer.specs.declared.question.asked.Answer.TheVariants as answer
 
 -- the arcs along which the labels of an answer are least
 abbrev pub arcs_for : Answer → List ArcRec → List ArcRec

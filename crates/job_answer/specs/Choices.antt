@@ -4,9 +4,9 @@ use Rattle.std.specs.Option.{ForSome}
 use Rattle.route_walks.specs.declared.graph.TheConstants.{INF}
 use Rattle.job_reader.specs.declared.fault.ReadFault.{ReadFault}
 use Rattle.job_reader.specs.declared.fault.ReadFault.TheVariants as refused
-use Rattle.job_answer.specs.declared.asked.Answer.{Answer}
-use Rattle.job_answer.specs.declared.asked.Answer.TheVariants.{Components}
-use Rattle.job_answer.specs.declared.asked.Lines.{Lines}
+use Rattle.job_answer.specs.declared.question.asked.Answer.{Answer}
+use Rattle.job_answer.specs.declared.question.asked.Answer.TheVariants.{Components}
+use Rattle.job_answer.specs.declared.question.asked.Lines.{Lines}
 use Rattle.job_answer.specs.declared.fault.Fault.{Fault}
 use Rattle.job_answer.specs.declared.fault.Fault.TheVariants as fault
 use Rattle.job_answer.specs.LineWalks.{bound_in, has_walks}

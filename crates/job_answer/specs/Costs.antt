@@ -7,8 +7,8 @@ use Rattle.route_walks.specs.Walk.{IsWalk, cost}
 use Rattle.answer_lines.specs.Lines.{source_text, cost_line, pair_line, walk_text, component_text}
 use Rattle.dimacs_text.specs.Jobs.{Content, from_sources, of_pairs, IsWithinLimits}
 use Rattle.job_answer.specs.AnswerText.{AreBlocks, IsAnswerText, IsGrownText, arcs_for, growth_for, growth_from}
-use Rattle.job_answer.specs.declared.asked.Answer.{Answer}
-use Rattle.job_answer.specs.declared.asked.Answer.TheVariants.{Components}
+use Rattle.job_answer.specs.declared.question.asked.Answer.{Answer}
+use Rattle.job_answer.specs.declared.question.asked.Answer.TheVariants.{Components}
 
 -- the text of the cost from the source to v: 'inf' if there is no walk, else what the cheapest costs
 pub data IsCostText (arcs : List ArcRec) (source v : ℕ) (text : List ℕ) : Type 0 where

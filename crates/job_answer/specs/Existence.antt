@@ -1,8 +1,8 @@
 -- A job that is asked has an answer.
 use Rattle.std.specs.Prelude.{ℕ, Bool, List}
 use Rattle.dimacs_text.specs.Jobs.{Content, IsWithinLimits}
-use Rattle.job_answer.specs.declared.asked.Answer.{Answer}
-use Rattle.job_answer.specs.declared.asked.Lines.{Lines}
+use Rattle.job_answer.specs.declared.question.asked.Answer.{Answer}
+use Rattle.job_answer.specs.declared.question.asked.Lines.{Lines}
 use Rattle.job_answer.specs.AnswerText.{IsAnswerText}
 use Rattle.job_answer.specs.Outcome.{IsUnasked}
 use Rattle.job_answer.specs.Within.{HasNoSources, IsAnswerTextBy}

@@ -5,10 +5,10 @@ use Rattle.route_walks.specs.Walk.{HaveSameArcs}
 use Rattle.least_costs.specs.declared.cost.Cost.{Cost}
 use Rattle.least_costs.specs.declared.cost.Cost.TheVariants as cost
 use Rattle.least_costs.specs.Network.{GrowsTo, IsNetwork, NetworkSeen}
-use Rattle.job_answer.specs.declared.asked.Answer.{Answer}
-use Rattle.job_answer.specs.declared.asked.Answer.TheVariants as answer
-use Rattle.job_answer.specs.declared.graphs.Graphs.{Graphs}
-use Rattle.job_answer.specs.declared.graphs.GrownNetwork.{GrownNetwork}
+use Rattle.job_answer.specs.declared.question.asked.Answer.{Answer}
+use Rattle.job_answer.specs.declared.question.asked.Answer.TheVariants as answer
+use Rattle.job_answer.specs.declared.question.graphs.Graphs.{Graphs}
+use Rattle.job_answer.specs.declared.question.graphs.GrownNetwork.{GrownNetwork}
 use Rattle.job_answer.specs.AnswerText.{Growth, arcs_for}
 
 -- what an arc costs in the network of an answer kind

@@ -2,9 +2,9 @@
 use Rattle.std.specs.Prelude.{ℕ, List}
 use Rattle.dimacs_text.specs.Jobs.{Question}
 use Rattle.least_costs.specs.declared.start.Start.{Start}
-use Rattle.job_answer.specs.declared.asked.Answer.{Answer}
-use Rattle.job_answer.specs.declared.asked.Lines.{Lines}
-use Rattle.job_answer.specs.declared.graphs.Graphs.{Graphs}
+use Rattle.job_answer.specs.declared.question.asked.Answer.{Answer}
+use Rattle.job_answer.specs.declared.question.asked.Lines.{Lines}
+use Rattle.job_answer.specs.declared.question.graphs.Graphs.{Graphs}
 use Rattle.job_answer.specs.Graphs.{growth_of}
 use Rattle.job_answer.specs.Solves.{IsGrownStart}
 use Rattle.job_answer.specs.Within.{AreLinesBlocks, AreLinesPairs, IsGrownLines, IsTextBy}

@@ -6,9 +6,9 @@ use Rattle.walk_report.specs.declared.hop.TheConstants.{NONE}
 use Rattle.route_walks.specs.declared.graph.ArcRec.{ArcRec}
 use Rattle.route_walks.specs.declared.graph.TheConstants.{INF, MAX_VERTICES}
 use Rattle.answer_lines.specs.Lines.{label_text}
-use Rattle.job_answer.specs.declared.asked.Lines.{Lines}
-use Rattle.job_answer.specs.declared.asked.Lines.TheVariants as lines
-use Rattle.job_answer.specs.declared.line_walks.LineWalks.{LineWalks}
+use Rattle.job_answer.specs.declared.question.asked.Lines.{Lines}
+use Rattle.job_answer.specs.declared.question.asked.Lines.TheVariants as lines
+use Rattle.job_answer.specs.declared.output.line_walks.LineWalks.{LineWalks}
 use Rattle.job_answer.specs.AnswerText.{vertex_text}
 
 -- the text of a vertex, with its walk where there are walks

@@ -5,9 +5,9 @@ use Rattle.route_walks.specs.Operators.{seeds_from}
 use Rattle.least_costs.specs.Network.{NetworkSeen}
 use Rattle.least_costs.specs.declared.start.Start.{Start}
 use Rattle.least_costs.specs.declared.start.Start.TheVariants as start
-use Rattle.job_answer.specs.declared.asked.Lines.{Lines}
-use Rattle.job_answer.specs.declared.asked.Lines.TheVariants as lines
-use Rattle.job_answer.specs.declared.near_block.NearBlock.{NearBlock}
+use Rattle.job_answer.specs.declared.question.asked.Lines.{Lines}
+use Rattle.job_answer.specs.declared.question.asked.Lines.TheVariants as lines
+use Rattle.job_answer.specs.declared.output.near_block.NearBlock.{NearBlock}
 
 -- a list for the block of a source by lines within a bound, without walks: the vertices that cost at most the bound,
 -- each with its label

@@ -1,7 +1,7 @@
 -- Questions to networks that are kept, and their answers.
 use Rattle.std.specs.Prelude.{◌≡◌, ℕ, List, false}
 use Rattle.dimacs_text.specs.Jobs.{Content, IsQuestionWithin, question_of}
-use Rattle.job_answer.specs.declared.asked.Answer.{Answer}
+use Rattle.job_answer.specs.declared.question.asked.Answer.{Answer}
 use Rattle.job_answer.specs.declared.question.Question.{Question}
 use Rattle.job_answer.specs.AnswerText.{growth_for}
 use Rattle.job_answer.specs.Graphs.{AreGraphs, AreGraphsFor}

@@ -5,9 +5,9 @@ use Rattle.std.specs.Io.KnownBytes.{Appends}
 use Rattle.route_walks.specs.declared.refusal.Memory.{Memory}
 use Rattle.job_answer.specs.declared.fault.Fault.{Fault}
 use Rattle.job_answer.specs.declared.fault.Fault.TheVariants as fault
-use Rattle.job_answer.specs.declared.sink.Sink.{Sink}
-use Rattle.job_answer.specs.declared.sink.Stop.{Stop}
-use Rattle.job_answer.specs.declared.sink.Stop.TheVariants as stop
+use Rattle.job_answer.specs.declared.output.sink.Sink.{Sink}
+use Rattle.job_answer.specs.declared.output.sink.Stop.{Stop}
+use Rattle.job_answer.specs.declared.output.sink.Stop.TheVariants as stop
 
 -- the fault of a stop
 abbrev pub fault_of : Stop → Fault

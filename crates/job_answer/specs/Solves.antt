@@ -13,11 +13,11 @@ use Rattle.route_walks.specs.Limit.{AreLeastLabelsUpTo}
 use Rattle.obim_engine.specs.declared.goal.Goal.TheVariants as goal
 use Rattle.least_costs.specs.declared.start.Start.{Start}
 use Rattle.least_costs.specs.declared.start.Start.TheVariants as start
-use Rattle.job_answer.specs.declared.solves.Solve.{Solve}
-use Rattle.job_answer.specs.declared.graphs.GrownNetwork.{GrownNetwork}
-use Rattle.job_answer.specs.declared.walked_pairs.Walked.{Walked}
-use Rattle.job_answer.specs.declared.asked.Lines.{Lines}
-use Rattle.job_answer.specs.declared.asked.Lines.TheVariants as lines
+use Rattle.job_answer.specs.declared.solving.solves.Solve.{Solve}
+use Rattle.job_answer.specs.declared.question.graphs.GrownNetwork.{GrownNetwork}
+use Rattle.job_answer.specs.declared.output.walked_pairs.Walked.{Walked}
+use Rattle.job_answer.specs.declared.question.asked.Lines.{Lines}
+use Rattle.job_answer.specs.declared.question.asked.Lines.TheVariants as lines
 use Rattle.job_answer.specs.AnswerText.{Growth, IsComponentsBlock, IsGrownText, IsPairBlock, pair_walk_text}
 use Rattle.job_answer.specs.Choices.{IsLinesAsked}
 use Rattle.job_answer.specs.LineWalks.{HasWalkAt}

@@ -1,11 +1,11 @@
 -- What each task of an answer gives: it is done by itself, before its turn or in it.
 use Rattle.std.specs.Prelude.{ℕ, ◌+◌, ◌≤◌, true, List}
 use Rattle.std.specs.Prelude.{drop, length, slice_index, take}
-use Rattle.job_answer.specs.declared.blocks.BlockText.{BlockText}
-use Rattle.job_answer.specs.declared.source_tasks.SourceTasks.{SourceTasks}
-use Rattle.job_answer.specs.declared.graphs.Graphs.{Graphs}
-use Rattle.job_answer.specs.declared.walked_pairs.LinesText.{LinesText}
-use Rattle.job_answer.specs.declared.walked_pairs.WalkTasks.{WalkTasks}
+use Rattle.job_answer.specs.declared.output.blocks.BlockText.{BlockText}
+use Rattle.job_answer.specs.declared.solving.source_tasks.SourceTasks.{SourceTasks}
+use Rattle.job_answer.specs.declared.question.graphs.Graphs.{Graphs}
+use Rattle.job_answer.specs.declared.output.walked_pairs.LinesText.{LinesText}
+use Rattle.job_answer.specs.declared.output.walked_pairs.WalkTasks.{WalkTasks}
 use Rattle.job_answer.specs.AnswerText.{AreBlocks, IsGrownPair}
 use Rattle.job_answer.specs.Graphs.{growth_of}
 use Rattle.job_answer.specs.InNetworks.{IsBlockIn}

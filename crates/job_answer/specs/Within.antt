@@ -9,10 +9,10 @@ use Rattle.route_walks.specs.Operators.{seeds_from}
 use Rattle.route_walks.specs.Walk.{IsWalk, cost}
 use Rattle.answer_lines.specs.Lines.{cost_line, label_text, source_text}
 use Rattle.dimacs_text.specs.Jobs.{Content, Question, absent, from_sources, of_pairs, IsWithinLimits}
-use Rattle.job_answer.specs.declared.asked.Answer.{Answer}
-use Rattle.job_answer.specs.declared.asked.Answer.TheVariants.{Distances, Levels, Components}
-use Rattle.job_answer.specs.declared.asked.Lines.{Lines}
-use Rattle.job_answer.specs.declared.asked.Lines.TheVariants as lines
+use Rattle.job_answer.specs.declared.question.asked.Answer.{Answer}
+use Rattle.job_answer.specs.declared.question.asked.Answer.TheVariants.{Distances, Levels, Components}
+use Rattle.job_answer.specs.declared.question.asked.Lines.{Lines}
+use Rattle.job_answer.specs.declared.question.asked.Lines.TheVariants as lines
 use Rattle.job_answer.specs.AnswerText.{AreBlocks, AreWalksFrom, Growth, IsBlock, IsComponentsBlock, IsGrownText}
 use Rattle.job_answer.specs.AnswerText.{IsOneBlock, IsOneText, IsPairBlock, IsPairLabel, IsTextFor, arcs_for, growth_for}
 use Rattle.job_answer.specs.AnswerText.{vertex_text}

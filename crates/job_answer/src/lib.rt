@@ -16,34 +16,20 @@
 #![tactic(auto)]
 
 mod answering;
-mod asked;
-mod blocks;
-mod env;
 mod fault;
-mod graphs;
 pub mod laws;
-mod line_walks;
-mod lines;
-mod near_block;
-mod near_pairs;
-mod pair_queries;
-mod pairs;
+mod output;
 mod question;
-mod saving;
-mod sink;
-mod solves;
-mod source_tasks;
-mod team_watch;
-mod walked_pairs;
+mod solving;
 mod watch;
 
 pub use answering::{answer, answer_bytes, answer_question, answer_watched, is_unasked};
-pub use asked::{Answer, Asked, Lines, MAX_AT_ONCE, MAX_BYTES};
-pub use env::Context;
 pub use fault::{Fault, status};
-pub use graphs::{Graphs, GrownNetwork, graphs_by, graphs_for, plan_of};
 pub use job_reader::ReadWatch;
 pub use least_costs::{AtOnce, MAX_LANDMARKS, USUAL_LANDMARKS};
+pub use output::sink::write_whole;
 pub use question::Question;
-pub use sink::write_whole;
+pub use question::asked::{Answer, Asked, Lines, MAX_AT_ONCE, MAX_BYTES};
+pub use question::env::Context;
+pub use question::graphs::{Graphs, GrownNetwork, graphs_by, graphs_for, plan_of};
 pub use watch::{NoWatch, Phase, Watch};

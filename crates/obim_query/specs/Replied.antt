@@ -3,7 +3,7 @@ use Rattle.std.specs.Prelude.{◌≡◌, ◌⊎◌, ℕ, Bool, true, false, List
 use Rattle.std.specs.Result.{IfErr, OnErr, OnOk}
 use Rattle.std.specs.Io.KnownBytes.{Keeps}
 use Rattle.clap.specs.Words.{Text}
-use Rattle.job_answer.specs.declared.asked.Asked.{Asked}
+use Rattle.job_answer.specs.declared.question.asked.Asked.{Asked}
 use Rattle.job_answer.specs.declared.fault.Fault.{Fault}
 use Rattle.job_answer.specs.Choices.{status_of}
 use Rattle.job_answer.specs.Outcome.{IsAnsweredBy, IsBegunBy, IsReply}

@@ -11,7 +11,7 @@ use Rattle.request_reader.specs.Requests.{Outcome, no_memory}
 use Rattle.request_reader.specs.declared.request_reader.RequestReader.{RequestReader}
 use Rattle.request_reader.specs.declared.request.Request.{Request}
 use Rattle.request_reader.specs.declared.request.Request.TheVariants.{Asked, Wrong, NoMemory}
-use Rattle.job_answer.specs.declared.asked.Answer.{Answer}
+use Rattle.job_answer.specs.declared.question.asked.Answer.{Answer}
 use Rattle.job_answer.specs.Graphs.{AreGraphsFor, GrowAlike, GrowsInto, growth_of}
 use Rattle.job_answer.specs.Bytes.{Writes}
 use Rattle.job_answer.proofs.Facts.{along-kind, appends-then}

@@ -14,9 +14,9 @@ use Rattle.dimacs_text.specs.Lines.{lines}
 use Rattle.request_reader.specs.Requests.{Outcome, whole, wrong, no_memory, AreRequests}
 use Rattle.request_reader.specs.declared.request.Request.{Request}
 use Rattle.request_reader.specs.declared.request.Request.TheVariants as request
-use Rattle.job_answer.specs.declared.asked.Answer.{Answer}
-use Rattle.job_answer.specs.declared.asked.Answer.TheVariants as answer
-use Rattle.job_answer.specs.declared.asked.Lines.{Lines}
+use Rattle.job_answer.specs.declared.question.asked.Answer.{Answer}
+use Rattle.job_answer.specs.declared.question.asked.Answer.TheVariants as answer
+use Rattle.job_answer.specs.declared.question.asked.Lines.{Lines}
 use Rattle.job_answer.specs.Graphs.{AreGraphs, cost_for}
 use Rattle.csr_graph.specs.Changes.{leads_between}
 use Rattle.least_costs.specs.Network.{HasArcs, IsNetworkOf}

@@ -8,11 +8,11 @@ use Rattle.dimacs_text.specs.declared.head.HeadLines.{HeadLines}
 use Rattle.dimacs_text.specs.declared.head.HeadLines.TheVariants as word
 use Rattle.dimacs_text.specs.declared.head.SectionHead.{SectionHead}
 use Rattle.dimacs_text.specs.Jobs.{Question, absent, from_sources, of_pairs}
-use Rattle.job_answer.specs.declared.asked.Answer.{Answer}
-use Rattle.job_answer.specs.declared.asked.Answer.TheVariants as answer
-use Rattle.job_answer.specs.declared.asked.Asked.{Asked}
-use Rattle.job_answer.specs.declared.asked.Lines.{Lines}
-use Rattle.job_answer.specs.declared.asked.Lines.TheVariants as by
+use Rattle.job_answer.specs.declared.question.asked.Answer.{Answer}
+use Rattle.job_answer.specs.declared.question.asked.Answer.TheVariants as answer
+use Rattle.job_answer.specs.declared.question.asked.Asked.{Asked}
+use Rattle.job_answer.specs.declared.question.asked.Lines.{Lines}
+use Rattle.job_answer.specs.declared.question.asked.Lines.TheVariants as by
 use Rattle.job_answer.specs.LineWalks.{has_walks}
 
 -- the kind of labels, and the lines of the block of a source

@@ -7,7 +7,7 @@ ghost use Rattle.least_costs.specs.Network.{HasArcs};
 ghost use Rattle.job_answer.specs.Bytes.{GivesPrefix, Writes, WritesPrefix};
 ghost use Rattle.job_answer.specs.Graphs.{AreGraphs};
 ghost use Rattle.job_answer.specs.Outcome.{IsWritingFault};
-ghost use Rattle.job_answer.specs.declared.asked.Answer.TheVariants.{Distances};
+ghost use Rattle.job_answer.specs.declared.question.asked.Answer.TheVariants.{Distances};
 ghost use Rattle.session_answer.specs.Replies.{HoldsKind, IsAnswerIn, IsBodyIn, IsReplied, listing_text};
 ghost use Rattle.session_answer.specs.Changes.{change_seen, changed_by, pairs_of};
 ghost use Rattle.session_answer.specs.Terms.{terms_of};

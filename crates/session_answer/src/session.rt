@@ -6,7 +6,7 @@ ghost use Rattle.answer_lines.specs.Lines.{refusal_text};
 ghost use Rattle.dimacs_text.specs.Jobs.{Content, content_of, question_of, IsAddedWithin, IsQuestionWithin, IsWithinLimits};
 ghost use Rattle.job_answer.specs.Bytes.{GivesPrefix, Writes, WritesPrefix};
 ghost use Rattle.job_answer.specs.Outcome.{IsWritingFault};
-ghost use Rattle.job_answer.specs.declared.asked.Answer.{Answer};
+ghost use Rattle.job_answer.specs.declared.question.asked.Answer.{Answer};
 ghost use Rattle.request_reader.specs.Reading.{outcome_of};
 ghost use Rattle.session_answer.specs.Replies.{AreKept, HoldsGraph, HoldsKind, IsAnswerIn, IsAsked, IsBeside};
 ghost use Rattle.session_answer.specs.Replies.{IsReplyFor, IsReplyTo, IsRequestWithin, IsReplied, graph_after, vertices_in};

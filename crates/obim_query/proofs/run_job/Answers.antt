@@ -1,5 +1,5 @@
 use Rattle.std.proofs.Common.{rules, ◌≡◌, ℕ, List, Option, Err}
-use Rattle.job_answer.specs.declared.asked.Asked.{Asked}
+use Rattle.job_answer.specs.declared.question.asked.Asked.{Asked}
 use Rattle.job_answer.specs.declared.fault.Fault.{Fault}
 use Rattle.job_answer.specs.Choices.{status_of}
 use Rattle.job_answer.specs.Outcome.{IsReply}

@@ -5,10 +5,10 @@ use Rattle.clap.specs.Words.{Text, first_of, first_value, found_of, matched_of, 
 use Rattle.clap.specs.declared.parser.matches.Found.{Found}
 use Rattle.job_answer.specs.LineWalks.{bound_in, has_raw_pairs, has_walks, is_raw, is_totals}
 use Rattle.job_answer.specs.Choices.{IsAsked}
-use Rattle.job_answer.specs.declared.asked.Answer.{Answer}
-use Rattle.job_answer.specs.declared.asked.Lines.{Lines}
-use Rattle.job_answer.specs.declared.asked.Lines.TheVariants.{Each}
-use Rattle.job_answer.specs.declared.asked.TheConstants.{MAX_BYTES}
+use Rattle.job_answer.specs.declared.question.asked.Answer.{Answer}
+use Rattle.job_answer.specs.declared.question.asked.Lines.{Lines}
+use Rattle.job_answer.specs.declared.question.asked.Lines.TheVariants.{Each}
+use Rattle.job_answer.specs.declared.question.asked.TheConstants.{MAX_BYTES}
 use Rattle.command_line.specs.CommandLine.{AreHyphens, AsksAtOnce, AsksCost, AsksFor, AsksLandmarks, AsksLines, AsksSettings}
 use Rattle.command_line.specs.CommandLine.{IsAlone, IsAuto, IsFlag, NamesKind, NamesLabels, operands_in}
 use Rattle.command_line.specs.declared.options.Options.{Options}
