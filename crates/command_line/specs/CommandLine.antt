@@ -22,7 +22,7 @@ use Rattle.job_answer.specs.declared.question.asked.Answer.{Answer}
 use Rattle.job_answer.specs.declared.question.asked.Answer.TheVariants.{Distances, Levels, Components}
 use Rattle.job_answer.specs.declared.question.asked.Lines.{Lines}
 use Rattle.job_answer.specs.declared.question.asked.Lines.TheVariants.{Each}
-use Rattle.least_costs.specs.declared.landmarks.TheConstants.{MAX_LANDMARKS}
+use Rattle.least_costs.specs.declared.network.landmarks.TheConstants.{MAX_LANDMARKS}
 use Rattle.least_costs.specs.declared.plan.AtOnce.{AtOnce}
 use Rattle.least_costs.specs.declared.plan.AtOnce.TheVariants as at_once
 use Rattle.least_costs.specs.declared.plan.TheConstants.{CHUNK_OF_TWO, SHARED_CHUNK, USUAL_LANDMARKS}

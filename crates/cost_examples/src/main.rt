@@ -3,8 +3,8 @@
 //! Five functions as a program writes and proves them over `least_costs`. `cost_matrix` asks for the costs from each
 //! of many sources to each of many targets. `nearest_depot` asks for the depot from which a vertex is reached at the
 //! least cost, and `nearest_two` for each of many customers which is nearest and which one next. `changes` asks what a
-//! new road saves for each of many sources, and `pairs_in_both` for many pairs, by landmarks. The program prints what they give for five crossings, after the example of
-//! `docs/LIBRARY.md`.
+//! new road saves for each of many sources, and `pairs_in_both` for many pairs, by landmarks. The program prints what
+//! they give for five crossings, after the example of `docs/LIBRARY.md`.
 #![tactic(auto)]
 
 ghost use Rattle.std.specs.Prelude.{◌≡◌};

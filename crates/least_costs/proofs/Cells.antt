@@ -16,7 +16,7 @@ use Rattle.csr_graph.specs.declared.bounds.Bounds.{Bounds}
 use Rattle.csr_graph.specs.declared.bounds.TheConstants.{FINITE_CELLS}
 use Rattle.csr_graph.specs.Graph.{Graph}
 use Rattle.least_costs.specs.Landmarks.{AreHighest, AreLandmarks, AreLowest, IsCell, IsLightGraph, IsTold, LandmarksSeen, column}
-use Rattle.least_costs.specs.declared.landmarks.TheConstants.{MAX_UNIT}
+use Rattle.least_costs.specs.declared.network.landmarks.TheConstants.{MAX_UNIT}
 
 -- some units, but not so many as to INF
 bound-some : (unit units : ℕ) → 0 < units → units < FINITE_CELLS → bound_of unit units ≡ min ((units - 1) * unit + 1) INF

@@ -4,7 +4,7 @@ use Rattle.least_costs.specs.Costs.{CostsSeen, IsFrom}
 use Rattle.least_costs.specs.Network.{NetworkSeen}
 use Rattle.least_costs.specs.TaskQueue.{AreFinished}
 use Rattle.least_costs.specs.declared.each.Sources.{Sources}
-use Rattle.least_costs.specs.declared.task_queue.FinishedTask.{FinishedTask}
+use Rattle.least_costs.specs.declared.workers.task_queue.FinishedTask.{FinishedTask}
 
 -- the network, and the sources whose costs were not handed over yet
 pub record EachSeen : Type 0 where

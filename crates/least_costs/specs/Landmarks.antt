@@ -7,7 +7,7 @@ use Rattle.csr_graph.specs.Bounds.{bound_of}
 use Rattle.csr_graph.specs.declared.bounds.TheConstants.{FINITE_CELLS}
 use Rattle.csr_graph.specs.Graph.{Graph}
 use Rattle.least_costs.specs.Network.{AreLight}
-use Rattle.least_costs.specs.declared.landmarks.TheConstants.{MAX_UNIT}
+use Rattle.least_costs.specs.declared.network.landmarks.TheConstants.{MAX_UNIT}
 
 -- the cells of some landmarks in a graph, vertex by vertex, as many as there are landmarks
 pub record LandmarksSeen : Type 0 where

@@ -4,8 +4,8 @@ use Rattle.route_walks.specs.Walk.{AreSeeds}
 use Rattle.csr_graph.specs.Graph.{Graph}
 use Rattle.label_words.specs.Paused.{IsPause}
 use Rattle.obim_engine.specs.Goal.{IsGoalWithin}
-use Rattle.least_costs.specs.declared.warm_pool.Search.{Search}
-use Rattle.least_costs.specs.declared.warm_pool.Task.{Task}
+use Rattle.least_costs.specs.declared.workers.warm_pool.Search.{Search}
+use Rattle.least_costs.specs.declared.workers.warm_pool.Task.{Task}
 use Rattle.least_costs.specs.Network.{IsStartWithin, graph_of, seeds_at}
 
 -- a search begins in its network, or goes on from a pause there, and wants vertices of it

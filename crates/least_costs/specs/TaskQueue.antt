@@ -1,6 +1,6 @@
 -- What tasks give that are done before their turn.
 use Rattle.std.specs.Prelude.{ℕ, List, All, Option, Some}
-use Rattle.least_costs.specs.declared.task_queue.FinishedTask.{FinishedTask}
+use Rattle.least_costs.specs.declared.workers.task_queue.FinishedTask.{FinishedTask}
 
 -- each is what the task at its place gives
 abbrev pub AreFinished : {P : Type 0} → (ℕ → P → Type 0) → List (FinishedTask P) → Type 0

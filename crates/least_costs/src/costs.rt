@@ -1,5 +1,9 @@
 //! Costs from a start.
 
+pub(crate) mod below;
+pub(crate) mod walks;
+pub(crate) mod within;
+
 ghost use Rattle.std.specs.Prelude.{◌≡◌, ◌<◌, All, IfNone, IfOk, IfSome, length};
 ghost use Rattle.least_costs.specs.Costs.{AreCosts, AreCostsTo, AreLeastAt, AreLeastFrom, IsLeastCost, IsUnreached};
 ghost use Rattle.least_costs.specs.Network.{IsStartWithin, seeds_at};

@@ -1,5 +1,9 @@
 //! Costs to vertices near the source, found before workers are asked.
 
+pub(crate) mod budget;
+pub(crate) mod room;
+pub(crate) mod visits;
+
 ghost use Rattle.std.specs.Prelude.{◌≡◌, ◌<◌, All, IfSome, length};
 ghost use Rattle.route_walks.specs.declared.graph.TheConstants.{INF};
 ghost use Rattle.near_labels.specs.Found.{AreWalksFound};
@@ -9,15 +13,15 @@ ghost use Rattle.least_costs.specs.Network.{graph_of};
 ghost use Rattle.least_costs.specs.Pairs.{ArePairsWithin};
 ghost use Rattle.least_costs.specs.declared.start.Start.TheVariants.{At};
 
-use crate::budget::SearchBudget;
 use crate::costs::costs_in_order;
-use crate::landmarks::Landmarks;
-use crate::near_room::{
+use crate::near::budget::SearchBudget;
+use crate::near::room::{
     fit, fit_walks, label_by_both, labels_by, labels_toward, walks_by, within_by,
 };
+use crate::near::visits::FarVisits;
 use crate::network::Network;
+use crate::network::landmarks::Landmarks;
 use crate::start::Start;
-use crate::visits::FarVisits;
 use near_labels::{SearchSpace, WalksFound};
 use std::alloc::Global;
 use walk_report::WalkSpace;

@@ -1,5 +1,9 @@
 //! The arcs along which costs are least.
 
+pub(crate) mod between;
+pub(crate) mod growth;
+pub(crate) mod landmarks;
+
 ghost use Rattle.std.specs.Prelude.{◌≡◌, ◌+◌, ◌≤◌, ◌<◌, ◌^◌, ◌↔◌, ◌++◌, length, filter, All};
 ghost use Rattle.std.specs.Prelude.{IfErr, IfNone, IfOk, IfSome, IsTrue, List, ℕ};
 ghost use Rattle.route_walks.specs.declared.graph.ArcRec.{ArcRec};
@@ -12,10 +16,10 @@ ghost use Rattle.least_costs.specs.Faults.{IsFirstOutside, IsNetworkFault, IsGro
 ghost use Rattle.least_costs.specs.Network.{AreLight, GrowsTo, HasArcs, IsNetwork, IsNetworkOf, arcs_of, graph_of};
 ghost use Rattle.csr_graph.specs.Changes.{leads_between, without};
 
-use crate::between::list_between;
 use crate::cost::Cost;
 use crate::fault::NetworkFault;
-use crate::landmarks::Landmarks;
+use crate::network::between::list_between;
+use crate::network::landmarks::Landmarks;
 use csr_graph::Csr;
 use route_walks::{ArcRec, MAX_ARCS, MAX_VERTICES, Memory, both_ways, unit_weights};
 use std::alloc::Global;
@@ -78,7 +82,7 @@ impl Network {
         Ok(Network::of_graph(rt, alloc, n, arcs, cost, threads)?)
     }
 
-    /// Makes the network of `new` of arcs whose ends are known to be vertices, and looks at none.
+    /// Makes the network of `new` of arcs whose ends are known to be vertices, without a look at them.
     pub fn of_graph<H: Threads + Sync>(
         rt: &H,
         alloc: Global,

@@ -1,12 +1,14 @@
 //! The reversed rows and landmarks that a network is given before pairs are asked for. No cost depends on them.
 
+pub(crate) mod choosing;
+
 ghost use Rattle.std.specs.Prelude.{◌≡◌};
 ghost use Rattle.least_costs.specs.Pairs.{ArePairsWithin};
 
-use crate::landmarks::MAX_LANDMARKS;
 use crate::network::Network;
+use crate::network::landmarks::MAX_LANDMARKS;
 use crate::plan::Plan;
-use crate::workspace::Workspace;
+use crate::workers::workspace::Workspace;
 use obim_engine::Gate;
 use std::alloc::Global;
 use std::sync::Wait;

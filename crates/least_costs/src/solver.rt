@@ -5,11 +5,11 @@ ghost use Rattle.least_costs.specs.Costs.{IsFrom};
 ghost use Rattle.least_costs.specs.Network.{GrowsTo, IsStartWithin};
 
 use crate::costs::Costs;
-use crate::growth::NetworkGrowth;
+use crate::costs::within::CostsWithin;
 use crate::network::Network;
+use crate::network::growth::NetworkGrowth;
 use crate::plan::Plan;
 use crate::start::Start;
-use crate::within::CostsWithin;
 use crate::workers::Workers;
 use obim_engine::{Gate, Goal, OpenGate};
 use route_walks::Memory;

@@ -1,5 +1,10 @@
 //! Workers that solve one start after another.
 
+pub(crate) mod task_queue;
+pub(crate) mod teams;
+pub(crate) mod warm_pool;
+pub(crate) mod workspace;
+
 ghost use Rattle.std.specs.Prelude.{◌≡◌, ◌<◌, All, IfOk, IfSome};
 ghost use Rattle.route_walks.specs.declared.graph.TheConstants.{INF};
 ghost use Rattle.label_words.specs.Closed.{IsEnd, closed_labels};
@@ -11,14 +16,14 @@ ghost use Rattle.least_costs.specs.declared.start.Start.TheVariants.{At};
 ghost use Rattle.least_costs.specs.Near.{AreCostsWithin};
 ghost use Rattle.least_costs.specs.Network.{GrowsTo, IsStartWithin, graph_of, seeds_at};
 
-use crate::below::CostsBelow;
 use crate::costs::Costs;
-use crate::growth::NetworkGrowth;
-use crate::landmarks::Landmarks;
+use crate::costs::below::CostsBelow;
 use crate::network::Network;
+use crate::network::growth::NetworkGrowth;
+use crate::network::landmarks::Landmarks;
 use crate::start::Start;
-use crate::warm_pool::{Search, WarmPool, pause_after};
-use crate::workspace::Workspace;
+use crate::workers::warm_pool::{Search, WarmPool, pause_after};
+use crate::workers::workspace::Workspace;
 use near_labels::WalksFound;
 use obim_engine::{Closed, Gate, Goal, GoalResult, Settings};
 use route_walks::Memory;

@@ -1,0 +1,50 @@
+-- One landmark more.
+use Rattle.std.proofs.Common.{◌≡◌, ◌≢◌, ◌∙◌, ◌<◌, ℕ, List, true, ap, arith, drop, length, sym}
+use Rattle.std.specs.Prelude.{All, slice_index}
+use Rattle.std.proofs.lemmas.Bool.{false≢true}
+use Rattle.std.proofs.lemmas.List.{take_at}
+use Rattle.route_walks.specs.Label.{IsRelaxed}
+use Rattle.route_walks.specs.Bounds.{IsRelaxedBackward}
+use Rattle.least_costs.specs.Landmarks.{IsCell, LandmarksSeen, column}
+use Rattle.least_costs.proofs.Cells.{landmarks-more}
+use Rattle.least_costs.proofs.network.landmarks.Landmarks.add.Goals as goal
+use Rattle.least_costs.proofs.network.landmarks.Landmarks.add.Goals.{then-self, else-self}
+
+pub invariant_of-self : goal.invariant_of-self
+invariant_of-self c =
+    let inside = c.self.inside in
+    let graph = inside.of.value in
+    let labels = c.args.labels.now in
+    let seen : LandmarksSeen = record {
+      graph = graph;
+      count = inside.count;
+      cells = inside.cells.items;
+      unit = inside.unit;
+      is_two_way = inside.is_two_way;
+    } in
+    let new = c.put_column.new.cells in
+    let size : length new ≡ inside.cells.len =
+    omega (arith, c.put_column.ensures.room, c.deref_mut.ensures.len, ap (λ (xs : List ℕ). length xs) c.deref_mut.ensures.value) in
+    let same : length new ≡ length inside.cells.items =
+    c.put_column.ensures.room ∙ ap (λ (xs : List ℕ). length xs) c.deref_mut.ensures.value in
+    let relaxed : All (IsRelaxed (slice_index labels)) graph.arcs = rw (← c.self.view_is) at c.requires.relaxed in
+    let twins : c.if-self.self ≡ true → All (IsRelaxedBackward (slice_index labels)) graph.arcs =
+    elim c.if-self.branch [
+      | then-self w ↦ λ both. rw (← c.self.view_is) at c.requires.two_way (sym w.self-is ∙ both)
+      | else-self w ↦ λ both. absurd (false≢true (sym w.if-self.false ∙ sym w.self-is ∙ both))
+    ] in
+    let less : c.if-self.self ≡ true → inside.is_two_way ≡ true =
+    elim c.if-self.branch [
+      | then-self w ↦ λ both. w.if-self.true
+      | else-self w ↦ λ both. absurd (false≢true (sym w.if-self.false ∙ sym w.self-is ∙ both))
+    ] in
+    let count : length labels ≡ graph.n = rw (← c.self.view_is) at c.requires.count in
+    let put : (v : ℕ) → v < graph.n → IsCell inside.unit (column inside.count new inside.used v) (slice_index labels v) =
+    λ v below. c.put_column.ensures.put v (omega (arith, below, count)) in
+    let others : (i v : ℕ) → i < inside.count → i ≢ inside.used
+    → column inside.count new i v ≡ column inside.count inside.cells.items i v =
+    λ i v i-in differs.
+    c.put_column.ensures.others i v i-in differs
+    ∙ ap (λ (xs : List ℕ). column inside.count xs i v) c.deref_mut.ensures.value in
+    rw (take_at new (drop (length new) inside.cells.items) inside.cells.len size)
+    (landmarks-more seen inside.used c.if-self.self new labels c.self.invariant relaxed twins less same put others)

@@ -1,9 +1,0 @@
-use Rattle.std.proofs.Common.{All}
-use Rattle.least_costs.specs.TaskQueue.{AreFinished}
-use Rattle.least_costs.proofs.task_queue.do_round.Given as goal
-
-abbrev pub invariant-loop-at : goal.invariant-loop-at
-invariant-loop-at g l = record {
-  made : AreFinished (g.T.Tasks.is_part l.round.tasks.now) l.made.items;
-  states : All (λ state. AreFinished (g.T.Tasks.is_part l.round.tasks.now) state.made.items) l.states;
-}
