@@ -1,5 +1,5 @@
 pub mod Facts
-pub mod Filters
+mod Filters
 mod Items
 mod Bins
 mod Sorting

@@ -31,7 +31,7 @@ use Rattle.dimacs_text.proofs.FormLemmas.{are_within}
 use Rattle.dimacs_text.proofs.Limits.{IsShaped, AreShaped, all_shaped, all_within}
 use Rattle.dimacs_text.proofs.Machine.{run_begins, complete}
 use Rattle.dimacs_text.proofs.TextLaws.{arc_back, source_back, pair_back, graph_first}
-use Rattle.dimacs_text.proofs.ReaderLemmas.{incomplete, form-token, all_said, line_leads, line_wrong}
+use Rattle.dimacs_text.proofs.DraftLemmas.{incomplete, form-token, all_said, line_leads, line_wrong}
 
 -- the readings have a first fault, or all say something, and that is legal
 abbrev FaultOrLegal : List Reading → Type 0

@@ -20,7 +20,8 @@ use Rattle.dimacs_text.specs.Lines.{lines}
 use Rattle.dimacs_text.specs.Reading.{HasRead, HasReadBy, HasReadText, Keeps}
 use Rattle.dimacs_text.specs.reader.Drafts.{IsReadTo, Progress, progress_of, records_by}
 use Rattle.dimacs_text.proofs.LineLemmas.{lines_whole}
-use Rattle.dimacs_text.proofs.ReaderLemmas.{comment_read, finished, text_fails, text_read}
+use Rattle.dimacs_text.proofs.DraftLemmas.{finished}
+use Rattle.dimacs_text.proofs.ReaderLemmas.{comment_read, text_fails, text_read}
 use Rattle.dimacs_text.proofs.TextLaws.{no_fault, one_first_fault, one_job}
 
 -- the graph of the arcs that were read

@@ -3,6 +3,7 @@ pub mod LineLemmas
 pub mod CommentLemmas
 pub mod FormLemmas
 pub mod WordLemmas
+pub mod DraftLemmas
 pub mod ReaderLemmas
 pub mod ArcRunLemmas
 pub mod FastArcLemmas

@@ -30,7 +30,7 @@ use Rattle.dimacs_text.specs.reader.Machine.{run, misfit_at, same_item, unless_w
 use Rattle.dimacs_text.specs.reader.Drafts.{token_in}
 use Rattle.dimacs_text.proofs.AfterGraphLemmas.{begins_known, others_no_head, others_say, section_head, section_says_head}
 use Rattle.dimacs_text.proofs.Machine.{legal_runs, run-append}
-use Rattle.dimacs_text.proofs.ReaderLemmas.{records-push}
+use Rattle.dimacs_text.proofs.DraftLemmas.{records-push}
 use Rattle.dimacs_text.proofs.RequestLemmas.{all_silent, rest_filled, said_back, said_by_reading}
 use Rattle.dimacs_text.proofs.TextLaws.{graph_first, legal_by, rest_of}
 

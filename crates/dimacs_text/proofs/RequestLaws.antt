@@ -21,7 +21,7 @@ use Rattle.dimacs_text.specs.reader.Machine.{run, misfit_at}
 use Rattle.dimacs_text.specs.reader.Drafts.{token_in}
 use Rattle.dimacs_text.specs.reader.Requests.{is_complete_at}
 use Rattle.dimacs_text.proofs.Machine.{complete, machine_misfit}
-use Rattle.dimacs_text.proofs.ReaderLemmas.{form-token}
+use Rattle.dimacs_text.proofs.DraftLemmas.{form-token}
 use Rattle.dimacs_text.proofs.TextLaws.{led, no_fault_among, one_job_among}
 use Rattle.dimacs_text.proofs.AfterGraphLemmas.{section_says, SaysSection}
 

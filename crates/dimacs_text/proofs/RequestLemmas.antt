@@ -29,7 +29,7 @@ use Rattle.dimacs_text.specs.reader.Drafts.{Progress, progress_of, arcs_progress
 use Rattle.dimacs_text.specs.reader.Requests.{is_begun_at, is_request_at, is_section_at, HasSaid, IsWrongAfter, ReadsAfter}
 use Rattle.dimacs_text.proofs.CommentLemmas.{comment_after}
 use Rattle.dimacs_text.proofs.Machine.{items_run, run_begins, machine_misfit}
-use Rattle.dimacs_text.proofs.ReaderLemmas.{one_more, incomplete, form-token}
+use Rattle.dimacs_text.proofs.DraftLemmas.{one_more, incomplete, form-token}
 use Rattle.dimacs_text.proofs.TextLaws.{PartsAfter, graph_first, lack_within, parts_of_question, rest_of, tokens_of_items}
 
 -- no second problem line fits, so vertices count to the same number

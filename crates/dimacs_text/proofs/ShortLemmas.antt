@@ -24,7 +24,7 @@ use Rattle.dimacs_text.specs.reader.Machine.{run, same_item, unless_wrong}
 use Rattle.dimacs_text.proofs.Existence.{question_in}
 use Rattle.dimacs_text.proofs.Limits.{AreShaped}
 use Rattle.dimacs_text.proofs.Machine.{complete, run-append}
-use Rattle.dimacs_text.proofs.ReaderLemmas.{form-token}
+use Rattle.dimacs_text.proofs.DraftLemmas.{form-token}
 use Rattle.dimacs_text.proofs.RequestLimits.{lines_within, AllWithin}
 use Rattle.dimacs_text.proofs.SectionLemmas.{answered_front, count_heads, heads_in, heads-append, IsAnsweredEarlier}
 use Rattle.dimacs_text.proofs.TextLaws.{graph_first, led}

@@ -29,7 +29,7 @@ use Rattle.dimacs_text.specs.Jobs.{pairs_record, added_record}
 use Rattle.dimacs_text.specs.Jobs.{records_of, records_of_question, records_of_added, records_among, IsJobText}
 use Rattle.dimacs_text.specs.Faults.{tokens_among, IsFirstAmong, unread, misfit, unfinished, IsFirstFault}
 use Rattle.dimacs_text.specs.reader.Drafts.{token_in}
-use Rattle.dimacs_text.proofs.ReaderLemmas.{form-token}
+use Rattle.dimacs_text.proofs.DraftLemmas.{form-token}
 use Rattle.dimacs_text.proofs.Machine.{goes, legal_runs, run_begins, machine_misfit, complete, run-append}
 
 -- what lines said is known from their readings

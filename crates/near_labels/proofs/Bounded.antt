@@ -20,18 +20,6 @@ pub record IsListing (labels noted : List ℕ) (bound count : ℕ) (found : List
   pub from : (next ≡ 0)
       ⊎ ((j : ℕ) × (j < count) × (slice_index noted j + 1 ≡ next) × (slice_index labels (slice_index noted j) ≤ bound))
 
--- none so far
-pub listing-none : (labels noted : List ℕ) (bound : ℕ) → IsListing labels noted bound 0 [] 0
-listing-none labels noted bound = record {
-  list = record {
-    each = All-nil _;
-    all = λ k lt. absurd (omega arith);
-    rise = λ k lt. absurd (omega arith);
-  };
-  below = All-nil _;
-  from = inl refl;
-}
-
 -- one more rises
 rise-push : (found : List (ℕ × ℕ)) (v d next : ℕ) → DoRise found → All (λ entry. entry.0 < next) found → next ≤ v
     → DoRise (found ++ (v, d) ∷ [])

@@ -18,39 +18,6 @@ queued-none n queue = record {
   others = λ v below. inr (get_or-replicate n v NONE 0 below);
 }
 
--- where the queue is empty, no vertex has a number
-pub queued-blank : {n : ℕ} {numbers : List ℕ} → AreQueued n numbers [] → numbers ≡ replicate n NONE
-queued-blank {n = n} {numbers = numbers} queued =
-    same_number_lists numbers (replicate n NONE) (queued.count ∙ sym (length-replicate n NONE)) (λ v within.
-    let below : v < n = omega (arith, within, queued.count) in
-    elim (queued.others v below) [
-      | inl here ↦ absurd (omega (arith, here.1))
-      | inr none ↦ none ∙ sym (get_or-replicate n v NONE 0 below)
-    ])
-
--- the last in the queue loses its number
-pub queued-wipe : {n : ℕ} {numbers : List ℕ} (rest : List ℕ) (v : ℕ) → v < n
-    → AreQueued n numbers (rest ++ v ∷ []) → AreQueued n (set numbers v NONE) rest
-queued-wipe {n = n} {numbers = numbers} rest v below queued = record {
-  count = length-set numbers v NONE ∙ queued.count;
-  others = λ w lt.
-      elim (cases_eq w v) [
-        | inl same ↦
-            inr
-            (subst (λ (x : ℕ). slice_index (set numbers v NONE) x ≡ NONE) (sym same)
-            (get_or-set_same numbers v NONE 0 (omega (arith, below, queued.count))))
-        | inr other ↦
-            elim (queued.others w lt) [
-              | inl within ↦
-                  elim (Contains-push_cases rest v w within) [
-                    | inl before ↦ inl before
-                    | inr same ↦ absurd (other (sym same))
-                  ]
-              | inr none ↦ inr (get_or-set_other numbers v w NONE 0 other ∙ none)
-            ]
-      ];
-}
-
 -- in a search each vertex with a hop is in the queue
 pub search-queued : {limit n : ℕ} {arcs : List ArcRec} {label : ℕ → ℕ} {hops queue : List ℕ} {next : ℕ}
     → IsSearch limit n arcs label hops queue next → AreQueued n hops queue
@@ -69,15 +36,3 @@ pub search-within : {limit n : ℕ} {arcs : List ArcRec} {label : ℕ → ℕ} {
     → IsSearch limit n arcs label hops queue next → All (λ v. v < n) queue
 search-within {n = n} {queue = queue} search =
     All-from_get_or (λ (v : ℕ). v < n) queue 0 (λ k lt. (search.found k lt).vertex)
-
--- only a vertex with a hop has a parent
-pub parents-queued : {n : ℕ} {arcs : List ArcRec} {labels hops parents queue : List ℕ}
-    → AreQueued n hops queue → AreParents n arcs labels hops parents → AreQueued n parents queue
-parents-queued queued exact = record {
-  count = exact.count;
-  others = λ v below.
-      elim (queued.others v below) [
-        | inl within ↦ inl within
-        | inr none ↦ inr (exact.none v below none)
-      ];
-}

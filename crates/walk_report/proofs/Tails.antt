@@ -23,11 +23,6 @@ pub record AreLed (n : ℕ) (arcs : List ArcRec) (label hop : ℕ → ℕ) (tail
   pub led : (v : ℕ) → (slice_index new v ≡ slice_index old v)
       ⊎ ((slice_index new v ≡ tail) × Leads arcs label hop tail v)
 
--- at first none has changed
-pub led-none : {n : ℕ} {arcs : List ArcRec} {label hop : ℕ → ℕ} {tail : ℕ} {parents : List ℕ} → length parents ≡ n
-    → AreLed n arcs label hop tail parents parents
-led-none count = record { count = refl; vertices = count; lower = λ v. omega arith; led = λ v. inl refl }
-
 -- the tail is below the parent of a vertex to which it leads
 pub led-put : {n : ℕ} {arcs : List ArcRec} {label hop : ℕ → ℕ} {tail : ℕ} {old new : List ℕ}
     → AreLed n arcs label hop tail old new

@@ -1,7 +1,7 @@
 use Rattle.std.proofs.Common.{◌+◌, drop, subst, sym, arith}
 use Rattle.dimacs_text.specs.reader.Drafts.{ReadsArcs}
 use Rattle.dimacs_text.proofs.ArcRunLemmas.{no_arcs_read}
-use Rattle.dimacs_text.proofs.ReaderLemmas.{one_arc_more}
+use Rattle.dimacs_text.proofs.DraftLemmas.{one_arc_more}
 use Rattle.dimacs_text.proofs.fast_arc.read_run.Goals as goal
 
 pub loop-count-init : goal.loop-count-init

@@ -1,7 +1,7 @@
 use Rattle.std.proofs.Common.{◌≡◌, ◌++◌, ◌+◌, drop, subst, sym, arith}
 use Rattle.dimacs_text.specs.reader.Drafts.{IsReadTo, progress_of}
 use Rattle.dimacs_text.proofs.LineLemmas.{line_split}
-use Rattle.dimacs_text.proofs.ReaderLemmas.{line_reads, line_fails, line_explained}
+use Rattle.dimacs_text.proofs.DraftLemmas.{line_reads, line_fails, line_explained}
 use Rattle.dimacs_text.proofs.draft.Draft.read_lines.Goals as goal
 
 pub returns-in-Err-clause-fault : goal.returns-in-Err-clause-fault

@@ -4,7 +4,8 @@ use Rattle.dimacs_text.specs.Reading.{HasReadText}
 use Rattle.dimacs_text.specs.declared.reader.LineReader.{LineReader}
 use Rattle.dimacs_text.proofs.LineLemmas.{empty_length, lines_whole, filled_length}
 use Rattle.dimacs_text.proofs.ReaderLemmas.{text_read, text_fails, text_explained, job_at_end, fault_at_end}
-use Rattle.dimacs_text.proofs.ReaderLemmas.{comment_read, explained_at_end, line_reads, line_fails, line_explained}
+use Rattle.dimacs_text.proofs.DraftLemmas.{line_reads, line_fails, line_explained}
+use Rattle.dimacs_text.proofs.ReaderLemmas.{comment_read, explained_at_end}
 use Rattle.dimacs_text.proofs.reader.LineReader.finish.Goals as goal
 
 pub returns-in-Some-clause-fault : goal.returns-in-Some-clause-fault
