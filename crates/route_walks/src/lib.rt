@@ -12,7 +12,7 @@ mod graph;
 pub mod laws;
 mod operators;
 mod plain;
-mod refusal;
+pub mod refusal;
 
 pub use checks::{are_seeds, is_graph};
 pub use example::{EXAMPLE_ARCS, EXAMPLE_SEEDS};

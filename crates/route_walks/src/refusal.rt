@@ -1,6 +1,6 @@
-//! The error of a call that is refused memory.
+//! The error of a call that is refused memory, and what tests use to refuse some.
 
-use std::alloc::{AllocError, AllocFailed};
+use std::alloc::{AllocError, AllocFailed, Global};
 use std::error::Error;
 use std::fmt;
 
@@ -28,14 +28,18 @@ impl<T: Drop> From<AllocFailed<T>> for Memory {
     }
 }
 
-/// For tests: counts the allocations of a call and has one refused by `tests/refuse.c`, between signals: allocations of
-/// 1,000,003 bytes.
+/// For tests: tells `tests/refuse.c` that a call begins or ends, by an allocation of 1,000,003 bytes, which it frees.
+pub fn signal(alloc: Global) {
+    let _signal = Vec::<u8>::with_capacity(alloc, 1_000_003);
+}
+
+/// For tests: counts the allocations of a call and has one refused by `tests/refuse.c`, between signals.
 #[macro_export]
 macro_rules! refusable {
     ($alloc:expr, $call:expr) => {{
-        let _begun: Vec<u8> = Vec::with_capacity($alloc, 1_000_003)?;
+        $crate::refusal::signal($alloc);
         let given = $call;
-        let _ended: Vec<u8> = Vec::with_capacity($alloc, 1_000_003)?;
+        $crate::refusal::signal($alloc);
         given
     }};
 }
@@ -51,7 +55,7 @@ macro_rules! tried_again {
         match $crate::refusable!($alloc, $call) {
             Ok(given) => given,
             Err(fault) => {
-                assert_eq!($rt; fault, $fault);
+                assert!($rt; fault == $fault);
                 $again?
             }
         }

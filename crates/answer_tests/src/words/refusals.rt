@@ -3,7 +3,6 @@
 use command_line::{Options, Refusal, parse_options};
 use job_answer::Answer;
 use route_walks::refusable;
-use std::test::Fail;
 
 const WORDS: [&str; 4] = ["obim_query", "--answer", "levels", "-w3"];
 
@@ -13,7 +12,7 @@ const WRONG: [&str; 3] = ["obim_query", "--workers", "65"];
 const WHY: &str = "invalid value '65' for '--workers': a number from 1 to 64, or auto";
 
 #[test]
-fn of_parse_options(rt: HostRuntime) -> Result<(), Fail> {
+fn of_parse_options(rt: HostRuntime) {
     let alloc = rt.alloc();
     match refusable!(alloc, parse_options(alloc, &WORDS)) {
         Ok(options) => assert!(rt; is_wanted(&options)),
@@ -32,7 +31,6 @@ fn of_parse_options(rt: HostRuntime) -> Result<(), Fail> {
         Err(refusal) => assert!(rt; matches!(refusal, Refusal::Memory)),
         Ok(_) => assert!(rt; false),
     }
-    Ok(())
 }
 
 fn is_wanted(options: &Options) -> bool {

@@ -207,9 +207,8 @@ fn of_resume(rt: HostRuntime) -> Result<(), Fail> {
 }
 
 #[test]
-fn of_recorder_new(rt: HostRuntime) -> Result<(), Fail> {
+fn of_recorder_new(rt: HostRuntime) {
     let alloc = rt.alloc();
     let gate = refusable!(alloc, Recorder::new(alloc));
     assert!(rt; gate.into_passed().is_empty());
-    Ok(())
 }

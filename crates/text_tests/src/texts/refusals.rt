@@ -151,7 +151,7 @@ fn read_again<H: Threads + Clock + Abort + Sync>(
     alloc: Global,
     text: &[u8],
     read: Read,
-) -> Result<Job, Fail> {
+) -> Job {
     assert!(rt; text.len() < 1000);
     let job = match refusable!(alloc, job_by(rt, alloc, text, read)) {
         Ok(job) => Some(job),
@@ -160,13 +160,13 @@ fn read_again<H: Threads + Clock + Abort + Sync>(
             job_by(rt, alloc, text, read).ok()
         }
     };
-    Ok(job.expect(rt, "the job of the text"))
+    job.expect(rt, "the job of the text")
 }
 
 #[test]
 fn of_read_job(rt: HostRuntime) -> Result<(), Fail> {
     let text = joined(rt.alloc(), GRAPH, QUERIES)?;
-    let job = read_again(&rt, rt.alloc(), &text, Read::Text)?;
+    let job = read_again(&rt, rt.alloc(), &text, Read::Text);
     assert_added(&rt, rt.alloc(), &job, "Sources([2, 4, 2])", &[SHORT])
 }
 
@@ -252,27 +252,26 @@ fn expect_one_arc<H: Threads + Clock + Abort + Sync>(
     alloc: Global,
     text: &[u8],
     read: Read,
-) -> Result<(), Fail> {
-    let job = read_again(rt, alloc, text, read)?;
+) {
+    let job = read_again(rt, alloc, text, read);
     assert_job(rt, &job, 2, ArcRec::new(0, 1, 7), &[]);
-    Ok(())
 }
 
 // The last line has no end.
 const UNENDED: &[u8] = b"p sp 2 1\na 1 2 7";
 
 #[test]
-fn of_job_reader_finish(rt: HostRuntime) -> Result<(), Fail> {
-    expect_one_arc(&rt, rt.alloc(), UNENDED, Read::Pieces)
+fn of_job_reader_finish(rt: HostRuntime) {
+    expect_one_arc(&rt, rt.alloc(), UNENDED, Read::Pieces);
 }
 
 #[test]
-fn of_job_reader_finish_explained(rt: HostRuntime) -> Result<(), Fail> {
-    expect_one_arc(&rt, rt.alloc(), UNENDED, Read::Explained)
+fn of_job_reader_finish_explained(rt: HostRuntime) {
+    expect_one_arc(&rt, rt.alloc(), UNENDED, Read::Explained);
 }
 
 #[test]
-fn of_job_reader_new(rt: HostRuntime) -> Result<(), Fail> {
+fn of_job_reader_new(rt: HostRuntime) {
     let alloc = rt.alloc();
     let reader = refusable!(alloc, JobReader::new(alloc));
     let none = TextFault::Line {
@@ -280,7 +279,6 @@ fn of_job_reader_new(rt: HostRuntime) -> Result<(), Fail> {
         kind: LineKind::NoProblem,
     };
     assert!(rt; reader.finish().err() == Some(none));
-    Ok(())
 }
 
 /// A graph, and bytes of the request after it.
@@ -312,8 +310,8 @@ fn of_job_reader_finish_graph(rt: HostRuntime) -> Result<(), Fail> {
 }
 
 #[test]
-fn of_read_job_from(rt: HostRuntime) -> Result<(), Fail> {
-    expect_one_arc(&rt, rt.alloc(), ONE_ARC, Read::Reader)
+fn of_read_job_from(rt: HostRuntime) {
+    expect_one_arc(&rt, rt.alloc(), ONE_ARC, Read::Reader);
 }
 
 // The read bytes of a graph of which one arc comes, by several threads.
@@ -451,11 +449,10 @@ fn of_request_draft_read(rt: HostRuntime) -> Result<(), Fail> {
 }
 
 #[test]
-fn of_request_reader_new(rt: HostRuntime) -> Result<(), Fail> {
+fn of_request_reader_new(rt: HostRuntime) {
     let alloc = rt.alloc();
     let requests = refusable!(alloc, RequestReader::new(alloc, 6, 10));
     assert!(rt; requests.lacking() == None);
-    Ok(())
 }
 
 // The pairs that a request asks, or the line at which memory was refused.
@@ -469,7 +466,7 @@ fn asked(found: Option<Request>) -> Result<Option<Job>, u64> {
 
 // If memory is refused the request is refused, and the next one is answered.
 #[test]
-fn of_request_reader_read(rt: HostRuntime) -> Result<(), Fail> {
+fn of_request_reader_read(rt: HostRuntime) {
     let alloc = rt.alloc();
     let mut requests = RequestReader::new(alloc, 6, 10);
     requests.read(b"p aux sp p2p 1");
@@ -482,5 +479,4 @@ fn of_request_reader_read(rt: HostRuntime) -> Result<(), Fail> {
         }
     };
     assert_pairs(&rt, &job.expect(&rt, "the pair"), &[(0, 5)]);
-    Ok(())
 }

@@ -10,7 +10,7 @@ use crate::bags::helpers::{expect_left, open_bag, open_log, open_two, take_mirro
 use crate::bags::logs::{FIVE_CHUNKS, FIVE_LEFT, LogCall};
 use crate::bags::{bag, logs};
 use obim_bags::{Bag, BagLog, BagPass, Chunk, LogFault, Mirror, SettleFault};
-use route_walks::{Memory, refusable};
+use route_walks::refusable;
 use std::alloc::Global;
 use std::process::Abort;
 use std::sync::Wait;
@@ -31,20 +31,19 @@ fn opens<R: Wait>(rt: &R, alloc: Global, is_log: bool) -> bool {
 }
 
 // Opens it, once more if memory was refused.
-fn open_again<R: Wait + Abort>(rt: &R, alloc: Global, is_log: bool) -> Result<(), Memory> {
+fn open_again<R: Wait + Abort>(rt: &R, alloc: Global, is_log: bool) {
     let opened = refusable!(alloc, opens(rt, alloc, is_log));
     assert!(rt; opened || opens(rt, alloc, is_log));
-    Ok(())
 }
 
 #[test]
-fn of_bag_open(rt: HostRuntime) -> Result<(), Memory> {
-    open_again(&rt, rt.alloc(), false)
+fn of_bag_open(rt: HostRuntime) {
+    open_again(&rt, rt.alloc(), false);
 }
 
 #[test]
-fn of_bag_log_open(rt: HostRuntime) -> Result<(), Memory> {
-    open_again(&rt, rt.alloc(), true)
+fn of_bag_log_open(rt: HostRuntime) {
+    open_again(&rt, rt.alloc(), true);
 }
 
 fn put_of(is_boxed: bool, serial: u64) -> Call {
@@ -84,18 +83,16 @@ fn hand_over_again<R: Wait + Abort>(
     first: &mut BagPass,
     second: &mut BagPass,
     is_boxed: bool,
-) -> Result<(), Memory>
+)
     requires { IsPassOf bag.now first.old × IsPassOf bag.now second.old }
 {
     let done = refusable!(alloc, hand_over(rt, alloc, bag, first, second, is_boxed));
     assert!(rt; done || hand_over(rt, alloc, bag, first, second, is_boxed));
-    Ok(())
 }
 
 fn expect_puts<R: Wait + Abort>(rt: &R, alloc: Global, is_boxed: bool) {
     let (bag, mut first, mut second) = open_two(rt, alloc);
-    let done = hand_over_again(rt, alloc, &bag, &mut first, &mut second, is_boxed);
-    assert!(rt; done.is_ok());
+    hand_over_again(rt, alloc, &bag, &mut first, &mut second, is_boxed);
 }
 
 #[test]
@@ -126,22 +123,17 @@ const SIX_CHUNKS: &[(usize, Call)] = &[
     (0, Call::Put(5, &[5])),
 ];
 
-fn drain<R: Wait + Abort>(
-    rt: &R,
-    alloc: Global,
-    bag: &Bag,
-    passes: Vec<BagPass>,
-) -> Result<bool, Memory>
+fn drain<R: Wait + Abort>(rt: &R, alloc: Global, bag: &Bag, passes: Vec<BagPass>) -> bool
     requires { All (IsPassOf bag.now) passes.items }
 {
     let left = &[0, 1, 2, 3, 4, 5];
-    Ok(refusable!(alloc, is_left(rt, bag.drain(rt, alloc, passes), left)))
+    refusable!(alloc, is_left(rt, bag.drain(rt, alloc, passes), left))
 }
 
 fn drain_filled<R: Wait + Abort>(rt: &R, alloc: Global) -> bool {
     let (bag, mut passes) = open_bag(rt, alloc, 2);
     bag::expect_calls(rt, alloc, &bag, &mut passes, 0, SIX_CHUNKS);
-    drain(rt, alloc, &bag, passes).expect(rt, "memory for the signals")
+    drain(rt, alloc, &bag, passes)
 }
 
 #[test]
@@ -155,7 +147,7 @@ fn find_again<R: Wait + Abort>(
     log: &BagLog,
     mirror: &mut Mirror,
     metric: u64,
-) -> Result<(), Memory>
+)
     requires { mirror.old.log ≡ log.now }
     ensures { mirror.new.log ≡ log.now }
 {
@@ -164,7 +156,6 @@ fn find_again<R: Wait + Abort>(
         found = log.find_or_append(rt, alloc, mirror, metric);
     }
     assert!(rt; found == Ok(metric as usize), "metric {metric}");
-    Ok(())
 }
 
 // Each metric has one bag, at one place for both mirrors.
@@ -174,7 +165,7 @@ fn find_each<R: Wait + Abort>(rt: &R, alloc: Global, log: &BagLog, mirrors: &mut
     assert!(rt; mirrors.len() == 2);
     for turn in 0..2 * METRICS {
         let mirror = &mut mirrors[(turn % 2) as usize];
-        assert!(rt; find_again(rt, alloc, log, mirror, turn / 2).is_ok());
+        find_again(rt, alloc, log, mirror, turn / 2);
     }
     assert!(rt; log.catch_up(rt, alloc, &mut mirrors[1]) == Ok(METRICS as usize));
 }
@@ -191,7 +182,7 @@ fn catch_up_again<R: Wait + Abort>(
     log: &BagLog,
     mirror: &mut Mirror,
     count: u64,
-) -> Result<(), Memory>
+)
     requires { mirror.old.log ≡ log.now }
     ensures { mirror.new.log ≡ log.now }
 {
@@ -200,7 +191,6 @@ fn catch_up_again<R: Wait + Abort>(
         caught = log.catch_up(rt, alloc, mirror);
     }
     assert!(rt; caught == Ok(count as usize), "{count} bags");
-    Ok(())
 }
 
 // One mirror appends bags, and at every fourth the other catches up.
@@ -212,7 +202,7 @@ fn append_each<R: Wait + Abort>(rt: &R, alloc: Global, log: &BagLog, mirrors: &m
         let place = log.find_or_append(rt, alloc, &mut mirrors[0], metric);
         assert!(rt; place == Ok(metric as usize));
         if metric % 4 == 3 {
-            assert!(rt; catch_up_again(rt, alloc, log, &mut mirrors[1], metric + 1).is_ok());
+            catch_up_again(rt, alloc, log, &mut mirrors[1], metric + 1);
             assert!(rt; mirrors[1].place_of(metric) == Some(metric as usize));
         }
     }
@@ -255,19 +245,18 @@ fn put_each_at_again<R: Wait + Abort>(
     log: &BagLog,
     mirror: &mut Mirror,
     is_boxed: bool,
-) -> Result<(), Memory>
+)
     requires { mirror.old.log ≡ log.now }
 {
     let done = refusable!(alloc, put_each_at(rt, alloc, log, mirror, is_boxed));
     assert!(rt; done || put_each_at(rt, alloc, log, mirror, is_boxed));
-    Ok(())
 }
 
 fn expect_puts_at<R: Wait + Abort>(rt: &R, alloc: Global, is_boxed: bool) {
     let (log, mut mirrors) = open_log(rt, alloc, 2);
     logs::expect_calls(rt, alloc, &log, &mut mirrors, 0, TWO_BAGS);
     assert!(rt; mirrors.len() == 2);
-    assert!(rt; put_each_at_again(rt, alloc, &log, &mut mirrors[1], is_boxed).is_ok());
+    put_each_at_again(rt, alloc, &log, &mut mirrors[1], is_boxed);
 }
 
 #[test]
@@ -280,15 +269,10 @@ fn of_bag_log_put_boxed_at(rt: HostRuntime) {
     expect_puts_at(&rt, rt.alloc(), true);
 }
 
-fn drain_log<R: Wait + Abort>(
-    rt: &R,
-    alloc: Global,
-    log: &BagLog,
-    mirrors: Vec<Mirror>,
-) -> Result<bool, Memory>
+fn drain_log<R: Wait + Abort>(rt: &R, alloc: Global, log: &BagLog, mirrors: Vec<Mirror>) -> bool
     requires { All (IsMirrorOf log.now) mirrors.items }
 {
-    Ok(refusable!(alloc, is_left(rt, log.drain(rt, alloc, mirrors), FIVE_LEFT)))
+    refusable!(alloc, is_left(rt, log.drain(rt, alloc, mirrors), FIVE_LEFT))
 }
 
 // After a refusal the slot is free: another mirror is answered, though its passes may be taken.
@@ -296,7 +280,7 @@ fn drain_filled_log<R: Wait + Abort>(rt: &R, alloc: Global) -> bool {
     let (log, mut mirrors) = open_log(rt, alloc, 3);
     let mut third = take_mirror(rt, &log, &mut mirrors);
     logs::expect_calls(rt, alloc, &log, &mut mirrors, 0, FIVE_CHUNKS);
-    let drained = drain_log(rt, alloc, &log, mirrors).expect(rt, "memory for the signals");
+    let drained = drain_log(rt, alloc, &log, mirrors);
     let caught = log.catch_up(rt, alloc, &mut third);
     assert!(rt; caught.is_ok() || caught == Err(LogFault::Taken));
     drained

@@ -30,12 +30,12 @@ fn push_again<P: WorkPool, R: Wait + Abort>(
     pool: &P,
     side: &mut P::Side,
     v: u32,
-) -> Result<(), Memory>
+)
     requires { P.is_side pool.now side.old }
     ensures { P.is_side pool.now side.new }
 {
     if refusable!(alloc, pool.push(rt, side, v, metric_of(v))) {
-        return Ok(());
+        return;
     }
     if v > 0 && v < METRICS {
         let last = v.saturating_sub(1);
@@ -43,7 +43,6 @@ fn push_again<P: WorkPool, R: Wait + Abort>(
         assert!(rt; pool.push(rt, side, last, metric_of(last)));
     }
     assert!(rt; pool.push(rt, side, v, metric_of(v)));
-    Ok(())
 }
 
 // Notes a vertex that was popped for the first time.
@@ -66,7 +65,7 @@ fn expect_pushes<P: WorkPool, R: Wait + Abort>(
     assert!(rt; sides.len() == 1);
     let side = &mut sides[0];
     for v in 0..VERTICES {
-        assert!(rt; push_again(rt, alloc, pool, side, v).is_ok());
+        push_again(rt, alloc, pool, side, v);
     }
     expect_rising(rt, pool, side);
 }
@@ -90,7 +89,7 @@ fn expect_pops<P: WorkPool, R: Wait + Abort>(rt: &R, alloc: Global, pool: &P, si
 {
     assert!(rt; sides.len() == 2);
     push_plainly(rt, pool, &mut sides[0]);
-    assert!(rt; pop_again(rt, alloc, pool, &mut sides[1]).is_ok());
+    pop_again(rt, alloc, pool, &mut sides[1]);
     assert!(rt; pool.pop(rt, &mut sides[0]).is_none());
 }
 
@@ -104,12 +103,7 @@ fn push_plainly<P: WorkPool, R: Wait + Abort>(rt: &R, pool: &P, side: &mut P::Si
 }
 
 // A refused pop goes on with the bags that its side has, or gives none once.
-fn pop_again<P: WorkPool, R: Wait + Abort>(
-    rt: &R,
-    alloc: Global,
-    pool: &P,
-    side: &mut P::Side,
-) -> Result<(), Memory>
+fn pop_again<P: WorkPool, R: Wait + Abort>(rt: &R, alloc: Global, pool: &P, side: &mut P::Side)
     requires { P.is_side pool.now side.old }
     ensures { P.is_side pool.now side.new }
 {
@@ -120,7 +114,6 @@ fn pop_again<P: WorkPool, R: Wait + Abort>(
         }
     }
     assert!(rt; popped == (1 << VERTICES) - 1 && pool.pop(rt, side).is_none());
-    Ok(())
 }
 
 // A kind of pool.
@@ -139,15 +132,14 @@ fn opens(alloc: Global, kind: Kind) -> bool {
     }
 }
 
-fn open_again(rt: &impl Abort, alloc: Global, kind: Kind) -> Result<(), Memory> {
+fn open_again(rt: &impl Abort, alloc: Global, kind: Kind) {
     let opened = refusable!(alloc, opens(alloc, kind));
     assert!(rt; opened || opens(alloc, kind));
-    Ok(())
 }
 
 #[test]
-fn of_locked_pool_open(rt: HostRuntime) -> Result<(), Memory> {
-    open_again(&rt, rt.alloc(), Kind::Locked)
+fn of_locked_pool_open(rt: HostRuntime) {
+    open_again(&rt, rt.alloc(), Kind::Locked);
 }
 
 #[test]
@@ -163,8 +155,8 @@ fn of_locked_pool_pop(rt: HostRuntime) {
 }
 
 #[test]
-fn of_obim_pool_open(rt: HostRuntime) -> Result<(), Memory> {
-    open_again(&rt, rt.alloc(), Kind::Obim)
+fn of_obim_pool_open(rt: HostRuntime) {
+    open_again(&rt, rt.alloc(), Kind::Obim);
 }
 
 #[test]
@@ -179,22 +171,20 @@ fn of_obim_pool_pop(rt: HostRuntime) {
     expect_pops(&rt, rt.alloc(), &pool, &mut sides);
 }
 
-fn settle<R: Wait + Abort>(rt: &R, alloc: Global) -> Result<bool, Memory> {
+fn settle<R: Wait + Abort>(rt: &R, alloc: Global) -> bool {
     let (pool, mut sides) = open_pool(rt, alloc, 1, 2);
     expect_calls(rt, &pool, &mut sides, 0, &[(0, PUSHES)]);
     let settled = refusable!(alloc, pool.settle(rt, alloc, sides));
     if let Err(SettleFault::Memory) = settled {
-        return Ok(false);
+        return false;
     }
     expect_left(rt, 0, settled, LEFT);
-    Ok(true)
+    true
 }
 
 #[test]
-fn of_obim_pool_settle(rt: HostRuntime) -> Result<(), Memory> {
-    let settled = settle(&rt, rt.alloc())? || settle(&rt, rt.alloc())?;
-    assert!(rt; settled);
-    Ok(())
+fn of_obim_pool_settle(rt: HostRuntime) {
+    assert!(rt; settle(&rt, rt.alloc()) || settle(&rt, rt.alloc()));
 }
 
 fn open_widening(alloc: Global, workers: u32) -> Result<(WideningPool, Vec<ObimSide>), Memory>
@@ -205,8 +195,8 @@ fn open_widening(alloc: Global, workers: u32) -> Result<(WideningPool, Vec<ObimS
 }
 
 #[test]
-fn of_widening_pool_open(rt: HostRuntime) -> Result<(), Memory> {
-    open_again(&rt, rt.alloc(), Kind::Widening)
+fn of_widening_pool_open(rt: HostRuntime) {
+    open_again(&rt, rt.alloc(), Kind::Widening);
 }
 
 #[test]
