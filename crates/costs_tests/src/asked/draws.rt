@@ -1,6 +1,6 @@
 //! Random networks: their costs are those of the plain way.
 
-ghost use Rattle.std.specs.Prelude.{◌≡◌, ◌≤◌};
+ghost use Rattle.std.specs.Prelude.{◌≡◌, ◌≤◌, IfOk};
 
 use crate::asked::network_of;
 use least_costs::{AtOnce, Cost, Costs, Network, Plan, Solver};
@@ -21,6 +21,12 @@ pub(crate) struct Draws {
 }
 
 impl Draws {
+    pub(crate) fn of_seed(seed: u64) -> Draws {
+        Draws {
+            state: seed << 40 | 0x9E37_79B9,
+        }
+    }
+
     /// A number below `end`, which isn't 0.
     pub(crate) fn below(&mut self, end: u32) -> u32 {
         self.state ^= self.state << 13;
@@ -80,6 +86,22 @@ fn expect_said(rt: &impl Abort, costs: &Costs, n: u32, labels: &[u64], source: u
     }
 }
 
+fn expect_found(
+    rt: &impl Abort,
+    alloc: Global,
+    n: u32,
+    along: &[ArcRec],
+    source: u32,
+    found: Result<Costs, Memory>,
+) -> Result<(), Fail>
+    requires { IfOk found (λ costs. costs.net.n ≡ n) }
+{
+    let costs = found?;
+    let labels = plain_from(rt, alloc, n, along, source)?;
+    expect_said(rt, &costs, n, &labels, source);
+    Ok(())
+}
+
 const SOURCES: [u32; 3] = [1, 0, 1];
 
 fn expect_plain<H: Threads + Wait + Clock + Abort + Sync>(
@@ -99,9 +121,8 @@ fn expect_plain<H: Threads + Wait + Clock + Abort + Sync>(
     let (n, solver) = (network.n(), Solver::new(network, plan));
     let mut each = solver.each(alloc, &SOURCES);
     for source in SOURCES {
-        if let Some(costs) = each.next(rt, alloc) {
-            let labels = plain_from(rt, alloc, n, along, source)?;
-            expect_said(rt, &costs?, n, &labels, source);
+        if let Some(found) = each.next(rt, alloc) {
+            expect_found(rt, alloc, n, along, source, found)?;
         }
     }
     Ok(())
@@ -109,20 +130,30 @@ fn expect_plain<H: Threads + Wait + Clock + Abort + Sync>(
 
 const COSTS: [Cost; 3] = [Cost::Weight, Cost::One, Cost::FreeBothWays];
 
+/// Asserts the costs in a network that is drawn.
+fn expect_drawn<H: Threads + Wait + Clock + Abort + Sync>(
+    rt: &H,
+    alloc: Global,
+    draws: &mut Draws,
+    workers: u32,
+    cost: Cost,
+) -> Result<(), Fail> {
+    let n = 2 + draws.below(8) % 8;
+    let count = draws.below(24);
+    let arcs = draws.arcs(alloc, n, count)?;
+    let network = network_of(rt, alloc, n, &arcs, cost)?;
+    let along = arcs_of(alloc, cost, &arcs)?;
+    expect_plain(rt, alloc, &network, &along, workers)
+}
+
 #[test]
 fn random_networks(rt: HostRuntime) -> Result<(), Fail> {
-    let alloc = rt.alloc();
     let mut draws = Draws {
         state: 88172645463325252,
     };
     for workers in 1..5_u32 {
         for cost in COSTS {
-            let n = 2 + draws.below(8) % 8;
-            let count = draws.below(24);
-            let arcs = draws.arcs(alloc, n, count)?;
-            let network = network_of(&rt, alloc, n, &arcs, cost)?;
-            let along = arcs_of(alloc, cost, &arcs)?;
-            expect_plain(&rt, alloc, &network, &along, workers)?;
+            expect_drawn(&rt, rt.alloc(), &mut draws, workers, cost)?;
         }
     }
     Ok(())

@@ -59,7 +59,17 @@ fn expect_pairs<H: Threads + Wait + Clock + Abort + Sync>(
     let solver = Solver::new(network, Plan::usual(2));
     let found = solver.between_grown(rt, alloc, pairs, None, kept, &mut Unwatched)?;
     assert!(rt; kept.is_some() && found.costs.len() == pairs.len());
-    for (pair, cost) in pairs.iter().zip(&found.costs) {
+    expect_each(rt, alloc, network, pairs, &found.costs)
+}
+
+fn expect_each<H: Threads + Wait + Clock + Abort + Sync>(
+    rt: &H,
+    alloc: Global,
+    network: &Network,
+    pairs: &[(u32, u32)],
+    costs: &[Option<u64>],
+) -> Result<(), Fail> {
+    for (pair, cost) in pairs.iter().zip(costs) {
         expect_cost(rt, alloc, network, *pair, *cost)?;
     }
     Ok(())
@@ -79,30 +89,49 @@ fn expect_calls<H: Threads + Wait + Clock + Abort + Sync>(
     Ok(())
 }
 
-#[test]
-fn costs_of_one_call_after_another(rt: HostRuntime) -> Result<(), Fail> {
-    let alloc = rt.alloc();
-    let (mut short, mut long) = (six(&rt, alloc)?, path(&rt, alloc)?);
-    let mut kept = Some(Workspace::new());
-    expect_calls(&rt, alloc, &short, &long, &mut kept)?;
+/// Asserts the costs of all calls, by the same room also once the rows are reversed.
+fn expect_calls_twice<H: Threads + Wait + Clock + Abort + Sync>(
+    rt: &H,
+    alloc: Global,
+    short: &mut Network,
+    long: &mut Network,
+    kept: &mut Option<Workspace>,
+) -> Result<(), Fail> {
+    expect_calls(rt, alloc, short, long, kept)?;
     short.reverse(alloc);
     long.reverse(alloc);
     assert!(rt; short.has_reversed() && long.has_reversed());
-    expect_calls(&rt, alloc, &short, &long, &mut kept)
+    expect_calls(rt, alloc, short, long, kept)
+}
+
+#[test]
+fn costs_of_one_call_after_another(rt: HostRuntime) -> Result<(), Fail> {
+    let mut short = six(&rt, rt.alloc())?;
+    let mut long = path(&rt, rt.alloc())?;
+    let mut kept = Some(Workspace::new());
+    expect_calls_twice(&rt, rt.alloc(), &mut short, &mut long, &mut kept)
+}
+
+fn expect_visits<H: Threads + Wait + Clock + Abort + Sync>(
+    rt: &H,
+    alloc: Global,
+    network: &Network,
+    kept: &mut Option<Workspace>,
+) -> Result<(), Fail> {
+    for (pair, visits) in [((10, 13), 3), ((0, 2_999), 515), ((7, 7), 515)] {
+        expect_pairs(rt, alloc, network, &[pair], kept)?;
+        let seen = kept.as_ref().map(|kept| kept.search_visits());
+        assert!(rt; seen == Some(visits), "to {}", pair.1);
+    }
+    Ok(())
 }
 
 // A search visits the vertices that are nearer than its target, and gives up after 512 visits here.
 #[test]
 fn visits_of_searches_add_up(rt: HostRuntime) -> Result<(), Fail> {
-    let alloc = rt.alloc();
-    let long = path(&rt, alloc)?;
+    let long = path(&rt, rt.alloc())?;
     let mut kept = Some(Workspace::new());
-    for (pair, visits) in [((10, 13), 3), ((0, 2_999), 515), ((7, 7), 515)] {
-        expect_pairs(&rt, alloc, &long, &[pair], &mut kept)?;
-        let seen = kept.as_ref().map(|kept| kept.search_visits());
-        assert!(rt; seen == Some(visits), "to {}", pair.1);
-    }
-    Ok(())
+    expect_visits(&rt, rt.alloc(), &long, &mut kept)
 }
 
 /// Asks for a far target from many vertices, until rows are worth reversing if frontiers are wide.
@@ -134,24 +163,40 @@ pub fn prepare<H: Threads + Wait + Clock + Sync>(
     }
 }
 
+/// Asserts if a network has reversed rows and landmarks after searches in vain.
+fn expect_prepared<H: Threads + Wait + Clock + Abort + Sync>(
+    rt: &H,
+    alloc: Global,
+    network: &mut Network,
+    searches: bool,
+    want: (bool, bool),
+) -> Result<(), Fail>
+    requires { network.old.n ≡ 3000 }
+{
+    let mut kept = Some(Workspace::new().searching(searches));
+    prepare(rt, alloc, network, &mut kept);
+    assert!(rt; !network.has_reversed() && !network.has_landmarks());
+    ask_in_vain(rt, alloc, network, &mut kept)?;
+    prepare(rt, alloc, network, &mut kept);
+    let prepared = (network.has_reversed(), network.has_landmarks());
+    assert!(rt; prepared == want);
+    Ok(())
+}
+
 #[test]
-fn networks_are_prepared_after_searches_in_vain(rt: HostRuntime) -> Result<(), Fail> {
-    let alloc = rt.alloc();
-    for (is_wide, searches) in [(true, false), (true, true), (false, true)] {
-        let mut network = if is_wide {
-            tree(&rt, alloc)?
-        } else {
-            path(&rt, alloc)?
-        };
-        let mut kept = Some(Workspace::new().searching(searches));
-        prepare(&rt, alloc, &mut network, &mut kept);
-        assert!(rt; !network.has_reversed() && !network.has_landmarks());
-        ask_in_vain(&rt, alloc, &network, &mut kept)?;
-        prepare(&rt, alloc, &mut network, &mut kept);
-        assert!(rt; network.has_reversed() == (is_wide && searches));
-        assert!(rt; network.has_landmarks() == (!is_wide && searches));
+fn trees_are_reversed_after_searches_in_vain(rt: HostRuntime) -> Result<(), Fail> {
+    for searches in [false, true] {
+        let mut network = tree(&rt, rt.alloc())?;
+        let want = (searches, false);
+        expect_prepared(&rt, rt.alloc(), &mut network, searches, want)?;
     }
     Ok(())
+}
+
+#[test]
+fn paths_have_landmarks_after_searches_in_vain(rt: HostRuntime) -> Result<(), Fail> {
+    let mut network = path(&rt, rt.alloc())?;
+    expect_prepared(&rt, rt.alloc(), &mut network, true, (false, true))
 }
 
 /// A question whose answers the thread that asks finds, or not.
@@ -249,7 +294,8 @@ fn expect_kept(
 #[test]
 fn walks_and_bounds_by_the_thread_that_asks(rt: HostRuntime) -> Result<(), Fail> {
     let alloc = rt.alloc();
-    let (short, long) = (six(&rt, alloc)?, path(&rt, alloc)?);
+    let short = six(&rt, alloc)?;
+    let long = path(&rt, alloc)?;
     let none = expect_kept(&rt, alloc, &short, &long, None, false);
     let kept = none.searching(true);
     let kept = expect_kept(&rt, alloc, &short, &long, Some(kept), true);

@@ -1,6 +1,6 @@
 //! Pairs by landmarks: the costs of whole runs, with fewer visits.
 
-ghost use Rattle.std.specs.Prelude.{◌≡◌};
+ghost use Rattle.std.specs.Prelude.{◌≡◌, IfOk};
 
 use crate::asked::draws::Draws;
 use crate::asked::kept::are_within;
@@ -25,6 +25,21 @@ const CALLS: [(u32, bool, u32); 6] = [
     (3, true, 1),
     (1, true, 0),
 ];
+
+/// A network of `n` vertices with the streets of a square. No street leads to the vertices that are no crossings.
+pub(crate) fn street_network<H: Threads + Abort + Sync>(
+    rt: &H,
+    alloc: Global,
+    draws: &mut Draws,
+    side: u32,
+    n: u32,
+    one_way_in: u32,
+) -> Result<Network, Fail>
+    ensures { IfOk result (λ network. network.n ≡ n) }
+{
+    let arcs = streets(alloc, draws, side, one_way_in)?;
+    network_of(rt, alloc, n, &arcs, Cost::Weight)
+}
 
 /// Streets between the crossings of a square of this side: some are free, and one in so many leads one way.
 pub(crate) fn streets(
@@ -129,72 +144,86 @@ fn drawn_pairs(alloc: Global, draws: &mut Draws, n: u32) -> Result<Vec<(u32, u32
     Ok(pairs)
 }
 
+/// Asserts of drawn pairs what `expect_same` does.
+fn expect_drawn<H: Threads + Wait + Clock + Abort + Sync>(
+    rt: &H,
+    alloc: Global,
+    network: &mut Network,
+    draws: &mut Draws,
+) -> Result<(), Fail> {
+    let pairs = drawn_pairs(alloc, draws, network.n())?;
+    expect_same(rt, alloc, network, &pairs)
+}
+
 #[test]
 fn random_streets(rt: HostRuntime) -> Result<(), Fail> {
-    let alloc = rt.alloc();
-    for seed in 1..3_u64 {
-        let mut draws = Draws {
-            state: seed << 40 | 0x9E37_79B9,
-        };
-        let arcs = streets(alloc, &mut draws, 20, 8)?;
-        let mut network = network_of(&rt, alloc, 400, &arcs, Cost::Weight)?;
-        let pairs = drawn_pairs(alloc, &mut draws, 400)?;
-        expect_same(&rt, alloc, &mut network, &pairs)?;
+    for seed in [1, 2] {
+        let mut draws = Draws::of_seed(seed);
+        let mut network = street_network(&rt, rt.alloc(), &mut draws, 20, 400, 8)?;
+        expect_drawn(&rt, rt.alloc(), &mut network, &mut draws)?;
     }
     Ok(())
+}
+
+/// A network of 200 vertices and so many arcs that are drawn.
+fn random_network<H: Threads + Abort + Sync>(
+    rt: &H,
+    alloc: Global,
+    draws: &mut Draws,
+    count: u32,
+    cost: Cost,
+) -> Result<Network, Fail> {
+    let arcs = draws.arcs(alloc, 200, count)?;
+    network_of(rt, alloc, 200, &arcs, cost)
 }
 
 #[test]
 fn random_arcs(rt: HostRuntime) -> Result<(), Fail> {
-    let alloc = rt.alloc();
     for (seed, count, cost) in [
-        (1_u64, 300, Cost::Weight),
+        (1, 300, Cost::Weight),
         (2, 900, Cost::Weight),
         (3, 250, Cost::One),
         (4, 150, Cost::FreeBothWays),
     ] {
-        let mut draws = Draws {
-            state: seed << 40 | 0x9E37_79B9,
-        };
-        let arcs = draws.arcs(alloc, 200, count)?;
-        let mut network = network_of(&rt, alloc, 200, &arcs, cost)?;
-        let pairs = drawn_pairs(alloc, &mut draws, 200)?;
-        expect_same(&rt, alloc, &mut network, &pairs)?;
+        let mut draws = Draws::of_seed(seed);
+        let mut network = random_network(&rt, rt.alloc(), &mut draws, count, cost)?;
+        expect_drawn(&rt, rt.alloc(), &mut network, &mut draws)?;
     }
     Ok(())
 }
 
-// A one-way path has no landmark that reaches half of what another one does; weights may be as great as can be.
+// It has no landmark that reaches half of what another one does.
 #[test]
-fn paths_and_great_weights(rt: HostRuntime) -> Result<(), Fail> {
-    let alloc = rt.alloc();
-    let mut network = path(&rt, alloc)?;
-    expect_same(
-        &rt,
-        alloc,
-        &mut network,
-        &[(0, 2_999), (2_999, 0), (7, 7), (100, 1_900)],
-    )?;
-    let mut network = six(&rt, alloc)?;
-    expect_same(
-        &rt,
-        alloc,
-        &mut network,
-        &[(3, 1), (0, 5), (5, 0), (0, 3), (3, 5), (0, 0)],
-    )?;
+fn a_path_that_leads_one_way(rt: HostRuntime) -> Result<(), Fail> {
+    let mut network = path(&rt, rt.alloc())?;
+    let pairs = [(0, 2_999), (2_999, 0), (7, 7), (100, 1_900)];
+    expect_same(&rt, rt.alloc(), &mut network, &pairs)
+}
+
+#[test]
+fn six_vertices(rt: HostRuntime) -> Result<(), Fail> {
+    let mut network = six(&rt, rt.alloc())?;
+    let pairs = [(3, 1), (0, 5), (5, 0), (0, 3), (3, 5), (0, 0)];
+    expect_same(&rt, rt.alloc(), &mut network, &pairs)
+}
+
+/// Arcs between 51 vertices with weights that are as great as can be, or nearly.
+fn great_arcs(alloc: Global) -> Result<Vec<ArcRec>, Memory> {
     let mut arcs = Vec::new(alloc);
     for v in 0..50_u32 {
         arcs.push(ArcRec::new(v, v + 1, u32::MAX - v))?;
         arcs.push(ArcRec::new(v + 1, v, u32::MAX - v))?;
         arcs.push(ArcRec::new(v, (v * 7) % 51, u32::MAX))?;
     }
-    let mut network = network_of(&rt, alloc, 60, &arcs, Cost::Weight)?;
-    expect_same(
-        &rt,
-        alloc,
-        &mut network,
-        &[(0, 50), (50, 0), (3, 44), (44, 3), (0, 55), (55, 0)],
-    )
+    Ok(arcs)
+}
+
+#[test]
+fn great_weights(rt: HostRuntime) -> Result<(), Fail> {
+    let arcs = great_arcs(rt.alloc())?;
+    let mut network = network_of(&rt, rt.alloc(), 60, &arcs, Cost::Weight)?;
+    let pairs = [(0, 50), (50, 0), (3, 44), (44, 3), (0, 55), (55, 0)];
+    expect_same(&rt, rt.alloc(), &mut network, &pairs)
 }
 
 /// Counts visits.
@@ -234,23 +263,34 @@ fn visits_of<H: Threads + Wait + Clock + Abort + Sync>(
     Ok(counted.gate.visits.load(Ordering::SeqCst))
 }
 
-// Streets of 3,600 crossings: a worker visits less than a fifth by landmarks, and nothing if no walk leads there.
-#[test]
-fn fewer_visits(rt: HostRuntime) -> Result<(), Fail> {
-    let alloc = rt.alloc();
-    let mut draws = Draws { state: 11 };
-    let arcs = streets(alloc, &mut draws, 60, u32::MAX)?;
-    let mut network = network_of(&rt, alloc, 3_601, &arcs, Cost::Weight)?;
+/// Forty pairs of 3,600 crossings.
+fn crossing_pairs(alloc: Global, draws: &mut Draws) -> Result<Vec<(u32, u32)>, Memory> {
     let mut pairs = Vec::new(alloc);
     for _ in 0..40 {
         pairs.push((draws.below(3_600), draws.below(3_600)))?;
     }
-    let (all, few) = (
-        visits_of(&rt, alloc, &mut network, 0, &pairs)?,
-        visits_of(&rt, alloc, &mut network, 8, &pairs)?,
-    );
+    Ok(pairs)
+}
+
+fn expect_fewer<H: Threads + Wait + Clock + Abort + Sync>(
+    rt: &H,
+    alloc: Global,
+    network: &mut Network,
+    pairs: &[(u32, u32)],
+) -> Result<(), Fail> {
+    let all = visits_of(rt, alloc, network, 0, pairs)?;
+    let few = visits_of(rt, alloc, network, 8, pairs)?;
     assert!(rt; few.saturating_mul(5) < all, "{few} of {all} visits");
-    let vain = visits_of(&rt, alloc, &mut network, 8, &[(0, 3_600), (3_600, 0)])?;
+    let vain = visits_of(rt, alloc, network, 8, &[(0, 3_600), (3_600, 0)])?;
     assert!(rt; vain <= 2, "{vain} visits");
     Ok(())
+}
+
+// Streets of 3,600 crossings: a worker visits less than a fifth by landmarks, and nothing if no walk leads there.
+#[test]
+fn fewer_visits(rt: HostRuntime) -> Result<(), Fail> {
+    let mut draws = Draws { state: 11 };
+    let mut network = street_network(&rt, rt.alloc(), &mut draws, 60, 3_601, u32::MAX)?;
+    let pairs = crossing_pairs(rt.alloc(), &mut draws)?;
+    expect_fewer(&rt, rt.alloc(), &mut network, &pairs)
 }

@@ -213,19 +213,33 @@ fn costs_after_arcs_are_removed(rt: HostRuntime) -> Result<(), Fail> {
     Ok(())
 }
 
+fn expect_arcs(
+    rt: &impl Abort,
+    alloc: Global,
+    network: &Network,
+    pair: (u32, u32),
+    want: &[ArcRec],
+) -> Result<(), Fail>
+    requires { (network.now.n ≡ 6) × (pair.0 < 6) }
+{
+    let found = network.arcs_between(alloc, pair.0, pair.1)?;
+    assert!(rt; found.as_slice() == want, "from {}", pair.0);
+    Ok(())
+}
+
+const MORE: [ArcRec; 3] = arcs![(3, 5, 9), (3, 2, 4), (3, 5, 1)];
+
+const THREE_ARCS: [ArcRec; 3] = arcs![(3, 5, 3), (3, 5, 9), (3, 5, 1)];
+
 #[test]
 fn arcs_between_two_vertices(rt: HostRuntime) -> Result<(), Fail> {
     let alloc = rt.alloc();
     let network = six(&rt, alloc)?;
-    assert!(rt; network.arcs_between(alloc, 3, 5)?.as_slice() == arcs![(3, 5, 3)].as_slice());
-    assert!(rt; network.arcs_between(alloc, 5, 3)?.is_empty());
-    let more = arcs![(3, 5, 9), (3, 2, 4), (3, 5, 1)];
-    let changed = network.changed(alloc, &[(3, 2)], &more)?;
-    let found = changed.arcs_between(alloc, 3, 5)?;
-    assert!(rt; found.as_slice() == arcs![(3, 5, 3), (3, 5, 9), (3, 5, 1)].as_slice());
-    let found = changed.arcs_between(alloc, 3, 2)?;
-    assert!(rt; found.as_slice() == arcs![(3, 2, 4)].as_slice());
-    Ok(())
+    expect_arcs(&rt, alloc, &network, (3, 5), &arcs![(3, 5, 3)])?;
+    expect_arcs(&rt, alloc, &network, (5, 3), &[])?;
+    let changed = network.changed(alloc, &[(3, 2)], &MORE)?;
+    expect_arcs(&rt, alloc, &changed, (3, 5), &THREE_ARCS)?;
+    expect_arcs(&rt, alloc, &changed, (3, 2), &arcs![(3, 2, 4)])
 }
 
 const OUTSIDE: [ArcRec; 3] = arcs![(0, 1, 7), (1, 2, 7), (2, 0, 7)];

@@ -54,12 +54,12 @@ fn of_network_new(rt: HostRuntime) -> Result<(), Fail> {
     Ok(())
 }
 
+const ONE_ARC: [ArcRec; 1] = arcs![(0, 1, 7)];
+
 #[test]
 fn of_network_of_graph(rt: HostRuntime) -> Result<(), Fail> {
     let alloc = rt.alloc();
-    let (mut arcs, mut again) = (Vec::with_capacity(alloc, 1)?, Vec::with_capacity(alloc, 1)?);
-    arcs.push(ArcRec::new(0, 1, 7))?;
-    again.push(ArcRec::new(0, 1, 7))?;
+    let (arcs, again) = (ONE_ARC.to_vec(alloc)?, ONE_ARC.to_vec(alloc)?);
     let network = tried_again!(
         rt,
         alloc,
@@ -368,13 +368,6 @@ fn ask_for_each(alloc: Global, solver: &Solver<'_, OpenGate>, sources: &[u32])
     let _each = solver.each(alloc, sources);
 }
 
-fn asked_for_each(alloc: Global, solver: &Solver<'_, OpenGate>) -> Result<(), Memory>
-    requires { solver.now.network.now.n ≡ 6 }
-{
-    refusable!(alloc, ask_for_each(alloc, solver, &[0]));
-    Ok(())
-}
-
 fn first_costs<H: Threads + Wait + Clock + Sync>(
     rt: &H,
     alloc: Global,
@@ -394,7 +387,7 @@ fn first_costs<H: Threads + Wait + Clock + Sync>(
 fn of_solver_each(rt: HostRuntime) -> Result<(), Fail> {
     let network = six(&rt, rt.alloc())?;
     let solver = Solver::new(&network, Plan::usual(2));
-    asked_for_each(rt.alloc(), &solver)?;
+    refusable!(rt.alloc(), ask_for_each(rt.alloc(), &solver, &[0]));
     if let Some(costs) = first_costs(&rt, rt.alloc(), &solver)? {
         expect_costs(&rt, 0, &network, &costs, &FROM_0);
     }

@@ -86,18 +86,29 @@ fn of_network_reverse(rt: HostRuntime) -> Result<(), Fail> {
     Ok(())
 }
 
+fn prepared_again<H: Threads + Wait + Clock + Sync>(
+    rt: &H,
+    alloc: Global,
+    network: &mut Network,
+    kept: &mut Option<Workspace>,
+) -> Result<(), Memory>
+    requires { network.old.n ≡ 3000 }
+{
+    ask_in_vain(rt, alloc, network, kept)?;
+    refusable!(alloc, prepare(rt, alloc, network, kept));
+    if !network.has_reversed() {
+        ask_in_vain(rt, alloc, network, kept)?;
+        prepare(rt, alloc, network, kept);
+    }
+    Ok(())
+}
+
 // It then waits for more fruitless searches before it reverses the rows.
 #[test]
 fn of_workspace_prepare(rt: HostRuntime) -> Result<(), Fail> {
-    let alloc = rt.alloc();
-    let mut network = tree(&rt, alloc)?;
+    let mut network = tree(&rt, rt.alloc())?;
     let mut kept = Some(Workspace::new());
-    ask_in_vain(&rt, alloc, &network, &mut kept)?;
-    refusable!(alloc, prepare(&rt, alloc, &mut network, &mut kept));
-    if !network.has_reversed() {
-        ask_in_vain(&rt, alloc, &network, &mut kept)?;
-        prepare(&rt, alloc, &mut network, &mut kept);
-    }
+    prepared_again(&rt, rt.alloc(), &mut network, &mut kept)?;
     assert!(rt; network.has_reversed());
     Ok(())
 }
