@@ -31,12 +31,40 @@ pub(crate) enum Kind {
     Useless(bool, Option<u32>),
 }
 
+impl Kind {
+    fn drawn(draws: &mut Draws) -> Kind {
+        match draws.below(31) {
+            0..=5 => Kind::Locked,
+            6..=10 => Kind::Obim,
+            11..=14 => Kind::Widening,
+            15..=19 => Kind::Misleading,
+            // Rarely, since workers look for long before they sweep.
+            20 => Kind::Useless(false, None),
+            _ => Kind::Hostile(draws.other()),
+        }
+    }
+}
+
 /// A part of a run.
 #[derive(Clone, Copy)]
 pub(crate) struct Piece {
     pub settings: Settings,
     pub kind: Kind,
     pub budget: u64,
+}
+
+impl Piece {
+    /// Draws a piece: 1 to 8 workers, any shift and chunks, over a pool of any kind.
+    fn drawn(rt: &impl Abort, draws: &mut Draws) -> Piece {
+        let (workers, shift) = (1 + draws.below(8) % 8, draws.below(16));
+        let chunk = 1 + draws.below(64) as usize % 64;
+        let settings = Settings::new(workers, shift, chunk);
+        Piece {
+            settings: settings.expect(rt, "settings within their limits"),
+            kind: Kind::drawn(draws),
+            budget: 1 << (draws.below(16) % 16),
+        }
+    }
 }
 
 /// The pieces of a run: one kind again and again, or drawn ones.
@@ -50,7 +78,7 @@ impl Plan {
     pub fn next(&mut self, rt: &impl Abort) -> Piece {
         match self {
             Plan::Same(piece) => *piece,
-            Plan::Drawn(draws) => draws.piece(rt),
+            Plan::Drawn(draws) => Piece::drawn(rt, draws),
         }
     }
 }
