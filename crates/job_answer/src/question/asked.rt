@@ -1,6 +1,7 @@
 //! The questions to a job text.
 
 ghost use Rattle.std.specs.Prelude.{◌≡◌, ◌↔◌, false, IsSome, IsTrue, IfSome};
+ghost use Rattle.least_costs.specs.declared.plan.TheConstants.{USUAL_LANDMARKS};
 ghost use Rattle.job_answer.specs.Choices.{IsAsked, IsLinesAsked};
 ghost use Rattle.job_answer.specs.declared.question.asked.Lines.TheVariants as lines;
 ghost use Rattle.job_answer.specs.LineWalks.{bound_in, bound_of, has_raw_pairs, has_walks, is_raw};
@@ -141,6 +142,8 @@ impl Asked {
         ensures settings { IfSome result (λ asked. asked.settings ≡ settings) }
         ensures limit { IfSome result (λ asked. asked.limit ≡ limit) }
         ensures at_once { IfSome result (λ asked. asked.at_once ≡ AtOnce.Auto) }
+        ensures landmarks { IfSome result (λ asked. asked.landmarks ≡ USUAL_LANDMARKS) }
+        ensures saves { IfSome result (λ asked. asked.saves ≡ false) }
     {
         Asked::by_lines(answer, settings, Lines::Each { walks }, limit)
     }
@@ -153,6 +156,8 @@ impl Asked {
         ensures settings { IfSome result (λ asked. asked.settings ≡ settings) }
         ensures limit { IfSome result (λ asked. asked.limit ≡ limit) }
         ensures at_once { IfSome result (λ asked. asked.at_once ≡ AtOnce.Auto) }
+        ensures landmarks { IfSome result (λ asked. asked.landmarks ≡ USUAL_LANDMARKS) }
+        ensures saves { IfSome result (λ asked. asked.saves ≡ false) }
     {
         if limit > MAX_BYTES || !lines.has_cost() {
             return None;
@@ -180,6 +185,7 @@ impl Asked {
         ensures limit { result.limit ≡ self.limit }
         ensures at_once { result.at_once ≡ self.at_once }
         ensures landmarks { result.landmarks ≡ self.landmarks }
+        ensures saves { result.saves ≡ self.saves }
     {
         let mut asked = self;
         asked.answer = answer;
@@ -195,6 +201,7 @@ impl Asked {
         ensures limit { result.limit ≡ self.limit }
         ensures at_once { result.at_once ≡ at_once }
         ensures landmarks { result.landmarks ≡ self.landmarks }
+        ensures saves { result.saves ≡ self.saves }
     {
         let mut asked = self;
         asked.at_once = at_once;
@@ -209,6 +216,7 @@ impl Asked {
         ensures limit { result.limit ≡ self.limit }
         ensures at_once { result.at_once ≡ self.at_once }
         ensures landmarks { result.landmarks ≡ landmarks }
+        ensures saves { result.saves ≡ self.saves }
     {
         let mut asked = self;
         asked.landmarks = landmarks;
@@ -223,6 +231,7 @@ impl Asked {
         ensures limit { result.limit ≡ self.limit }
         ensures at_once { result.at_once ≡ self.at_once }
         ensures landmarks { result.landmarks ≡ self.landmarks }
+        ensures saves { result.saves ≡ self.saves }
     {
         let mut asked = self;
         asked.settings = settings;
