@@ -14,6 +14,8 @@ use Rattle.command_line.specs.declared.options.Options.{Options}
 use Rattle.command_line.specs.declared.refusals.Refusal.{Refusal}
 use Rattle.command_line.specs.declared.refusals.Refusal.TheVariants as refusal
 use Rattle.command_line.specs.CommandLine.{AskForNothing, AskForText, WordsAskFor}
+use Rattle.obim_query.specs.declared.Ran.{Ran}
+use Rattle.obim_query.specs.declared.Ran.TheVariants as ran
 
 -- 0 after an answer, and else the status of the fault
 abbrev pub status_after : Result (Unit {0}) Fault → ℕ
@@ -81,19 +83,15 @@ pub record HasConversed (words : List Text) (is_terminal : Bool)
   pub more : options.session ≡ true
   pub served : HasServed options.asked taken_from taken_to given_from given_to status
 
--- the status of a text that is asked for: 0, or 4 if it can't be printed
-abbrev pub IsTextStatus : ℕ → Type 0
-IsTextStatus status = (status ≡ 0) ⊎ (status ≡ 4)
-
--- the status where the command line is refused or memory for it is, and of a text that is asked for, printed or not
+-- the status where the command line is refused, or memory for it is
 abbrev pub IsRefusalStatus : ℕ → Type 0
-IsRefusalStatus status = (status ≡ 1) ⊎ (status ≡ 3) ⊎ IsTextStatus status
+IsRefusalStatus status = (status ≡ 1) ⊎ (status ≡ 3)
 
--- the status of a refusal: that of its text, 1 of a sentence, 3 where memory is refused
-abbrev pub IsStatusOf : Refusal → ℕ → Type 0
-IsStatusOf (refusal.Text text) status = IsTextStatus status
-IsStatusOf (refusal.Line line) status = status ≡ 1
-IsStatusOf refusal.Memory status = status ≡ 3
+-- what a refusal comes to: a text that is to be printed, 1 after a sentence, and 3 where memory is refused
+abbrev pub IsEndOf : Refusal → Ran → Type 0
+IsEndOf (refusal.Text text) end = end ≡ ran.Text text
+IsEndOf (refusal.Line line) end = end ≡ ran.Status 1
+IsEndOf refusal.Memory end = end ≡ ran.Status 3
 
 -- The words ask for options, but have no `-`, and standard input is a terminal.
 pub record IsAtTerminal (words : List Text) (is_terminal : Bool) : Type 0 where
@@ -102,21 +100,27 @@ pub record IsAtTerminal (words : List Text) (is_terminal : Bool) : Type 0 where
   pub terminal : is_terminal ≡ true
   pub untyped : options.typed ≡ false
 
--- No answer is begun: the command line is refused, asks for a text, or there is no job. Nothing is taken or written.
+-- No answer is begun: the command line is refused, or there is no job. Nothing is taken or written.
 pub record HasNotBegun (words : List Text) (is_terminal : Bool) (taken_from taken_to given_from given_to : Option (List ℕ))
     (status : ℕ) : Type 0 where
   pub taken : Keeps taken_from taken_to
   pub written : Keeps given_from given_to
   pub status_is : IsRefusalStatus status
-  -- the status is 0 or 4 only where the words ask for the help or the version
-  pub text : IsTextStatus status → AskForText words
-  -- and 1 only where they ask for no options, or no job may come
+  -- 1 only where the words ask for no options, or no job may come
   pub refused : status ≡ 1 → AskForNothing words ⊎ IsAtTerminal words is_terminal
 
+-- The words ask for the help or the version, which is still to be printed. Nothing is taken or written.
+pub record HasText (words : List Text) (taken_from taken_to given_from given_to : Option (List ℕ)) : Type 0 where
+  pub taken : Keeps taken_from taken_to
+  pub written : Keeps given_from given_to
+  pub asked : AskForText words
+
 -- What a run of the program comes to, on these words, where standard input is a terminal or not.
-abbrev pub HasRun : List Text → Bool → Option (List ℕ) → Option (List ℕ) → Option (List ℕ) → Option (List ℕ) → ℕ
+abbrev pub HasRun : List Text → Bool → Option (List ℕ) → Option (List ℕ) → Option (List ℕ) → Option (List ℕ) → Ran
     → Type 0
-HasRun words is_terminal taken_from taken_to given_from given_to status =
+HasRun words is_terminal taken_from taken_to given_from given_to (ran.Text text) =
+    HasText words taken_from taken_to given_from given_to
+HasRun words is_terminal taken_from taken_to given_from given_to (ran.Status status) =
     HasNotBegun words is_terminal taken_from taken_to given_from given_to status
     ⊎ HasAnswered words is_terminal taken_from taken_to given_from given_to status
     ⊎ HasConversed words is_terminal taken_from taken_to given_from given_to status

@@ -7,7 +7,7 @@
 ghost use Rattle.std.specs.Prelude.{◌≡◌, map};
 ghost use Rattle.job_answer.specs.Choices.{status_of};
 ghost use Rattle.job_answer.specs.Outcome.{IsReply};
-ghost use Rattle.obim_query.specs.Replied.{HasReplied, HasRun, HasServed, IsStatusOf, IsTextStatus};
+ghost use Rattle.obim_query.specs.Replied.{HasReplied, HasRun, HasServed, IsEndOf};
 
 mod input;
 mod output;
@@ -46,20 +46,28 @@ struct Terminals {
     error: bool,
 }
 
+/// The end of a run of the program.
+#[derive(Drop)]
+enum Ran {
+    Status(u8),
+    /// The help or the version, which is still to be printed.
+    Text(clap::Error),
+}
+
 fn main(rt: HostRuntime) -> ExitCode {
     let terminals = Terminals {
         input: rt.stdin().is_terminal(),
         error: rt.stderr().is_terminal(),
     };
-    let code = match arguments(&rt) {
-        Ok(words) => run(
-            &rt,
-            &words,
-            &mut Input::new(rt.stdin()),
-            &mut Output::new(rt.stdout()),
-            terminals,
-        ),
-        Err(status) => status,
+    let mut input = Input::new(rt.stdin());
+    let mut output = Output::new(rt.stdout());
+    let ran = match arguments(&rt) {
+        Ok(words) => run(&rt, &words, &mut input, &mut output, terminals),
+        Err(status) => Ran::Status(status),
+    };
+    let code = match ran {
+        Ran::Status(status) => status,
+        Ran::Text(text) => print_text(&rt, &text),
     };
     ExitCode::from(code)
 }
@@ -80,38 +88,43 @@ fn arguments<H: AllocGlobal + Env + Eprint>(rt: &H) -> Result<Vec<String>, u8> {
     }
 }
 
-/// Runs the program on these words, and returns the status. `main` gives it the process's own words and streams.
-fn run<
-    H: AllocGlobal + Print + Eprint + Threads + Wait + Clock + Sync,
-    S: AsStr,
-    R: Read,
-    W: Write,
->(rt: &H, words: &[S], input: &mut Input<R>, output: &mut Output<W>, terminals: Terminals) -> u8
+/// Runs the program on these words, and returns the status, or the text that they ask for. `main` gives it the process's
+/// own words and streams. It can't print on standard output: its bounds have no `Print`.
+fn run<H: AllocGlobal + Eprint + Threads + Wait + Clock + Sync, S: AsStr, R: Read, W: Write>(
+    rt: &H,
+    words: &[S],
+    input: &mut Input<R>,
+    output: &mut Output<W>,
+    terminals: Terminals,
+) -> Ran
     ensures { HasRun (map S.text words.now) terminals.input (R.remaining input.old.inner) (R.remaining input.new.inner)
         (W.contents output.old.inner) (W.contents output.new.inner) result }
 {
     match parse_options(rt.alloc(), words) {
-        Ok(options) if !options.typed && terminals.input => print_error(rt, NO_JOB, USAGE_STATUS),
-        Ok(options) if options.session => serve(rt, input, output, &options, terminals.error),
-        Ok(options) => run_job(rt, input, output, &options, terminals.error),
-        Err(refusal) => print_refusal(rt, refusal),
+        Ok(options) if !options.typed && terminals.input => {
+            Ran::Status(print_error(rt, NO_JOB, USAGE_STATUS))
+        }
+        Ok(options) if options.session => {
+            Ran::Status(serve(rt, input, output, &options, terminals.error))
+        }
+        Ok(options) => Ran::Status(run_job(rt, input, output, &options, terminals.error)),
+        Err(refusal) => refused(rt, refusal),
     }
 }
 
-/// Prints why the command line asks for no answer, and returns the status.
-fn print_refusal<H: Print + Eprint>(rt: &H, refusal: Refusal) -> u8
-    ensures { IsStatusOf refusal result }
+/// Returns the text that the command line asks for, or prints why it asks for no answer and returns the status.
+fn refused<H: Eprint>(rt: &H, refusal: Refusal) -> Ran
+    ensures { IsEndOf refusal result }
 {
     match refusal {
-        Refusal::Text(text) => print_clap(rt, &text),
-        Refusal::Line(line) => print_error(rt, line, USAGE_STATUS),
-        Refusal::Memory => print_fault(rt, Fault::Memory),
+        Refusal::Text(text) => Ran::Text(text),
+        Refusal::Line(line) => Ran::Status(print_error(rt, line, USAGE_STATUS)),
+        Refusal::Memory => Ran::Status(print_fault(rt, Fault::Memory)),
     }
 }
 
-fn print_clap<H: Print + Eprint>(rt: &H, text: &clap::Error) -> u8
-    ensures { IsTextStatus result }
-{
+/// Prints the help or the version, and returns the status.
+fn print_text<H: Print + Eprint>(rt: &H, text: &clap::Error) -> u8 {
     match text.print(rt) {
         Ok(()) => 0,
         Err(_) => print_fault(rt, Fault::Write),

@@ -1,9 +1,11 @@
-use Rattle.std.proofs.Common.{◌≡◌, ◌≤◌, ℕ, Bool, true, false, not, List, Option, Some, None, inl, inr, refl, sym, arith}
+use Rattle.std.proofs.Common.{◌≡◌, ℕ, Bool, true, false, not, List, Option, Some, None, inl, inr, refl, sym, arith}
 use Rattle.std.specs.Io.KnownBytes.{Keeps}
-use Rattle.command_line.specs.CommandLine.{IsLine, IsText}
+use Rattle.clap.specs.Words.{Text}
+use Rattle.command_line.specs.CommandLine.{AskForNothing, AskForText, IsLine, IsText}
 use Rattle.command_line.specs.declared.refusals.Refusal.{Refusal}
 use Rattle.command_line.specs.declared.refusals.Refusal.TheVariants as refusal
-use Rattle.obim_query.specs.Replied.{IsRefusalStatus, IsStatusOf, IsTextStatus}
+use Rattle.obim_query.specs.declared.Ran.{Ran}
+use Rattle.obim_query.specs.Replied.{HasRun, IsEndOf}
 use Rattle.obim_query.proofs.run.Goals as goal
 use Rattle.obim_query.proofs.run.Goals.{then-not-options+else-terminals, else-not-options}
 
@@ -21,26 +23,28 @@ typed : (b : Bool) → not b ≡ false → b ≡ true
 typed true is = refl
 typed false is = sym is
 
--- a sentence or a refusal of memory has another status than a text
-no_text : (status other : ℕ) → status ≡ other → 1 ≤ other → other ≤ 3 → IsTextStatus status → ⊥
-no_text status other is low high (inl same) = omega (arith, is, same, low, high)
-no_text status other is low high (inr same) = omega (arith, is, same, low, high)
-
-refusal_status : (why : Refusal) (status : ℕ) → IsStatusOf why status → IsRefusalStatus status
-refusal_status (refusal.Text text) status is = inr (inr is)
-refusal_status (refusal.Line line) status is = inl is
-refusal_status refusal.Memory status is = inr (inl is)
-
--- which refusal it was, by the status
-text_by : (why : Refusal) (status : ℕ) → IsStatusOf why status → IsTextStatus status → IsText why
-text_by (refusal.Text text) status is told = tt
-text_by (refusal.Line line) status is told = absurd (no_text status 1 is (omega arith) (omega arith) told)
-text_by refusal.Memory status is told = absurd (no_text status 3 is (omega arith) (omega arith) told)
-
-line_by : (why : Refusal) (status : ℕ) → IsStatusOf why status → status ≡ 1 → IsLine why
-line_by (refusal.Text text) status is one = absurd (no_text status 1 one (omega arith) (omega arith) is)
-line_by (refusal.Line line) status is one = tt
-line_by refusal.Memory status is one = absurd (omega (arith, is, one))
+-- what a refusal of words comes to, where nothing was touched
+refused_by : (why : Refusal) (end : Ran) (words : List Text) (is_terminal : Bool) (taken given : Option (List ℕ))
+    → IsEndOf why end
+    → (IsText why → AskForText words)
+    → (IsLine why → AskForNothing words)
+    → HasRun words is_terminal taken taken given given end
+refused_by (refusal.Text text) end words is_terminal taken given is text_asked nothing_asked =
+    rw is (record { taken = untouched taken; written = untouched given; asked = text_asked tt })
+refused_by (refusal.Line line) end words is_terminal taken given is text_asked nothing_asked =
+    rw is (inl (record {
+      taken = untouched taken;
+      written = untouched given;
+      status_is = inl refl;
+      refused = λ one. inl (nothing_asked tt);
+    }))
+refused_by refusal.Memory end words is_terminal taken given is text_asked nothing_asked =
+    rw is (inl (record {
+      taken = untouched taken;
+      written = untouched given;
+      status_is = inr refl;
+      refused = λ one. absurd (omega (arith, one));
+    }))
 
 pub returns-in-Ok : goal.returns-in-Ok
 returns-in-Ok g c =
@@ -48,7 +52,6 @@ returns-in-Ok g c =
       taken = untouched _;
       written = untouched _;
       status_is = inl c.print_error.ensures;
-      text = λ is. absurd (no_text _ 1 c.print_error.ensures (omega arith) (omega arith) is);
       refused = λ is. inr (record {
         options = c.in-Ok.options;
         asked = c.in-Ok.ensures.asked;
@@ -85,10 +88,4 @@ returns-in-Ok-3 g c =
 
 pub returns-in-Err : goal.returns-in-Err
 returns-in-Err g c =
-    inl (record {
-      taken = untouched _;
-      written = untouched _;
-      status_is = refusal_status _ _ c.print_refusal.ensures;
-      text = λ is. c.in-Err.ensures.text (text_by _ _ c.print_refusal.ensures is);
-      refused = λ is. inl (c.in-Err.ensures.refused (line_by _ _ c.print_refusal.ensures is));
-    })
+    refused_by c.in-Err.refusal _ _ _ _ _ c.refused.ensures c.in-Err.ensures.text c.in-Err.ensures.refused
