@@ -24,10 +24,18 @@ function plain(text) {
     return text
 }
 
-# aligned(TEXT): a row of a table in two columns.
-function aligned(text, at) {
-    at = index(text, "\t")
-    return at ? sprintf("%-17s%s", substr(text, 1, at - 1), substr(text, at + 1)) : text
+# keep(TEXT): keeps a row of a table, in two columns. put_table: prints the rows, the second column two blanks after the
+# longest of the first.
+function keep(text) {
+    rows[++many] = text
+    if (index(text, "\t") - 1 > width) width = index(text, "\t") - 1
+}
+function put_table(i, at) {
+    for (i = 1; i <= many; i++) {
+        at = index(rows[i], "\t")
+        printf "%s%-*s  %s\n", indent, width, substr(rows[i], 1, at - 1), substr(rows[i], at + 1)
+    }
+    many = width = 0
 }
 
 # fill(TEXT): adds words to the paragraph, in lines of at most 79 columns. flush: ends it.
@@ -42,12 +50,15 @@ function flush() { if (line != "") print indent line; line = "" }
 
 /^('|[.])\\"/ || /^[.]TH / || /^l l[.]$/ { next }
 /^[.](PP|SH|TP|nf|fi|TS|TE)/ { flush() }
-/^[.](nf|TS)/ { as_it_is = 1; next }
-/^[.](fi|TE)/ { as_it_is = 0; next }
+/^[.]TS/ { is_table = 1; next }
+/^[.]TE/ { put_table(); is_table = 0; next }
+/^[.]nf/ { as_it_is = 1; next }
+/^[.]fi/ { as_it_is = 0; next }
 /^[.]PP/ { print ""; indent = "    "; next }
 /^[.]SH/ { print (any++ ? "\n" : "") plain(arguments($0)); indent = "    "; next }
 /^[.]TP/ { print ""; is_tag = 1; indent = "    "; next }
-as_it_is { print indent aligned(plain($0)); next }
+is_table { keep(plain($0)); next }
+as_it_is { print indent plain($0); next }
 { fill(plain(/^[.][BIR]+ / ? arguments($0) : $0)) }
 is_tag { flush(); is_tag = 0; indent = "        " }
 END { flush() }

@@ -63,14 +63,23 @@ they are with both.
 With added arcs the line `g K` follows the lines of each source, each pair or
 the components, and then the same lines for the graph with these arcs.
 
-With --session requests follow the graph, each a section of sources, of pairs or
-of added arcs, or `p aux sp walk K` and K pairs, whose walks are wanted, or
-`p aux sp within COST K` and K sources, of which only vertices that cost at most
-COST have a line. Each is answered as soon as its last line has come, on the
-graph with all arcs that were added before, and the answer ends with the line
-`r N M LINE`: the graph has N vertices and M arcs, and the request ends on that
-line. So is the graph itself. A request with a line that is wrong is answered by
-the line `e LINE WORDS` alone, and nothing of it is done.
+With --session requests follow the graph, each a section of a line and K more:
+
+  p aux sp [KIND] [LINES] ss K            sources
+  p aux sp [KIND] [LINES] within COST K   sources, and vertices of at most COST
+  p aux sp [KIND] [LINES] p2p K           pairs
+  p aux sp [KIND] walk K                  pairs, and the walk of each
+  p aux sp add K      arcs that are added: `g K`
+  p aux sp cut K      pairs `q U V` whose arcs from U to V are removed: `x C`
+  p aux sp set K      arcs in place of all between their ends: `x C`, `g K`
+  p aux sp arcs K     pairs whose arcs are listed, each by a line `a U V W`
+
+KIND is distances, levels or components, and LINES each, walks, raw or totals;
+without a word the options decide. A request is answered as soon as its last
+line has come, on the graph as it was changed before, and the answer ends with
+the line `r N M LINE`: the graph has N vertices and M arcs, and the request ends
+on that line. So is the graph itself. A request with a line that is wrong is
+answered by the line `e LINE WORDS` alone, and nothing of it is done.
 
 Example:
   $ printf 'p sp 2 1\\na 1 2 7\\np aux sp ss 1\\ns 1\\n' | obim_query
