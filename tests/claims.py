@@ -2,7 +2,8 @@
 
 Each edit has a row in tests/claims.tsv: the edit, as CRATE/NAME, and the claims that it tests, a tab between. A claim is
 named by the contract of its row of docs/PROVED.md, below a heading with the crate: its first piece of code, with the
-clause after a colon. The last cell of that row counts its edits, as `3+2`: three of must-fail/, two of more-edits.txt.
+clause after a colon. The last cell of that row counts its edits, as `3+2`: each landing tries three, and two are tried on
+request.
 
 With --write it writes the counts of docs/PROVED.md anew.
 """
@@ -12,7 +13,7 @@ import sys
 from collections import Counter
 from pathlib import Path
 
-from edits import more_of, must_fail_of
+from edits import edits_of
 
 TABLE, DOCUMENT = Path("tests/claims.tsv"), Path("docs/PROVED.md")
 CONTRACT = re.compile(r"`([^`]+)`(?:: `([^`]+)`)?")
@@ -38,21 +39,20 @@ def claims_of(lines):
 
 
 def main():
-    gate = {f"{crate.name}/{edit.name}" for crate in Path("crates").iterdir() for edit in must_fail_of(crate.name)}
-    more = {f"{crate.name}/{edit.name}" for crate in Path("crates").iterdir() for edit in more_of(crate.name)}
+    edits = {f"{crate.name}/{edit.name}": edit for crate in Path("crates").iterdir() for edit in edits_of(crate.name)}
     counts, named = Counter(), set()
     for number, line in enumerate(TABLE.read_text(encoding="utf-8").splitlines(), 1):
         if line.startswith("#"):
             continue
         edit, *claims = line.split("\t")
-        if edit not in gate | more:
+        if edit not in edits:
             print(f"{TABLE}:{number}: no such edit: {edit}")
         if edit in named or not claims:
             print(f"{TABLE}:{number}: {edit} has no claim, or another row too")
         named.add(edit)
         for claim in claims:
-            counts[edit.split("/")[0], claim, edit in gate] += 1
-    for edit in sorted((gate | more) - named):
+            counts[edit.split("/")[0], claim, edit in edits and edits[edit].is_for_landings] += 1
+    for edit in sorted(set(edits) - named):
         print(f"{TABLE}: no row for {edit}")
     lines = DOCUMENT.read_text(encoding="utf-8").split("\n")
     there = set()
