@@ -5,6 +5,7 @@ mod choices;
 mod draws;
 mod kept;
 mod landmarks;
+mod near_walks;
 mod networks;
 mod refusals;
 mod sources;

@@ -6,7 +6,7 @@ ghost use Rattle.std.specs.Prelude.{◌≡◌, ◌<◌};
 mod refusals;
 
 use crate::reports::{are_below, build, distances};
-use csr_graph::{Bounds, Csr};
+use csr_graph::{Bounds, Csr, FINITE_CELLS};
 use near_labels::{SearchSpace, WalksFound};
 use route_walks::{ArcRec, EXAMPLE_ARCS, INF, Memory, arcs};
 use std::alloc::Global;
@@ -30,6 +30,19 @@ const TANGLED: [ArcRec; 12] = arcs![
     (4, 0, 0),
 ];
 
+/// Walks of one cost from the first vertex to the last. One that both searches leave unknown in the middle, by a free arc,
+/// has the least vertex before the last.
+const TIED: [ArcRec; 8] = arcs![
+    (0, 1, 5),
+    (0, 1, 5),
+    (1, 2, 0),
+    (2, 5, 5),
+    (0, 3, 2),
+    (3, 4, 3),
+    (4, 5, 5),
+    (5, 5, 0),
+];
+
 /// A question to a source.
 #[derive(Clone, Copy)]
 enum Question {
@@ -41,13 +54,17 @@ enum Question {
     Within(u64),
     /// The cost to one vertex, by a search from both ends.
     Cost(u32),
-    /// The label of one vertex by bounds, told by cells of the labels from the source.
-    Toward(u32),
+    /// The label of one vertex and the walk to it, by a search from both ends.
+    Walk(u32),
+    /// The labels of these vertices by bounds, told by cells of the labels from the source.
+    Toward(&'static [u32]),
+    /// These labels and the walks, by such bounds.
+    WalksToward(&'static [u32]),
 }
 
-use Question::{Cost, Labels, Toward, Walks, Within};
+use Question::{Cost, Labels, Toward, Walk, Walks, WalksToward, Within};
 
-const QUESTIONS: [Question; 30] = [
+const QUESTIONS: [Question; 45] = [
     Labels(&[0]),
     Labels(&[1]),
     Labels(&[2]),
@@ -63,12 +80,27 @@ const QUESTIONS: [Question; 30] = [
     Cost(3),
     Cost(4),
     Cost(5),
-    Toward(0),
-    Toward(1),
-    Toward(2),
-    Toward(3),
-    Toward(4),
-    Toward(5),
+    Walk(0),
+    Walk(1),
+    Walk(2),
+    Walk(3),
+    Walk(4),
+    Walk(5),
+    Toward(&[0]),
+    Toward(&[1]),
+    Toward(&[2]),
+    Toward(&[3]),
+    Toward(&[4]),
+    Toward(&[5]),
+    WalksToward(&[0]),
+    WalksToward(&[1]),
+    WalksToward(&[2]),
+    WalksToward(&[3]),
+    WalksToward(&[4]),
+    WalksToward(&[5]),
+    WalksToward(&ALL),
+    WalksToward(&[5, 0, 3, 3]),
+    WalksToward(&[]),
     Walks,
     Within(0),
     Within(2),
@@ -144,11 +176,11 @@ fn are_labels(found: &[u64], targets: &[u32], want: &Want) -> bool {
         && each.all(|(label, target)| want.labels.get(*target as usize) == Some(label))
 }
 
-fn are_walks(found: &WalksFound, want: &Want) -> bool {
-    let mut each = found.walks.iter().zip(want.walks);
-    found.labels.as_slice() == want.labels
-        && found.walks.len() == want.walks.len()
-        && each.all(|(walk, want)| walk.as_slice() == *want)
+fn are_walks(found: &WalksFound, targets: &[u32], want: &Want) -> bool {
+    let mut each = found.walks.iter().zip(targets);
+    are_labels(&found.labels, targets, want)
+        && found.walks.len() == targets.len()
+        && each.all(|(walk, target)| want.walks.get(*target as usize) == Some(&walk.as_slice()))
 }
 
 /// Tells if an answer is right; `None` if there is none. Takes no memory.
@@ -176,7 +208,7 @@ fn is_right(
         }
         Walks => {
             let found = forward.walks_to(&mut room.walks, alloc, csr, s, &ALL)?;
-            Some(are_walks(&found, want))
+            Some(are_walks(&found, &ALL, want))
         }
         Within(bound) => {
             assert!(rt; bound < INF);
@@ -188,34 +220,83 @@ fn is_right(
             let found = forward.cost_between(backward, csr, reversed, s, v)?;
             Some(want.labels.get(v as usize) == Some(&found))
         }
-        Toward(v) => {
+        Walk(v) => {
             assert!(rt; v < n);
-            let cells = cells_of(want.labels);
-            let cell = cells.get(v as usize).copied().unwrap_or(0);
-            let bounds = Bounds {
-                targets: &[v],
-                cells: &cells,
-                low: &[cell],
-                high: &[u16::MAX],
-                unit: LABELS_A_CELL,
-                base: 0,
-            };
-            let found = forward.labels_toward(alloc, csr, s, &bounds)?;
-            Some(are_labels(&found, &[v], want))
+            let walks = &mut room.walks;
+            let found = forward.walk_between(backward, walks, alloc, csr, reversed, s, v)?;
+            Some(are_walks(&found, &[v], want))
         }
+        Toward(targets) => is_right_toward(rt, alloc, room, csr, want, targets, false),
+        WalksToward(targets) => is_right_toward(rt, alloc, room, csr, want, targets, true),
     }
 }
 
-/// The labels that share a cell.
-const LABELS_A_CELL: u64 = 1 << 18;
+/// Tells if an answer by bounds is right; `None` if there is none.
+fn is_right_toward(
+    rt: &impl Abort,
+    alloc: Global,
+    room: &mut Room,
+    csr: &Csr,
+    want: &Want,
+    targets: &[u32],
+    with_walks: bool,
+) -> Option<bool> {
+    let (n, s) = (csr.n(), want.source);
+    let (forward, walks) = (&mut room.forward, &mut room.walks);
+    assert!(rt; s < n && are_below(n, targets));
+    assert!(rt; forward.vertices() == n as usize && walks.vertices() == n as usize);
+    let unit = unit_of(want.labels);
+    let cells = cells_of(want.labels, unit);
+    let bounds = Bounds {
+        targets,
+        cells: &cells,
+        low: &[least_cell(&cells, targets)],
+        high: &[u16::MAX],
+        unit,
+        base: 0,
+    };
+    if with_walks {
+        let found = forward.walks_toward(walks, alloc, csr, s, &bounds)?;
+        Some(are_walks(&found, targets, want))
+    } else {
+        let found = forward.labels_toward(alloc, csr, s, &bounds)?;
+        Some(are_labels(&found, targets, want))
+    }
+}
+
+/// The fewest labels that have to share a cell, so that cells of finite labels are below `FINITE_CELLS`.
+fn unit_of(labels: &[u64]) -> u64
+    ensures { 0 < result }
+{
+    let mut most = 0;
+    for label in labels {
+        if *label < INF {
+            most = most.max(*label);
+        }
+    }
+    most / u64::from(FINITE_CELLS) + 1
+}
 
 /// The cells of six labels.
-fn cells_of(labels: &[u64]) -> [u16; 6] {
+fn cells_of(labels: &[u64], unit: u64) -> [u16; 6]
+    requires { 0 < unit }
+{
     let mut cells = [0_u16; 6];
     for (cell, label) in cells.iter_mut().zip(labels) {
-        *cell = (*label / LABELS_A_CELL).min(u64::from(u16::MAX)) as u16;
+        *cell = (*label / unit).min(u64::from(u16::MAX)) as u16;
     }
     cells
+}
+
+/// The least cell of some vertices.
+fn least_cell(cells: &[u16], vertices: &[u32]) -> u16 {
+    let mut least = u16::MAX;
+    for v in vertices {
+        if let Some(cell) = cells.get(*v as usize) {
+            least = least.min(*cell);
+        }
+    }
+    least
 }
 
 /// Asserts that answers are right, and there if enough visits are allowed. Returns how often there is none.
@@ -284,7 +365,8 @@ fn expect_graph(rt: &impl Abort, alloc: Global, arcs: &[ArcRec]) -> Result<(), F
 #[test]
 fn one_search_after_another(rt: HostRuntime) -> Result<(), Fail> {
     expect_graph(&rt, rt.alloc(), &EXAMPLE_ARCS)?;
-    expect_graph(&rt, rt.alloc(), &TANGLED)
+    expect_graph(&rt, rt.alloc(), &TANGLED)?;
+    expect_graph(&rt, rt.alloc(), &TIED)
 }
 
 /// The labels and the walks from the first of the six vertices.
@@ -301,7 +383,18 @@ const FROM_0: Want<'static> = Want {
     ],
 };
 
-/// Asserts that a search is right after many that gave up.
+/// Questions that one visit doesn't answer.
+const GIVEN_UP: [Question; 7] = [
+    Labels(&ALL),
+    Cost(5),
+    Walk(5),
+    Toward(&[5]),
+    WalksToward(&[5]),
+    Walks,
+    Within(14),
+];
+
+/// Asserts that searches are right after many that gave up.
 fn expect_after_many(
     rt: &impl Abort,
     alloc: Global,
@@ -317,9 +410,25 @@ fn expect_after_many(
         let right = is_right(rt, alloc, room, (csr, reversed), &FROM_0, question);
         assert!(rt; right.is_none());
     }
-    room.forward.allow(20, usize::MAX);
-    let right = is_right(rt, alloc, room, (csr, reversed), &FROM_0, question);
-    assert!(rt; right == Some(true));
+    expect_one_after_another(rt, alloc, room, csr, reversed, question);
+}
+
+/// Asserts that searches are right which all together relax more arcs than each may.
+fn expect_one_after_another(
+    rt: &impl Abort,
+    alloc: Global,
+    room: &mut Room,
+    csr: &Csr,
+    reversed: &Csr,
+    question: Question,
+)
+    requires { IsReversed csr.now reversed.now }
+{
+    room.forward.allow(20, 30);
+    for _ in 0..30_u32 {
+        let right = is_right(rt, alloc, room, (csr, reversed), &FROM_0, question);
+        assert!(rt; right == Some(true));
+    }
 }
 
 #[test]
@@ -328,7 +437,7 @@ fn searches_that_give_up_leave_nothing(rt: HostRuntime) -> Result<(), Fail> {
     let csr = build(&rt, alloc, 6, &EXAMPLE_ARCS)?;
     let reversed = csr.reversed(alloc)?;
     let mut room = room_of(alloc, 6)?;
-    for question in [Labels(&ALL), Cost(5), Toward(5), Walks, Within(14)] {
+    for question in GIVEN_UP {
         expect_after_many(&rt, alloc, &mut room, &csr, &reversed, question);
     }
     Ok(())

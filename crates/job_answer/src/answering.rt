@@ -175,7 +175,7 @@ fn prepare<H: Threads + Wait + Clock + Sync, G: Gate + Sync>(
     let (Answer::Distances | Answer::Levels, Ask::Pairs(pairs)) = (context.asked.answer, ask) else {
         return;
     };
-    if context.asked.lines.has_walks() || graphs.grown.is_some() {
+    if graphs.grown.is_some() {
         return;
     }
     let (rt, alloc, gate) = (context.rt, context.alloc, context.gate);

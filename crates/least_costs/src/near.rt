@@ -16,7 +16,8 @@ ghost use Rattle.least_costs.specs.declared.start.Start.TheVariants.{At};
 use crate::costs::costs_in_order;
 use crate::near::budget::SearchBudget;
 use crate::near::room::{
-    fit, fit_walks, label_by_both, labels_by, labels_toward, walks_by, within_by,
+    fit, fit_walks, label_by_both, labels_by, labels_toward, walk_by_both, walks_by, walks_toward,
+    within_by,
 };
 use crate::near::visits::FarVisits;
 use crate::network::Network;
@@ -228,7 +229,8 @@ impl Near {
         costs_in_order(alloc, network, Start::At(source), targets, &labels?).ok()
     }
 
-    /// The least labels of these targets and the walks to them, if near.
+    /// The least labels of these targets and the walks to them, if near: by landmarks if these serve, from both ends if
+    /// there is one target and the rows were reversed, and else from the source.
     pub(crate) fn walks_to(
         &mut self,
         alloc: Global,
@@ -242,11 +244,85 @@ impl Near {
     {
         self.prepare(alloc, network);
         fit_walks(&mut self.walks, alloc, network.n());
+        match network.landmarks() {
+            Some(landmarks) if landmarks.serves(source, targets) => {
+                self.walks_by_landmarks(alloc, network, landmarks, source, targets)
+            }
+            _ if targets.len() == 1 && network.has_reversed() => {
+                self.walk_between(alloc, network, source, targets)
+            }
+            _ => self.walks_from(alloc, network, source, targets),
+        }
+    }
+
+    /// The walks to these targets, by a search from the source.
+    fn walks_from(
+        &mut self,
+        alloc: Global,
+        network: &Network,
+        source: u32,
+        targets: &[u32],
+    ) -> Option<WalksFound>
+        requires source { source < network.now.n }
+        requires targets { All (λ t. t < network.now.n) targets.now }
+        ensures { IfSome result (AreWalksFound network.now.n network.now.arcs source targets.now) }
+    {
         let (forward, walks) = (&mut self.forward, &mut self.walks);
         let limit = self.one_end.limit(network);
         let found = walks_by(forward, walks, alloc, network, source, targets, limit);
         self.one_end.learn(found.is_some());
         self.count_visits();
+        if targets.len() == 1 {
+            self.spend(network, found.is_some());
+        }
+        found
+    }
+
+    /// The walk to one target, by a search from both ends.
+    fn walk_between(
+        &mut self,
+        alloc: Global,
+        network: &Network,
+        source: u32,
+        targets: &[u32],
+    ) -> Option<WalksFound>
+        requires source { source < network.now.n }
+        requires targets { All (λ t. t < network.now.n) targets.now }
+        requires one { length targets.now ≡ 1 }
+        ensures { IfSome result (AreWalksFound network.now.n network.now.arcs source targets.now) }
+    {
+        fit(&mut self.backward, alloc, network.n());
+        let (forward, backward, walks) = (&mut self.forward, &mut self.backward, &mut self.walks);
+        let limit = self.both_ends.limit(network);
+        let pair = (source, targets[0]);
+        let found = walk_by_both(forward, backward, walks, alloc, network, pair, limit);
+        self.both_ends.learn(found.is_some());
+        self.count_visits();
+        self.count_backward_visits();
+        found
+    }
+
+    /// The walks to these targets by bounds of the way to all of them.
+    fn walks_by_landmarks(
+        &mut self,
+        alloc: Global,
+        network: &Network,
+        landmarks: &Landmarks,
+        source: u32,
+        targets: &[u32],
+    ) -> Option<WalksFound>
+        requires landmarks { landmarks.now.graph ≡ graph_of network.now }
+        requires source { source < network.now.n }
+        requires targets { All (λ t. t < network.now.n) targets.now }
+        ensures { IfSome result (AreWalksFound network.now.n network.now.arcs source targets.now) }
+    {
+        let limit = self.by_landmarks.limit(network);
+        let low = landmarks.low(alloc, targets).ok()?;
+        let high = landmarks.high(alloc, targets).ok()?;
+        let bounds = landmarks.toward(source, targets, &low, &high);
+        let (forward, walks) = (&mut self.forward, &mut self.walks);
+        let found = walks_toward(forward, walks, alloc, network, source, &bounds, limit);
+        self.see_guided(found.is_some());
         found
     }
 

@@ -1,22 +1,25 @@
 -- If a search from the source and one towards the target meet, the least cost is that of the meeting.
 use Rattle.std.proofs.Common.{◌≡◌, ◌∙◌, sym, refl, ap, ℕ, ◌+◌, ◌<◌, ◌≤◌, List, [], ◌∷◌, ◌++◌, Bool, length, get_or, take}
-use Rattle.std.proofs.Common.{◌⊎◌, inl, inr, Some, subst, arith}
+use Rattle.std.proofs.Common.{◌⊎◌, inl, inr, Some, subst, arith, true}
 use Rattle.std.specs.Prelude.{All, Contains, min, slice_index}
 use Rattle.std.proofs.lemmas.List.{length-map, get_or-map}
 use Rattle.std.proofs.lemmas.List.Elements.{All-nil, All-more, All-map, All-contains, All-contains_itself}
 use Rattle.std.proofs.lemmas.Bool.{cases_lt}
 use Rattle.std.proofs.lemmas.Option.{slice_get-get_or}
 use Rattle.route_walks.specs.declared.graph.ArcRec.{ArcRec}
+use Rattle.route_walks.specs.declared.graph.Seed.{Seed}
 use Rattle.route_walks.specs.declared.graph.TheConstants.{INF}
 use Rattle.route_walks.specs.Walk.{IsArcBelow, IsAttained, IsWalk, HaveSameArcs, cost}
 use Rattle.route_walks.specs.Label.{IsMet, IsRelaxed}
+use Rattle.route_walks.specs.Limit.{AreLeastToward, IsLeastToward, IsPast}
 use Rattle.route_walks.specs.Operators.{seeds_from}
 use Rattle.route_walks.proofs.Facts.{walk-append, cost-append, attained-over, attained-by_walk, walk-of_attained}
 use Rattle.csr_graph.specs.Graph.{Graph, IsInRows, turned, turned_arc}
 use Rattle.label_words.specs.Paused.{Rest, IsPause, AreUnmarkedBelow}
 use Rattle.label_words.specs.Laws.{PausesAreLeastUpTo}
-use Rattle.near_labels.specs.Noted.{AreNoted}
-use Rattle.near_labels.specs.Meeting.{IsLeastMeeting, MeetingIsLeast}
+use Rattle.relax_core.specs.State.{mark_of}
+use Rattle.near_labels.specs.Noted.{AreDropped, AreNoted}
+use Rattle.near_labels.specs.Meeting.{FarByLabelsIsPast, IsLeastMeeting, MeetingIsLeast}
 
 -- each arc of one list stands turned round in the other
 abbrev pub AreTurnedAmong : List ArcRec → List ArcRec → Type 0
@@ -127,6 +130,52 @@ meeting_is_least up graph reversed s t low high c forward backward rows rows' tu
           s 0 walk.0 s-in (omega (arith, begins)) walk.1 in
           omega (arith, most, walk.2);
     }
+
+-- a label towards the target, or what is lowest there of those that wait, is what a walk costs at least
+pub far_by_labels_is_past : PausesAreLeastUpTo → FarByLabelsIsPast
+far_by_labels_is_past up graph reversed s t low limit forward backward rows rows' turn pause pause' unmarked far_by v below marked
+    walk walks =
+    let far = up low reversed (seeds_from t) backward rows' pause' unmarked in
+    let here = far_by v (omega (arith, below, pause.going.marks)) marked in
+    elim ((far.least v (omega (arith, below, turn.vertices))).least (cost walk)
+    (walk-attained graph.arcs reversed.arcs turn.arcs v t walk walks)) [
+      | inl near ↦ omega (arith, here, near)
+      | inr past ↦ omega (arith, here, past)
+    ]
+
+-- labels stay least on the way to t if what is marked past the limit loses its label
+pub dropped-toward : (limit n : ℕ) (arcs : List ArcRec) (seeds : List Seed) (t but : ℕ) (marks : List Bool) (old new : List ℕ)
+    → AreLeastToward limit n arcs seeds t (slice_index old)
+    → ((v : ℕ) → v < n → mark_of marks v ≡ true → IsPast limit arcs t v (slice_index old v))
+    → AreDropped but marks old new
+    → AreLeastToward limit n arcs seeds t (slice_index new)
+dropped-toward limit n arcs seeds t but marks old new least past dropped v below =
+    elim (dropped v) [
+      | inl same ↦ subst (IsLeastToward limit arcs seeds t v) (sym same) (least v below)
+      | inr gone ↦ record {
+        capped = omega (arith, gone.1);
+        attained = λ found. absurd (omega (arith, found, gone.1));
+        least = λ c attained.
+            inr (λ walk walks.
+            elim ((least v below).least c attained) [
+              | inl low ↦ omega (arith, past v below gone.0 walk walks, low)
+              | inr far ↦ far walk walks
+            ]);
+      }
+    ]
+
+-- and t itself keeps its label if it is reached below the limit
+pub dropped-target : (limit n : ℕ) (arcs : List ArcRec) (t but : ℕ) (marks : List Bool) (old new : List ℕ) → t < n
+    → slice_index old t ≤ INF
+    → min (slice_index old t + 1) INF ≤ limit
+    → ((v : ℕ) → v < n → mark_of marks v ≡ true → IsPast limit arcs t v (slice_index old v))
+    → AreDropped but marks old new
+    → slice_index new t ≡ slice_index old t
+dropped-target limit n arcs t but marks old new below capped above past dropped =
+    elim (dropped t) [
+      | inl same ↦ same
+      | inr gone ↦ omega (arith, gone.1, capped, above, past t below gone.0 [] refl)
+    ]
 
 -- the least that the two labels of some vertices make, or INF
 pub record IsLeastSeen (n : ℕ) (forward backward : ℕ → ℕ) (seen : List ℕ) (least : ℕ) : Type 0 where

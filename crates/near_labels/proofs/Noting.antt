@@ -1,16 +1,17 @@
 -- What is noted, while labels fall and while they are wiped.
-use Rattle.std.proofs.Common.{◌≡◌, ◌∙◌, sym, ℕ, ◌<◌, ◌≤◌, Bool, true, false, List, [], ◌∷◌, ◌++◌, length, get_or, set, inl, inr}
-use Rattle.std.proofs.Common.{ap, subst, arith}
+use Rattle.std.proofs.Common.{◌≡◌, ◌∙◌, sym, ℕ, ◌<◌, Bool, true, false, List, length, set, inl, inr}
+use Rattle.std.proofs.Common.{subst, arith, refl}
 use Rattle.std.specs.Prelude.{All, Contains, slice_index}
-use Rattle.std.proofs.lemmas.List.{get_or-set_same, get_or-set_other, length-set}
-use Rattle.std.proofs.lemmas.List.Elements.{All-push, All-contains, Contains-append_left, Contains-push_cases, Contains-get_or}
+use Rattle.std.proofs.lemmas.List.{get_or-set_other, length-set}
+use Rattle.std.proofs.lemmas.List.Elements.{All-contains}
 use Rattle.std.proofs.lemmas.Bool.{cases_eq}
 use Rattle.route_walks.specs.declared.graph.TheConstants.{INF}
 use Rattle.relax_core.specs.State.{mark_of}
-use Rattle.csr_graph.specs.Bounds.{ArePast}
-use Rattle.csr_graph.specs.declared.bounds.Bounds.{Bounds}
-use Rattle.label_words.specs.Paused.{AreMarkedFar, AreUnmarkedBelow}
-use Rattle.near_labels.specs.Noted.{AreNoted, IsBlank, IsBlankAt, rest_of}
+use Rattle.route_walks.specs.Label.{IsMet}
+use Rattle.route_walks.specs.Operators.{seeds_from}
+use Rattle.csr_graph.specs.Graph.{Graph}
+use Rattle.label_words.specs.Paused.{Rest, IsPause}
+use Rattle.near_labels.specs.Noted.{AreNoted, IsBlankAt}
 
 -- a vertex that is blank stays so when another one is written
 other-blank : (labels : List ℕ) (marks : List Bool) (v w d : ℕ) (mark : Bool) → (w ≡ v → ⊥)
@@ -46,26 +47,23 @@ noted-here labels marks noted v before below some =
       | inr blank ↦ absurd (some blank.0)
     ]
 
--- no vertex is marked below a limit, if none of those is that are noted
-pub noted-unmarked : (limit : ℕ) (labels : List ℕ) (marks : List Bool) (noted : List ℕ) → AreNoted labels marks noted
-    → All (λ v. mark_of marks v ≡ true → limit ≤ slice_index labels v) noted
-    → AreUnmarkedBelow limit (rest_of labels marks)
-noted-unmarked limit labels marks noted before none v below marked =
-    elim (before.others v (omega (arith, below, before.count))) [
-      | inl within ↦
-          All-contains (λ (w : ℕ). mark_of marks w ≡ true → limit ≤ slice_index labels w) noted v none within marked
-      | inr blank ↦ absurd (cc (marked, blank.1))
-    ]
+-- the source of a pause has label 0
+pub source-label : (graph : Graph) (source : ℕ) (rest : Rest) → IsPause graph (seeds_from source) rest
+    → slice_index rest.labels source ≡ 0
+source-label graph source rest pause =
+    omega (
+      arith,
+      All-contains (IsMet (slice_index rest.labels)) (seeds_from source) (record { vertex = source; start = 0 }) pause.met
+          (0, omega arith, refl),
+    )
 
--- each marked vertex is far from the targets of bounds, if those are that are noted
-pub noted-far : (limit : ℕ) (bounds : Bounds) (labels : List ℕ) (marks : List Bool) (noted : List ℕ)
+-- what is true of each noted vertex if it is marked is true of each that is marked
+pub noted-marked : (IsFar : ℕ → Type 0) (labels : List ℕ) (marks : List Bool) (noted : List ℕ)
     → AreNoted labels marks noted
-    → All (λ v. mark_of marks v ≡ true → ArePast limit bounds v (slice_index labels v)) noted
-    → AreMarkedFar limit bounds (rest_of labels marks)
-noted-far limit bounds labels marks noted before far v below marked =
+    → All (λ v. mark_of marks v ≡ true → IsFar v) noted
+    → (v : ℕ) → v < length marks → mark_of marks v ≡ true → IsFar v
+noted-marked IsFar labels marks noted before far v below marked =
     elim (before.others v (omega (arith, below, before.count))) [
-      | inl within ↦
-          All-contains (λ (w : ℕ). mark_of marks w ≡ true → ArePast limit bounds w (slice_index labels w)) noted v far within
-          marked
+      | inl within ↦ All-contains (λ (w : ℕ). mark_of marks w ≡ true → IsFar w) noted v far within marked
       | inr blank ↦ absurd (cc (marked, blank.1))
     ]

@@ -1,6 +1,6 @@
 //! Room for one search after another.
 
-ghost use Rattle.std.specs.Prelude.{◌≡◌, ◌+◌, ◌<◌, ◌≤◌, All, IfOk, IfSome, length, min, slice_index};
+ghost use Rattle.std.specs.Prelude.{◌≡◌, ◌+◌, ◌<◌, ◌≤◌, [], ◌∷◌, All, IfOk, IfSome, length, min, slice_index};
 ghost use Rattle.route_walks.specs.declared.graph.TheConstants.{INF};
 ghost use Rattle.route_walks.specs.Label.{IsLeast};
 ghost use Rattle.route_walks.specs.Limit.{AreLeastLabelsUpTo};
@@ -11,11 +11,11 @@ ghost use Rattle.near_labels.specs.Meeting.{IsReversed};
 ghost use Rattle.near_labels.specs.Noted.{AreLeastOf, AreNoted, AreThoseWithin};
 
 use crate::aim::SearchAim;
-use crate::both_ends::cost_from_both;
+use crate::both_ends::{cost_from_both, way_from_both};
 use crate::listing::{labels_of, listed};
-use crate::search::{search, search_toward};
+use crate::search::{search, search_toward, search_way_toward};
 use crate::state::State;
-use crate::walks::{WalksFound, walks_below};
+use crate::walks::{WalksFound, walks_by_labels};
 use csr_graph::{Bounds, Csr};
 use route_walks::Memory;
 use std::alloc::Global;
@@ -152,7 +152,42 @@ impl SearchSpace {
                     source,
                     limit,
                 };
-                walks_below(walks, alloc, csr, from, targets)
+                walks_by_labels(walks, alloc, csr, from, targets)
+            }
+            None => None,
+        };
+        self.state.wipe();
+        found
+    }
+
+    /// Returns the labels of the targets of bounds and the walks that `walk_report` prints; `None` as for `labels_to`. They
+    /// are least if these are bounds of the graph. Takes the time of the vertices by way of which a walk to a target may be
+    /// as short as the farthest one's, and of their arcs.
+    pub fn walks_toward(
+        &mut self,
+        walks: &mut WalkSpace,
+        alloc: Global,
+        csr: &Csr,
+        source: u32,
+        bounds: &Bounds<'_>,
+    ) -> Option<WalksFound>
+        requires vertices { self.old ≡ csr.now.n }
+        requires vertices_of_walks { walks.old ≡ csr.now.n }
+        requires source { source < csr.now.n }
+        requires targets { All (λ t. t < csr.now.n) bounds.now.targets.now }
+        ensures vertices { self.new ≡ self.old }
+        ensures vertices_of_walks { walks.new ≡ walks.old }
+        ensures walks { AreBounds csr.now bounds.now →
+            IfSome result (AreWalksFound csr.now.n csr.now.arcs source bounds.now.targets.now) }
+    {
+        let found = match search_way_toward(&mut self.state, csr, source, bounds) {
+            Some(limit) => {
+                let from = LabelsBelow {
+                    labels: &self.state.labels,
+                    source,
+                    limit,
+                };
+                walks_by_labels(walks, alloc, csr, from, bounds.targets)
             }
             None => None,
         };
@@ -215,6 +250,47 @@ impl SearchSpace {
         self.state.wipe();
         backward.state.wipe();
         cost
+    }
+
+    /// Returns the least label of the target and the walk that `walk_report` prints; `None` as for `labels_to`. The other
+    /// space searches from the target, over the reversed graph. Takes the time of `cost_between`, of the vertices on least
+    /// walks to the target, and of what the search reached.
+    pub fn walk_between(
+        &mut self,
+        backward: &mut SearchSpace,
+        walks: &mut WalkSpace,
+        alloc: Global,
+        csr: &Csr,
+        reversed: &Csr,
+        source: u32,
+        target: u32,
+    ) -> Option<WalksFound>
+        requires vertices { self.old ≡ csr.now.n }
+        requires vertices_backward { backward.old ≡ csr.now.n }
+        requires vertices_of_walks { walks.old ≡ csr.now.n }
+        requires reversed { IsReversed csr.now reversed.now }
+        requires source { source < csr.now.n }
+        requires target { target < csr.now.n }
+        ensures vertices { self.new ≡ self.old }
+        ensures vertices_backward { backward.new ≡ backward.old }
+        ensures vertices_of_walks { walks.new ≡ walks.old }
+        ensures walks { IfSome result (AreWalksFound csr.now.n csr.now.arcs source (target ∷ [])) }
+    {
+        let (forward, back) = (&mut self.state, &mut backward.state);
+        let found = match way_from_both(forward, back, csr, reversed, source, target) {
+            Some(limit) => {
+                let from = LabelsBelow {
+                    labels: &forward.labels,
+                    source,
+                    limit,
+                };
+                walks_by_labels(walks, alloc, csr, from, &[target])
+            }
+            None => None,
+        };
+        forward.wipe();
+        back.wipe();
+        found
     }
 }
 

@@ -1,14 +1,14 @@
 //! Labels and marks, and the vertices that a search has reached.
 
-ghost use Rattle.std.specs.Prelude.{◌≡◌, ◌<◌, ◌≤◌, true, false, [], ◌∷◌, All, Contains, length, slice_index, slice_set, IfOk};
+ghost use Rattle.std.specs.Prelude.{◌≡◌, ◌<◌, ◌≤◌, ◌+◌, true, false, [], ◌∷◌, All, Contains, length, min, slice_index, slice_set, IfOk};
 ghost use Rattle.route_walks.specs.declared.graph.TheConstants.{INF};
 ghost use Rattle.route_walks.specs.Operators.{seeds_from};
 ghost use Rattle.std.specs.List.Sorted.{IsNonDecreasing};
 ghost use Rattle.relax_core.specs.State.{mark_of};
 ghost use Rattle.csr_graph.specs.Bounds.{ArePast};
 ghost use Rattle.label_words.specs.Paused.{IsPause, AreMarkedFar, AreUnmarkedBelow};
-ghost use Rattle.near_labels.specs.Noted.{AreNoted, IsBlank, rest_of};
-ghost use Rattle.near_labels.specs.Meeting.{IsLeastMeeting};
+ghost use Rattle.near_labels.specs.Noted.{AreDropped, AreNoted, IsBlank, rest_of};
+ghost use Rattle.near_labels.specs.Meeting.{AreMarkedFarByLabels, IsLeastMeeting};
 
 use crate::guide::{Guide, Waiting};
 use csr_graph::{Bounds, Csr, Target};
@@ -181,6 +181,65 @@ impl State {
     {
         let place = v as usize;
         !self.marks[place] || bounds.is_past(v, self.labels[place], limit)
+    }
+
+    /// Tells if the label of each marked vertex makes the limit with the other side's, which counts as `low` at most, by the
+    /// noted vertices.
+    pub(crate) fn is_marked_far_by_labels(&self, other: &[u64], low: u64, limit: u64) -> bool
+        requires noted { AreNoted self.now.labels.items self.now.marks.items self.now.noted.items }
+        requires count { length other.now ≡ length self.now.labels.items }
+        ensures { result ≡ true →
+            AreMarkedFarByLabels limit low other.now (rest_of self.now.labels.items self.now.marks.items) }
+    {
+        for v in &self.noted {
+            if !self.is_far_by_labels(*v, other, low, limit) {
+                return false;
+            }
+        }
+        true
+    }
+
+    /// Tells if a vertex isn't marked, or its label is so far.
+    #[inline(always)]
+    pub(crate) fn is_far_by_labels(&self, v: u32, other: &[u64], low: u64, limit: u64) -> bool
+        requires count { length self.now.marks.items ≡ length self.now.labels.items }
+        requires count_other { length other.now ≡ length self.now.labels.items }
+        requires vertex { v < length self.now.labels.items }
+        ensures { result ≡ true → mark_of self.now.marks.items v ≡ true →
+            limit ≤ slice_index self.now.labels.items v + min (slice_index other.now v) low }
+    {
+        let place = v as usize;
+        !self.marks[place] || self.labels[place].saturating_add(other[place].min(low)) >= limit
+    }
+
+    /// Drops the labels of all marked vertices but one, by the noted vertices. Marks stay.
+    pub(crate) fn drop_marked(&mut self, but: u32)
+        requires { AreNoted self.old.labels.items self.old.marks.items self.old.noted.items }
+        ensures count { length self.new.labels.items ≡ length self.old.labels.items }
+        ensures noted { AreNoted self.new.labels.items self.new.marks.items self.new.noted.items }
+        ensures dropped { AreDropped but self.old.marks.items self.old.labels.items self.new.labels.items }
+    {
+        for place in 0..self.noted.len() {
+            let v = self.noted[place];
+            self.drop_if_marked(v, but);
+        }
+    }
+
+    /// Drops the label of a noted vertex, if it is marked and another one than `but`.
+    fn drop_if_marked(&mut self, v: u32, but: u32)
+        requires noted { AreNoted self.old.labels.items self.old.marks.items self.old.noted.items }
+        requires within { Contains self.old.noted.items v }
+        ensures labels { AreDropped but self.old.marks.items self.old.labels.items self.new.labels.items }
+        ensures count { length self.new.labels.items ≡ length self.old.labels.items }
+        ensures marks { self.new.marks ≡ self.old.marks }
+        ensures list { self.new.noted ≡ self.old.noted }
+        ensures noted { AreNoted self.new.labels.items self.new.marks.items self.new.noted.items }
+    {
+        let place = v as usize;
+        if v == but || !self.marks[place] {
+            return;
+        }
+        self.labels[place] = INF;
     }
 
     /// Visits the next vertex that waits, if one does. Returns false if memory is refused.

@@ -1,8 +1,8 @@
 //! The walks to vertices near the source.
 
-ghost use Rattle.std.specs.Prelude.{◌≡◌, ◌+◌, ◌<◌, ◌≤◌, All, IfSome, min, slice_index};
+ghost use Rattle.std.specs.Prelude.{◌≡◌, ◌+◌, ◌<◌, ◌≤◌, All, IfSome, length, min, slice_index};
 ghost use Rattle.route_walks.specs.declared.graph.TheConstants.{INF};
-ghost use Rattle.route_walks.specs.Limit.{AreLeastLabelsUpTo};
+ghost use Rattle.route_walks.specs.Limit.{AreLeastToward};
 ghost use Rattle.route_walks.specs.Operators.{seeds_from};
 ghost use Rattle.near_labels.specs.Found.{AreWalksFound};
 
@@ -20,8 +20,9 @@ pub struct WalksFound {
     pub walks: Vec<Vec<u32>>,
 }
 
-/// The walks to these targets, by labels whose limit is above the label of each target that is reached.
-pub(crate) fn walks_below(
+/// The walks to these targets, by labels whose limit is above that of each target that is reached. They are those of the
+/// definition if labels are least up to the limit on the way to each target.
+pub(crate) fn walks_by_labels(
     space: &mut WalkSpace,
     alloc: Global,
     csr: &Csr,
@@ -30,18 +31,19 @@ pub(crate) fn walks_below(
 ) -> Option<WalksFound>
     requires vertices { space.old ≡ csr.now.n }
     requires source { from.source < csr.now.n }
-    requires least { AreLeastLabelsUpTo from.limit csr.now.n csr.now.arcs (seeds_from from.source) from.labels.now }
+    requires count { length from.labels.now ≡ csr.now.n }
+    requires start { slice_index from.labels.now from.source ≡ 0 }
     requires targets { All (λ t. t < csr.now.n) targets.now }
     requires past { All (λ t. min (slice_index from.labels.now t + 1) INF ≤ from.limit) targets.now }
     ensures vertices { space.new ≡ space.old }
-    ensures walks { IfSome result (AreWalksFound csr.now.n csr.now.arcs from.entry.source targets.now) }
+    ensures walks { All (λ t. AreLeastToward from.entry.limit csr.now.n csr.now.arcs (seeds_from from.entry.source) t
+        (slice_index from.entry.labels.now)) targets.now
+        → IfSome result (AreWalksFound csr.now.n csr.now.arcs from.entry.source targets.now) }
 {
     let _ = csr.n();
     let Ok(walks) = space.walks_to(alloc, csr, from, targets) else {
         return None;
     };
-    match labels_of(alloc, from.labels, targets) {
-        Some(labels) => Some(WalksFound { labels, walks }),
-        None => None,
-    }
+    let labels = labels_of(alloc, from.labels, targets)?;
+    Some(WalksFound { labels, walks })
 }

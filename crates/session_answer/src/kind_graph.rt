@@ -109,7 +109,7 @@ impl KindGraph {
         requires within { IsQuestionWithin self.old.graphs.network.n (question_of ask.now) }
         ensures { self.new ≡ self.old }
     {
-        if matches!(context.asked.answer, Answer::Components) || context.asked.lines.has_walks() {
+        if matches!(context.asked.answer, Answer::Components) {
             return;
         }
         let (Ask::Pairs(pairs), Some(kept)) = (ask, kept) else {

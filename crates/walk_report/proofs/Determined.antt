@@ -1,12 +1,10 @@
 -- Arcs and labels determine hops and parents, whatever the order of the arcs.
-use Rattle.std.proofs.Common.{◌≡◌, ◌∙◌, ℕ, ◌<◌, ◌⊎◌, List, [], ◌∷◌, slice_index, sym, arith, inl, inr}
+use Rattle.std.proofs.Common.{◌≡◌, ◌∙◌, ℕ, ◌<◌, List, [], ◌∷◌, slice_index, sym, arith, inl, inr}
 use Rattle.std.proofs.lemmas.Bool.{cases_lt}
 use Rattle.std.proofs.lemmas.Grind.{same_number_lists}
 use Rattle.route_walks.specs.declared.graph.ArcRec.{ArcRec}
 use Rattle.route_walks.specs.declared.graph.TheConstants.{INF}
 use Rattle.route_walks.specs.Walk.{IsWalk, HaveSameArcs}
-use Rattle.route_walks.specs.Label.{AreLeastLabels}
-use Rattle.route_walks.specs.Operators.{seeds_from}
 use Rattle.route_walks.proofs.Facts.{same_arcs-sym}
 use Rattle.walk_report.specs.Hop.{IsHop, AreHops}
 use Rattle.walk_report.specs.Parent.{Leads, IsParent, AreParents, HopsAndParentsFollowTheArcs, HopsAndParentsAreUnique}

@@ -24,7 +24,7 @@ use Rattle.walk_report.specs.Parent.{IsParent, Leads}
 use Rattle.walk_report.specs.Search.{IsTightBelow}
 use Rattle.walk_report.specs.Existence.{HopsAndParentsExist}
 use Rattle.walk_report.proofs.LeastWalks.{first-step, label-le-cost, labels-up-to}
-use Rattle.walk_report.proofs.Tails.{AreLeastTails, tails-done}
+use Rattle.walk_report.proofs.Tails.{AreLeastTails, source-led, tails-done}
 
 -- a step is a tight arc that counts 1
 record IsStep (label : ℕ → ℕ) (arcs : List ArcRec) (step : ArcRec) : Type 0 where
@@ -352,4 +352,4 @@ hops_and_parents_exist law n arcs s labels few graph inside least =
       least = labels-up-to INF least;
       exact = exact;
     } in
-    (hops, parents, exact, tails-done (λ u. u < n) few graph from (λ u below _. below) tails)
+    (hops, parents, exact, tails-done (λ u. u < n) few graph (source-led graph from) (λ u below _. below) tails)

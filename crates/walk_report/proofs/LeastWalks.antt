@@ -4,7 +4,7 @@ use Rattle.std.proofs.Common.{inl, inr}
 use Rattle.std.specs.List.{Contains}
 use Rattle.std.proofs.lemmas.Bool.{cases_lt}
 use Rattle.std.proofs.lemmas.List.{length_push, length-append}
-use Rattle.std.proofs.lemmas.List.Elements.{All-contains}
+use Rattle.std.proofs.lemmas.List.Elements.{All-contains, All-push}
 use Rattle.route_walks.specs.declared.graph.ArcRec.{ArcRec}
 use Rattle.route_walks.specs.declared.graph.TheConstants.{INF}
 use Rattle.route_walks.specs.Walk.{IsArcBelow, IsGraph, IsWalk, cost}
@@ -14,9 +14,9 @@ use Rattle.route_walks.specs.Operators.{seeds_from}
 use Rattle.route_walks.proofs.Facts.{attained-by_walk, attained-over, least_is_least_up_to, walk-append, cost-append}
 use Rattle.route_walks.proofs.Facts.{walks_can_be_cut}
 use Rattle.walk_report.specs.declared.hop.TheConstants.{NONE}
-use Rattle.walk_report.specs.Hop.{HasWalk, AreHops, AreHopsBelow}
+use Rattle.walk_report.specs.Hop.{HasWalk, AreHopsBelow}
 use Rattle.walk_report.specs.Parent.{Leads}
-use Rattle.walk_report.specs.Search.{IsTightBelow, IsReached}
+use Rattle.walk_report.specs.Search.{HasTightWalk, IsTightBelow, IsReached}
 
 -- the walk to u, and then the arc
 pub walk-more : (arcs : List ArcRec) (s u v w d h : ℕ) → Contains arcs (record { tail = u; head = v; weight = w })
@@ -29,6 +29,18 @@ walk-more arcs s u v w d h within to_u =
       costs = omega (arith, cost-append to_u.walk (arc ∷ []), to_u.costs);
       count = omega (arith, length_push to_u.walk arc, to_u.count);
     }
+
+-- the walk to u, and then a tight arc
+pub tight-more : (limit : ℕ) (arcs : List ArcRec) (label : ℕ → ℕ) (s u v w d h : ℕ)
+    → Contains arcs (record { tail = u; head = v; weight = w })
+    → IsTightBelow limit label (record { tail = u; head = v; weight = w })
+    → HasTightWalk limit arcs label s u d h → HasTightWalk limit arcs label s v (d + w) (h + 1)
+unfolding walk-more
+tight-more limit arcs label s u v w d h within tight to_u = record {
+  walk = walk-more arcs s u v w d h within to_u.walk;
+  tight =
+      All-push (IsTightBelow limit label) to_u.walk.walk (record { tail = u; head = v; weight = w }) to_u.tight tight;
+}
 
 -- least labels are least up to each limit
 pub labels-up-to : (limit : ℕ) {n : ℕ} {arcs : List ArcRec} {s : ℕ} {labels : List ℕ}

@@ -6,5 +6,6 @@ mod Queued
 mod Printing
 mod Determined
 mod Agreeing
+mod Toward
 mod Telling
 mod Existence

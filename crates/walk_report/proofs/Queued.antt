@@ -1,14 +1,12 @@
 -- Lists of numbers that only vertices in a queue have, while they are wiped.
-use Rattle.std.proofs.Common.{◌≡◌, ◌∙◌, sym, ℕ, ◌<◌, List, [], ◌∷◌, ◌++◌, slice_index, set, replicate}
+use Rattle.std.proofs.Common.{ℕ, ◌<◌, List, slice_index, replicate}
 use Rattle.std.proofs.Common.{subst, arith, inl, inr}
 use Rattle.std.specs.List.{All, Contains}
-use Rattle.std.proofs.lemmas.Bool.{cases_eq, cases_lt}
-use Rattle.std.proofs.lemmas.Grind.{same_number_lists}
-use Rattle.std.proofs.lemmas.List.{get_or-set_same, get_or-set_other, length-set, get_or-replicate, length-replicate}
-use Rattle.std.proofs.lemmas.List.Elements.{All-from_get_or, Contains-get_or, Contains-push_cases}
+use Rattle.std.proofs.lemmas.Bool.{cases_lt}
+use Rattle.std.proofs.lemmas.List.{get_or-replicate, length-replicate}
+use Rattle.std.proofs.lemmas.List.Elements.{All-from_get_or, Contains-get_or}
 use Rattle.route_walks.specs.declared.graph.ArcRec.{ArcRec}
 use Rattle.walk_report.specs.declared.hop.TheConstants.{NONE}
-use Rattle.walk_report.specs.Parent.{AreParents}
 use Rattle.walk_report.specs.Search.{AreQueued, IsSearch}
 
 -- where no vertex has a number, the queue may be any

@@ -1,11 +1,11 @@
 -- What breadth-first search keeps, and why its hops are fewest at the end.
 use Rattle.std.proofs.Common.{◌≡◌, ◌∙◌, ℕ, ◌+◌, ◌<◌, ◌≤◌, List, [], ◌∷◌, ◌++◌, length, slice_index, set}
 use Rattle.std.proofs.Common.{replicate, cond, eqb, sym, ap, refl, arith, inl, inr, below_more}
-use Rattle.std.specs.List.{Contains, count_by}
+use Rattle.std.specs.List.{All, Contains, count_by}
 use Rattle.std.proofs.lemmas.List.{get_or-set_same, get_or-set_other, length-set, get_or_append_left, get_or_push}
 use Rattle.std.proofs.lemmas.List.{length_push, get_or-replicate, length-replicate}
 use Rattle.std.proofs.lemmas.Grind.{get_or-set_at}
-use Rattle.std.proofs.lemmas.List.Elements.{All-contains}
+use Rattle.std.proofs.lemmas.List.Elements.{All-contains, All-nil, All-tail}
 use Rattle.std.proofs.lemmas.List.Sums.{sum_by-set}
 use Rattle.std.proofs.lemmas.List.Folds.{sum_by-replicate}
 use Rattle.std.proofs.lemmas.Bool.{cases_lt, cases_eq}
@@ -17,8 +17,10 @@ use Rattle.route_walks.specs.Limit.{AreLeastLabelsUpTo}
 use Rattle.route_walks.specs.Operators.{seeds_from}
 use Rattle.route_walks.proofs.Facts.{walk-of_attained}
 use Rattle.walk_report.specs.declared.hop.TheConstants.{NONE}
-use Rattle.walk_report.specs.Hop.{HasWalk, AreHopsBelow}
-use Rattle.walk_report.specs.Search.{IsTightBelow, IsReached, IsVisited, IsSearch}
+use Rattle.walk_report.specs.Hop.{AreHopsBelow}
+use Rattle.walk_report.specs.Parent.{Leads}
+use Rattle.walk_report.specs.Search.{IsTightBelow, IsReached, IsVisited, IsSearch, HasTightWalk}
+use Rattle.walk_report.specs.Toward.{AreTightHops}
 use Rattle.walk_report.proofs.LeastWalks.{label-le-cost, hop-over}
 
 -- one vertex fewer has no hop
@@ -52,7 +54,10 @@ search-start limit n arcs label s below some zero_label =
           rw is (record {
             vertex = below;
             early = omega arith;
-            walk = record { walk = []; walks = refl; costs = sym zero_label; count = sym here };
+            walk = record {
+              walk = record { walk = []; walks = refl; costs = sym zero_label; count = sym here };
+              tight = All-nil (IsTightBelow limit label);
+            };
             low = omega (arith, some, zero_label);
           });
       rising = λ k lt. absurd (omega arith);
@@ -71,7 +76,7 @@ search-small {next = next} search few place = omega (arith, (search.found next p
 pub search-push : {limit n : ℕ} {arcs : List ArcRec} {label : ℕ → ℕ} {hops queue : List ℕ} {next : ℕ}
     → IsSearch limit n arcs label hops queue next → n ≤ MAX_VERTICES → next < length queue
     → (v h : ℕ) → h ≡ slice_index hops (slice_index queue next) + 1
-    → v < n → slice_index hops v ≡ NONE → HasWalk arcs (slice_index queue 0) v (label v) h → label v < limit
+    → v < n → slice_index hops v ≡ NONE → HasTightWalk limit arcs label (slice_index queue 0) v (label v) h → label v < limit
     → IsSearch limit n arcs label (set hops v h) (queue ++ v ∷ []) next
 search-push {hops = hops} {queue = queue} {next = next} search few place v h is below unset walk low =
     let hops' = set hops v h in
@@ -154,50 +159,130 @@ search-next {next = next} search place visited = record {
   visited = below_more _ _ search.visited visited;
 }
 
--- at the end of the queue the hops are fewest
-pub search-done : {limit n : ℕ} {arcs : List ArcRec} {s : ℕ} {labels hops queue : List ℕ} {next : ℕ}
-    → limit ≤ INF → IsGraph n arcs → s < n → AreLeastLabelsUpTo limit n arcs (seeds_from s) labels
-    → IsSearch limit n arcs (slice_index labels) hops queue next
+module _ (limit : ℕ) (arcs : List ArcRec) (label hop : ℕ → ℕ)
+    (reached : (arc : ArcRec) → Contains arcs arc → IsTightBelow limit label arc → hop arc.tail < NONE
+    → IsReached hop (hop arc.tail + 1) arc.head) where
+  -- if each tight arc from a vertex with a hop is reached, hops rise along tight arcs by no more than their number
+  tight-over : (u v : ℕ) (walk : List ArcRec) → IsWalk arcs u walk v → All (IsTightBelow limit label) walk → hop u < NONE
+      → IsReached hop (hop u + length walk) v
+  tight-over u v [] walks tight set = rw (← walks) (omega arith, set)
+  tight-over u v (arc ∷ walk) walks tight set =
+      let from : hop arc.tail ≡ hop u = ap hop walks.1 in
+      let next = reached arc walks.0 (tight 0 arc (omega arith)) (omega (arith, from, set)) in
+      let far = tight-over arc.head v walk walks.2 (All-tail (IsTightBelow limit label) arc walk tight) next.1 in
+      (omega (arith, next, far, from), far.1)
+
+  -- where they rise by as many, the last arc leads to the end
+  tight-leads : (u v : ℕ) (walk : List ArcRec) → IsWalk arcs u walk v → All (IsTightBelow limit label) walk → hop u < NONE
+      → hop u + length walk ≡ hop v → 0 < length walk
+      → (x : ℕ) × Leads arcs label hop x v
+  tight-leads u v [] walks tight set rises some = absurd (omega arith)
+  tight-leads u v (arc ∷ []) walks tight set rises some = (
+    arc.tail,
+    record {
+      weight = arc.weight;
+      within = rw (← walks.2) walks.0;
+      leading = record {
+        tight = rw (← walks.2) (tight 0 arc (omega arith)).0;
+        nearer = omega (arith, ap hop walks.1, rises);
+      };
+    },
+  )
+  tight-leads u v (arc ∷ second ∷ walk) walks tight set rises some =
+      let from : hop arc.tail ≡ hop u = ap hop walks.1 in
+      let next = reached arc walks.0 (tight 0 arc (omega arith)) (omega (arith, from, set)) in
+      let rest = All-tail (IsTightBelow limit label) arc (second ∷ walk) tight in
+      let far = tight-over arc.head v (second ∷ walk) walks.2 rest next.1 in
+      tight-leads arc.head v (second ∷ walk) walks.2 rest next.1 (omega (arith, next, far, from, rises)) (omega arith)
+
+-- at the end of the queue each tight arc from a vertex with a hop is reached
+pub search-tight : {limit n : ℕ} {arcs : List ArcRec} {label : ℕ → ℕ} {s : ℕ} {hops queue : List ℕ} {next : ℕ}
+    → IsGraph n arcs
+    → IsSearch limit n arcs label hops queue next
     → length queue ≤ next → 0 < length queue → slice_index queue 0 ≡ s
-    → AreHopsBelow limit n arcs s labels hops
-search-done {limit = limit} {n = n} {arcs = arcs} {s = s} {labels = labels} {hops = hops} {queue = queue} few graph within
-    least search done some is =
-    let label : ℕ → ℕ = slice_index labels in
+    → AreTightHops limit n arcs s label hops
+search-tight {limit = limit} {n = n} {arcs = arcs} {label = label} {s = s} {hops = hops} {queue = queue} graph search done
+    some is =
     let hop : ℕ → ℕ = slice_index hops in
     let hop_s : hop s ≡ 0 = omega (arith, ap hop is, (search.found 0 some).early) in
-    let first : label (slice_index queue 0) < limit = (search.found 0 some).low in
-    let label_s : label s ≡ 0 =
-    omega (arith, label-le-cost few graph least s [] within (omega (arith, first)) refl) in
-    let found : (v : ℕ) → v < n → hop v < NONE → HasWalk arcs s v (label v) (hop v) × (label v < limit) =
+    let found : (v : ℕ) → v < n → hop v < NONE → HasTightWalk limit arcs label s v (label v) (hop v) × (label v < limit)
+    × (hop v < n) =
     λ v below set.
     let stands = search.queued v below set in
+    let few : hop v < n =
+    omega (arith, (search.found stands.0 stands.1).early, ap hop stands.2, stands.1, search.room) in
     let here = rw (stands.2, is) at (search.found stands.0 stands.1) in
-    (here.walk, here.low) in
+    (here.walk, here.low, few) in
     let reached : (arc : ArcRec) → Contains arcs arc → IsTightBelow limit label arc → hop arc.tail < NONE
     → IsReached hop (hop arc.tail + 1) arc.head =
     λ arc here tight set.
     let stands = search.queued arc.tail (All-contains (IsArcBelow n) arcs arc graph here).0 set in
     rw stands.2 at (search.visited stands.0 (omega (arith, stands.1)) arc here (sym stands.2) tight) in
+    record {
+      led = record {
+        count = search.vertices;
+        few = λ v below set. (found v below set).2;
+        leads = λ v below far set.
+            let to_v = (found v below set).0 in
+            tight-leads limit arcs label hop reached s v to_v.walk.walk to_v.walk.walks to_v.tight (omega (arith, hop_s))
+            (omega (arith, hop_s, to_v.walk.count)) (omega (arith, to_v.walk.count, far));
+      };
+      fits = search.fits;
+      source = λ _. hop_s;
+      low = λ v below set. (found v below set).1;
+      walk = λ v below set. (found v below set).0.walk;
+      reached = reached;
+    }
+
+-- no vertex has a hop below a limit of 0
+pub tight-none : (n : ℕ) (arcs : List ArcRec) (s : ℕ) (label : ℕ → ℕ) → IsGraph n arcs
+    → AreTightHops 0 n arcs s label (replicate n NONE)
+tight-none n arcs s label graph =
+    let none : (v : ℕ) → v < n → slice_index (replicate n NONE) v ≡ NONE = λ v below. get_or-replicate n v NONE 0 below in
+    record {
+      led = record {
+        count = length-replicate n NONE;
+        few = λ v below set. absurd (omega (arith, none v below, set));
+        leads = λ v below far set. absurd (omega (arith, none v below, set));
+      };
+      fits = λ v below. omega (arith, none v below);
+      source = λ some. absurd (omega (arith, some));
+      low = λ v below set. absurd (omega (arith, none v below, set));
+      walk = λ v below set. absurd (omega (arith, none v below, set));
+      reached = λ arc within tight set. absurd (omega (arith, tight.1));
+    }
+
+-- with labels that are least up to the limit these hops are fewest
+pub tight-fewest : {limit n : ℕ} {arcs : List ArcRec} {s : ℕ} {labels hops : List ℕ}
+    → limit ≤ INF → IsGraph n arcs → s < n → AreLeastLabelsUpTo limit n arcs (seeds_from s) labels
+    → AreTightHops limit n arcs s (slice_index labels) hops
+    → AreHopsBelow limit n arcs s labels hops
+tight-fewest {limit = limit} {n = n} {arcs = arcs} {s = s} {labels = labels} {hops = hops} few graph within least tight =
+    let label : ℕ → ℕ = slice_index labels in
+    let hop : ℕ → ℕ = slice_index hops in
     let over : (v : ℕ) (walk : List ArcRec) → v < n → label v < limit → IsWalk arcs s walk v → cost walk ≡ label v
     → IsReached hop (length walk) v =
     λ v walk below low walks costs.
-    let far = hop-over few graph least hop reached s v walk within below low (omega (arith, costs))
-    (omega arith) walks in
-    (omega (arith, far), far.1) in
+    let hop_s : hop s ≡ 0 = tight.source (omega (arith, low)) in
+    let label_s : label s ≡ 0 =
+    omega (arith, label-le-cost few graph least s [] within (omega (arith, low)) refl) in
+    let far = hop-over few graph least hop tight.reached s v walk within below low (omega (arith, costs, label_s))
+    (omega (arith, hop_s)) walks in
+    (omega (arith, far, hop_s), far.1) in
     let set : (v : ℕ) → v < n → label v < limit → hop v < NONE =
     λ v below low.
     let least_walk = walk-of_attained arcs s v (label v) ((least.least v below).attained (omega (arith, low, few))) in
     (over v least_walk.0 below low least_walk.1 least_walk.2).1 in
     record {
-      count = search.vertices;
+      count = tight.led.count;
       none = λ v below past.
           elim (cases_lt (hop v) NONE) [
-            | inl some_hop ↦ absurd (omega (arith, (found v below some_hop).1, past))
-            | inr none ↦ omega (arith, search.fits v below)
+            | inl some_hop ↦ absurd (omega (arith, tight.low v below some_hop, past))
+            | inr none ↦ omega (arith, none, tight.fits v below)
           ];
       below = set;
       hop = λ v below low. record {
-        walk = (found v below (set v below low)).0;
+        walk = tight.walk v below (set v below low);
         fewest = λ walk walks costs. (over v walk below low walks costs).0;
       };
     }

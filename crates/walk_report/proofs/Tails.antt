@@ -12,6 +12,7 @@ use Rattle.csr_graph.specs.declared.target.Target.{Target}
 use Rattle.csr_graph.specs.Graph.{arc_to}
 use Rattle.walk_report.specs.declared.hop.TheConstants.{NONE}
 use Rattle.walk_report.specs.Hop.{AreFromOneSource}
+use Rattle.walk_report.specs.Toward.{AreLedHops}
 use Rattle.walk_report.specs.Parent.{IsLeading, Leads, AreLedFrom, AreParents, LeadBack}
 use Rattle.walk_report.proofs.LeastWalks.{some-leads, hop-lt}
 
@@ -112,12 +113,21 @@ tails-next {arcs = arcs} {label = label} {hop = hop} {tail = tail} IsPassed IsPa
       ];
 }
 
+-- hops from one source are such
+pub source-led : {n : ℕ} {arcs : List ArcRec} {labels hops : List ℕ} → IsGraph n arcs
+    → AreFromOneSource n arcs labels hops → AreLedHops n arcs (slice_index labels) hops
+source-led graph from = record {
+  count = from.exact.count;
+  few = hop-lt from.few graph from.least from.within from.exact;
+  leads = some-leads from.few graph from.least from.within from.exact;
+}
+
 -- with all tails passed that have a hop, the least tails are parents
 pub tails-done : {n : ℕ} {arcs : List ArcRec} {labels hops parents : List ℕ} (IsPassed : ℕ → Type 0)
-    → n ≤ MAX_VERTICES → IsGraph n arcs → AreFromOneSource n arcs labels hops
+    → n ≤ MAX_VERTICES → IsGraph n arcs → AreLedHops n arcs (slice_index labels) hops
     → ((u : ℕ) → u < n → slice_index hops u < NONE → IsPassed u)
     → AreLeastTails n arcs (slice_index labels) (slice_index hops) IsPassed parents → AreParents n arcs labels hops parents
-tails-done {n = n} {arcs = arcs} {hops = hops} {parents = parents} IsPassed few graph from all tails = record {
+tails-done {n = n} {arcs = arcs} {hops = hops} {parents = parents} IsPassed few graph hopped all tails = record {
   count = tails.count;
   source = λ v below zero_hop.
       elim (tails.some v below) [
@@ -134,13 +144,13 @@ tails-done {n = n} {arcs = arcs} {hops = hops} {parents = parents} IsPassed few 
             absurd
             (omega (
               arith,
-              hop-lt from.few graph from.least from.within from.exact u in_graph (omega (arith, nearer, no_hop)),
+              hopped.few u in_graph (omega (arith, nearer, no_hop)),
               nearer,
               no_hop,
             ))
       ];
   parent = λ v below far some.
-      let found = some-leads from.few graph from.least from.within from.exact v below far some in
+      let found = hopped.leads v below far some in
       let within = (All-contains (IsArcBelow n) arcs _ graph found.1.within).0 in
       let low = tails.least v below found.0 (all found.0 within (omega (arith, found.1.leading.nearer, some))) found.1 in
       elim (tails.some v below) [

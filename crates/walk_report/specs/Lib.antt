@@ -5,3 +5,4 @@ pub mod Search
 pub mod Existence
 pub mod Told
 pub mod Kept
+pub mod Toward

@@ -1,6 +1,6 @@
 -- The search for hops: what is true of the hops so far and of the queue. No promise to callers.
 use Rattle.std.specs.Prelude.{◌≡◌, ℕ, ◌+◌, ◌<◌, ◌≤◌, ◌==◌, ◌⊎◌, List, length, slice_index}
-use Rattle.std.specs.Prelude.{count_by, Contains}
+use Rattle.std.specs.Prelude.{count_by, All, Contains}
 use Rattle.route_walks.specs.declared.graph.ArcRec.{ArcRec}
 use Rattle.walk_report.specs.declared.hop.TheConstants.{NONE}
 use Rattle.walk_report.specs.Hop.{HasWalk}
@@ -19,11 +19,16 @@ IsVisited limit arcs label hop u =
     (arc : ArcRec) → Contains arcs arc → arc.tail ≡ u → IsTightBelow limit label arc
     → IsReached hop (hop u + 1) arc.head
 
+-- some walk from s to v along arcs that are tight below a limit costs d and has h arcs
+pub record HasTightWalk (limit : ℕ) (arcs : List ArcRec) (label : ℕ → ℕ) (s v d h : ℕ) : Type 0 where
+  pub walk : HasWalk arcs s v d h
+  pub tight : All (IsTightBelow limit label) walk.walk
+
 -- the vertex v was found as the k-th: a walk from s of its label's cost, below the limit, has h arcs, at most k
 pub record IsFound (limit n : ℕ) (arcs : List ArcRec) (label : ℕ → ℕ) (s v h k : ℕ) : Type 0 where
   pub vertex : v < n
   pub early : h ≤ k
-  pub walk : HasWalk arcs s v (label v) h
+  pub walk : HasTightWalk limit arcs label s v (label v) h
   pub low : label v < limit
 
 -- breadth-first search below a limit from the first vertex of the queue, with those before the place next visited

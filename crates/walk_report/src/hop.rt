@@ -6,6 +6,7 @@ ghost use Rattle.route_walks.specs.Limit.{AreLeastLabelsUpTo};
 ghost use Rattle.route_walks.specs.Operators.{seeds_from};
 ghost use Rattle.walk_report.specs.Hop.{AreHops, AreHopsBelow, AreFromOneSource};
 ghost use Rattle.walk_report.specs.Search.{AreQueued, IsTightBelow, IsVisited, IsSearch};
+ghost use Rattle.walk_report.specs.Toward.{AreTightHops};
 
 use csr_graph::{Csr, Target};
 use route_walks::{ArcRec, INF, Memory};
@@ -52,8 +53,8 @@ pub fn hops_below(
     Ok(hops)
 }
 
-/// Gives each vertex below the limit its hop, and puts it into the queue. If memory is refused, each vertex that has a
-/// hop is in the queue.
+/// Gives each vertex to which arcs lead that are tight below the limit its hop, and puts it into the queue. If memory is
+/// refused, each vertex that has a hop is in the queue.
 pub(crate) fn search(
     csr: &Csr,
     labels: &[u64],
@@ -63,10 +64,11 @@ pub(crate) fn search(
     queue: &mut Vec<u32>,
 ) -> Result<(), Memory>
     requires source { s < csr.now.n }
-    requires least { AreLeastLabelsUpTo limit csr.now.n csr.now.arcs (seeds_from s) labels.now }
+    requires count { length labels.now ≡ csr.now.n }
+    requires start { 0 < limit → slice_index labels.now s ≡ 0 }
     requires blank { hops.old ≡ replicate csr.now.n NONE }
     requires empty { queue.old.items ≡ [] }
-    ensures exact { OnOk result (AreHopsBelow limit csr.now.n csr.now.arcs s labels.now hops.new) }
+    ensures exact { OnOk result (AreTightHops limit csr.now.n csr.now.arcs s (slice_index labels.now) hops.new) }
     ensures within { All (λ v. v < csr.now.n) queue.new.items }
     ensures queued { AreQueued csr.now.n hops.new queue.new.items }
 {

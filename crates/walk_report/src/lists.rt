@@ -1,8 +1,8 @@
 //! Hops and parents that are blank again after each question.
 
-ghost use Rattle.std.specs.Prelude.{◌≡◌, ◌<◌, ◌≤◌, All, IfOk, length};
+ghost use Rattle.std.specs.Prelude.{◌≡◌, ◌<◌, ◌≤◌, All, IfOk, length, slice_index};
 ghost use Rattle.route_walks.specs.declared.graph.TheConstants.{INF};
-ghost use Rattle.route_walks.specs.Limit.{AreLeastLabelsUpTo};
+ghost use Rattle.route_walks.specs.Limit.{AreLeastToward};
 ghost use Rattle.route_walks.specs.Operators.{seeds_from};
 ghost use Rattle.walk_report.specs.Kept.{AreBlank, AreKept};
 ghost use Rattle.walk_report.specs.Told.{AreWalksTo};
@@ -14,7 +14,7 @@ use csr_graph::Csr;
 use route_walks::Memory;
 use std::alloc::Global;
 
-/// Labels of walks from a source that are least up to a limit.
+/// Labels of walks from a source, and the limit up to which they are least.
 #[derive(Clone, Copy, Debug)]
 pub struct LabelsBelow<'a> {
     pub labels: &'a [u64],
@@ -54,11 +54,13 @@ impl Lists {
     ) -> Result<Vec<Vec<u32>>, Memory>
         requires blank { AreBlank csr.now.n self.old }
         requires source { from.source < csr.now.n }
-        requires least { AreLeastLabelsUpTo from.limit csr.now.n csr.now.arcs (seeds_from from.source) from.labels.now }
+        requires count { length from.labels.now ≡ csr.now.n }
+        requires start { 0 < from.limit → slice_index from.labels.now from.source ≡ 0 }
         requires targets { All (λ t. t < csr.now.n) targets.now }
         ensures kept { AreKept csr.now.n self.new }
-        ensures walks { IfOk result (λ walks. AreWalksTo from.entry.limit csr.now.n csr.now.arcs from.entry.source
-            from.entry.labels.now targets.now walks.items) }
+        ensures walks { All (λ t. AreLeastToward from.entry.limit csr.now.n csr.now.arcs (seeds_from from.entry.source) t
+            (slice_index from.entry.labels.now)) targets.now → IfOk result (λ walks. AreWalksTo from.entry.limit csr.now.n
+            csr.now.arcs from.entry.source from.entry.labels.now targets.now walks.items) }
     {
         // The proof alone needs this: it ensures that arcs lead to vertices.
         let _ = csr.n();

@@ -4,6 +4,7 @@ ghost use Rattle.std.specs.Prelude.{◌≡◌, ◌<◌, ◌↔◌, length, repli
 ghost use Rattle.walk_report.specs.Hop.{AreFromOneSource};
 ghost use Rattle.walk_report.specs.Parent.{AreParents, LeadBack, IsLeading, AreLedFrom};
 ghost use Rattle.walk_report.specs.Search.{AreQueued};
+ghost use Rattle.walk_report.specs.Toward.{AreLedHops};
 
 use crate::hop::NONE;
 use csr_graph::{Csr, Target};
@@ -34,7 +35,8 @@ pub(crate) fn parents_among(
     vertices: &[u32],
     parents: &mut [u32],
 )
-    requires from_one_source { AreFromOneSource csr.now.n csr.now.arcs labels.now hops.now }
+    requires labels { length labels.now ≡ csr.now.n }
+    requires led { AreLedHops csr.now.n csr.now.arcs (slice_index labels.now) hops.now }
     requires within { All (λ v. v < csr.now.n) vertices.now }
     requires all { AreQueued csr.now.n hops.now vertices.now }
     requires blank { parents.old ≡ replicate csr.now.n NONE }

@@ -1,7 +1,7 @@
 //! The walks of one question after another.
 
-ghost use Rattle.std.specs.Prelude.{◌≡◌, ◌<◌, All, IfOk};
-ghost use Rattle.route_walks.specs.Limit.{AreLeastLabelsUpTo};
+ghost use Rattle.std.specs.Prelude.{◌≡◌, ◌<◌, All, IfOk, length, slice_index};
+ghost use Rattle.route_walks.specs.Limit.{AreLeastToward};
 ghost use Rattle.route_walks.specs.Operators.{seeds_from};
 ghost use Rattle.walk_report.specs.Told.{AreWalksTo};
 
@@ -45,8 +45,10 @@ impl WalkSpace {
         self.lists.hops.len()
     }
 
-    /// The vertices of the printed walk to each target; no vertices if its label is not below the limit. Takes the time of
-    /// the vertices below the limit, their arcs, and the walks.
+    /// The vertices of the printed walk to each target; no vertices if its label is not below the limit. They are that if
+    /// labels are least up to the limit on the way to each target, as also a search by bounds leaves them.
+    ///
+    /// Takes the time of the vertices to which arcs lead that are tight below the limit, of their arcs, and of the walks.
     pub fn walks_to(
         &mut self,
         alloc: Global,
@@ -56,11 +58,13 @@ impl WalkSpace {
     ) -> Result<Vec<Vec<u32>>, Memory>
         requires vertices { self.old ≡ csr.now.n }
         requires source { from.source < csr.now.n }
-        requires least { AreLeastLabelsUpTo from.limit csr.now.n csr.now.arcs (seeds_from from.source) from.labels.now }
+        requires count { length from.labels.now ≡ csr.now.n }
+        requires start { 0 < from.limit → slice_index from.labels.now from.source ≡ 0 }
         requires targets { All (λ t. t < csr.now.n) targets.now }
         ensures vertices { self.new ≡ self.old }
-        ensures walks { IfOk result (λ walks. AreWalksTo from.entry.limit csr.now.n csr.now.arcs from.entry.source
-            from.entry.labels.now targets.now walks.items) }
+        ensures walks { All (λ t. AreLeastToward from.entry.limit csr.now.n csr.now.arcs (seeds_from from.entry.source) t
+            (slice_index from.entry.labels.now)) targets.now → IfOk result (λ walks. AreWalksTo from.entry.limit csr.now.n
+            csr.now.arcs from.entry.source from.entry.labels.now targets.now walks.items) }
     {
         let walks = self.lists.walks_to(alloc, csr, from, targets);
         self.lists.wipe();

@@ -131,7 +131,11 @@ fn expect_same<H: Threads + Wait + Clock + Abort + Sync>(
 }
 
 /// Pairs of vertices below `n`, some with several targets of a source, and some of a vertex with itself.
-fn drawn_pairs(alloc: Global, draws: &mut Draws, n: u32) -> Result<Vec<(u32, u32)>, Memory> {
+pub(crate) fn drawn_pairs(
+    alloc: Global,
+    draws: &mut Draws,
+    n: u32,
+) -> Result<Vec<(u32, u32)>, Memory> {
     let mut pairs = Vec::new(alloc);
     for at in 0..15_u32 {
         let source = draws.below(n);
@@ -166,7 +170,7 @@ fn random_streets(rt: HostRuntime) -> Result<(), Fail> {
 }
 
 /// A network of 200 vertices and so many arcs that are drawn.
-fn random_network<H: Threads + Abort + Sync>(
+pub(crate) fn random_network<H: Threads + Abort + Sync>(
     rt: &H,
     alloc: Global,
     draws: &mut Draws,

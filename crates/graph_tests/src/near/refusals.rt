@@ -1,7 +1,7 @@
 //! Each call with one allocation refused: it finds nothing, and made once more in the same lists what was worked by
 //! hand.
 
-use crate::near::Question::{Cost, Labels, Toward, Walks, Within};
+use crate::near::Question::{Cost, Labels, Toward, Walk, Walks, WalksToward, Within};
 use crate::near::{ALL, ENOUGH, FROM_0, Question, is_right, room_of};
 use crate::reports::build;
 use near_labels::SearchSpace;
@@ -45,12 +45,22 @@ fn of_search_space_labels_to(rt: HostRuntime) -> Result<(), Fail> {
 
 #[test]
 fn of_search_space_labels_toward(rt: HostRuntime) -> Result<(), Fail> {
-    expect_again(&rt, rt.alloc(), Toward(5))
+    expect_again(&rt, rt.alloc(), Toward(&[5]))
 }
 
 #[test]
 fn of_search_space_walks_to(rt: HostRuntime) -> Result<(), Fail> {
     expect_again(&rt, rt.alloc(), Walks)
+}
+
+#[test]
+fn of_search_space_walks_toward(rt: HostRuntime) -> Result<(), Fail> {
+    expect_again(&rt, rt.alloc(), WalksToward(&[5]))
+}
+
+#[test]
+fn of_search_space_walk_between(rt: HostRuntime) -> Result<(), Fail> {
+    expect_again(&rt, rt.alloc(), Walk(5))
 }
 
 #[test]

@@ -70,6 +70,8 @@ fn of_walk_space_walks_to(rt: HostRuntime) -> Result<(), Fail> {
     let targets = [3, 5, 0];
     assert!(rt; are_below(6, &targets));
     let mut space = WalkSpace::new(alloc, 6)?;
+    let start = labels[0];
+    assert_eq!(rt; start, 0);
     let from = LabelsBelow {
         labels: &labels,
         source: 0,

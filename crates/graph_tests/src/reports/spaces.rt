@@ -38,6 +38,8 @@ fn expect_asked(
     let within = source < csr.n() && are_below(csr.n(), targets);
     assert!(rt; within);
     let labels = distances_below(alloc, csr, source, limit)?;
+    let start = labels[source as usize];
+    assert!(rt; start == 0 || limit == 0);
     let from = LabelsBelow {
         labels: &labels,
         source,

@@ -1,6 +1,6 @@
 //! Searches within a limit, in room that is there or not. They return `None` if there is none, or the limit doesn't do.
 
-ghost use Rattle.std.specs.Prelude.{◌≡◌, ◌<◌, All, IfSome};
+ghost use Rattle.std.specs.Prelude.{◌≡◌, ◌<◌, [], ◌∷◌, All, IfSome};
 ghost use Rattle.route_walks.specs.declared.graph.TheConstants.{INF};
 ghost use Rattle.route_walks.specs.Label.{IsLeast};
 ghost use Rattle.route_walks.specs.Operators.{seeds_from};
@@ -54,6 +54,66 @@ pub(crate) fn walks_by(
         (Some(space), Some(walks)) if space.vertices() == n && walks.vertices() == n => {
             space.allow(limit.visits, limit.arcs);
             space.walks_to(walks, alloc, &network.rows, source, targets)
+        }
+        _ => None,
+    }
+}
+
+/// The least labels of the targets of bounds, and walks to them, within the limit.
+pub(crate) fn walks_toward(
+    space: &mut Option<SearchSpace>,
+    walks: &mut Option<WalkSpace>,
+    alloc: Global,
+    network: &Network,
+    source: u32,
+    bounds: &Bounds<'_>,
+    limit: SearchLimit,
+) -> Option<WalksFound>
+    requires source { source < network.now.n }
+    requires targets { All (λ t. t < network.now.n) bounds.now.targets.now }
+    requires bounds { AreBounds (graph_of network.now) bounds.now }
+    ensures { IfSome result (AreWalksFound network.now.n network.now.arcs source bounds.now.targets.now) }
+{
+    let n = network.n() as usize;
+    match (space, walks) {
+        (Some(space), Some(walks)) if space.vertices() == n && walks.vertices() == n => {
+            space.allow(limit.visits, limit.arcs);
+            space.walks_toward(walks, alloc, &network.rows, source, bounds)
+        }
+        _ => None,
+    }
+}
+
+/// The least label of the second of a pair and the walk to it from the first, by a search from both ends within the limit.
+pub(crate) fn walk_by_both(
+    forward: &mut Option<SearchSpace>,
+    backward: &mut Option<SearchSpace>,
+    walks: &mut Option<WalkSpace>,
+    alloc: Global,
+    network: &Network,
+    pair: (u32, u32),
+    limit: SearchLimit,
+) -> Option<WalksFound>
+    requires source { pair.0 < network.now.n }
+    requires target { pair.1 < network.now.n }
+    ensures { IfSome result (AreWalksFound network.now.n network.now.arcs pair.0 (pair.1 ∷ [])) }
+{
+    let n = network.n() as usize;
+    let (source, target) = pair;
+    match (forward, backward, walks, network.reversed()) {
+        (Some(forward), Some(backward), Some(walks), Some(reversed))
+            if forward.vertices() == n && backward.vertices() == n && walks.vertices() == n => {
+            forward.allow(limit.visits, limit.arcs);
+            backward.allow(limit.visits, limit.arcs);
+            forward.walk_between(
+                backward,
+                walks,
+                alloc,
+                &network.rows,
+                reversed,
+                source,
+                target,
+            )
         }
         _ => None,
     }

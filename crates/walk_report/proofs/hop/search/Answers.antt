@@ -1,14 +1,10 @@
 -- The search starts at s, goes on vertex by vertex, and ends with the queue.
-use Rattle.std.proofs.Common.{◌≡◌, ◌∙◌, ℕ, ◌<◌, ◌≤◌, [], ◌∷◌, ◌++◌, slice_index, ap, refl, arith}
-use Rattle.std.proofs.lemmas.List.{get_or-replicate, length-replicate}
+use Rattle.std.proofs.Common.{◌≡◌, ◌∙◌, ℕ, ◌<◌, [], ◌∷◌, ◌++◌, slice_index, ap, refl, arith}
 use Rattle.std.proofs.lemmas.List.Elements.{All-nil}
-use Rattle.route_walks.specs.declared.graph.TheConstants.{INF}
-use Rattle.walk_report.specs.declared.hop.TheConstants.{NONE}
-use Rattle.walk_report.specs.Hop.{AreHopsBelow}
+use Rattle.walk_report.specs.Toward.{AreTightHops}
 use Rattle.walk_report.specs.Search.{AreQueued}
-use Rattle.walk_report.proofs.LeastWalks.{label-le-cost}
 use Rattle.walk_report.proofs.Queued.{queued-none, search-queued, search-within}
-use Rattle.walk_report.proofs.Searching.{search-start, search-next, search-done}
+use Rattle.walk_report.proofs.Searching.{search-start, search-next, search-tight, tight-none}
 use Rattle.walk_report.proofs.hop.search.Goals as goal
 
 pub returns-then-limit-eq0 : goal.returns-then-limit-eq0
@@ -16,13 +12,9 @@ returns-then-limit-eq0 c =
     let csr = c.args.csr.now in
     let queued : AreQueued csr.n c.args.hops.now c.args.queue.now.items =
     rw c.requires.blank (queued-none csr.n c.args.queue.now.items) in
-    let exact : AreHopsBelow c.args.limit csr.n csr.arcs c.args.s c.args.labels.now c.args.hops.now =
-    rw c.requires.blank (record {
-      count = length-replicate csr.n NONE;
-      none = λ v below past. get_or-replicate csr.n v NONE 0 below;
-      below = λ v below low. absurd (omega (arith, low, c.if-limit-eq0.true));
-      hop = λ v below low. absurd (omega (arith, low, c.if-limit-eq0.true));
-    }) in
+    let zero : c.args.limit ≡ 0 = omega (arith, c.if-limit-eq0.true) in
+    let exact : AreTightHops c.args.limit csr.n csr.arcs c.args.s (slice_index c.args.labels.now) c.args.hops.now =
+    rw (c.requires.blank, zero) (tight-none csr.n csr.arcs c.args.s (slice_index c.args.labels.now) c.n.ensures.in_rows.ends) in
     record {
       exact = exact;
       within = rw c.requires.empty (All-nil (λ (v : ℕ). v < csr.n));
@@ -34,13 +26,7 @@ loop-next-init c =
     let s = c.args.s in
     let csr = c.args.csr.now in
     let limit = c.args.limit in
-    let few : limit ≤ INF = omega (arith, c.ranges.limit.fits) in
-    let zero_label : slice_index c.args.labels.now s ≡ 0 =
-    omega (
-      arith,
-      label-le-cost few c.n.ensures.in_rows.ends c.requires.least s [] c.requires.source
-          (omega (arith, c.if-limit-eq0.false)) refl,
-    ) in
+    let zero_label : slice_index c.args.labels.now s ≡ 0 = c.requires.start (omega (arith, c.if-limit-eq0.false)) in
     let queue : c.push.new.self.items ≡ s ∷ [] =
     c.in_ok-push.ensures.items ∙ ap (λ xs. xs ++ s ∷ []) c.requires.empty in
     rw (c.requires.blank, queue) (record {
@@ -66,9 +52,7 @@ pub returns : goal.returns
 returns c =
     let inv = c.loop-next.invariant in
     record {
-      exact =
-          search-done (omega (arith, c.ranges.limit.fits)) c.n.ensures.in_rows.ends c.requires.source c.requires.least
-          inv.search (omega arith) inv.some inv.source;
+      exact = search-tight c.n.ensures.in_rows.ends inv.search (omega arith) inv.some inv.source;
       within = search-within inv.search;
       queued = search-queued inv.search;
     }

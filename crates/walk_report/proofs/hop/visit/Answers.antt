@@ -9,10 +9,9 @@ use Rattle.csr_graph.specs.declared.target.Target.{Target}
 use Rattle.csr_graph.specs.Graph.{Graph, IsInRows, arc_to}
 use Rattle.csr_graph.proofs.Facts.{row_arcs, no_target}
 use Rattle.walk_report.specs.declared.hop.TheConstants.{NONE}
-use Rattle.walk_report.specs.Hop.{HasWalk}
-use Rattle.walk_report.specs.Search.{IsTightBelow}
+use Rattle.walk_report.specs.Search.{HasTightWalk, IsTightBelow}
 use Rattle.walk_report.proofs.Filling.{filled-pass, filled-put, filled-all}
-use Rattle.walk_report.proofs.LeastWalks.{walk-more}
+use Rattle.walk_report.proofs.LeastWalks.{tight-more}
 use Rattle.walk_report.proofs.Searching.{search-small, search-push, search-near}
 use Rattle.walk_report.proofs.hop.visit.Invariants.{IsVisiting}
 use Rattle.walk_report.proofs.hop.visit.Goals as goal
@@ -27,16 +26,18 @@ reaches : {limit : ℕ} {graph : Graph} → IsInRows graph → {label : ℕ → 
     → IsTightBelow limit label (arc_to u target)
     → slice_index hops target.head ≡ NONE
     → IsVisiting limit graph label (set hops target.head h) (queue ++ target.head ∷ []) next u h s
-reaches {graph = graph} rows {label = label} {hops = hops} {queue = queue} {next = next} {u = u} {h = h} inv target at
+reaches {limit = limit} {graph = graph} rows {label = label} {hops = hops} {queue = queue} {next = next} {u = u} {h = h} inv target at
     tight unset =
     let v = target.head in
     let from = inv.search.found next inv.place in
     let here = slice_index queue next in
     let at_next = rw (← inv.vertex) at at.0 in
-    let walk : HasWalk graph.arcs (slice_index queue 0) v (label v) h =
+    let tight_next : IsTightBelow limit label (record { tail = here; head = v; weight = target.weight }) =
+    rw (← inv.vertex) at tight in
+    let walk : HasTightWalk limit graph.arcs label (slice_index queue 0) v (label v) h =
     rw (← tight.0, inv.hop, ← inv.vertex)
-    (walk-more graph.arcs (slice_index queue 0) here v target.weight (label here)
-    (slice_index hops here) at_next from.walk) in
+    (tight-more limit graph.arcs label (slice_index queue 0) here v target.weight (label here)
+    (slice_index hops here) at_next tight_next from.walk) in
     let keep : (k : ℕ) → k < length queue → slice_index (queue ++ v ∷ []) k ≡ slice_index queue k =
     λ k old. get_or_append_left queue (v ∷ []) 0 k old in
     record {

@@ -2,7 +2,7 @@
 use Rattle.std.proofs.Common.{◌≡◌, ◌+◌, ◌<◌, ◌⊎◌, inl, inr, ℕ, replicate, arith, rules, take_at}
 use Rattle.std.proofs.lemmas.Bool.{cases_lt}
 use Rattle.walk_report.specs.declared.hop.TheConstants.{NONE}
-use Rattle.walk_report.proofs.Tails.{tails-none, tails-next, tails-done, parents-lead_back}
+use Rattle.walk_report.proofs.Tails.{source-led, tails-none, tails-next, tails-done, parents-lead_back}
 use Rattle.walk_report.proofs.parent.parents.Goals as goal
 
 pub loop-tail-init : goal.loop-tail-init
@@ -30,7 +30,7 @@ pub returns-clause-exact : goal.returns-clause-exact
 returns-clause-exact c =
     let csr = c.args.csr.now in
     let rows = c.n-n.ensures.in_rows in
-    tails-done (λ u. u < c.loop-tail.tail) rows.vertices rows.ends c.requires
+    tails-done (λ u. u < c.loop-tail.tail) rows.vertices rows.ends (source-led rows.ends c.requires)
     (λ u below _. omega (arith, below, c.n-n.ensures.vertices)) c.loop-tail.invariant
 
 pub returns-clause-back : goal.returns-clause-back

@@ -30,7 +30,7 @@ returns-clause-exact c =
     let rows = c.n.ensures.in_rows in
     let vertices = c.args.vertices.now in
     tails-done (λ u. (k : ℕ) × (k < c.loop-tail.tail-index) × (slice_index vertices k ≡ u)) rows.vertices rows.ends
-    c.requires.from_one_source
+    c.requires.led
     (λ u below some.
     elim (c.requires.all.others u below) [
       | inl within ↦ (
@@ -44,4 +44,4 @@ returns-clause-exact c =
 
 pub returns-clause-back : goal.returns-clause-back
 returns-clause-back c =
-    parents-lead_back c.n.ensures.in_rows.ends c.requires.from_one_source.exact.count (returns-clause-exact c)
+    parents-lead_back c.n.ensures.in_rows.ends c.requires.led.count (returns-clause-exact c)

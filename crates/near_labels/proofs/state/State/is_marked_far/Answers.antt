@@ -1,10 +1,10 @@
-use Rattle.std.proofs.Common.{◌≡◌, ℕ, ◌<◌, true, get_or, length, subst, rules}
+use Rattle.std.proofs.Common.{◌≡◌, ℕ, ◌<◌, true, length, subst, rules}
 use Rattle.std.specs.Prelude.{All, slice_index}
 use Rattle.std.proofs.lemmas.List.{take_all}
 use Rattle.std.proofs.lemmas.List.Elements.{All-more}
 use Rattle.relax_core.specs.State.{mark_of}
 use Rattle.csr_graph.specs.Bounds.{ArePast}
-use Rattle.near_labels.proofs.Noting.{noted-far}
+use Rattle.near_labels.proofs.Noting.{noted-marked}
 use Rattle.near_labels.proofs.state.State.is_marked_far.Goals as goal
 
 pub loop-v-preserved : goal.loop-v-preserved
@@ -25,6 +25,6 @@ returns c =
     let noted = c.args.self.now.noted.items in
     let limit = c.args.limit in
     λ _.
-    noted-far limit c.args.bounds.now labels marks noted c.requires
+    noted-marked (λ (w : ℕ). ArePast limit c.args.bounds.now w (slice_index labels w)) labels marks noted c.requires
     (subst (All (λ (w : ℕ). mark_of marks w ≡ true → ArePast limit c.args.bounds.now w (slice_index labels w)))
     (take_all c.loop-v.v-index noted (search rules)) c.loop-v.invariant)

@@ -5,7 +5,7 @@ use Rattle.std.proofs.lemmas.List.{get_or_read, take_all}
 use Rattle.std.proofs.lemmas.List.Elements.{All-more, All-get_or}
 use Rattle.std.proofs.lemmas.Bool.{false≢true}
 use Rattle.relax_core.specs.State.{mark_of}
-use Rattle.near_labels.proofs.Noting.{noted-unmarked}
+use Rattle.near_labels.proofs.Noting.{noted-marked}
 use Rattle.near_labels.proofs.state.State.is_unmarked_below.Goals as goal
 use Rattle.near_labels.proofs.state.State.is_unmarked_below.Goals.{else-index-via-then-index+else-index-limit, else-index-via-else-index}
 
@@ -42,6 +42,6 @@ returns c =
     let noted = c.args.self.now.noted.items in
     let limit = c.args.limit in
     λ _.
-    noted-unmarked limit labels marks noted c.requires
+    noted-marked (λ (w : ℕ). limit ≤ slice_index labels w) labels marks noted c.requires
     (subst (All (λ (w : ℕ). mark_of marks w ≡ true → limit ≤ slice_index labels w))
     (take_all c.loop-v.v-index noted (search rules)) c.loop-v.invariant)

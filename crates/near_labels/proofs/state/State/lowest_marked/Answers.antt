@@ -5,7 +5,7 @@ use Rattle.std.proofs.lemmas.List.{get_or_read, take_all}
 use Rattle.std.proofs.lemmas.List.Elements.{All-more, All-get_or}
 use Rattle.std.proofs.lemmas.Bool.{false≢true}
 use Rattle.relax_core.specs.State.{mark_of}
-use Rattle.near_labels.proofs.Noting.{noted-unmarked}
+use Rattle.near_labels.proofs.Noting.{noted-marked}
 use Rattle.near_labels.proofs.state.State.lowest_marked.Goals as goal
 use Rattle.near_labels.proofs.state.State.lowest_marked.Goals.{then-index, else-index}
 
@@ -47,6 +47,6 @@ returns c =
     let marks = c.args.self.now.marks.items in
     let noted = c.args.self.now.noted.items in
     let lowest = c.loop-v.lowest in
-    noted-unmarked lowest labels marks noted c.requires
+    noted-marked (λ (w : ℕ). lowest ≤ slice_index labels w) labels marks noted c.requires
     (subst (All (λ (w : ℕ). mark_of marks w ≡ true → lowest ≤ slice_index labels w))
     (take_all c.loop-v.v-index noted (search rules)) c.loop-v.invariant)

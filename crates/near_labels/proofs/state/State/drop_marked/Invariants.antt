@@ -1,0 +1,12 @@
+use Rattle.std.proofs.Common.{◌≡◌, length}
+use Rattle.near_labels.specs.Noted.{AreDropped, AreNoted}
+use Rattle.near_labels.proofs.state.State.drop_marked.Given as goal
+
+abbrev pub invariant-loop-place : goal.invariant-loop-place
+invariant-loop-place l = record {
+  noted : AreNoted l.self.labels.items l.self.marks.items l.self.noted.items;
+  list : l.self.noted.items ≡ l.fn.self.noted.items;
+  marks : l.self.marks.items ≡ l.fn.self.marks.items;
+  count : length l.self.labels.items ≡ length l.fn.self.labels.items;
+  dropped : AreDropped l.but l.fn.self.marks.items l.fn.self.labels.items l.self.labels.items;
+}
