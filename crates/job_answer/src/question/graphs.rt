@@ -2,6 +2,7 @@
 
 ghost use Rattle.std.specs.Prelude.{◌≡◌, ◌≤◌, ◌^◌, All, List, None, length, IfOk, IfSome, ℕ};
 ghost use Rattle.least_costs.specs.Network.{HasArcs, IsNetworkOf, arcs_of};
+ghost use Rattle.least_costs.specs.Teams.{IsAtMost};
 ghost use Rattle.least_costs.specs.declared.cost.Cost.TheVariants.{Weight};
 ghost use Rattle.route_walks.specs.declared.graph.ArcRec.{ArcRec};
 ghost use Rattle.route_walks.specs.declared.graph.TheConstants.{MAX_VERTICES};
@@ -120,7 +121,8 @@ pub fn plan_of(asked: &Asked) -> Plan
 
 /// The number of tasks that are done at the same time.
 pub fn teams_for(graphs: &Graphs, asked: &Asked) -> usize
-    ensures { result ≤ asked.now.settings.workers }
+    ensures workers { result ≤ asked.now.settings.workers }
+    ensures most { IsAtMost asked.now.at_once result }
 {
     plan_of(asked).teams(&graphs.network)
 }

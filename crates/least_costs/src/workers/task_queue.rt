@@ -80,7 +80,7 @@ pub struct TaskQueue<'a, P, G> {
     /// The number of places.
     len: usize,
     /// The teams that work at the same time. With fewer than two nothing is made before its turn.
-    teams: usize,
+    pub teams: usize,
     most: usize,
     ghost within: { (teams ≤ settings.workers) × (settings.workers ≤ MAX_WORKERS) },
 }
@@ -95,7 +95,8 @@ impl<'a, P: Send + Drop, G: Gate + Sync> TaskQueue<'a, P, G> {
     ) -> TaskQueue<'a, P, G>
         requires teams { teams ≤ workers.settings.workers }
         requires few { workers.settings.workers ≤ MAX_WORKERS }
-        ensures { result.made.items ≡ [] }
+        ensures none { result.made.items ≡ [] }
+        ensures teams { result.teams ≡ teams }
     {
         TaskQueue {
             made: Vec::new(alloc),
@@ -155,6 +156,9 @@ impl<'a, P: Send + Drop, G: Gate + Sync> TaskQueue<'a, P, G> {
         requires made { AreFinished (T.is_part tasks.now) self.old.made.items }
         ensures left { AreFinished (T.is_part tasks.now) self.new.made.items }
         ensures part { IfSome result (T.is_part tasks.now place) }
+        // No more than two tasks for each team are done at once, and teams don't become more.
+        ensures few { length self.new.made.items ≤ length self.old.made.items + (self.old.teams + self.old.teams) }
+        ensures teams { self.new.teams ≤ self.old.teams }
     {
         self.make_next(rt, alloc, tasks, make, place);
         let at = self.made.iter().position(|made| made.place == place)?;
@@ -170,7 +174,9 @@ impl<'a, P: Send + Drop, G: Gate + Sync> TaskQueue<'a, P, G> {
         requires callable { F.IsAlwaysCallable make.now }
         requires makes { Makes (T.is_part tasks.now) (F.post make.now) }
         requires made { AreFinished (T.is_part tasks.now) self.old.made.items }
-        ensures { AreFinished (T.is_part tasks.now) self.new.made.items }
+        ensures made { AreFinished (T.is_part tasks.now) self.new.made.items }
+        ensures few { length self.new.made.items ≤ length self.old.made.items + (self.old.teams + self.old.teams) }
+        ensures teams { self.new.teams ≤ self.old.teams }
     {
         if place < self.end || self.teams < 2 {
             return;
@@ -250,16 +256,41 @@ where
     requires states { length states.old ≤ round.now.settings.workers }
     requires few { round.now.settings.workers ≤ MAX_WORKERS }
     requires made { AreFinished (T.is_part round.now.tasks.now) made.old.items }
-    ensures { AreFinished (T.is_part round.now.tasks.now) made.new.items }
+    ensures made { AreFinished (T.is_part round.now.tasks.now) made.new.items }
+    ensures few { length made.new.items ≤ length made.old.items + length round.now.places.now }
 {
     work_all(rt, round, states);
+    let most = made.len().saturating_add(round.places.len());
     let mut whole = true;
     for at in 0..states.len() {
         let state = &mut states[at];
-        let kept = made.append(&mut state.made).is_ok();
+        // A place is taken by one team, so there is room for all.
+        let kept = keep_made(round.tasks, made, &mut state.made, most);
         whole = whole && kept && state.whole;
     }
     whole
+}
+
+/// Moves what a team made to the end of a list, which has at most so many. Returns false if all is left where it is.
+fn keep_made<P: Drop, T: Tasks<P>>(
+    tasks: &T,
+    made: &mut Vec<FinishedTask<P>>,
+    more: &mut Vec<FinishedTask<P>>,
+    most: usize,
+) -> bool
+    requires made { AreFinished (T.is_part tasks.now) made.old.items }
+    requires more { AreFinished (T.is_part tasks.now) more.old.items }
+    requires few { length made.old.items ≤ most }
+    ensures made { AreFinished (T.is_part tasks.now) made.new.items }
+    ensures more { AreFinished (T.is_part tasks.now) more.new.items }
+    ensures few { length made.new.items ≤ most }
+{
+    // The tasks are for the contract alone.
+    let _ = tasks;
+    if more.len() > most - made.len() {
+        return false;
+    }
+    made.append(more).is_ok()
 }
 
 /// Lets the teams work at the same time.
