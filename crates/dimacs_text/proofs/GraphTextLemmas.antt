@@ -112,7 +112,7 @@ never_over reader text job (inl some) r is_job never =
 
 -- ---- how many lines it has
 
-readings_length : (n : ℕ) (ls : List (List ℕ)) → length (readings n ls) ≡ length ls
+pub readings_length : (n : ℕ) (ls : List (List ℕ)) → length (readings n ls) ≡ length ls
 unfolding readings
 readings_length n [] = refl
 readings_length n (l ∷ ls) = ap (λ k. suc k) (readings_length (vertices_after n (reading n l)) ls)
@@ -212,7 +212,7 @@ some_line_by false b bs e =
     let first = first_of b (lines bs) in
     (first.0, first.1, lines_test false b bs e ∙ first.2)
 
-some_line : (b : ℕ) (bs : List ℕ) → (l : List ℕ) × (rest : List (List ℕ)) × (lines (b ∷ bs) ≡ l ∷ rest)
+pub some_line : (b : ℕ) (bs : List ℕ) → (l : List ℕ) × (rest : List (List ℕ)) × (lines (b ∷ bs) ≡ l ∷ rest)
 some_line b bs = some_line_by (eqb b 10) b bs refl
 
 -- the lines of what comes after a text are those that are left without the text's own

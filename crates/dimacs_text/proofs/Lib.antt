@@ -11,6 +11,7 @@ pub mod TextLaws
 pub mod Existence
 pub mod Limits
 pub mod GraphTextLemmas
+pub mod MissingLines
 pub mod AfterGraphLemmas
 pub mod WithinLemmas
 pub mod HeadLemmas

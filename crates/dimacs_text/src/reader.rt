@@ -15,9 +15,9 @@ ghost use Rattle.dimacs_text.specs.reader.FastArc.{EndsWithFeed, HasNoFeed};
 ghost use Rattle.dimacs_text.specs.reader.Drafts.{AreArcLines};
 ghost use Rattle.dimacs_text.specs.Reading.{IsReadAhead, Reads};
 ghost use Rattle.dimacs_text.specs.Reading.{HasRead, HasReadLines, HasReadText, IsLineEnd, IsOpenComment};
-ghost use Rattle.dimacs_text.specs.GraphTexts.{HasFault, HasGraph, IsGraphOver, IsGraphText};
+ghost use Rattle.dimacs_text.specs.GraphTexts.{HasFault, HasGraph, HasNoGraphInside, IsGraphOver, IsGraphText};
 
-use crate::arc_runs::{ArcRun, ReadAhead, SHORTEST_ARC_BYTES};
+use crate::arc_runs::{ArcRun, ReadAhead};
 use crate::draft::Draft;
 use crate::explanation::ExplainedFault;
 use crate::fault::{LineKind, TextFault};
@@ -281,19 +281,41 @@ impl JobReader {
         self.lines.draft.arcs_so_far()
     }
 
+    /// The number of lines that have to come at least before the graph is whole: the problem line, or one for each missing
+    /// arc. 0 if the graph is whole, a section was begun or a line is wrong.
+    pub fn missing_lines(&self) -> usize
+        ensures inside { (text more : List ℕ) → HasRead self.now text → 0 < result → 0 < length more
+            → length (lines more) ≤ result → HasNoGraphInside (text ++ more) }
+    {
+        if self.lines.fault.is_some() {
+            return 0;
+        }
+        self.lines.draft.stage.missing_lines()
+    }
+
     /// Reads the next bytes as `feed` does, up to the line with which the graph is whole or to a wrong one, and returns
     /// how many it took.
     pub fn feed_graph(&mut self, bytes: &[u8]) -> Result<usize, Memory>
         ensures place { IfOk result (λ count. count ≤ length bytes.now) }
         ensures reads { IfOk result (λ count. Reads self.old self.new (take count bytes.now)) }
         ensures over { IfOk result (λ count. count < length bytes.now → IsGraphOver self.new) }
+        // It does not read past a graph.
+        ensures inside { IfOk result (λ count. (text : List ℕ) → HasRead self.old text
+            → length text + length bytes.now ≤ 2 ^ 36 → HasNoGraphInside text
+            → HasNoGraphInside (text ++ take count bytes.now)) }
     {
         let mut at = 0;
-        while at < bytes.len() && !self.is_graph_over() {
+        let mut missing = self.missing_lines();
+        while at < bytes.len() && missing > 0 {
             let rest = &bytes[at..];
-            let (part, _) = rest.split_at(self.graph_part(rest));
+            let (part, _) = rest.split_at(graph_part(rest, missing));
             self.feed(part)?;
             at += part.len();
+            missing = self.missing_lines();
+        }
+        if at < bytes.len() && !self.is_graph_over() {
+            // Only a reader that was fed more than a graph comes here.
+            return Err(Memory);
         }
         Ok(at)
     }
@@ -333,23 +355,6 @@ impl JobReader {
             return false;
         }
         matches!(self.lines.draft.stage.missing_arcs(), Some(0))
-    }
-
-    /// The number of the next bytes that are surely of the graph: each missing arc has a line.
-    fn graph_part(&self, bytes: &[u8]) -> usize
-        requires some { 0 < length bytes.now }
-        ensures some { 0 < result }
-        ensures place { result ≤ length bytes.now }
-    {
-        let lines = match self.arcs_so_far() {
-            Some((read, all)) => all.saturating_sub(read).max(1),
-            None => 1,
-        };
-        if bytes.len() / SHORTEST_ARC_BYTES < lines - 1 {
-            bytes.len()
-        } else {
-            after_feeds(bytes, lines)
-        }
     }
 
     /// The graph of a text without sections that was read to a line feed, and the number of the next line. Any other
@@ -414,19 +419,37 @@ impl JobReader {
     }
 }
 
+/// The number of the next bytes that are surely of the graph, of which this many lines are missing.
+fn graph_part(bytes: &[u8], missing: usize) -> usize
+    requires some { 0 < length bytes.now }
+    requires missing { 0 < missing }
+    ensures some { 0 < result }
+    ensures place { result ≤ length bytes.now }
+    ensures few { length (lines (take result bytes.now)) ≤ missing }
+{
+    if bytes.len() <= missing {
+        bytes.len()
+    } else {
+        after_feeds(bytes, missing)
+    }
+}
+
 /// The place after this many line feeds, or after all bytes if there are fewer.
 fn after_feeds(bytes: &[u8], count: usize) -> usize
     requires some { 0 < length bytes.now }
+    requires count { 0 < count }
     ensures some { 0 < result }
     ensures place { result ≤ length bytes.now }
+    ensures few { length (lines (take result bytes.now)) ≤ count }
 {
     let mut left = count;
     for (place, byte) in bytes.iter().enumerate() {
-        if *byte == b'\n' {
-            left = left.saturating_sub(1);
-            if left == 0 {
-                return place + 1;
-            }
+        if *byte != b'\n' {
+            continue;
+        }
+        left = left.saturating_sub(1);
+        if left == 0 {
+            return place + 1;
         }
     }
     bytes.len()

@@ -15,7 +15,7 @@ pub enum Stage {
 }
 
 impl Stage {
-    ghost use Rattle.dimacs_text.specs.reader.Machine.{can_come, misfit_at, one_less, phase_of};
+    ghost use Rattle.dimacs_text.specs.reader.Machine.{can_come, lines_missing, misfit_at, one_less, phase_of};
     ghost use Rattle.dimacs_text.specs.reader.Requests.{is_request_at, is_section_at};
 
     /// Tells if a line of the form can come here with some counts.
@@ -58,6 +58,21 @@ impl Stage {
                 missing,
             } => Some(missing),
             _ => None,
+        }
+    }
+
+    /// The number of lines that have to come at least before the graph is whole, and 0 after it.
+    pub fn missing_lines(self) -> usize
+        ensures { result ≡ lines_missing self }
+    {
+        match self {
+            Stage::Start => 1,
+            Stage::Within { section, missing } => match section {
+                Section::Problem => missing as usize,
+                Section::Sources => 0,
+                Section::Pairs => 0,
+                Section::Added => 0,
+            },
         }
     }
 

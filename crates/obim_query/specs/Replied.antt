@@ -69,7 +69,7 @@ pub record HasServed (asked : Asked) (taken_from taken_to given_from given_to : 
   pub replied : OnOk result
       (IsAnsweredSession asked.limit (terms_of asked) taken_from taken_to given_from given_to)
   -- at a fault a prefix of the replies was written
-  pub cut : OnErr result (IsCutSession (terms_of asked) taken_from taken_to given_from given_to)
+  pub cut : OnErr result (IsCutSession asked.limit (terms_of asked) taken_from taken_to given_from given_to)
   -- which is the text's, or the system's
   pub says : IfErr result (EndsBy asked.limit taken_from taken_to)
   pub status_is : status ≡ status_after result

@@ -157,7 +157,7 @@ module _ (law : AnswerTextsByLinesAreUnique) (terms : Terms) where
   one_reply_for graph (wrong line what) first second one two = one ∙ sym two
   one_reply_for graph (no_memory line) first second one two = one ∙ sym two
 
-  one_of_all : (graph : Content) (outcomes : List Outcome)
+  pub one_of_all : (graph : Content) (outcomes : List Outcome)
       → IsOneText (AreReplies terms graph outcomes)
   one_of_all graph [] first second one two = one ∙ sym two
   one_of_all graph (outcome ∷ outcomes) first second one two =

@@ -110,9 +110,9 @@ first_heard_cut terms graph first heard same before after cut =
 -- ---- the whole session
 
 -- nothing was given
-pub nothing_cut : (terms : Terms) (taken_from taken_to same : Option (List ℕ))
-    → TakesSome taken_from taken_to → IsCutSession terms taken_from taken_to same same
-nothing_cut terms taken_from taken_to same some =
+pub nothing_cut : (limit : ℕ) (terms : Terms) (taken_from taken_to same : Option (List ℕ))
+    → TakesSome taken_from taken_to → IsCutSession limit terms taken_from taken_to same same
+nothing_cut limit terms taken_from taken_to same some =
     record { text = some.bytes; taken = some.taken; given = inl (Keeps-refl same) }
 
 -- the lines of a graph, and those that follow
@@ -149,7 +149,7 @@ pub greeting_cut : (limit : ℕ) (terms : Terms) (initial : InitialGraph) (line 
     (taken_from taken_to given_from given_to : Option (List ℕ))
     → HasInitialGraph limit initial buffer taken_from taken_to → line ≡ initial.line - 1
     → WritesPrefix (IsAnswerIn terms (content_of initial.graph) absent line) given_from given_to
-    → IsCutSession terms taken_from taken_to given_from given_to
+    → IsCutSession limit terms taken_from taken_to given_from given_to
 greeting_cut limit terms initial line buffer taken_from taken_to given_from given_to has names cut = record {
   text = has.text ++ take (initial.end - initial.at) (drop initial.at buffer);
   taken = has.taken;
@@ -158,8 +158,10 @@ greeting_cut limit terms initial line buffer taken_from taken_to given_from give
       let parts = front_parts limit initial buffer taken_from taken_to has more may in
       record {
         initial = has.text;
+        few = has.few;
         graph = content_of initial.graph;
         is_graph = has.is_graph;
+        tight = has.tight;
         rest = parts.0;
         parts = parts.1;
         outcomes = [];
@@ -188,7 +190,7 @@ pub session_cut : AnswerTextsByLinesAreUnique
     → Writes (IsAnswerIn terms (content_of initial.graph) absent line) given_from middle
     → IsCutConversation terms (content_of initial.graph) initial.line
     (take (initial.end - initial.at) (drop initial.at buffer)) between taken_to middle given_to
-    → IsCutSession terms taken_from taken_to given_from given_to
+    → IsCutSession limit terms taken_from taken_to given_from given_to
 session_cut law limit terms initial line buffer taken_from between taken_to given_from middle given_to has goes_on names
     writes conversed =
     let heard = take (initial.end - initial.at) (drop initial.at buffer) in
@@ -204,8 +206,10 @@ session_cut law limit terms initial line buffer taken_from between taken_to give
           let cut = conversed.cut later may in
           record {
             initial = has.text;
+            few = has.few;
             graph = graph;
             is_graph = has.is_graph;
+            tight = has.tight;
             rest = lines (heard ++ (more ++ later));
             parts =
                 ap (λ (bytes : List ℕ). lines bytes)

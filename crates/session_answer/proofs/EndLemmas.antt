@@ -1,9 +1,10 @@
 -- Which fault a session ends with.
 use Rattle.std.proofs.Common.{◌≡◌, ◌∙◌, ◌+◌, ◌-◌, ◌^◌, ◌≤◌, ◌<◌, ℕ, List, [], ◌++◌, Option, Result, Ok, Err, IfErr, false, inl, inr, length, take, drop}
-use Rattle.std.proofs.Common.{append_assoc, append-nil, arith, ap, length-append, refl, subst, sym, take-append-drop}
+use Rattle.std.proofs.Common.{append_assoc, append-nil, arith, ap, length-append, length-drop, refl, subst, sym, take-append-drop}
 use Rattle.std.proofs.lemmas.List.{length-take-le}
 use Rattle.std.proofs.KnownBytes.{Consumes-trans}
 use Rattle.std.specs.Io.KnownBytes.{Consumes, IsAtEnd}
+use Rattle.dimacs_text.specs.GraphTexts.{HasGraph, HasNoGraphInside}
 use Rattle.dimacs_text.specs.Lines.{lines}
 use Rattle.dimacs_text.specs.Jobs.{content_of}
 use Rattle.dimacs_text.specs.Reading.{HasRead, Reads}
@@ -11,6 +12,7 @@ use Rattle.dimacs_text.specs.declared.reader.JobReader.{JobReader}
 use Rattle.job_answer.specs.declared.fault.Fault.{Fault}
 use Rattle.job_answer.specs.declared.fault.Fault.TheVariants as fault
 use Rattle.job_reader.specs.declared.fault.ReadFault.{ReadFault}
+use Rattle.job_reader.specs.Pieces.{Feeds}
 use Rattle.job_reader.specs.Request.{IsOfSystem}
 use Rattle.job_answer.specs.Choices.{fault_of_reading}
 use Rattle.job_answer.specs.Outcome.{IsWritingFault}
@@ -83,11 +85,11 @@ pub after_graph_ends : (limit : ℕ) (initial : InitialGraph) (buffer : List ℕ
 after_graph_ends limit initial buffer taken_from between taken_to fault.Read low has goes_on is = tt
 after_graph_ends limit initial buffer taken_from between taken_to fault.TooLong low has goes_on is =
     let before = has.text ++ take (initial.end - initial.at) (drop initial.at buffer) in
-    record {
+    inr (record {
       bytes = before ++ is.bytes;
       taken = Consumes-trans taken_from between taken_to before is.bytes has.taken is.taken;
-      many = omega (arith, low, is.many, length-append before is.bytes);
-    }
+      many = omega (arith, is.many, length-append before is.bytes);
+    })
 after_graph_ends limit initial buffer taken_from between taken_to (fault.Text line kind) low has goes_on is =
     let heard = take (initial.end - initial.at) (drop initial.at buffer) in
     let more = is.0 in
@@ -100,8 +102,10 @@ after_graph_ends limit initial buffer taken_from between taken_to (fault.Text li
         ended = is.1.ended;
       };
       initial = has.text;
+      few = has.few;
       graph = content_of initial.graph;
       is_graph = has.is_graph;
+      tight = has.tight;
       rest = lines (heard ++ more);
       parts = has.joined goes_on (heard ++ more);
       outcomes = is.2.0.0;
@@ -131,53 +135,61 @@ takes_more count before between after next is takes some = record {
   many = omega (arith, is.many, some, length-append is.bytes next);
 }
 
--- what is said of the text of a graph is said of all that was taken
-graph_fault_ends : (limit : ℕ) (before after : Option (List ℕ)) (text : List ℕ) (kind : Fault)
-    → Consumes before after text
-    → ((more : List ℕ) → MayFollow after more → IsFaultOfGraph (text ++ more) kind)
+-- what is said of a text within the limit, which was taken first, is said of what was taken
+graph_fault_ends : (limit : ℕ) (before after : Option (List ℕ)) (text rest : List ℕ) (kind : Fault)
+    → Consumes before after (text ++ rest) → length text ≤ limit
+    → ((more : List ℕ) → (rest ≡ [] → MayFollow after more) → IsFaultOfGraph (text ++ more) kind)
     → EndsBy limit before after kind
-graph_fault_ends limit before after text fault.Read takes says = absurd (says [] (λ _. refl))
-graph_fault_ends limit before after text fault.TooLong takes says = absurd (says [] (λ _. refl))
-graph_fault_ends limit before after text (fault.Text line what) takes says =
-    inl (record { text = text; taken = takes; first = says })
-graph_fault_ends limit before after text fault.NoAsk takes says = absurd (says [] (λ _. refl))
-graph_fault_ends limit before after text fault.NoSources takes says = absurd (says [] (λ _. refl))
-graph_fault_ends limit before after text fault.Memory takes says = tt
-graph_fault_ends limit before after text fault.Spawn takes says = absurd (says [] (λ _. refl))
-graph_fault_ends limit before after text fault.Write takes says = absurd (says [] (λ _. refl))
+graph_fault_ends limit before after text rest fault.Read takes few says = absurd (says [] (λ _ _. refl))
+graph_fault_ends limit before after text rest fault.TooLong takes few says = absurd (says [] (λ _ _. refl))
+graph_fault_ends limit before after text rest (fault.Text line what) takes few says =
+    inl (record { text = text; rest = rest; taken = takes; few = few; first = says })
+graph_fault_ends limit before after text rest fault.NoAsk takes few says = absurd (says [] (λ _ _. refl))
+graph_fault_ends limit before after text rest fault.NoSources takes few says = absurd (says [] (λ _ _. refl))
+graph_fault_ends limit before after text rest fault.Memory takes few says = tt
+graph_fault_ends limit before after text rest fault.Spawn takes few says = absurd (says [] (λ _ _. refl))
+graph_fault_ends limit before after text rest fault.Write takes few says = absurd (says [] (λ _ _. refl))
+
+-- some of what was read last was fed, and the rest comes after it
+fed_parts : (fed buffer : List ℕ) (at count : ℕ) (before between after : Option (List ℕ))
+    → Consumes before between fed → Consumes between after (take count buffer)
+    → Consumes before after ((fed ++ take at (take count buffer)) ++ drop at (take count buffer))
+fed_parts fed buffer at count before between after taken takes =
+    let came = take count buffer in
+    subst (λ bytes. Consumes before after bytes)
+    (ap (λ bytes. fed ++ bytes) (sym (take-append-drop at came)) ∙ sym (append_assoc fed (take at came) (drop at came)))
+    (Consumes-trans before between after fed came taken takes)
 
 -- the fault was found in what was read last, or before it
 pub open_ends : (old job : JobReader) (limit left : ℕ) (before between after : Option (List ℕ)) (buffer : List ℕ)
     (at count : ℕ) (result : Result InitialGraph Fault)
     → limit ≤ 2 ^ 36 → IsFed old limit left before between → Consumes between after (take count buffer)
-    → count ≤ length buffer → count ≤ left → at ≤ count → Reads old job (take at (take count buffer))
+    → count ≤ length buffer → at ≤ left → at ≤ count → Reads old job (take at (take count buffer))
     → ((text more : List ℕ) → HasRead job text → IfErr result (IsFaultOfGraph (text ++ more)))
     → IfErr result (EndsBy limit before after)
 open_ends old job limit left before between after buffer at count (Ok initial) low fed takes room few place reads says = tt
 open_ends old job limit left before between after buffer at count (Err kind) low fed takes room few place reads says =
-    let came = take count buffer in
-    let initial = take at came in
-    let rest = drop at came in
-    let fed_now = length-take-le at came (omega (arith, place, length-take-le count buffer room)) in
-    let read : HasRead job (fed.text ++ initial) =
-    reads fed.text fed.read (omega (arith, low, fed.count, fed_now, place, few)) in
-    let all : fed.text ++ came ≡ (fed.text ++ initial) ++ rest =
-    ap (λ bytes. fed.text ++ bytes) (sym (take-append-drop at came)) ∙ sym (append_assoc fed.text initial rest) in
-    graph_fault_ends limit before after (fed.text ++ came) kind
-    (Consumes-trans before between after fed.text came fed.taken takes)
-    (λ more may.
-    subst (λ bytes. IsFaultOfGraph bytes kind)
-    (sym (ap (λ bytes. bytes ++ more) all ∙ append_assoc (fed.text ++ initial) rest more))
-    (says (fed.text ++ initial) (rest ++ more) read))
+    let initial = take at (take count buffer) in
+    let fed_now = length-take-le at (take count buffer) (omega (arith, place, length-take-le count buffer room)) in
+    let read : HasRead job (fed.text ++ initial) = reads fed.text fed.read (omega (arith, low, fed.count, fed_now, few)) in
+    graph_fault_ends limit before after (fed.text ++ initial) (drop at (take count buffer)) kind
+    (fed_parts fed.text buffer at count before between after fed.taken takes)
+    (omega (arith, fed.count, fed_now, few, length-append fed.text initial))
+    (λ more may. says (fed.text ++ initial) more read)
 
 -- it was found by threads
-pub whole_ends : (job : JobReader) (limit left : ℕ) (before after : Option (List ℕ)) (result : Result InitialGraph Fault)
-    → IsFed job limit left before after
-    → ((text more : List ℕ) → HasRead job text → IfErr result (IsFaultOfGraph (text ++ more)))
-    → IfErr result (EndsBy limit before after)
-whole_ends job limit left before after (Ok initial) fed says = tt
-whole_ends job limit left before after (Err kind) fed says =
-    graph_fault_ends limit before after fed.text kind fed.taken (λ more may. says fed.text more fed.read)
+pub whole_ends : (job : JobReader) (old : JobReader) (limit left count : ℕ) (before between after : Option (List ℕ)) (kind : Fault)
+    → limit ≤ 2 ^ 36 → IsFed old limit left before between → Feeds left count old job between after
+    → ((text more : List ℕ) → HasRead job text → IsFaultOfGraph (text ++ more) kind)
+    → EndsBy limit before after kind
+whole_ends job old limit left count before between after kind low fed feeds says =
+    let text = fed.text ++ feeds.text in
+    let read : HasRead job text = feeds.reads fed.text fed.read (omega (arith, low, fed.count, feeds.size, feeds.few)) in
+    graph_fault_ends limit before after text [] kind
+    (subst (λ bytes. Consumes before after bytes) (sym (append-nil text))
+    (Consumes-trans before between after fed.text feeds.text fed.taken feeds.taken))
+    (omega (arith, fed.count, feeds.size, feeds.few, length-append fed.text feeds.text))
+    (λ more may. says text more read)
 
 -- the input has ended
 pub ended_ends : (job : JobReader) (limit left : ℕ) (before between after : Option (List ℕ)) (buffer : List ℕ) (count : ℕ)
@@ -187,29 +199,33 @@ pub ended_ends : (job : JobReader) (limit left : ℕ) (before between after : Op
     → IfErr result (EndsBy limit before after)
 ended_ends job limit left before between after buffer count (Ok initial) fed takes none ended says = tt
 ended_ends job limit left before between after buffer count (Err kind) fed takes none ended says =
-    let nothing : fed.text ++ take count buffer ≡ fed.text =
-    ap (λ k. fed.text ++ take k buffer) none ∙ append-nil fed.text in
-    graph_fault_ends limit before after (fed.text ++ take count buffer) kind
-    (Consumes-trans before between after fed.text (take count buffer) fed.taken takes)
+    graph_fault_ends limit before after fed.text [] kind
+    (subst (λ bytes. Consumes before after bytes) (ap (λ k. fed.text ++ take k buffer) none)
+    (Consumes-trans before between after fed.text (take count buffer) fed.taken takes))
+    (omega (arith, fed.count))
     (λ more may.
     subst (λ bytes. IsFaultOfGraph bytes kind)
-    (sym (ap (λ bytes. (fed.text ++ take count buffer) ++ bytes) (may ended) ∙ append-nil _ ∙ nothing))
-    (says fed.text fed.read))
+    (sym (ap (λ bytes. fed.text ++ bytes) (may refl ended) ∙ append-nil fed.text)) (says fed.text fed.read))
 
--- more came than may
-pub long_ends : (job : JobReader) (limit left : ℕ) (before between after : Option (List ℕ)) (buffer : List ℕ) (count : ℕ)
-    → IsFed job limit left before between → Consumes between after (take count buffer) → count ≤ length buffer
-    → left < count
+-- more came than may, and all that may was fed
+pub long_ends : (old job : JobReader) (limit left : ℕ) (before between after : Option (List ℕ)) (buffer : List ℕ)
+    (at count : ℕ)
+    → limit ≤ 2 ^ 36 → (fed : IsFed old limit left before between) → Consumes between after (take count buffer)
+    → count ≤ length buffer → at ≡ left → left < count → Reads old job (take at (take count buffer))
+    → (HasGraph job → ⊥) → HasNoGraphInside (fed.text ++ take at (take count buffer))
     → EndsBy limit before after fault.TooLong
-long_ends job limit left before between after buffer count fed takes room many = record {
-  bytes = fed.text ++ take count buffer;
-  taken = Consumes-trans before between after fed.text (take count buffer) fed.taken takes;
-  many =
-      omega (
-        arith,
-        many,
-        fed.count,
-        length-append fed.text (take count buffer),
-        length-take-le count buffer room,
-      );
-}
+long_ends old job limit left before between after buffer at count low fed takes room full many reads never inside =
+    let initial = take at (take count buffer) in
+    let came = length-take-le count buffer room in
+    let fed_now = length-take-le at (take count buffer) (omega (arith, full, many, came)) in
+    inl (record {
+      text = fed.text ++ initial;
+      rest = drop at (take count buffer);
+      taken = fed_parts fed.text buffer at count before between after fed.taken takes;
+      full = omega (arith, fed.count, fed_now, full, length-append fed.text initial);
+      more = omega (arith, came, full, many, length-drop at (take count buffer));
+      reader = job;
+      read = reads fed.text fed.read (omega (arith, low, fed.count, fed_now, full));
+      inside = inside;
+      unfinished = never;
+    })

@@ -5,3 +5,4 @@ pub mod WholeLemmas
 pub mod CutLemmas
 pub mod CutSessions
 pub mod EndLemmas
+pub mod Existence

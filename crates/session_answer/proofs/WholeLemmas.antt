@@ -109,6 +109,7 @@ session_ended limit terms initial line buffer taken_from taken_to given_from giv
         initial = has.text;
         graph = content_of initial.graph;
         is_graph = has.is_graph;
+        tight = has.tight;
         rest = [];
         parts = sym (append-nil (lines has.text));
         outcomes = [];
@@ -153,6 +154,7 @@ session_whole limit terms initial line buffer taken_from between taken_to given_
         initial = has.text;
         graph = content_of initial.graph;
         is_graph = has.is_graph;
+        tight = has.tight;
         rest = lines (heard ++ more);
         parts = has.joined goes_on (heard ++ more);
         outcomes = conversed.answered.outcomes;

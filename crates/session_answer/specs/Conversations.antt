@@ -1,7 +1,7 @@
 -- How far a session has come: which lines it has read, and what it has replied.
 use Rattle.std.specs.Prelude.{◌≡◌, ℕ, ◌+◌, ◌-◌, ◌≤◌, Bool, true, false, List, [], ◌∷◌, ◌++◌, length, take, drop, Option}
 use Rattle.std.specs.Io.KnownBytes.{Appends, Consumes, IsAtEnd}
-use Rattle.dimacs_text.specs.GraphTexts.{IsGraphText}
+use Rattle.dimacs_text.specs.GraphTexts.{HasNoGraphInside, IsGraphText}
 use Rattle.dimacs_text.specs.Jobs.{Content, content_of}
 use Rattle.dimacs_text.specs.Lines.{begins_comment, lines}
 use Rattle.dimacs_text.specs.reader.FastArc.{HasNoFeed}
@@ -77,12 +77,13 @@ pub record HasConversed (terms : Terms) (graph : Content) (first : ℕ) (heard :
   pub whole : TakesWhole taken_from taken_to more
   pub answered : AreAnswered terms graph first (heard ++ more) before after
 
--- A graph was read, within the limit, and of the bytes that were taken those in the buffer come after it. Or the input
--- has ended. The number of the next line is one more than the number of its lines.
+-- A graph was read, up to its last line and within the limit, and of the bytes that were taken those in the buffer come
+-- after it. Or the input has ended. The number of the next line is one more than the number of its lines.
 pub record HasInitialGraph (limit : ℕ) (initial : InitialGraph) (buffer : List ℕ) (before after : Option (List ℕ)) : Type 0 where
   pub text : List ℕ
   pub few : length text ≤ limit
   pub is_graph : IsGraphText text (content_of initial.graph)
+  pub tight : HasNoGraphInside text
   pub number : initial.line ≡ length (lines text) + 1
   pub joined : initial.has_ended ≡ false → (more : List ℕ) → lines (text ++ more) ≡ lines text ++ lines more
   pub taken : Consumes before after (text ++ take (initial.end - initial.at) (drop initial.at buffer))

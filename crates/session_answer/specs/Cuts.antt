@@ -1,12 +1,14 @@
 -- What a session that ends with a fault has given: a prefix of its replies.
-use Rattle.std.specs.Prelude.{◌≡◌, ◌⊎◌, ◌+◌, ◌-◌, ◌^◌, ◌<◌, ℕ, List, [], ◌++◌, length, Option, ⊤}
+use Rattle.std.specs.Prelude.{◌≡◌, ◌⊎◌, ◌+◌, ◌-◌, ◌^◌, ◌<◌, ◌≤◌, ℕ, List, [], ◌++◌, length, Option, ⊤}
 use Rattle.std.specs.Io.KnownBytes.{Consumes, IsAtEnd, Keeps}
 use Rattle.dimacs_text.specs.declared.fault.LineKind.{LineKind}
 use Rattle.dimacs_text.specs.declared.fault.LineKind.TheVariants.{TooFew}
+use Rattle.dimacs_text.specs.declared.reader.JobReader.{JobReader}
 use Rattle.dimacs_text.specs.Faults.{IsFirstFault}
-use Rattle.dimacs_text.specs.GraphTexts.{IsGraphText}
+use Rattle.dimacs_text.specs.GraphTexts.{HasGraph, HasNoGraphInside, IsGraphText}
 use Rattle.dimacs_text.specs.Jobs.{Content, absent}
 use Rattle.dimacs_text.specs.Lines.{lines}
+use Rattle.dimacs_text.specs.Reading.{HasRead}
 use Rattle.job_reader.specs.Taken.{TakesWhole}
 use Rattle.request_reader.specs.Requests.{Outcome, AreRequestsTo, AreShort}
 use Rattle.job_answer.specs.Bytes.{WritesPrefix}
@@ -71,13 +73,15 @@ pub record AreAllReplies (terms : Terms) (graph : Content) (line : ℕ) (outcome
   pub replied : AreReplies terms graph outcomes later
   pub written : text ≡ greeting ++ later
 
--- The text begins with that of a graph, and its other lines begin with some requests. A prefix of the replies to the
--- graph and to these requests was given, and nothing else.
-pub record IsSessionBegun (terms : Terms) (text : List ℕ)
+-- The text begins with that of a graph, which is within the limit, and its other lines begin with some requests. A prefix
+-- of the replies to the graph and to these requests was given, and nothing else.
+pub record IsSessionBegun (limit : ℕ) (terms : Terms) (text : List ℕ)
     (before after : Option (List ℕ)) : Type 0 where
   pub initial : List ℕ
+  pub few : length initial ≤ limit
   pub graph : Content
   pub is_graph : IsGraphText initial graph
+  pub tight : HasNoGraphInside initial
   pub rest : List (List ℕ)
   pub parts : lines text ≡ lines initial ++ rest
   pub outcomes : List Outcome
@@ -88,21 +92,34 @@ pub record IsSessionBegun (terms : Terms) (text : List ℕ)
 
 -- This text was taken. Nothing was given; or whatever follows, all of it begins with a graph and some requests, and a
 -- prefix of the replies to these was given.
-pub record IsCutSession (terms : Terms) (taken_from taken_to given_from given_to : Option (List ℕ)) : Type 0 where
+pub record IsCutSession (limit : ℕ) (terms : Terms) (taken_from taken_to given_from given_to : Option (List ℕ)) : Type 0 where
   pub text : List ℕ
   pub taken : Consumes taken_from taken_to text
   pub given : Keeps given_from given_to
       ⊎ ((more : List ℕ)
       → MayFollow taken_to more
-      → IsSessionBegun terms (text ++ more) given_from given_to)
+      → IsSessionBegun limit terms (text ++ more) given_from given_to)
 
 -- ---- which fault ends a session
 
--- more than the limit was taken
+-- more than so many bytes were taken
 pub record TakesMore (limit : ℕ) (before after : Option (List ℕ)) : Type 0 where
   pub bytes : List ℕ
   pub taken : Consumes before after bytes
   pub many : limit < length bytes
+
+-- More than the limit was taken. No line feed within the limit ends a graph, unless it is the last byte there; and a
+-- reader that has read the bytes within the limit has no whole graph.
+pub record HasLongGraph (limit : ℕ) (before after : Option (List ℕ)) : Type 0 where
+  pub text : List ℕ
+  pub rest : List ℕ
+  pub taken : Consumes before after (text ++ rest)
+  pub full : length text ≡ limit
+  pub more : 0 < length rest
+  pub inside : HasNoGraphInside text
+  pub reader : JobReader
+  pub read : HasRead reader text
+  pub unfinished : HasGraph reader → ⊥
 
 -- a fault of the graph's text: its first one, or memory was refused
 abbrev pub IsFaultOfGraph : List ℕ → Fault → Type 0
@@ -110,31 +127,39 @@ IsFaultOfGraph text (fault.Text line kind) = IsFirstFault text line kind
 IsFaultOfGraph text fault.Memory = ⊤
 IsFaultOfGraph text _ = ⊥
 
--- The first fault of what was taken is this one, whatever follows.
-pub record IsFaultyGraph (taken_from taken_to : Option (List ℕ)) (line : ℕ) (kind : LineKind) : Type 0 where
+-- Of what was taken a text within the limit comes first. Its first fault is this one, whatever follows it.
+pub record IsFaultyGraph (limit : ℕ) (taken_from taken_to : Option (List ℕ)) (line : ℕ) (kind : LineKind) : Type 0 where
   pub text : List ℕ
-  pub taken : Consumes taken_from taken_to text
-  pub first : (more : List ℕ) → MayFollow taken_to more → IsFirstFault (text ++ more) line kind
+  pub rest : List ℕ
+  pub taken : Consumes taken_from taken_to (text ++ rest)
+  pub few : length text ≤ limit
+  pub first : (more : List ℕ) → (rest ≡ [] → MayFollow taken_to more) → IsFirstFault (text ++ more) line kind
 
--- All was taken. After a graph come requests, and at last one that lacks lines: the line after the last is wrong.
-pub record IsShortSession (taken_from taken_to : Option (List ℕ)) (line : ℕ) (kind : LineKind) : Type 0 where
+-- All was taken. After a graph within the limit come requests, and at last one that lacks lines: the line after the last
+-- is wrong.
+pub record IsShortSession (limit : ℕ) (taken_from taken_to : Option (List ℕ)) (line : ℕ) (kind : LineKind) : Type 0 where
   pub text : List ℕ
   pub whole : TakesWhole taken_from taken_to text
   pub initial : List ℕ
+  pub few : length initial ≤ limit
   pub graph : Content
   pub is_graph : IsGraphText initial graph
+  pub tight : HasNoGraphInside initial
   pub rest : List (List ℕ)
   pub parts : lines text ≡ lines initial ++ rest
   pub outcomes : List Outcome
   pub short : AreShort graph.n (length (lines initial) + 1) rest outcomes line
   pub kind_is : kind ≡ TooFew
 
--- What the fault says with which a session ends. A fault of the text is that of the graph, or of the last request.
+-- What the fault says with which a session ends. A fault of the text is that of the graph, or of the last request. Too
+-- long is a graph; no limit holds for requests, but nobody reads 2^64 - 1 times.
 abbrev pub EndsBy : ℕ → Option (List ℕ) → Option (List ℕ) → Fault → Type 0
-EndsBy limit taken_from taken_to fault.TooLong = TakesMore limit taken_from taken_to
+EndsBy limit taken_from taken_to fault.TooLong =
+    HasLongGraph limit taken_from taken_to
+    ⊎ TakesMore (2 ^ 64 - 2) taken_from taken_to
 EndsBy limit taken_from taken_to (fault.Text line kind) =
-    IsFaultyGraph taken_from taken_to line kind
-    ⊎ IsShortSession taken_from taken_to line kind
+    IsFaultyGraph limit taken_from taken_to line kind
+    ⊎ IsShortSession limit taken_from taken_to line kind
 EndsBy limit taken_from taken_to fault.NoAsk = ⊥
 EndsBy limit taken_from taken_to fault.NoSources = ⊥
 EndsBy limit taken_from taken_to _ = ⊤

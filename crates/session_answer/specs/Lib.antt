@@ -3,3 +3,4 @@ pub mod Changes
 pub mod Replies
 pub mod Conversations
 pub mod Cuts
+pub mod Laws

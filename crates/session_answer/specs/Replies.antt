@@ -9,7 +9,7 @@ use Rattle.dimacs_text.specs.declared.head.HeadForm.{HeadForm}
 use Rattle.dimacs_text.specs.declared.head.HeadForm.TheVariants as form
 use Rattle.dimacs_text.specs.Jobs.{Content, Question, absent, content_of}
 use Rattle.dimacs_text.specs.Jobs.{IsAddedWithin, IsQuestionWithin}
-use Rattle.dimacs_text.specs.GraphTexts.{IsGraphText}
+use Rattle.dimacs_text.specs.GraphTexts.{HasNoGraphInside, IsGraphText}
 use Rattle.dimacs_text.specs.Lines.{lines}
 use Rattle.request_reader.specs.Requests.{Outcome, whole, wrong, no_memory, AreRequests}
 use Rattle.request_reader.specs.declared.request.Request.{Request}
@@ -164,11 +164,12 @@ AreReplies terms graph (outcome ∷ outcomes) text =
     × AreReplies terms (graph_after graph outcome) outcomes rest
 
 -- The text is that of a graph and then of requests, and these are the replies to the graph and to each of them. That to
--- the graph names its last line.
+-- the graph names its last line, which is that of its last arc, or its problem line.
 pub record IsSession (terms : Terms) (text replies : List ℕ) : Type 0 where
   pub initial : List ℕ
   pub graph : Content
   pub is_graph : IsGraphText initial graph
+  pub tight : HasNoGraphInside initial
   pub rest : List (List ℕ)
   pub parts : lines text ≡ lines initial ++ rest
   pub outcomes : List Outcome

@@ -28,7 +28,8 @@ const MAX_READ_BYTES: usize = 1 << 16;
 /// Reads a graph, and replies to it and to each request after it as soon as its last line has come, up to the end of
 /// what the reader gives. A fault of the graph ends it at once; one of a request is replied to in one line.
 ///
-/// At most `asked.limit` bytes are read of the graph; those of requests have no limit.
+/// A graph of more than `asked.limit` bytes is `TooLong`; requests have no limit, also if they come in one read with the
+/// graph.
 pub fn answer_session<H: Threads + Wait + Clock + Sync, R: Read, W: Write, G: Gate + Sync>(
     rt: &H,
     alloc: Global,
@@ -41,7 +42,7 @@ pub fn answer_session<H: Threads + Wait + Clock + Sync, R: Read, W: Write, G: Ga
         (R.remaining reader.old) (R.remaining reader.new)
         (W.contents writer.old) (W.contents writer.new)) }
     // At each fault a prefix of the replies was written.
-    ensures cut { OnErr result (IsCutSession (terms_of asked.now)
+    ensures cut { OnErr result (IsCutSession asked.now.limit (terms_of asked.now)
         (R.remaining reader.old) (R.remaining reader.new)
         (W.contents writer.old) (W.contents writer.new)) }
     // The fault is that of the text, or the system's.
@@ -70,7 +71,7 @@ fn answer_by<H: Threads + Wait + Clock + Sync, R: Read, W: Write, G: Gate + Sync
     requires limit { context.now.asked.now.limit ≤ 2 ^ 36 }
     ensures answered { OnOk result (IsAnsweredSession context.now.asked.now.limit (terms_of context.now.asked.now) (R.remaining reader.old) (R.remaining reader.new)
         (W.contents writer.old) (W.contents writer.new)) }
-    ensures cut { OnErr result (IsCutSession (terms_of context.now.asked.now)
+    ensures cut { OnErr result (IsCutSession context.now.asked.now.limit (terms_of context.now.asked.now)
         (R.remaining reader.old) (R.remaining reader.new)
         (W.contents writer.old) (W.contents writer.new)) }
     ensures says { IfErr result (EndsBy context.now.asked.now.limit (R.remaining reader.old) (R.remaining reader.new)) }

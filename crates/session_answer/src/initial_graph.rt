@@ -3,7 +3,7 @@
 ghost use Rattle.std.specs.Prelude.{◌≡◌, ◌+◌, ◌<◌, ◌≤◌, ◌^◌, ◌++◌, None, List, ℕ, length, true, false, IfErr, IfOk, OnErr};
 ghost use Rattle.std.specs.Bool.{OnTrue};
 ghost use Rattle.dimacs_text.specs.Faults.{IsFaultOf};
-ghost use Rattle.dimacs_text.specs.GraphTexts.{IsGraphOver, IsGraphText};
+ghost use Rattle.dimacs_text.specs.GraphTexts.{HasGraph, IsGraphOver, IsGraphText};
 ghost use Rattle.dimacs_text.specs.Lines.{lines};
 ghost use Rattle.dimacs_text.specs.Reading.{HasRead};
 ghost use Rattle.std.specs.Io.KnownBytes.{ReadConsumes};
@@ -33,9 +33,9 @@ pub(crate) struct InitialGraph {
     pub(crate) has_ended: bool,
 }
 
-/// Reads a graph by single reads, and no more than `limit` bytes. A fault of the graph is found as soon as its line has
-/// come. While many arcs are missing several threads read in larger pieces, of bytes that surely are the graph's; there
-/// a fault is found a few pieces later.
+/// Reads a graph by single reads, and of what they give no more than `limit` bytes. A fault of the graph is found as soon
+/// as its line has come. While many arcs are missing several threads read in larger pieces, of bytes that surely are the
+/// graph's; there a fault is found a few pieces later.
 pub(crate) fn read_initial_graph<H: Threads + Clock + Sync, R: Read>(
     rt: &H,
     alloc: Global,
@@ -60,21 +60,36 @@ pub(crate) fn read_initial_graph<H: Threads + Clock + Sync, R: Read>(
         if count == 0 {
             return ended_initial_graph(job);
         }
+        let within = count.min(left);
+        let at = job.feed_graph(&buffer[..within])?;
+        if is_over(&job, at, within) {
+            return open_initial_graph(job, at, count);
+        }
         if count > left {
             return Err(Fault::TooLong);
         }
         left -= count;
-        let at = job.feed_graph(&buffer[..count])?;
-        if is_over(&job, at, count) {
-            return open_initial_graph(job, at, count);
-        }
         let more = read_arcs_from(rt, alloc, reader, &mut job, left, threads)?;
         left -= more;
-        if job.is_refused() {
-            return open_initial_graph(job, 0, 0);
+        if job.missing_lines() == 0 {
+            return Err(stopped_graph(job));
         }
     }
     Err(Fault::TooLong)
+}
+
+/// The fault for which threads read no more of a graph.
+fn stopped_graph(job: JobReader) -> Fault
+    ensures says { (text more : List ℕ) → HasRead job text → IsFaultOfGraph (text ++ more) result }
+{
+    if !job.is_refused() {
+        // They stop before the graph's last line, so this never comes.
+        return Fault::Memory;
+    }
+    let Err(fault) = job.finish_graph() else {
+        return Fault::Memory;
+    };
+    fault_of(fault)
 }
 
 /// Tells if no more bytes are to be read of the graph, of which this many were fed and this many came.
@@ -82,8 +97,9 @@ fn is_over(job: &JobReader, fed: usize, came: usize) -> bool
     requires { fed < came → IsGraphOver job.now }
     ensures fed { result ≡ false → came ≤ fed }
     ensures over { result ≡ true → IsGraphOver job.now }
+    ensures none { result ≡ false → HasGraph job.now → ⊥ }
 {
-    fed < came || job.is_graph_over()
+    fed < came || job.is_refused() || job.has_graph()
 }
 
 /// The graph that was read. Of the bytes that were read last, those from one place up to another come after it.

@@ -16,6 +16,7 @@ mod change;
 mod conversation;
 mod initial_graph;
 mod kind_graph;
+pub mod laws;
 mod listing;
 mod query;
 mod session;

@@ -140,17 +140,38 @@ fn each_reply_is_out_before_more_is_read(rt: HostRuntime) -> Result<(), Fail> {
     Ok(())
 }
 
-// The limit, the outcome, and what is written.
-const LIMITS: [(u64, Result<(), Fault>, &[u8]); 3] = [
-    (9, Ok(()), b"r 2 0 1\n"),
-    (8, Err(Fault::TooLong), b""),
-    (0, Err(Fault::TooLong), b""),
+// The limit, what the reader gives, the outcome, and what is written.
+const LIMITS: [(u64, &[u8], Result<(), Fault>, &[u8]); 7] = [
+    (9, GRAPH, Ok(()), b"r 2 0 1\n"),
+    (8, GRAPH, Err(Fault::TooLong), b""),
+    (0, GRAPH, Err(Fault::TooLong), b""),
+    // Requests in one read with the graph have no limit.
+    (
+        9,
+        b"p sp 2 0\np aux sp p2p 1\nq 1 2\n",
+        Ok(()),
+        b"r 2 0 1\nq 1 2 inf\nr 2 0 3\n",
+    ),
+    (
+        20,
+        b"p sp 2 0\np aux sp p2p 1\nq 1 2\n",
+        Ok(()),
+        b"r 2 0 1\nq 1 2 inf\nr 2 0 3\n",
+    ),
+    (
+        8,
+        b"p sp 2 0\np aux sp p2p 1\nq 1 2\n",
+        Err(Fault::TooLong),
+        b"",
+    ),
+    // A fault past the limit is not seen.
+    (11, b"p sp 2 1\nc\na 1 3 5\n", Err(Fault::TooLong), b""),
 ];
 
 #[test]
 fn limits_of_graphs(rt: HostRuntime) -> Result<(), Fail> {
-    for (limit, want, text) in LIMITS {
-        let mut reader = GRAPH;
+    for (limit, given, want, text) in LIMITS {
+        let mut reader = given;
         let mut out = Vec::new(rt.alloc());
         let asked = asked_within(&rt, 1, limit);
         let outcome = answer_session(&rt, rt.alloc(), &mut reader, &mut out, &asked, &OpenGate);

@@ -2,6 +2,7 @@
 -- proofs/Machine.antt ties it to the legal lists of Grammar.antt.
 use Rattle.std.specs.Prelude.{ℕ, zero, suc, Bool, false, cond, nat_eq, List, [], ◌∷◌, Option, Some, None}
 use Rattle.dimacs_text.specs.declared.form.Section.{Section}
+use Rattle.dimacs_text.specs.declared.form.Section.TheVariants.{Problem, Sources, Pairs, Added}
 use Rattle.dimacs_text.specs.declared.form.Item.{Item}
 use Rattle.dimacs_text.specs.declared.form.Item.TheVariants.{Arc, Source, Pair}
 use Rattle.dimacs_text.specs.declared.fault.LineKind.{LineKind}
@@ -47,6 +48,14 @@ missing_at (Within s j) = j
 -- what is wrong with a token there
 abbrev pub misfit_at : Stage → Form → Option LineKind
 misfit_at a form = cond (can_come (phase_of a) form) (count_fault form (missing_at a)) (Some Misplaced)
+
+-- how many lines have to come at least before the graph is whole: the problem line, and then one for each arc
+abbrev pub lines_missing : Stage → ℕ
+lines_missing Start = 1
+lines_missing (Within Problem j) = j
+lines_missing (Within Sources j) = 0
+lines_missing (Within Pairs j) = 0
+lines_missing (Within Added j) = 0
 
 abbrev pub one_less : Stage → Stage
 one_less Start = Start

@@ -40,7 +40,7 @@ returns-in_err-initial-clause-cut g c =
     let asked = c.args.context.now.asked.now in
     let terms = terms_of asked in
     on_err
-    (nothing_cut terms (g.R.Read.remaining c.args.reader.now)
+    (nothing_cut asked.limit terms (g.R.Read.remaining c.args.reader.now)
     (g.R.Read.remaining c.read_initial_graph.new.reader) (g.W.Write.contents c.args.writer.now) c.in_err-initial.ensures.cut)
     c.from_residual.result
 
@@ -49,7 +49,7 @@ returns-in_err-session-clause-cut g c =
     let asked = c.args.context.now.asked.now in
     let terms = terms_of asked in
     on_err
-    (nothing_cut terms (g.R.Read.remaining c.args.reader.now)
+    (nothing_cut asked.limit terms (g.R.Read.remaining c.args.reader.now)
     (g.R.Read.remaining c.read_initial_graph.new.reader) (g.W.Write.contents c.args.writer.now)
     (record { bytes = _; taken = c.in_ok-initial.ensures.initial.taken }))
     c.from_residual-in_err-session.result

@@ -8,7 +8,7 @@ use Rattle.session_answer.proofs.answering.answer_session.Goals as goal
 pub returns-in_err-buffer-clause-cut : goal.returns-in_err-buffer-clause-cut
 returns-in_err-buffer-clause-cut g c =
     on_err
-    (nothing_cut (terms_of c.args.asked.now) _ _ _
+    (nothing_cut c.args.asked.now.limit (terms_of c.args.asked.now) _ _ _
     (record { bytes = []; taken = Consumes-nil _ }))
     c.from_residual.result
 
@@ -18,7 +18,7 @@ returns-clause-answered g c =
 
 pub returns-clause-cut : goal.returns-clause-cut
 returns-clause-cut g c =
-    rw (c.with_saving-asked.ensures.answer, c.with_saving-asked.ensures.lines) at c.answer_by.ensures.cut
+    rw (c.with_saving-asked.ensures.answer, c.with_saving-asked.ensures.lines, c.with_saving-asked.ensures.limit) at c.answer_by.ensures.cut
 
 pub returns-clause-says : goal.returns-clause-says
 returns-clause-says g c = rw c.with_saving-asked.ensures.limit at c.answer_by.ensures.says
