@@ -1,8 +1,11 @@
 """Near questions beside far ones, of a graph with one program or several, and changes that each program makes."""
 
+import fcntl
 import os
 import resource
 import signal
+import struct
+import termios
 import threading
 import unittest
 from unittest import mock
@@ -14,6 +17,12 @@ import hollowbowl
 from hollowbowl import Closed, Ended, Graph, Timeout, WrongProcess
 
 ARCS = ([0, 0, 1], [1, 2, 2], [7, 20, 6])
+
+
+def unread(number):
+    """How many bytes a program was sent that it has not read."""
+    with open(f"/proc/{number}/fd/0", "rb", buffering=0) as pipe:
+        return struct.unpack("i", fcntl.ioctl(pipe, termios.FIONREAD, bytes(4)))[0]
 
 
 def asked(*asks):
@@ -198,11 +207,14 @@ class Programs(Case):
             os.kill(number, signal.SIGSTOP)
         held = asked(*[lambda: graph.distances(0)] * 5, *[lambda: graph.distance(0, 2)] * 2)
         self.assertTrue(waits_for(lambda: not any(worker.is_free for worker in graph._wire.state.pool._workers)))
+        self.assertTrue(waits_for(lambda: any(map(unread, numbers))))
+        # A program that was stopped before it was ready is asked nothing.
+        sent = sum(unread(number) > 0 for number in numbers)
         graph.restart()
         self.assertTrue(waits_for(lambda: not set(numbers) & set(children())))
         self.assertEqual((int(graph.distances(0)[2]), graph.distance(0, 2)), (13, 13))
         # Those that no program had been asked are answered by the next.
-        self.assertGreaterEqual([each for each in held() if each is Ended], [Ended] * 3)
+        self.assertGreaterEqual(sum(each is Ended for each in held()), sent)
 
     def test_close(self):
         graph, numbers = self.begin(2)

@@ -29,6 +29,12 @@ class Replies(Case):
         with fake(body, 0.02), Graph(*ARC) as graph:
             self.assertEqual(ints(graph.distances(0)), [0, 7])
 
+    def test_a_last_line_in_two_pieces(self):
+        whole = b"q 1 2 7\nw 2 7 1 2\nr 2 1 6\n"
+        for at in range(whole.index(b"r"), len(whole)):
+            with fake(f"read(2)\nsay({whole[:at]!r}, {whole[at:]!r})\nrest()", 0.02), Graph(*ARC) as graph:
+                self.assertEqual(ints(graph.path(0, 1)), [0, 1])
+
     def test_rows_cut_short(self):
         for pieces in ("bytes(12)", "bytes(16)", 'bytes(16), b"r 2"'):
             with fake(f'read(2)\nsay(b"s 1\\n", {pieces})\nos._exit(9)'), Graph(*ARC) as graph:
