@@ -1,13 +1,13 @@
 //! Searches near a source beside the plain way and the walks of a whole run, one after another in the same lists.
 
-ghost use Rattle.near_labels.specs.Meeting.{IsReversed};
+ghost use Rattle.near_labels.specs.Meeting.{AreBothWays};
 ghost use Rattle.std.specs.Prelude.{◌≡◌, ◌<◌};
 
 mod refusals;
 
 use crate::reports::{are_below, build, distances};
 use csr_graph::{Bounds, Csr, FINITE_CELLS};
-use near_labels::{SearchSpace, WalksFound};
+use near_labels::{BothWays, SearchSpace, WalksFound};
 use route_walks::{ArcRec, EXAMPLE_ARCS, INF, Memory, arcs};
 use std::alloc::Global;
 use std::process::Abort;
@@ -41,6 +41,19 @@ const TIED: [ArcRec; 8] = arcs![
     (3, 4, 3),
     (4, 5, 5),
     (5, 5, 0),
+];
+
+/// Arcs of one weight, which a search from both ends may count on: walks of as many arcs from the first vertex to each.
+const LEVEL: [ArcRec; 9] = arcs![
+    (0, 1, 7),
+    (0, 2, 7),
+    (1, 3, 7),
+    (2, 3, 7),
+    (2, 4, 7),
+    (3, 5, 7),
+    (4, 5, 7),
+    (5, 0, 7),
+    (3, 1, 7),
 ];
 
 /// A question to a source.
@@ -188,13 +201,13 @@ fn is_right(
     rt: &impl Abort,
     alloc: Global,
     room: &mut Room,
-    ways: (&Csr, &Csr),
+    ways: &BothWays<'_>,
     want: &Want,
     question: Question,
 ) -> Option<bool>
-    requires { IsReversed ways.0.now ways.1.now }
+    requires { AreBothWays ways.now }
 {
-    let (csr, reversed) = ways;
+    let csr = ways.csr;
     let (n, s) = (csr.n(), want.source);
     let count = n as usize;
     let (forward, backward) = (&mut room.forward, &mut room.backward);
@@ -217,13 +230,13 @@ fn is_right(
         }
         Cost(v) => {
             assert!(rt; v < n);
-            let found = forward.cost_between(backward, csr, reversed, s, v)?;
+            let found = forward.cost_between(backward, ways, s, v)?;
             Some(want.labels.get(v as usize) == Some(&found))
         }
         Walk(v) => {
             assert!(rt; v < n);
             let walks = &mut room.walks;
-            let found = forward.walk_between(backward, walks, alloc, csr, reversed, s, v)?;
+            let found = forward.walk_between(backward, walks, alloc, ways, s, v)?;
             Some(are_walks(&found, &[v], want))
         }
         Toward(targets) => is_right_toward(rt, alloc, room, csr, want, targets, false),
@@ -304,11 +317,11 @@ fn expect_answers(
     rt: &impl Abort,
     alloc: Global,
     room: &mut Room,
-    ways: (&Csr, &Csr),
+    ways: &BothWays<'_>,
     want: &Want,
     question: Question,
 ) -> u32
-    requires { IsReversed ways.0.now ways.1.now }
+    requires { AreBothWays ways.now }
 {
     let mut unanswered = 0_u32;
     for visits in VISITS {
@@ -328,15 +341,14 @@ fn expect_from(
     rt: &impl Abort,
     alloc: Global,
     room: &mut Room,
-    csr: &Csr,
-    reversed: &Csr,
+    ways: &BothWays<'_>,
     s: u32,
 ) -> Result<u32, Fail>
-    requires source { s < csr.now.n }
-    requires reversed { IsReversed csr.now reversed.now }
+    requires source { s < ways.now.csr.now.n }
+    requires ways { AreBothWays ways.now }
 {
-    let labels = distances(alloc, csr, s)?;
-    let walks = walks_from(rt, alloc, csr, s)?;
+    let labels = distances(alloc, ways.csr, s)?;
+    let walks = walks_from(rt, alloc, ways.csr, s)?;
     let walks: Vec<&[u32]> = walks.iter().map(|walk| walk.as_slice()).collect(alloc)?;
     let want = Want {
         source: s,
@@ -345,7 +357,7 @@ fn expect_from(
     };
     let mut unanswered = 0_u32;
     for question in QUESTIONS {
-        let more = expect_answers(rt, alloc, room, (csr, reversed), &want, question);
+        let more = expect_answers(rt, alloc, room, ways, &want, question);
         unanswered = unanswered.saturating_add(more);
     }
     Ok(unanswered)
@@ -354,9 +366,10 @@ fn expect_from(
 fn expect_graph(rt: &impl Abort, alloc: Global, arcs: &[ArcRec]) -> Result<(), Fail> {
     let csr = build(rt, alloc, 6, arcs)?;
     let reversed = csr.reversed(alloc)?;
+    let ways = BothWays::of(&csr, &reversed);
     let mut room = room_of(alloc, 6)?;
     for s in 0..6 {
-        let unanswered = expect_from(rt, alloc, &mut room, &csr, &reversed, s)?;
+        let unanswered = expect_from(rt, alloc, &mut room, &ways, s)?;
         assert!(rt; unanswered > 0 || csr.row(s).is_empty(), "from {s}");
     }
     Ok(())
@@ -366,7 +379,8 @@ fn expect_graph(rt: &impl Abort, alloc: Global, arcs: &[ArcRec]) -> Result<(), F
 fn one_search_after_another(rt: HostRuntime) -> Result<(), Fail> {
     expect_graph(&rt, rt.alloc(), &EXAMPLE_ARCS)?;
     expect_graph(&rt, rt.alloc(), &TANGLED)?;
-    expect_graph(&rt, rt.alloc(), &TIED)
+    expect_graph(&rt, rt.alloc(), &TIED)?;
+    expect_graph(&rt, rt.alloc(), &LEVEL)
 }
 
 /// The labels and the walks from the first of the six vertices.
@@ -399,18 +413,17 @@ fn expect_after_many(
     rt: &impl Abort,
     alloc: Global,
     room: &mut Room,
-    csr: &Csr,
-    reversed: &Csr,
+    ways: &BothWays<'_>,
     question: Question,
 )
-    requires { IsReversed csr.now reversed.now }
+    requires { AreBothWays ways.now }
 {
     room.forward.allow(1, usize::MAX);
     for _ in 0..100_u32 {
-        let right = is_right(rt, alloc, room, (csr, reversed), &FROM_0, question);
+        let right = is_right(rt, alloc, room, ways, &FROM_0, question);
         assert!(rt; right.is_none());
     }
-    expect_one_after_another(rt, alloc, room, csr, reversed, question);
+    expect_one_after_another(rt, alloc, room, ways, question);
 }
 
 /// Asserts that searches are right which all together relax more arcs than each may.
@@ -418,15 +431,14 @@ fn expect_one_after_another(
     rt: &impl Abort,
     alloc: Global,
     room: &mut Room,
-    csr: &Csr,
-    reversed: &Csr,
+    ways: &BothWays<'_>,
     question: Question,
 )
-    requires { IsReversed csr.now reversed.now }
+    requires { AreBothWays ways.now }
 {
     room.forward.allow(20, 30);
     for _ in 0..30_u32 {
-        let right = is_right(rt, alloc, room, (csr, reversed), &FROM_0, question);
+        let right = is_right(rt, alloc, room, ways, &FROM_0, question);
         assert!(rt; right == Some(true));
     }
 }
@@ -436,9 +448,10 @@ fn searches_that_give_up_leave_nothing(rt: HostRuntime) -> Result<(), Fail> {
     let alloc = rt.alloc();
     let csr = build(&rt, alloc, 6, &EXAMPLE_ARCS)?;
     let reversed = csr.reversed(alloc)?;
+    let ways = BothWays::of(&csr, &reversed);
     let mut room = room_of(alloc, 6)?;
     for question in GIVEN_UP {
-        expect_after_many(&rt, alloc, &mut room, &csr, &reversed, question);
+        expect_after_many(&rt, alloc, &mut room, &ways, question);
     }
     Ok(())
 }
@@ -484,4 +497,19 @@ fn equal_sums_lead_straight_on(rt: HostRuntime) -> Result<(), Fail> {
     assert!(rt; found.is_some_and(|labels| labels.as_slice() == [u64::from(far)].as_slice()));
     assert_eq!(rt; space.visits(), far);
     Ok(())
+}
+
+/// Asserts how little an arc weighs in a graph of six vertices.
+fn expect_least(rt: &impl Abort, alloc: Global, arcs: &[ArcRec], least: u32) -> Result<(), Fail> {
+    let csr = build(rt, alloc, 6, arcs)?;
+    let reversed = csr.reversed(alloc)?;
+    assert_eq!(rt; BothWays::of(&csr, &reversed).least_weight, least);
+    Ok(())
+}
+
+#[test]
+fn least_weights(rt: HostRuntime) -> Result<(), Fail> {
+    expect_least(&rt, rt.alloc(), &LEVEL, 7)?;
+    expect_least(&rt, rt.alloc(), &TIED, 0)?;
+    expect_least(&rt, rt.alloc(), &[], u32::MAX)
 }

@@ -17,6 +17,9 @@ use Rattle.route_walks.specs.Existence.{LeastLabelsExist}
 use Rattle.route_walks.specs.Operators.{seeds_from}
 use Rattle.route_walks.specs.Walk.{IsGraph}
 use Rattle.walk_report.specs.Existence.{HopsAndParentsExist}
+use Rattle.walk_report.specs.Hop.{AreHops}
+use Rattle.walk_report.specs.Parent.{AreParents}
+use Rattle.route_walks.specs.Label.{AreLeastLabels}
 use Rattle.walk_report.specs.Told.{IsWalkOf, walks_in}
 use Rattle.near_labels.specs.Found.{AreWalksFound}
 use Rattle.near_labels.specs.declared.walks.WalksFound.{WalksFound}
@@ -36,6 +39,24 @@ part-some : (label : ℕ) (walk : List ℕ) → 0 < length walk → walk_part la
 part-some label [] some = absurd (omega (arith, some))
 part-some label (v ∷ walk) some = refl
 
+-- the line of a walk that was found is the one that labels, hops and parents tell
+pub walk-line : (n : ℕ) (arcs : List ArcRec) (source t label : ℕ) (walk least fewest nearest : List ℕ)
+    → AreLeastLabels n arcs (seeds_from source) least → AreHops n arcs source least fewest → AreParents n arcs least fewest nearest
+    → t < n → IsWalkOf n arcs source t label walk
+    → walk_part label walk ≡ walk_line (slice_index fewest) (slice_index nearest) t label
+walk-line n arcs source t label walk least fewest nearest whole are_hops are_parents below is =
+    let told = is.told least fewest nearest whole are_hops are_parents in
+    let capped : label ≤ INF = omega (arith, told.label, (whole.least t below).capped) in
+    elim (cases_lt label INF) [
+      | inl small ↦
+          let test : (label == INF) ≡ false = grind (arith, nat_tests) in
+          rw test (part-some label walk (is.some small) ∙ ap (walk_text label) (told.walk small))
+      | inr other ↦
+          let none : label ≡ INF = omega (arith, other, capped) in
+          let test : (label == INF) ≡ true = grind (arith, nat_tests) in
+          rw test (ap (walk_part label) (is.none none))
+    ]
+
 pub found-block : LeastLabelsExist → HopsAndParentsExist
     → (n : ℕ) (arcs : List ArcRec) (source t label : ℕ) (walk : List ℕ)
     → n ≤ MAX_VERTICES → IsGraph n arcs → source < n → t < n
@@ -45,17 +66,7 @@ found-block exist led n arcs source t label walk few graph within below is =
     let (least, whole) = exist n arcs (seeds_from source) graph (start-seeds n (At source) within) in
     let (fewest, nearest, are_hops, are_parents) = led n arcs source least few graph within whole in
     let told = is.told least fewest nearest whole are_hops are_parents in
-    let capped : label ≤ INF = omega (arith, told.label, (whole.least t below).capped) in
-    let line : walk_part label walk ≡ walk_line (slice_index fewest) (slice_index nearest) t label =
-    elim (cases_lt label INF) [
-      | inl small ↦
-          let test : (label == INF) ≡ false = grind (arith, nat_tests) in
-          rw test (part-some label walk (is.some small) ∙ ap (walk_text label) (told.walk small))
-      | inr other ↦
-          let none : label ≡ INF = omega (arith, other, capped) in
-          let test : (label == INF) ≡ true = grind (arith, nat_tests) in
-          rw test (ap (walk_part label) (is.none none))
-    ] in
+    let line = walk-line n arcs source t label walk least fewest nearest whole are_hops are_parents below is in
     record {
       labels = least;
       hops = fewest;

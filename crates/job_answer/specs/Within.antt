@@ -34,10 +34,10 @@ lines_within bound text v (label ∷ labels) = line_within bound text v label ++
 abbrev pub text_within : ℕ → ℕ → (ℕ → ℕ → List ℕ) → List ℕ → List ℕ
 text_within source bound text labels = source_text source ++ lines_within bound text 0 labels
 
--- the lines of these vertices, each with its label
-abbrev pub listed_text : List (ℕ × ℕ) → List ℕ
-listed_text [] = []
-listed_text (entry ∷ found) = label_text entry.0 entry.1 ++ listed_text found
+-- the texts of these vertices, each with its label
+abbrev pub listed_text : (ℕ → ℕ → List ℕ) → List (ℕ × ℕ) → List ℕ
+listed_text text [] = []
+listed_text text (entry ∷ found) = text entry.0 entry.1 ++ listed_text text found
 
 -- the lines of one source: the least labels from it that are within the bound
 pub record IsBlockWithin (bound n : ℕ) (arcs : List ArcRec) (source : ℕ) (text : List ℕ) : Type 0 where

@@ -2,7 +2,7 @@
 use Rattle.std.proofs.Common.{◌≡◌, ◌≢◌, ◌∙◌, ◌↔◌, ℕ, ◌<◌, List, inl, inr, arith, refl, slice_index}
 use Rattle.std.proofs.Common.{IfNone, IfOk, IfSome, Result, Ok, Err, Option, Some, None}
 use Rattle.std.specs.Option.{IsNone}
-use Rattle.std.proofs.lemmas.Bool.{cases_eq, cases_lt, true≢false}
+use Rattle.std.proofs.lemmas.Bool.{cases_lt, true≢false}
 use Rattle.route_walks.proofs.Facts.{attained-by_walk}
 use Rattle.route_walks.specs.declared.graph.TheConstants.{INF}
 use Rattle.route_walks.specs.Label.{InfMeansNoWalk}

@@ -1,7 +1,6 @@
 -- What is asked of a kept pool. No promise to callers.
 use Rattle.std.specs.Prelude.{IfSome}
 use Rattle.route_walks.specs.Walk.{AreSeeds}
-use Rattle.csr_graph.specs.Graph.{Graph}
 use Rattle.label_words.specs.Paused.{IsPause}
 use Rattle.obim_engine.specs.Goal.{IsGoalWithin}
 use Rattle.least_costs.specs.declared.workers.warm_pool.Search.{Search}

@@ -4,7 +4,7 @@ pub(crate) mod budget;
 pub(crate) mod room;
 pub(crate) mod visits;
 
-ghost use Rattle.std.specs.Prelude.{◌≡◌, ◌<◌, All, IfSome, length};
+ghost use Rattle.std.specs.Prelude.{◌≡◌, ◌<◌, ◌++◌, true, All, IfSome, length};
 ghost use Rattle.route_walks.specs.declared.graph.TheConstants.{INF};
 ghost use Rattle.near_labels.specs.Found.{AreWalksFound};
 ghost use Rattle.least_costs.specs.Costs.{AreCostsTo};
@@ -229,8 +229,9 @@ impl Near {
         costs_in_order(alloc, network, Start::At(source), targets, &labels?).ok()
     }
 
-    /// The least labels of these targets and the walks to them, if near: by landmarks if these serve, from both ends if
-    /// there is one target and the rows were reversed, and else from the source.
+    /// The least labels of these targets and the walks to them, if near: by landmarks, of all at once if they lie together
+    /// and of each by itself if there are few; from both ends if there is one target and the rows were reversed; and else
+    /// from the source.
     pub(crate) fn walks_to(
         &mut self,
         alloc: Global,
@@ -247,6 +248,9 @@ impl Near {
         match network.landmarks() {
             Some(landmarks) if landmarks.serves(source, targets) => {
                 self.walks_by_landmarks(alloc, network, landmarks, source, targets)
+            }
+            Some(landmarks) if landmarks.len() > 0 && targets.len() <= MAX_TARGETS_ONE_BY_ONE => {
+                self.walks_one_by_one(alloc, network, landmarks, source, targets)
             }
             _ if targets.len() == 1 && network.has_reversed() => {
                 self.walk_between(alloc, network, source, targets)
@@ -324,6 +328,37 @@ impl Near {
         let found = walks_toward(forward, walks, alloc, network, source, &bounds, limit);
         self.see_guided(found.is_some());
         found
+    }
+
+    /// The walks to these targets by bounds of the way to each.
+    fn walks_one_by_one(
+        &mut self,
+        alloc: Global,
+        network: &Network,
+        landmarks: &Landmarks,
+        source: u32,
+        targets: &[u32],
+    ) -> Option<WalksFound>
+        requires landmarks { landmarks.now.graph ≡ graph_of network.now }
+        requires source { source < network.now.n }
+        requires targets { All (λ t. t < network.now.n) targets.now }
+        ensures { IfSome result (AreWalksFound network.now.n network.now.arcs source targets.now) }
+    {
+        let mut found = WalksFound {
+            labels: Vec::new(alloc),
+            walks: Vec::new(alloc),
+        };
+        for target in targets {
+            let one = [*target];
+            let Some(mut next) = self.walks_by_landmarks(alloc, network, landmarks, source, &one)
+            else {
+                return None;
+            };
+            if !append(&mut found, &mut next) {
+                return None;
+            }
+        }
+        Some(found)
     }
 
     /// The vertices that cost at most a bound, in rising order, each with its cost, if near.
@@ -447,4 +482,12 @@ impl Near {
 fn has_wide_frontier(space: &SearchSpace) -> bool {
     let visited = space.visits() as usize;
     space.reached().saturating_sub(visited) >= visited / VISITED_A_VERTEX
+}
+
+/// Appends labels and walks. Returns false if memory is refused.
+fn append(found: &mut WalksFound, next: &mut WalksFound) -> bool
+    ensures labels { result ≡ true → found.new.labels.items ≡ found.old.labels.items ++ next.old.labels.items }
+    ensures walks { result ≡ true → found.new.walks.items ≡ found.old.walks.items ++ next.old.walks.items }
+{
+    found.labels.append(&mut next.labels).is_ok() && found.walks.append(&mut next.walks).is_ok()
 }

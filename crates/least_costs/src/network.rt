@@ -3,13 +3,14 @@
 pub(crate) mod between;
 pub(crate) mod growth;
 pub(crate) mod landmarks;
+pub(crate) mod reversed;
 
 ghost use Rattle.std.specs.Prelude.{◌≡◌, ◌+◌, ◌≤◌, ◌<◌, ◌^◌, ◌↔◌, ◌++◌, length, filter, All};
 ghost use Rattle.std.specs.Prelude.{IfErr, IfNone, IfOk, IfSome, IsTrue, List, ℕ};
 ghost use Rattle.route_walks.specs.declared.graph.ArcRec.{ArcRec};
 ghost use Rattle.least_costs.specs.declared.cost.Cost.TheVariants.{Weight};
 ghost use Rattle.csr_graph.specs.Graph.{HaveSameRows, IsInRows};
-ghost use Rattle.near_labels.specs.Meeting.{IsReversed};
+ghost use Rattle.near_labels.specs.Meeting.{AreBothWays};
 ghost use Rattle.route_walks.specs.Operators.{unit_weights};
 ghost use Rattle.route_walks.specs.Walk.{IsArcBelow, IsGraph, HaveSameArcs};
 ghost use Rattle.least_costs.specs.Faults.{IsFirstOutside, IsNetworkFault, IsGrowthFault};
@@ -20,7 +21,9 @@ use crate::cost::Cost;
 use crate::fault::NetworkFault;
 use crate::network::between::list_between;
 use crate::network::landmarks::Landmarks;
+use crate::network::reversed::Reversed;
 use csr_graph::Csr;
+use near_labels::BothWays;
 use route_walks::{ArcRec, MAX_ARCS, MAX_VERTICES, Memory, both_ways, unit_weights};
 use std::alloc::Global;
 use std::marker::Model;
@@ -34,7 +37,7 @@ pub const MOST_ARCS: usize = 1 << 30;
 #[derive(Debug, Drop)]
 pub struct Network {
     pub(crate) rows: Csr,
-    reversed: Option<Csr>,
+    reversed: Option<Reversed>,
     landmarks: Option<Landmarks>,
     cost: Cost,
     // Of the rows' arcs those that `with_arcs` added last.
@@ -239,7 +242,7 @@ impl Network {
         ensures { self.new ≡ self.old }
     {
         if self.reversed.is_none() {
-            self.reversed = match self.rows.reversed(alloc) {
+            self.reversed = match Reversed::of(alloc, &self.rows) {
                 Ok(reversed) => Some(reversed),
                 Err(_) => None,
             };
@@ -280,11 +283,19 @@ impl Network {
         self.landmarks.as_ref()
     }
 
-    /// The rows of the reversed arcs, if they were made.
-    pub(crate) fn reversed(&self) -> Option<&Csr>
-        ensures { IfSome result (λ reversed. IsReversed (graph_of self.now) reversed.now) }
+    /// The rows and those of the reversed arcs, if these were made.
+    pub(crate) fn both_ways(&self) -> Option<BothWays<'_>>
+        ensures ways { IfSome result AreBothWays }
+        ensures graph { IfSome result (λ ways. ways.csr.now ≡ graph_of self.now) }
     {
-        self.reversed.as_ref()
+        match &self.reversed {
+            Some(reversed) => Some(BothWays {
+                csr: &self.rows,
+                reversed: &reversed.rows,
+                least_weight: reversed.least_weight,
+            }),
+            None => None,
+        }
     }
 }
 

@@ -13,7 +13,7 @@ ghost use Rattle.least_costs.specs.Pairs.{GrowsInto, IsRun};
 ghost use Rattle.least_costs.specs.TaskQueue.{AreFinished};
 
 use crate::costs::costs_at;
-use crate::near::{MAX_TARGETS_ONE_BY_ONE, Near};
+use crate::near::Near;
 use crate::network::Network;
 use crate::network::growth::NetworkGrowth;
 use crate::network::landmarks::Landmarks;
@@ -362,11 +362,7 @@ fn reach_targets<H: Threads + Wait + Clock + Sync, G: Gate + Sync>(
         _ => {
             let goal = Goal::Targets(targets);
             let reached = workers.reach(rt, alloc, network, Start::At(source), goal)?;
-            // To more targets workers mostly run without landmarks, even if there are some.
-            if network.landmark_count() == 0 && targets.len() <= MAX_TARGETS_ONE_BY_ONE {
-                let far = &mut workers.workspace.near.far;
-                far.see_run(reached.closed.labels(), reached.limit);
-            }
+            workers.see_far_run(network, targets, &reached);
             Ok(reached.closed)
         }
     }

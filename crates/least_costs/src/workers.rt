@@ -18,6 +18,7 @@ ghost use Rattle.least_costs.specs.Network.{GrowsTo, IsStartWithin, graph_of, se
 
 use crate::costs::Costs;
 use crate::costs::below::CostsBelow;
+use crate::near::MAX_TARGETS_ONE_BY_ONE;
 use crate::network::Network;
 use crate::network::growth::NetworkGrowth;
 use crate::network::landmarks::Landmarks;
@@ -127,6 +128,9 @@ impl<'a, G: Gate + Sync> Workers<'a, G> {
         ensures served { IfOk result (λ costs. IsServedBy goal.entry costs.labels costs.limit) }
     {
         let reached = self.reach(rt, alloc, network, start, goal)?;
+        if let Goal::WalksTo(targets) = goal {
+            self.see_far_run(network, targets, &reached);
+        }
         Ok(CostsBelow::new(network, start, reached))
     }
 
@@ -248,6 +252,15 @@ impl<'a, G: Gate + Sync> Workers<'a, G> {
         let far = &mut self.workspace.near.far;
         far.see_guided_run(reached.closed.labels(), &bounds);
         Ok(reached.closed)
+    }
+
+    /// Counts a run to targets that aren't near, by which landmarks are chosen. To more targets workers mostly run without
+    /// landmarks, even if there are some.
+    pub(crate) fn see_far_run(&mut self, network: &Network, targets: &[u32], reached: &GoalResult) {
+        if network.landmark_count() == 0 && targets.len() <= MAX_TARGETS_ONE_BY_ONE {
+            let far = &mut self.workspace.near.far;
+            far.see_run(reached.closed.labels(), reached.limit);
+        }
     }
 
     /// Goes on in a grown network, from what a run left before.

@@ -1,6 +1,6 @@
 -- If a search from the source and one towards the target meet, the least cost is that of the meeting.
 use Rattle.std.proofs.Common.{◌≡◌, ◌∙◌, sym, refl, ap, ℕ, ◌+◌, ◌<◌, ◌≤◌, List, [], ◌∷◌, ◌++◌, Bool, length, get_or, take}
-use Rattle.std.proofs.Common.{◌⊎◌, inl, inr, Some, subst, arith, true}
+use Rattle.std.proofs.Common.{◌⊎◌, inl, inr, Some, subst, arith}
 use Rattle.std.specs.Prelude.{All, Contains, min, slice_index}
 use Rattle.std.proofs.lemmas.List.{length-map, get_or-map}
 use Rattle.std.proofs.lemmas.List.Elements.{All-nil, All-more, All-map, All-contains, All-contains_itself}
@@ -11,15 +11,14 @@ use Rattle.route_walks.specs.declared.graph.Seed.{Seed}
 use Rattle.route_walks.specs.declared.graph.TheConstants.{INF}
 use Rattle.route_walks.specs.Walk.{IsArcBelow, IsAttained, IsWalk, HaveSameArcs, cost}
 use Rattle.route_walks.specs.Label.{IsMet, IsRelaxed}
-use Rattle.route_walks.specs.Limit.{AreLeastToward, IsLeastToward, IsPast}
+use Rattle.route_walks.specs.Limit.{AreLeastToward, AreLeastUpTo, IsLeastToward}
 use Rattle.route_walks.specs.Operators.{seeds_from}
 use Rattle.route_walks.proofs.Facts.{walk-append, cost-append, attained-over, attained-by_walk, walk-of_attained}
+use Rattle.route_walks.proofs.Facts.{settled_up_to_is_least_up_to}
 use Rattle.csr_graph.specs.Graph.{Graph, IsInRows, turned, turned_arc}
 use Rattle.label_words.specs.Paused.{Rest, IsPause, AreUnmarkedBelow}
-use Rattle.label_words.specs.Laws.{PausesAreLeastUpTo}
-use Rattle.relax_core.specs.State.{mark_of}
 use Rattle.near_labels.specs.Noted.{AreDropped, AreNoted}
-use Rattle.near_labels.specs.Meeting.{FarByLabelsIsPast, IsLeastMeeting, MeetingIsLeast}
+use Rattle.near_labels.specs.Meeting.{AreAtLeast, FarByLabelsIsPast, IsLeastMeeting, IsToldOf, MeetingIsLeast}
 
 -- each arc of one list stands turned round in the other
 abbrev pub AreTurnedAmong : List ArcRec → List ArcRec → Type 0
@@ -107,74 +106,93 @@ meets-along graph reversed s t low high c forward backward rows same pause unmar
           ]
     ]
 
--- what a pause is worth up to a limit, if those that wait are past it
-pub meeting_is_least : PausesAreLeastUpTo → MeetingIsLeast
-meeting_is_least up graph reversed s t low high c forward backward rows rows' turn s-in t-in pause pause' unmarked unmarked' least sum =
-    let far = up high reversed (seeds_from t) backward rows' pause' unmarked' in
+-- a pause is least up to the lowest label that is marked and the weight of an arc
+pause-offers : (graph : Graph) (seeds : List Seed) (low least : ℕ) (rest : Rest) → IsInRows graph → AreAtLeast least graph.arcs
+    → IsPause graph seeds rest → AreUnmarkedBelow low rest
+    → AreLeastUpTo (low + least) graph.n graph.arcs seeds (slice_index rest.labels)
+pause-offers graph seeds low least rest rows weigh pause unmarked =
+    settled_up_to_is_least_up_to (low + least) graph.n graph.arcs seeds (slice_index rest.labels) pause.capped (record {
+      met = pause.met;
+      relaxed = λ k d lt.
+          let arc = get_or graph.arcs k d in
+          elim (pause.going.waits k arc (slice_get-get_or graph.arcs k d lt)) [
+            | inl relaxed ↦ inl relaxed
+            | inr marked ↦
+                inr (omega (
+                  arith,
+                  unmarked arc.tail (omega (arith, (rows.ends k d lt).0, pause.going.marks)) marked,
+                  weigh k d lt,
+                ))
+          ];
+    }) pause.sound
+
+-- the least sum where two pauses meet is least, if what waits makes no lower one
+pub meeting_is_least : MeetingIsLeast
+meeting_is_least graph reversed s t low high least c forward backward rows rows' turn weigh s-in t-in pause pause' unmarked unmarked'
+    meeting sum =
+    let far = pause-offers reversed (seeds_from t) high least backward rows' weigh pause' unmarked' in
     let zero : slice_index backward.labels t ≡ 0 =
     omega (arith, All-contains (IsMet (slice_index backward.labels)) (seeds_from t) (record { vertex = t; start = 0 }) pause'.met (0, omega arith, refl)) in
     let begins : slice_index forward.labels s ≡ 0 =
     omega (arith, All-contains (IsMet (slice_index forward.labels)) (seeds_from s) (record { vertex = s; start = 0 }) pause.met (0, omega arith, refl)) in
     record {
-      capped = least.capped;
+      capped = meeting.capped;
       attained = λ found.
-          let at = least.met found in
+          let at = meeting.met found in
           meeting-attained graph.arcs reversed.arcs turn.arcs s t at.0 _ _ c
           (pause.sound at.0 at.1 (omega (arith, found, at.2)))
           (pause'.sound at.0 (omega (arith, at.1, turn.vertices)) (omega (arith, found, at.2))) at.2;
       least = λ d attained.
           let walk = walk-of_attained graph.arcs s t d attained in
           let most =
-          meets-along graph reversed.arcs s t low high c forward (slice_index backward.labels) rows turn.arcs pause unmarked
-          (λ v below e there. (far.least v (omega (arith, below, turn.vertices))).least e there) least.low sum zero
+          meets-along graph reversed.arcs s t low (high + least) c forward (slice_index backward.labels) rows turn.arcs pause unmarked
+          (λ v below e there. (far v (omega (arith, below, turn.vertices))).least e there) meeting.low (omega (arith, sum)) zero
           s 0 walk.0 s-in (omega (arith, begins)) walk.1 in
           omega (arith, most, walk.2);
     }
 
--- a label towards the target, or what is lowest there of those that wait, is what a walk costs at least
-pub far_by_labels_is_past : PausesAreLeastUpTo → FarByLabelsIsPast
-far_by_labels_is_past up graph reversed s t low limit forward backward rows rows' turn pause pause' unmarked far_by v below marked
-    walk walks =
-    let far = up low reversed (seeds_from t) backward rows' pause' unmarked in
-    let here = far_by v (omega (arith, below, pause.going.marks)) marked in
-    elim ((far.least v (omega (arith, below, turn.vertices))).least (cost walk)
+-- a label towards the target, or what is lowest there of those that wait with an arc, is what a walk costs at least
+pub far_by_labels_is_past : FarByLabelsIsPast
+far_by_labels_is_past graph reversed t low least backward rows' turn weigh pause' unmarked limit v d below far-by walk walks =
+    let far = pause-offers reversed (seeds_from t) low least backward rows' weigh pause' unmarked in
+    elim ((far v (omega (arith, below, turn.vertices))).least (cost walk)
     (walk-attained graph.arcs reversed.arcs turn.arcs v t walk walks)) [
-      | inl near ↦ omega (arith, here, near)
-      | inr past ↦ omega (arith, here, past)
+      | inl near ↦ omega (arith, far-by, near)
+      | inr past ↦ omega (arith, far-by, past)
     ]
 
--- labels stay least on the way to t if what is marked past the limit loses its label
-pub dropped-toward : (limit n : ℕ) (arcs : List ArcRec) (seeds : List Seed) (t but : ℕ) (marks : List Bool) (old new : List ℕ)
-    → AreLeastToward limit n arcs seeds t (slice_index old)
-    → ((v : ℕ) → v < n → mark_of marks v ≡ true → IsPast limit arcs t v (slice_index old v))
-    → AreDropped but marks old new
-    → AreLeastToward limit n arcs seeds t (slice_index new)
-dropped-toward limit n arcs seeds t but marks old new least past dropped v below =
+-- labels stay least on the way to t if those past the limit are dropped
+pub dropped-toward : (limit low : ℕ) (graph : Graph) (seeds : List Seed) (t but : ℕ) (other old new : List ℕ)
+    → AreLeastToward limit graph.n graph.arcs seeds t (slice_index old)
+    → IsToldOf graph t other low
+    → AreDropped but limit low other old new
+    → AreLeastToward limit graph.n graph.arcs seeds t (slice_index new)
+dropped-toward limit low graph seeds t but other old new least told dropped v below =
     elim (dropped v) [
-      | inl same ↦ subst (IsLeastToward limit arcs seeds t v) (sym same) (least v below)
+      | inl same ↦ subst (IsLeastToward limit graph.arcs seeds t v) (sym same) (least v below)
       | inr gone ↦ record {
         capped = omega (arith, gone.1);
         attained = λ found. absurd (omega (arith, found, gone.1));
         least = λ c attained.
             inr (λ walk walks.
             elim ((least v below).least c attained) [
-              | inl low ↦ omega (arith, past v below gone.0 walk walks, low)
+              | inl low' ↦ omega (arith, told limit v (slice_index old v) below gone.0 walk walks, low')
               | inr far ↦ far walk walks
             ]);
       }
     ]
 
 -- and t itself keeps its label if it is reached below the limit
-pub dropped-target : (limit n : ℕ) (arcs : List ArcRec) (t but : ℕ) (marks : List Bool) (old new : List ℕ) → t < n
+pub dropped-target : (limit low : ℕ) (graph : Graph) (t but : ℕ) (other old new : List ℕ) → t < graph.n
     → slice_index old t ≤ INF
     → min (slice_index old t + 1) INF ≤ limit
-    → ((v : ℕ) → v < n → mark_of marks v ≡ true → IsPast limit arcs t v (slice_index old v))
-    → AreDropped but marks old new
+    → IsToldOf graph t other low
+    → AreDropped but limit low other old new
     → slice_index new t ≡ slice_index old t
-dropped-target limit n arcs t but marks old new below capped above past dropped =
+dropped-target limit low graph t but other old new below capped above told dropped =
     elim (dropped t) [
       | inl same ↦ same
-      | inr gone ↦ omega (arith, gone.1, capped, above, past t below gone.0 [] refl)
+      | inr gone ↦ omega (arith, gone.1, capped, above, told limit t (slice_index old t) below gone.0 [] refl)
     ]
 
 -- the least that the two labels of some vertices make, or INF

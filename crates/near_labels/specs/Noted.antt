@@ -1,5 +1,5 @@
 -- What a search keeps of the vertices that it has come to. All others are blank.
-use Rattle.std.specs.Prelude.{◌≡◌, ◌≢◌, true, ℕ, ◌+◌, ◌<◌, ◌≤◌, ◌⊎◌, Bool, false, List, All, Contains, length, slice_index, slice_index_or}
+use Rattle.std.specs.Prelude.{◌≡◌, ◌≢◌, ℕ, ◌+◌, ◌<◌, ◌≤◌, ◌⊎◌, Bool, false, List, All, Contains, length, min, slice_index, slice_index_or}
 use Rattle.route_walks.specs.declared.graph.ArcRec.{ArcRec}
 use Rattle.route_walks.specs.declared.graph.Seed.{Seed}
 use Rattle.route_walks.specs.declared.graph.TheConstants.{INF}
@@ -56,8 +56,9 @@ pub record AreListed (labels noted : List ℕ) (bound count : ℕ) (found : List
       → Contains found (slice_index noted k, slice_index labels (slice_index noted k))
   pub rise : DoRise found
 
--- each marked vertex but one may have lost its label; the other labels are as they were
-abbrev pub AreDropped : ℕ → List Bool → List ℕ → List ℕ → Type 0
-AreDropped but marks old new =
+-- each vertex but one may have lost its label, if that made the limit with its label on the other side, which counts as
+-- low at most; the other labels are as they were
+abbrev pub AreDropped : ℕ → ℕ → ℕ → List ℕ → List ℕ → List ℕ → Type 0
+AreDropped but limit low other old new =
     (v : ℕ) → (slice_index new v ≡ slice_index old v)
-    ⊎ ((mark_of marks v ≡ true) × (slice_index new v ≡ INF) × (v ≢ but))
+    ⊎ ((limit ≤ slice_index old v + min (slice_index other v) low) × (slice_index new v ≡ INF) × (v ≢ but))

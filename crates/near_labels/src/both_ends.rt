@@ -5,46 +5,47 @@ ghost use Rattle.route_walks.specs.declared.graph.TheConstants.{INF};
 ghost use Rattle.route_walks.specs.Label.{IsLeast};
 ghost use Rattle.route_walks.specs.Limit.{AreLeastToward};
 ghost use Rattle.route_walks.specs.Operators.{seeds_from};
-ghost use Rattle.label_words.specs.Paused.{AreMarkedPast, IsPause};
+ghost use Rattle.label_words.specs.Paused.{IsPause};
 ghost use Rattle.near_labels.specs.Noted.{AreNoted, IsBlank, rest_of};
-ghost use Rattle.near_labels.specs.Meeting.{IsReversed};
+ghost use Rattle.near_labels.specs.Meeting.{AreBothWays, IsToldOf};
 
+use crate::both_ways::BothWays;
 use crate::guide::Guide;
 use crate::laws;
 use crate::search::begin;
+use crate::side::TargetSide;
 use crate::state::State;
 use csr_graph::Csr;
-use std::cmp::Reverse;
+use route_walks::INF;
 
 /// Returns the least cost from the source to the target, by blank states over the graph and over the reversed graph.
 /// `None` if the allowed visits don't do, or memory is refused.
 pub(crate) fn cost_from_both(
     forward: &mut State,
     backward: &mut State,
-    csr: &Csr,
-    reversed: &Csr,
+    ways: &BothWays<'_>,
     source: u32,
     target: u32,
 ) -> Option<u64>
-    requires count { length forward.old.labels.items ≡ csr.now.n }
-    requires count_backward { length backward.old.labels.items ≡ csr.now.n }
+    requires ways { AreBothWays ways.now }
+    requires count { length forward.old.labels.items ≡ ways.now.csr.now.n }
+    requires count_backward { length backward.old.labels.items ≡ ways.now.csr.now.n }
     requires blank { IsBlank forward.old.labels.items forward.old.marks.items }
     requires blank_backward { IsBlank backward.old.labels.items backward.old.marks.items }
     requires none { forward.old.noted.items ≡ [] }
     requires none_backward { backward.old.noted.items ≡ [] }
-    requires turned { IsReversed csr.now reversed.now }
-    requires source { source < csr.now.n }
-    requires target { target < csr.now.n }
-    ensures count { length forward.new.labels.items ≡ csr.now.n }
-    ensures count_backward { length backward.new.labels.items ≡ csr.now.n }
+    requires source { source < ways.now.csr.now.n }
+    requires target { target < ways.now.csr.now.n }
+    ensures count { length forward.new.labels.items ≡ ways.now.csr.now.n }
+    ensures count_backward { length backward.new.labels.items ≡ ways.now.csr.now.n }
     ensures noted { AreNoted forward.new.labels.items forward.new.marks.items forward.new.noted.items }
     ensures noted_backward { AreNoted backward.new.labels.items backward.new.marks.items backward.new.noted.items }
-    ensures least { IfSome result (λ cost. IsLeast csr.now.arcs (seeds_from source) target cost) }
+    ensures least { IfSome result (λ cost. IsLeast ways.now.csr.now.arcs (seeds_from source) target cost) }
 {
-    if !come_near(forward, backward, csr, reversed, source, target) {
+    if !come_near(forward, backward, ways, source, target) {
         return None;
     }
-    cost_seen(forward, backward, csr, reversed, source, target)
+    cost_seen(forward, backward, ways, source, target)
 }
 
 /// Begins at both ends of blank states, and visits vertices on the side where fewer wait until the search is over. Returns
@@ -52,29 +53,29 @@ pub(crate) fn cost_from_both(
 fn come_near(
     forward: &mut State,
     backward: &mut State,
-    csr: &Csr,
-    reversed: &Csr,
+    ways: &BothWays<'_>,
     source: u32,
     target: u32,
 ) -> bool
-    requires count { length forward.old.labels.items ≡ csr.now.n }
-    requires count_backward { length backward.old.labels.items ≡ csr.now.n }
+    requires ways { AreBothWays ways.now }
+    requires count { length forward.old.labels.items ≡ ways.now.csr.now.n }
+    requires count_backward { length backward.old.labels.items ≡ ways.now.csr.now.n }
     requires blank { IsBlank forward.old.labels.items forward.old.marks.items }
     requires blank_backward { IsBlank backward.old.labels.items backward.old.marks.items }
     requires none { forward.old.noted.items ≡ [] }
     requires none_backward { backward.old.noted.items ≡ [] }
-    requires vertices { reversed.now.n ≡ csr.now.n }
-    requires source { source < csr.now.n }
-    requires target { target < csr.now.n }
-    ensures count { length forward.new.labels.items ≡ csr.now.n }
-    ensures count_backward { length backward.new.labels.items ≡ csr.now.n }
+    requires source { source < ways.now.csr.now.n }
+    requires target { target < ways.now.csr.now.n }
+    ensures count { length forward.new.labels.items ≡ ways.now.csr.now.n }
+    ensures count_backward { length backward.new.labels.items ≡ ways.now.csr.now.n }
     ensures noted { AreNoted forward.new.labels.items forward.new.marks.items forward.new.noted.items }
     ensures noted_backward { AreNoted backward.new.labels.items backward.new.marks.items backward.new.noted.items }
     ensures pause { result ≡ true →
-        IsPause csr.now (seeds_from source) (rest_of forward.new.labels.items forward.new.marks.items) }
+        IsPause ways.now.csr.now (seeds_from source) (rest_of forward.new.labels.items forward.new.marks.items) }
     ensures pause_backward { result ≡ true →
-        IsPause reversed.now (seeds_from target) (rest_of backward.new.labels.items backward.new.marks.items) }
+        IsPause ways.now.reversed.now (seeds_from target) (rest_of backward.new.labels.items backward.new.marks.items) }
 {
+    let (csr, reversed) = (ways.csr, ways.reversed);
     if !begin(forward, csr, source, Guide::OtherEnd(&backward.labels)) {
         return false;
     }
@@ -82,7 +83,7 @@ fn come_near(
         return false;
     }
     for _ in 0..forward.visits {
-        if is_over(forward, backward) {
+        if is_over(forward, backward, ways) {
             return true;
         }
         let went = if forward.queue.len() <= backward.queue.len() {
@@ -97,37 +98,45 @@ fn come_near(
     true
 }
 
-/// Tells if no lower sum waits, or too many arcs were relaxed. A hint.
-fn is_over(forward: &State, backward: &State) -> bool {
-    let waits = forward.next_label().saturating_add(backward.next_label());
+/// Tells if the sides have met, or too many arcs were relaxed. A hint.
+fn is_over(forward: &State, backward: &State, ways: &BothWays<'_>) -> bool {
     let relaxed = forward.relaxed.saturating_add(backward.relaxed);
-    waits >= forward.met.min(backward.met) || relaxed > forward.arcs
+    relaxed > forward.arcs || have_met(forward, backward, ways)
+}
+
+/// Tells if what waits makes no lower sum than where the sides met. A hint.
+fn have_met(forward: &State, backward: &State, ways: &BothWays<'_>) -> bool {
+    let waits = forward
+        .next_label()
+        .saturating_add(backward.next_label())
+        .saturating_add(u64::from(ways.least_weight));
+    waits >= forward.met.min(backward.met)
 }
 
 /// The least sum where the sides meet, if what is marked has no lower one.
 fn cost_seen(
     forward: &State,
     backward: &State,
-    csr: &Csr,
-    reversed: &Csr,
+    ways: &BothWays<'_>,
     source: u32,
     target: u32,
 ) -> Option<u64>
+    requires ways { AreBothWays ways.now }
     requires noted { AreNoted forward.now.labels.items forward.now.marks.items forward.now.noted.items }
     requires noted_backward { AreNoted backward.now.labels.items backward.now.marks.items backward.now.noted.items }
-    requires pause { IsPause csr.now (seeds_from source) (rest_of forward.now.labels.items forward.now.marks.items) }
-    requires pause_backward { IsPause reversed.now (seeds_from target) (rest_of backward.now.labels.items backward.now.marks.items) }
-    requires turned { IsReversed csr.now reversed.now }
-    requires source { source < csr.now.n }
-    requires target { target < csr.now.n }
-    ensures { IfSome result (λ cost. IsLeast csr.now.arcs (seeds_from source) target cost) }
+    requires pause { IsPause ways.now.csr.now (seeds_from source) (rest_of forward.now.labels.items forward.now.marks.items) }
+    requires pause_backward { IsPause ways.now.reversed.now (seeds_from target) (rest_of backward.now.labels.items backward.now.marks.items) }
+    requires source { source < ways.now.csr.now.n }
+    requires target { target < ways.now.csr.now.n }
+    ensures { IfSome result (λ cost. IsLeast ways.now.csr.now.arcs (seeds_from source) target cost) }
 {
     laws::meeting_is_least();
-    let _ = (csr.n(), reversed.n(), source, target);
+    let _ = (ways.csr.n(), ways.reversed.n(), source, target);
     let cost = forward.least_meeting(&backward.labels);
     let waits = forward
         .lowest_marked()
-        .saturating_add(backward.lowest_marked());
+        .saturating_add(backward.lowest_marked())
+        .saturating_add(u64::from(ways.least_weight));
     if cost <= waits { Some(cost) } else { None }
 }
 
@@ -137,111 +146,112 @@ fn cost_seen(
 pub(crate) fn way_from_both(
     forward: &mut State,
     backward: &mut State,
-    csr: &Csr,
-    reversed: &Csr,
+    ways: &BothWays<'_>,
     source: u32,
     target: u32,
 ) -> Option<u64>
-    requires count { length forward.old.labels.items ≡ csr.now.n }
-    requires count_backward { length backward.old.labels.items ≡ csr.now.n }
+    requires ways { AreBothWays ways.now }
+    requires count { length forward.old.labels.items ≡ ways.now.csr.now.n }
+    requires count_backward { length backward.old.labels.items ≡ ways.now.csr.now.n }
     requires blank { IsBlank forward.old.labels.items forward.old.marks.items }
     requires blank_backward { IsBlank backward.old.labels.items backward.old.marks.items }
     requires none { forward.old.noted.items ≡ [] }
     requires none_backward { backward.old.noted.items ≡ [] }
-    requires turned { IsReversed csr.now reversed.now }
-    requires source { source < csr.now.n }
-    requires target { target < csr.now.n }
-    ensures count { length forward.new.labels.items ≡ csr.now.n }
-    ensures count_backward { length backward.new.labels.items ≡ csr.now.n }
+    requires source { source < ways.now.csr.now.n }
+    requires target { target < ways.now.csr.now.n }
+    ensures count { length forward.new.labels.items ≡ ways.now.csr.now.n }
+    ensures count_backward { length backward.new.labels.items ≡ ways.now.csr.now.n }
     ensures noted { AreNoted forward.new.labels.items forward.new.marks.items forward.new.noted.items }
     ensures noted_backward { AreNoted backward.new.labels.items backward.new.marks.items backward.new.noted.items }
     ensures start { IfSome result (λ limit. slice_index forward.new.labels.items source ≡ 0) }
-    ensures least { IfSome result (λ limit. AreLeastToward limit csr.now.n csr.now.arcs (seeds_from source) target
+    ensures least { IfSome result (λ limit.
+        AreLeastToward limit ways.now.csr.now.n ways.now.csr.now.arcs (seeds_from source) target
         (slice_index forward.new.labels.items)) }
     ensures past { IfSome result (λ limit. min (slice_index forward.new.labels.items target + 1) INF ≤ limit) }
 {
-    if !come_near(forward, backward, csr, reversed, source, target) {
+    if !come_near(forward, backward, ways, source, target) {
         return None;
     }
-    if !go_on_toward(forward, backward, csr, source) {
+    if !have_met(forward, backward, ways) {
         return None;
     }
-    let Some(limit) = way_seen(forward, backward, csr, reversed, source, target) else {
+    // The least sum where the sides met is the target's label.
+    let limit = forward.met.min(backward.met).saturating_add(1).min(INF);
+    let side = side_of(backward, ways, target);
+    if !go_on_toward(forward, ways.csr, source, Guide::Toward(&side, limit)) {
         return None;
-    };
-    // What still waits is on no least walk: without labels it takes no time when hops are counted.
-    forward.drop_marked(source);
-    Some(limit)
+    }
+    way_seen(forward, ways.csr, source, target, &side)
 }
 
-/// Visits the vertices that are not far from the target by the other side's labels, the lowest label first. Returns false if
-/// memory is refused.
-fn go_on_toward(forward: &mut State, backward: &State, csr: &Csr, source: u32) -> bool
+/// Hands over the labels of the search from the target.
+fn side_of<'a>(backward: &'a State, ways: &BothWays<'_>, target: u32) -> TargetSide<'a>
+    requires ways { AreBothWays ways.now }
+    requires noted { AreNoted backward.now.labels.items backward.now.marks.items backward.now.noted.items }
+    requires pause { IsPause ways.now.reversed.now (seeds_from target) (rest_of backward.now.labels.items backward.now.marks.items) }
+    ensures told { IsToldOf ways.now.csr.now target result.labels.now result.low }
+{
+    laws::far_by_labels_is_past();
+    let _ = (ways.reversed.n(), target);
+    let low = backward
+        .lowest_marked()
+        .saturating_add(u64::from(ways.least_weight));
+    TargetSide {
+        labels: &backward.labels,
+        low,
+    }
+}
+
+/// Visits the marked vertices that are wanted, and no others, in the guide's order. Returns false if memory is refused.
+fn go_on_toward(forward: &mut State, csr: &Csr, source: u32, guide: Guide<'_>) -> bool
     requires noted { AreNoted forward.old.labels.items forward.old.marks.items forward.old.noted.items }
     requires pause { IsPause csr.now (seeds_from source) (rest_of forward.old.labels.items forward.old.marks.items) }
-    requires noted_backward { AreNoted backward.now.labels.items backward.now.marks.items backward.now.noted.items }
-    requires count { length backward.now.labels.items ≡ csr.now.n }
     ensures count { length forward.new.labels.items ≡ length forward.old.labels.items }
     ensures noted { AreNoted forward.new.labels.items forward.new.marks.items forward.new.noted.items }
     ensures pause { result ≡ true →
         IsPause csr.now (seeds_from source) (rest_of forward.new.labels.items forward.new.marks.items) }
 {
-    let n = csr.n();
-    let (other, low) = (&backward.labels, backward.lowest_marked());
-    // The least sum where the sides meet is the target's label, unless the search gave up.
-    let limit = forward.least_meeting(other).saturating_add(1);
+    if !forward.wait_anew(guide) {
+        return false;
+    }
+    let most = forward.relaxed.saturating_add(forward.arcs);
     for _ in 0..forward.visits {
-        if forward.relaxed > forward.arcs {
+        if forward.queue.is_empty() || forward.relaxed > most {
             return true;
         }
-        let Some(Reverse(next)) = forward.queue.pop() else {
-            return true;
-        };
-        if next.sum >= limit {
-            return true;
-        }
-        let u = next.vertex;
-        if u < n
-            && !forward.is_far_by_labels(u, other, low, limit)
-            && !forward.visit(csr, source, u, Guide::Labels)
-        {
+        if !forward.step(csr, source, guide) {
             return false;
         }
     }
     true
 }
 
-/// The number after the target's label, if labels are least up to it on the way to the target.
+/// The number after the target's label, if labels are least up to it on the way to the target. Labels past it are dropped, so
+/// that they take no time when hops are counted.
 fn way_seen(
-    forward: &State,
-    backward: &State,
+    forward: &mut State,
     csr: &Csr,
-    reversed: &Csr,
     source: u32,
     target: u32,
+    side: &TargetSide<'_>,
 ) -> Option<u64>
-    requires noted { AreNoted forward.now.labels.items forward.now.marks.items forward.now.noted.items }
-    requires noted_backward { AreNoted backward.now.labels.items backward.now.marks.items backward.now.noted.items }
-    requires pause { IsPause csr.now (seeds_from source) (rest_of forward.now.labels.items forward.now.marks.items) }
-    requires pause_backward { IsPause reversed.now (seeds_from target) (rest_of backward.now.labels.items backward.now.marks.items) }
-    requires turned { IsReversed csr.now reversed.now }
+    requires noted { AreNoted forward.old.labels.items forward.old.marks.items forward.old.noted.items }
+    requires pause { IsPause csr.now (seeds_from source) (rest_of forward.old.labels.items forward.old.marks.items) }
+    requires told { IsToldOf csr.now target side.now.labels.now side.now.low }
     requires target { target < csr.now.n }
-    ensures start { IfSome result (λ limit. slice_index forward.now.labels.items source ≡ 0) }
+    ensures count { length forward.new.labels.items ≡ length forward.old.labels.items }
+    ensures noted { AreNoted forward.new.labels.items forward.new.marks.items forward.new.noted.items }
+    ensures start { IfSome result (λ limit. slice_index forward.new.labels.items source ≡ 0) }
     ensures least { IfSome result (λ limit. AreLeastToward limit csr.now.n csr.now.arcs (seeds_from source) target
-        (slice_index forward.now.labels.items)) }
-    ensures past { IfSome result (λ limit. min (slice_index forward.now.labels.items target + 1) INF ≤ limit) }
-    ensures capped { IfSome result (λ limit. slice_index forward.now.labels.items target ≤ INF) }
-    ensures marked { IfSome result (λ limit.
-        AreMarkedPast limit csr.now target (rest_of forward.now.labels.items forward.now.marks.items)) }
+        (slice_index forward.new.labels.items)) }
+    ensures past { IfSome result (λ limit. min (slice_index forward.new.labels.items target + 1) INF ≤ limit) }
 {
-    laws::far_by_labels_is_past();
     label_words::laws::pauses_are_least_toward();
-    let _ = (csr.n(), reversed.n(), source);
-    let low = backward.lowest_marked();
-    let limit = forward.labels[target as usize].saturating_add(1);
-    if forward.is_marked_far_by_labels(&backward.labels, low, limit) {
-        Some(limit)
-    } else {
-        None
+    let _ = csr.n();
+    let limit = forward.labels[target as usize].saturating_add(1).min(INF);
+    if !forward.is_marked_past(side, limit) {
+        return None;
     }
+    forward.drop_past(source, side, limit);
+    Some(limit)
 }

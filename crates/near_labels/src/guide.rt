@@ -1,6 +1,8 @@
 //! The order of the vertices that wait.
 
+use crate::side::TargetSide;
 use csr_graph::Bounds;
+use route_walks::INF;
 
 /// A hint: labels never depend on it.
 #[derive(Clone, Copy, Debug)]
@@ -11,6 +13,8 @@ pub(crate) enum Guide<'a> {
     OtherEnd(&'a [u64]),
     /// The lowest sum of a label and what these bounds tell of the rest of the way comes first.
     Bounds(&'a Bounds<'a>),
+    /// The lowest label comes first, of vertices that aren't past this limit by a search from the target.
+    Toward(&'a TargetSide<'a>, u64),
 }
 
 /// A vertex that waits. The lowest sum comes first, and of equal sums the vertex that is nearest to the targets.
@@ -29,6 +33,7 @@ impl Guide<'_> {
     pub(crate) fn waiting(&self, v: u32, label: u64) -> Waiting {
         let rest = match self {
             Guide::Bounds(bounds) => bounds.bound(v),
+            Guide::Toward(side, limit) if side.is_past(v, label, *limit) => INF,
             _ => 0,
         };
         Waiting {

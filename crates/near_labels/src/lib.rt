@@ -15,13 +15,18 @@
 
 mod aim;
 mod both_ends;
+mod both_ways;
+mod climb;
 mod guide;
 pub mod laws;
 mod listing;
 mod search;
+mod side;
 mod space;
 mod state;
+mod sweep;
 mod walks;
 
+pub use both_ways::BothWays;
 pub use space::SearchSpace;
 pub use walks::WalksFound;

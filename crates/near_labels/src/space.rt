@@ -1,23 +1,28 @@
 //! Room for one search after another.
 
-ghost use Rattle.std.specs.Prelude.{◌≡◌, ◌+◌, ◌<◌, ◌≤◌, [], ◌∷◌, All, IfOk, IfSome, length, min, slice_index};
+ghost use Rattle.std.specs.Prelude.{◌≡◌, ◌+◌, ◌<◌, ◌≤◌, ℕ, [], ◌∷◌, All, Contains, IfOk, IfSome, length, min, slice_index};
 ghost use Rattle.route_walks.specs.declared.graph.TheConstants.{INF};
 ghost use Rattle.route_walks.specs.Label.{IsLeast};
 ghost use Rattle.route_walks.specs.Limit.{AreLeastLabelsUpTo};
 ghost use Rattle.route_walks.specs.Operators.{seeds_from};
 ghost use Rattle.csr_graph.specs.Bounds.{AreBounds};
 ghost use Rattle.near_labels.specs.Found.{AreWalksFound};
-ghost use Rattle.near_labels.specs.Meeting.{IsReversed};
+ghost use Rattle.near_labels.specs.Meeting.{AreBothWays};
 ghost use Rattle.near_labels.specs.Noted.{AreLeastOf, AreNoted, AreThoseWithin};
+ghost use Rattle.near_labels.specs.Sweep.{AreLeastUpDowns, IsUpward};
+ghost use Rattle.near_labels.specs.UpDown.{IsLeastUpDown};
 
 use crate::aim::SearchAim;
 use crate::both_ends::{cost_from_both, way_from_both};
+use crate::both_ways::BothWays;
+use crate::climb::cost_above;
 use crate::listing::{labels_of, listed};
 use crate::search::{search, search_toward, search_way_toward};
 use crate::state::State;
+use crate::sweep::sweep;
 use crate::walks::{WalksFound, walks_by_labels};
 use csr_graph::{Bounds, Csr};
-use route_walks::Memory;
+use route_walks::{INF, Memory};
 use std::alloc::Global;
 use std::marker::Model;
 use walk_report::{LabelsBelow, WalkSpace};
@@ -225,28 +230,21 @@ impl SearchSpace {
     pub fn cost_between(
         &mut self,
         backward: &mut SearchSpace,
-        csr: &Csr,
-        reversed: &Csr,
+        ways: &BothWays<'_>,
         source: u32,
         target: u32,
     ) -> Option<u64>
-        requires vertices { self.old ≡ csr.now.n }
-        requires vertices_backward { backward.old ≡ csr.now.n }
-        requires reversed { IsReversed csr.now reversed.now }
-        requires source { source < csr.now.n }
-        requires target { target < csr.now.n }
+        requires ways { AreBothWays ways.now }
+        requires vertices { self.old ≡ ways.now.csr.now.n }
+        requires vertices_backward { backward.old ≡ ways.now.csr.now.n }
+        requires source { source < ways.now.csr.now.n }
+        requires target { target < ways.now.csr.now.n }
         ensures vertices { self.new ≡ self.old }
         ensures vertices_backward { backward.new ≡ backward.old }
-        ensures least { IfSome result (λ cost. IsLeast csr.now.arcs (seeds_from source) target cost) }
+        ensures least { IfSome result (λ cost. IsLeast ways.now.csr.now.arcs (seeds_from source) target cost) }
     {
-        let cost = cost_from_both(
-            &mut self.state,
-            &mut backward.state,
-            csr,
-            reversed,
-            source,
-            target,
-        );
+        let (forward, back) = (&mut self.state, &mut backward.state);
+        let cost = cost_from_both(forward, back, ways, source, target);
         self.state.wipe();
         backward.state.wipe();
         cost
@@ -260,31 +258,31 @@ impl SearchSpace {
         backward: &mut SearchSpace,
         walks: &mut WalkSpace,
         alloc: Global,
-        csr: &Csr,
-        reversed: &Csr,
+        ways: &BothWays<'_>,
         source: u32,
         target: u32,
     ) -> Option<WalksFound>
-        requires vertices { self.old ≡ csr.now.n }
-        requires vertices_backward { backward.old ≡ csr.now.n }
-        requires vertices_of_walks { walks.old ≡ csr.now.n }
-        requires reversed { IsReversed csr.now reversed.now }
-        requires source { source < csr.now.n }
-        requires target { target < csr.now.n }
+        requires ways { AreBothWays ways.now }
+        requires vertices { self.old ≡ ways.now.csr.now.n }
+        requires vertices_backward { backward.old ≡ ways.now.csr.now.n }
+        requires vertices_of_walks { walks.old ≡ ways.now.csr.now.n }
+        requires source { source < ways.now.csr.now.n }
+        requires target { target < ways.now.csr.now.n }
         ensures vertices { self.new ≡ self.old }
         ensures vertices_backward { backward.new ≡ backward.old }
         ensures vertices_of_walks { walks.new ≡ walks.old }
-        ensures walks { IfSome result (AreWalksFound csr.now.n csr.now.arcs source (target ∷ [])) }
+        ensures walks { IfSome result
+            (AreWalksFound ways.now.csr.now.n ways.now.csr.now.arcs source (target ∷ [])) }
     {
         let (forward, back) = (&mut self.state, &mut backward.state);
-        let found = match way_from_both(forward, back, csr, reversed, source, target) {
+        let found = match way_from_both(forward, back, ways, source, target) {
             Some(limit) => {
                 let from = LabelsBelow {
                     labels: &forward.labels,
                     source,
                     limit,
                 };
-                walks_by_labels(walks, alloc, csr, from, &[target])
+                walks_by_labels(walks, alloc, ways.csr, from, &[target])
             }
             None => None,
         };
@@ -292,6 +290,95 @@ impl SearchSpace {
         back.wipe();
         found
     }
+
+    /// Returns the least that a walk from the source over `up` and one from the target over `down` cost together if they end
+    /// at the same vertex; `INF` if there are none. `None` as for `labels_to`, and perhaps if that is more than `most`. The
+    /// other space searches from the target. Visits all vertices of lower labels on both sides, so it serves graphs that lead
+    /// to few vertices.
+    pub fn cost_above(
+        &mut self,
+        backward: &mut SearchSpace,
+        up: &Csr,
+        down: &Csr,
+        source: u32,
+        target: u32,
+        most: u64,
+    ) -> Option<u64>
+        requires vertices { self.old ≡ up.now.n }
+        requires vertices_backward { backward.old ≡ up.now.n }
+        requires same { down.now.n ≡ up.now.n }
+        requires source { source < up.now.n }
+        requires target { target < up.now.n }
+        ensures vertices { self.new ≡ self.old }
+        ensures vertices_backward { backward.new ≡ backward.old }
+        ensures least { IfSome result (IsLeastUpDown up.now.arcs down.now.arcs source target) }
+    {
+        let (state, other) = (&mut self.state, &mut backward.state);
+        // A search ends once no label waits that is less than the least sum that it has met.
+        state.met = most.saturating_add(1);
+        let cost = cost_above(state, other, up, down, source, target);
+        state.wipe();
+        other.wipe();
+        cost
+    }
+
+    /// Returns for each target, in their order, what `cost_above` does; `None` as for `labels_to`. In `order` each vertex comes
+    /// after those to which its arcs of `down` lead. Takes the time of a search over `up`, and of these arcs.
+    pub fn costs_above(
+        &mut self,
+        alloc: Global,
+        up: &Csr,
+        down: &Csr,
+        source: u32,
+        order: &[u32],
+        targets: &[u32],
+    ) -> Option<Vec<u64>>
+        requires vertices { self.old ≡ up.now.n }
+        requires same { down.now.n ≡ up.now.n }
+        requires source { source < up.now.n }
+        requires order { All (λ v. v < up.now.n) order.now }
+        requires upward { IsUpward down.now.arcs order.now }
+        requires targets { All (Contains order.now) targets.now }
+        ensures vertices { self.new ≡ self.old }
+        ensures least { IfSome result (λ costs.
+            AreLeastUpDowns up.now.arcs down.now.arcs source targets.now costs.items) }
+    {
+        let state = &mut self.state;
+        let swept = match search(state, up, source, SearchAim::Within(INF)) {
+            Some(limit) => sweep(state, up, down, source, limit, order),
+            None => false,
+        };
+        let costs = if swept {
+            labels_above(alloc, up, down, source, &state.labels, order, targets)
+        } else {
+            None
+        };
+        state.wipe();
+        costs
+    }
+}
+
+/// The labels of targets, which are least.
+fn labels_above(
+    alloc: Global,
+    up: &Csr,
+    down: &Csr,
+    source: u32,
+    labels: &[u64],
+    order: &[u32],
+    targets: &[u32],
+) -> Option<Vec<u64>>
+    requires count { length labels.now ≡ down.now.n }
+    requires order { All (λ v. v < down.now.n) order.now }
+    requires targets { All (Contains order.now) targets.now }
+    requires least { (v : ℕ) → v < down.now.n → Contains order.now v
+        → IsLeastUpDown up.now.arcs down.now.arcs source v (slice_index labels.now v) }
+    ensures { IfSome result (λ costs.
+        AreLeastUpDowns up.now.arcs down.now.arcs source targets.now costs.items) }
+{
+    // Whose labels they are is for the contract alone.
+    let _ = (up.n(), down.n(), source, order.len());
+    labels_of(alloc, labels, targets)
 }
 
 /// The labels of these vertices, which are below the limit up to which all are least.

@@ -11,6 +11,7 @@ ghost use Rattle.near_labels.specs.Noted.{AreDropped, AreNoted, IsBlank, rest_of
 ghost use Rattle.near_labels.specs.Meeting.{AreMarkedFarByLabels, IsLeastMeeting};
 
 use crate::guide::{Guide, Waiting};
+use crate::side::TargetSide;
 use csr_graph::{Bounds, Csr, Target};
 use route_walks::{INF, Memory, offer};
 use std::alloc::Global;
@@ -117,6 +118,22 @@ impl State {
         true
     }
 
+    /// Sets the label of `v`, and lets nothing wait. Returns false if memory is refused.
+    #[inline(always)]
+    pub(crate) fn put(&mut self, v: u32, label: u64) -> bool
+        requires noted { AreNoted self.old.labels.items self.old.marks.items self.old.noted.items }
+        requires vertex { v < length self.old.labels.items }
+        ensures labels { result ≡ true → self.new.labels.items ≡ slice_set self.old.labels.items v label }
+        ensures kept_labels { result ≡ false → self.new.labels.items ≡ self.old.labels.items }
+        ensures noted { AreNoted self.new.labels.items self.new.marks.items self.new.noted.items }
+    {
+        if !self.note(v) {
+            return false;
+        }
+        self.labels[v as usize] = label;
+        true
+    }
+
     /// Relaxes the arcs that leave `u`. Returns false if memory is refused.
     pub(crate) fn visit(&mut self, csr: &Csr, source: u32, u: u32, guide: Guide<'_>) -> bool
         requires noted { AreNoted self.old.labels.items self.old.marks.items self.old.noted.items }
@@ -183,63 +200,93 @@ impl State {
         !self.marks[place] || bounds.is_past(v, self.labels[place], limit)
     }
 
-    /// Tells if the label of each marked vertex makes the limit with the other side's, which counts as `low` at most, by the
-    /// noted vertices.
-    pub(crate) fn is_marked_far_by_labels(&self, other: &[u64], low: u64, limit: u64) -> bool
-        requires noted { AreNoted self.now.labels.items self.now.marks.items self.now.noted.items }
-        requires count { length other.now ≡ length self.now.labels.items }
-        ensures { result ≡ true →
-            AreMarkedFarByLabels limit low other.now (rest_of self.now.labels.items self.now.marks.items) }
+    /// Tells if each marked vertex is past the limit by a search from the target, by the noted vertices.
+    pub(crate) fn is_marked_past(&self, side: &TargetSide<'_>, limit: u64) -> bool
+        requires { AreNoted self.now.labels.items self.now.marks.items self.now.noted.items }
+        ensures { result ≡ true → AreMarkedFarByLabels limit side.now.low side.now.labels.now
+            (rest_of self.now.labels.items self.now.marks.items) }
     {
         for v in &self.noted {
-            if !self.is_far_by_labels(*v, other, low, limit) {
+            if !self.is_past(*v, side, limit) {
                 return false;
             }
         }
         true
     }
 
-    /// Tells if a vertex isn't marked, or its label is so far.
-    #[inline(always)]
-    pub(crate) fn is_far_by_labels(&self, v: u32, other: &[u64], low: u64, limit: u64) -> bool
+    /// Tells if a vertex isn't marked, or is so far.
+    fn is_past(&self, v: u32, side: &TargetSide<'_>, limit: u64) -> bool
         requires count { length self.now.marks.items ≡ length self.now.labels.items }
-        requires count_other { length other.now ≡ length self.now.labels.items }
         requires vertex { v < length self.now.labels.items }
         ensures { result ≡ true → mark_of self.now.marks.items v ≡ true →
-            limit ≤ slice_index self.now.labels.items v + min (slice_index other.now v) low }
+            limit ≤ slice_index self.now.labels.items v + min (slice_index side.now.labels.now v) side.now.low }
     {
         let place = v as usize;
-        !self.marks[place] || self.labels[place].saturating_add(other[place].min(low)) >= limit
+        !self.marks[place] || side.is_past(v, self.labels[place], limit)
     }
 
-    /// Drops the labels of all marked vertices but one, by the noted vertices. Marks stay.
-    pub(crate) fn drop_marked(&mut self, but: u32)
+    /// Drops the label of each vertex but one that is past the limit by a search from the target, by the noted vertices.
+    /// Marks stay.
+    pub(crate) fn drop_past(&mut self, but: u32, side: &TargetSide<'_>, limit: u64)
         requires { AreNoted self.old.labels.items self.old.marks.items self.old.noted.items }
         ensures count { length self.new.labels.items ≡ length self.old.labels.items }
         ensures noted { AreNoted self.new.labels.items self.new.marks.items self.new.noted.items }
-        ensures dropped { AreDropped but self.old.marks.items self.old.labels.items self.new.labels.items }
+        ensures dropped { AreDropped but limit side.now.low side.now.labels.now self.old.labels.items self.new.labels.items }
     {
         for place in 0..self.noted.len() {
             let v = self.noted[place];
-            self.drop_if_marked(v, but);
+            self.drop_if_past(v, but, side, limit);
         }
     }
 
-    /// Drops the label of a noted vertex, if it is marked and another one than `but`.
-    fn drop_if_marked(&mut self, v: u32, but: u32)
+    /// Drops the label of a noted vertex, if it is past the limit and another one than `but`.
+    fn drop_if_past(&mut self, v: u32, but: u32, side: &TargetSide<'_>, limit: u64)
         requires noted { AreNoted self.old.labels.items self.old.marks.items self.old.noted.items }
         requires within { Contains self.old.noted.items v }
-        ensures labels { AreDropped but self.old.marks.items self.old.labels.items self.new.labels.items }
+        ensures labels { AreDropped but limit side.now.low side.now.labels.now self.old.labels.items self.new.labels.items }
         ensures count { length self.new.labels.items ≡ length self.old.labels.items }
         ensures marks { self.new.marks ≡ self.old.marks }
         ensures list { self.new.noted ≡ self.old.noted }
         ensures noted { AreNoted self.new.labels.items self.new.marks.items self.new.noted.items }
     {
         let place = v as usize;
-        if v == but || !self.marks[place] {
+        if v == but || !side.is_past(v, self.labels[place], limit) {
             return;
         }
         self.labels[place] = INF;
+    }
+
+    /// Lets the marked vertices wait anew, by the noted ones, in the order of another guide. Returns false if memory is
+    /// refused.
+    pub(crate) fn wait_anew(&mut self, guide: Guide<'_>) -> bool
+        requires { AreNoted self.old.labels.items self.old.marks.items self.old.noted.items }
+        ensures labels { self.new.labels ≡ self.old.labels }
+        ensures marks { self.new.marks ≡ self.old.marks }
+        ensures noted { self.new.noted ≡ self.old.noted }
+    {
+        self.queue.clear();
+        for place in 0..self.noted.len() {
+            let v = self.noted[place];
+            if !self.wait_if_marked(v, guide) {
+                return false;
+            }
+        }
+        true
+    }
+
+    /// Lets a vertex wait, if it is marked. Returns false if memory is refused.
+    fn wait_if_marked(&mut self, v: u32, guide: Guide<'_>) -> bool
+        requires count { length self.old.marks.items ≡ length self.old.labels.items }
+        requires vertex { v < length self.old.labels.items }
+        ensures labels { self.new.labels ≡ self.old.labels }
+        ensures marks { self.new.marks ≡ self.old.marks }
+        ensures noted { self.new.noted ≡ self.old.noted }
+    {
+        let place = v as usize;
+        if !self.marks[place] {
+            return true;
+        }
+        let_wait(&mut self.queue, guide.waiting(v, self.labels[place]))
     }
 
     /// Visits the next vertex that waits, if one does. Returns false if memory is refused.

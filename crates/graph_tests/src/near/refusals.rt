@@ -4,7 +4,7 @@
 use crate::near::Question::{Cost, Labels, Toward, Walk, Walks, WalksToward, Within};
 use crate::near::{ALL, ENOUGH, FROM_0, Question, is_right, room_of};
 use crate::reports::build;
-use near_labels::SearchSpace;
+use near_labels::{BothWays, SearchSpace};
 use route_walks::{EXAMPLE_ARCS, Memory, refusable, tried_again};
 use std::alloc::Global;
 use std::process::Abort;
@@ -16,14 +16,14 @@ fn expect_again(rt: &impl Abort, alloc: Global, question: Question) -> Result<()
     let reversed = csr.reversed(alloc)?;
     let mut room = room_of(alloc, 6)?;
     room.forward.allow(ENOUGH, usize::MAX);
-    let ways = (&csr, &reversed);
+    let ways = BothWays::of(&csr, &reversed);
     let found = refusable!(
         alloc,
-        is_right(rt, alloc, &mut room, ways, &FROM_0, question)
+        is_right(rt, alloc, &mut room, &ways, &FROM_0, question)
     );
     let right = match found {
         Some(right) => Some(right),
-        None => is_right(rt, alloc, &mut room, ways, &FROM_0, question),
+        None => is_right(rt, alloc, &mut room, &ways, &FROM_0, question),
     };
     assert!(rt; right == Some(true));
     Ok(())

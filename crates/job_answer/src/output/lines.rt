@@ -1,17 +1,19 @@
 //! The lines of a block.
 
-ghost use Rattle.std.specs.Prelude.{◌≡◌, ◌≢◌, ◌<◌, ◌≤◌, ◌++◌, [], length, max};
+ghost use Rattle.std.specs.Prelude.{◌≡◌, ◌≢◌, ◌<◌, ◌≤◌, ◌++◌, ℕ, [], List, length, max};
 ghost use Rattle.std.specs.Prelude.{All, IfErr, IfSome, OnErr, OnOk};
-ghost use Rattle.answer_lines.specs.Lines.{components_text, distances_text, source_text};
+ghost use Rattle.answer_lines.specs.Lines.{components_text, distances_text, label_text, source_text};
 ghost use Rattle.answer_lines.specs.Raw.{raw_text};
 ghost use Rattle.answer_lines.specs.Totals.{totals_text};
 ghost use Rattle.job_answer.specs.LineWalks.{AreReachedWithin, HasWalkAt, text_by};
+ghost use Rattle.job_answer.specs.NearBlock.{AreTextsOf};
+ghost use Rattle.job_answer.specs.NearPairs.{walk_part};
 ghost use Rattle.job_answer.specs.Sinks.{Is, Puts};
 ghost use Rattle.job_answer.specs.Within.{line_within, listed_text, text_within};
 
 use crate::output::line_walks::{LineWalks, put_walk_line};
 use crate::output::sink::Sink;
-use answer_lines::{Totals, put_label, put_source};
+use answer_lines::{Totals, put_label, put_source, put_walk};
 use route_walks::{INF, MAX_VERTICES, Memory};
 use std::alloc::Global;
 use std::io::Write;
@@ -94,13 +96,55 @@ pub fn put_within<W: Write>(
 pub fn put_listed<W: Write>(sink: &mut Sink<'_, W>, source: u32, found: &[(u32, u64)])
     requires source { source < MAX_VERTICES }
     requires vertices { All (λ entry. entry.0 < MAX_VERTICES) found.now }
-    ensures { Puts W.contents (Is (source_text source ++ listed_text found.now)) sink.old sink.new }
+    ensures { Puts W.contents (Is (source_text source ++ listed_text label_text found.now)) sink.old sink.new }
 {
     put_first(sink, source);
     for entry in found {
         let put = put_label(sink.waiting, entry.0, entry.1);
         sink.end(put);
     }
+}
+
+/// Puts the line of a source and those of these vertices, each with the walk at its place.
+pub fn put_walked<W: Write>(
+    sink: &mut Sink<'_, W>,
+    source: u32,
+    found: &[(u32, u64)],
+    walks: &[Vec<u32>],
+)
+    requires source { source < MAX_VERTICES }
+    requires vertices { All (λ entry. entry.0 < MAX_VERTICES) found.now }
+    requires count { length walks.now ≡ length found.now }
+    requires walked { All (λ walk. All (λ u. u < MAX_VERTICES) walk.items) walks.now }
+    ensures { (text : ℕ → ℕ → List ℕ) → AreTextsOf text found.now walks.now
+        → Puts W.contents (Is (source_text source ++ listed_text text found.now)) sink.old sink.new }
+{
+    put_first(sink, source);
+    for (place, entry) in found.iter().enumerate() {
+        let put = put_found_vertex(sink.waiting, entry.0, entry.1, &walks[place]);
+        sink.end(put);
+    }
+}
+
+/// Puts the line of a vertex, and of its walk if one leads there.
+fn put_found_vertex(out: &mut Vec<u8>, v: u32, label: u64, walk: &[u32]) -> Result<(), Memory>
+    requires vertex { v < MAX_VERTICES }
+    requires walk { All (λ u. u < MAX_VERTICES) walk.now }
+    ensures put { OnOk result (out.new.items ≡ out.old.items ++ (label_text v label ++ walk_part label walk.now)) }
+{
+    put_label(out, v, label)?;
+    put_walk_part(out, label, walk)
+}
+
+/// Puts the line of a walk, if it has vertices.
+pub(crate) fn put_walk_part(out: &mut Vec<u8>, label: u64, walk: &[u32]) -> Result<(), Memory>
+    requires walk { All (λ u. u < MAX_VERTICES) walk.now }
+    ensures put { OnOk result (out.new.items ≡ out.old.items ++ walk_part label walk.now) }
+{
+    if walk.is_empty() {
+        return Ok(());
+    }
+    put_walk(out, label, walk)
 }
 
 /// Puts the line of a source.

@@ -12,11 +12,12 @@ ghost use Rattle.least_costs.specs.Pairs.{pair_at};
 ghost use Rattle.job_answer.specs.Tasks.{IsWalkedBlock};
 
 use crate::laws;
+use crate::output::lines::put_walk_part;
 use crate::output::sink::Sink;
 use crate::question::graphs::Graphs;
 use crate::solving::pair_queries::PairQueries;
 use crate::solving::solves::Solve;
-use answer_lines::{put_pair, put_walk};
+use answer_lines::put_pair;
 use least_costs::{WalksFound, Workers};
 use obim_engine::Gate;
 use route_walks::Memory;
@@ -88,8 +89,5 @@ fn put_found_pair(
     ensures put { OnOk result (out.new.items ≡ out.old.items ++ found_text source target label walk.now) }
 {
     put_pair(out, source, target, label)?;
-    if walk.is_empty() {
-        return Ok(());
-    }
-    put_walk(out, label, walk)
+    put_walk_part(out, label, walk)
 }

@@ -100,20 +100,12 @@ pub(crate) fn walk_by_both(
 {
     let n = network.n() as usize;
     let (source, target) = pair;
-    match (forward, backward, walks, network.reversed()) {
-        (Some(forward), Some(backward), Some(walks), Some(reversed))
+    match (forward, backward, walks, network.both_ways()) {
+        (Some(forward), Some(backward), Some(walks), Some(ways))
             if forward.vertices() == n && backward.vertices() == n && walks.vertices() == n => {
             forward.allow(limit.visits, limit.arcs);
             backward.allow(limit.visits, limit.arcs);
-            forward.walk_between(
-                backward,
-                walks,
-                alloc,
-                &network.rows,
-                reversed,
-                source,
-                target,
-            )
+            forward.walk_between(backward, walks, alloc, &ways, source, target)
         }
         _ => None,
     }
@@ -200,12 +192,12 @@ pub(crate) fn label_by_both(
     ensures { IfSome result (IsLeast network.now.arcs (seeds_from source) target) }
 {
     let n = network.n() as usize;
-    match (forward, backward, network.reversed()) {
-        (Some(forward), Some(backward), Some(reversed))
+    match (forward, backward, network.both_ways()) {
+        (Some(forward), Some(backward), Some(ways))
             if forward.vertices() == n && backward.vertices() == n => {
             forward.allow(limit.visits, limit.arcs);
             backward.allow(limit.visits, limit.arcs);
-            forward.cost_between(backward, &network.rows, reversed, source, target)
+            forward.cost_between(backward, &ways, source, target)
         }
         _ => None,
     }

@@ -6,8 +6,8 @@ use Rattle.near_labels.proofs.both_ends.come_near.Given as goal
 
 abbrev pub invariant-loop : goal.invariant-loop
 invariant-loop l = record {
-  pause : IsPause l.csr (seeds_from l.source) (rest_of l.forward.labels.items l.forward.marks.items);
-  pause_backward : IsPause l.reversed (seeds_from l.target) (rest_of l.backward.labels.items l.backward.marks.items);
+  pause : IsPause l.ways.csr.now (seeds_from l.source) (rest_of l.forward.labels.items l.forward.marks.items);
+  pause_backward : IsPause l.ways.reversed.now (seeds_from l.target) (rest_of l.backward.labels.items l.backward.marks.items);
   noted : AreNoted l.forward.labels.items l.forward.marks.items l.forward.noted.items;
   noted_backward : AreNoted l.backward.labels.items l.backward.marks.items l.backward.noted.items;
   count : length l.forward.labels.items ≡ length l.fn.forward.labels.items;

@@ -11,7 +11,7 @@ returns-clause-walks c =
     elim c.match-way_from_both.branch [
       | in-None w ↦ rw w.found-is (search rules)
       | in-Some w ↦
-          let graph = c.args.csr.now in
+          let graph = c.args.ways.now.csr.now in
           let labels = c.way_from_both.new.forward.labels.items in
           let IsLeastThere : ℕ → Type 0 =
           λ t. AreLeastToward w.in-Some.limit graph.n graph.arcs (seeds_from c.args.source) t (slice_index labels) in

@@ -1,4 +1,4 @@
-use Rattle.std.proofs.Common.{◌-◌, arith, length, rules}
+use Rattle.std.proofs.Common.{◌-◌, arith, length}
 use Rattle.std.proofs.lemmas.List.Elements.{All-set, All-take}
 use Rattle.least_costs.specs.declared.workers.task_queue.FinishedTask.{FinishedTask}
 use Rattle.least_costs.proofs.workers.task_queue.TaskQueue.take.Goals as goal

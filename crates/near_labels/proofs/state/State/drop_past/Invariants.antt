@@ -1,6 +1,6 @@
 use Rattle.std.proofs.Common.{◌≡◌, length}
 use Rattle.near_labels.specs.Noted.{AreDropped, AreNoted}
-use Rattle.near_labels.proofs.state.State.drop_marked.Given as goal
+use Rattle.near_labels.proofs.state.State.drop_past.Given as goal
 
 abbrev pub invariant-loop-place : goal.invariant-loop-place
 invariant-loop-place l = record {
@@ -8,5 +8,5 @@ invariant-loop-place l = record {
   list : l.self.noted.items ≡ l.fn.self.noted.items;
   marks : l.self.marks.items ≡ l.fn.self.marks.items;
   count : length l.self.labels.items ≡ length l.fn.self.labels.items;
-  dropped : AreDropped l.but l.fn.self.marks.items l.fn.self.labels.items l.self.labels.items;
+  dropped : AreDropped l.but l.limit l.side.low l.side.labels.now l.fn.self.labels.items l.self.labels.items;
 }
