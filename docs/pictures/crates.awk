@@ -49,8 +49,8 @@ BEGIN {
     place("dimacs_text", 190); place("obim_pool", 510); place("relax_core", 715); place("walk_report", 900)
     place("request_reader", 90); place("job_reader", 290); place("worklist_tests", 465); place("label_words", 715)
     place("text_tests", 190); place("obim_engine", 650); place("near_labels", 880)
-    place("engine_tests", 540); place("least_costs", 720); place("graph_tests", 915)
-    place("job_answer", 400); place("cost_examples", 720); place("costs_tests", 900)
+    place("engine_tests", 420); place("least_costs", 590); place("graph_tests", 755); place("hierarchy", 920)
+    place("job_answer", 395); place("cost_examples", 560); place("costs_tests", 725); place("hierarchy_tests", 890)
     place("session_answer", 90); place("command_line", 310); place("job_messages", 510)
     place("answer_tests", 190); place("obim_query", 410)
 }

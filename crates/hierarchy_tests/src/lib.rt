@@ -1,0 +1,15 @@
+//! Tests of what the public calls of `hierarchy` do that no contract says, and of the search of `near_labels` that it asks.
+//!
+//! A crate of tests is apart, since a crate with tests is proved once more for them.
+#![tactic(auto)]
+
+#[cfg(test)]
+mod above;
+#[cfg(test)]
+mod costs;
+#[cfg(test)]
+mod plain;
+#[cfg(test)]
+mod spoiled;
+#[cfg(test)]
+mod toward;
