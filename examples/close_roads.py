@@ -3,7 +3,7 @@
 
 A line `U V` of CHANGES closes all arcs from vertex U to vertex V, and a line `U V W` gives them the weight W; for the way
 back write another line. Blank lines and lines that begin with c are comments. Without MAP.gr the graph comes on standard
-input. Of its comments the unit of weights alone is kept (`c unit metres`). Needs to_gr.py beside it.
+input. Of its comments the unit of weights is kept (`c unit metres`), and `c joined`. Needs to_gr.py beside it.
 
 A change of an arc that the graph does not have is refused, and so is a line that is not understood, and a graph that has
 more or fewer arcs than it announces. Then the status is 1, and nothing is written.
@@ -60,7 +60,7 @@ def change(stream, name, changes, out):
             elif fields[:2] == [b"p", b"sp"] and problem is None:
                 problem = [whole(field) for field in fields[2:]]
                 vertices, arcs = problem
-            elif fields[:2] == [b"c", b"unit"]:
+            elif fields[:2] in ([b"c", b"unit"], [b"c", b"joined"]):
                 out.write(text)
             elif fields and not fields[0].startswith(b"c"):
                 raise ValueError

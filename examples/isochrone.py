@@ -8,12 +8,13 @@ number comes first, so that a viewer draws what is near on top. If weights are l
     --weight UNIT     what weights are if the graph does not say it, as osm_to_gr.py was called with (decimetres)
     --nodes FILE      in place of nodes.txt
     --places FILE     in place of places.txt
+    --lines FILE      in place of lines.txt, which a graph of --join has
     --any             begins at a place, too, that is not joined to the largest part of the map
     --picture FILE    draws these streets on those around them, as FILE.png, FILE.svg or FILE.pdf. Needs matplotlib
 
-Needs the Python package hollowbowl (docs/PYTHON.md), the program, and the scripts beside it. Between two nodes time
-goes by as the way does. Of a street that is reached from both ends, each piece counts from the end that is reached
-earlier.
+Needs the Python package hollowbowl (docs/PYTHON.md), the program, and the scripts beside it. One begins at the nearest
+place on a street. Between two nodes time goes by as the way does. Of a street that is reached from both ends, each
+piece counts from the end that is reached earlier.
 
 A file that is not understood is refused, with its line, and so are files of another map, and a --weight that is not
 that of the graph. Then the status is 2, and nothing is written.
@@ -26,10 +27,11 @@ sys.dont_write_bytecode = True
 import map_files
 from map_files import Refused, feature, is_time, point
 from osm_to_gr import UNITS
+from streets import cut
 from to_gr import run
 
-# A street from node to node: where it begins and ends, what it costs to its beginning, and by it.
-Street = namedtuple("Street", "begin end cost weight")
+# A street from node to node: its places, what it costs to its beginning, and by it.
+Street = namedtuple("Street", "places cost weight")
 
 
 def limit_of(word, unit):
@@ -43,21 +45,35 @@ def limit_of(word, unit):
     return round(number * UNITS[unit][0] * (60 if is_time(unit) else 1))
 
 
-def reached_streets(graph, nodes, costs):
+def earliest(streets, pair, street):
+    """Keeps a street from one node to another if it is the one that is reached earliest."""
+    if pair not in streets or (street.cost, street.weight) < (streets[pair].cost, streets[pair].weight):
+        streets[pair] = street
+
+
+def reached_streets(streets, nodes, costs, spot):
     """The streets that leave a vertex of those that are reached: from one node to another the one that is earliest."""
-    streets = {}
-    for tail, head, weight in map_files.graph_arcs(graph):
+    found = {}
+    for arc, (tail, head, weight) in enumerate(zip(streets.tails, streets.heads, streets.weights)):
         pair = nodes.number(tail), nodes.number(head)
-        if tail not in costs or pair[0] == pair[1]:
-            continue
-        street = Street(nodes.place(tail), nodes.place(head), costs[tail], weight)
-        if pair not in streets or (street.cost, weight) < (streets[pair].cost, streets[pair].weight):
-            streets[pair] = street
-    return streets
+        is_own = len(spot.nodes) == 2 and (min(pair), max(pair)) == spot.nodes
+        if tail in costs and pair[0] != pair[1] and not is_own:
+            earliest(found, pair, Street(streets.line_of(arc), costs[tail], weight))
+    # The street on which one begins is two: each from the place to a node, and perhaps back to it.
+    for leg in spot.starts:
+        if leg.arc is not None:
+            node = nodes.number(leg.vertex)
+            earliest(found, (None, node), Street(cut(streets.line_of(leg.arc), leg.share, 1), 0, leg.cost))
+    for leg in spot.ends:
+        if leg.arc is not None and leg.vertex in costs:
+            node = nodes.number(leg.vertex)
+            line = cut(streets.line_of(leg.arc), 0, leg.share)
+            earliest(found, (node, None), Street(line, costs[leg.vertex], leg.cost))
+    return found
 
 
 def pieces(streets, limits):
-    """For each limit the pieces of streets between it and the one before, as pairs of places."""
+    """For each limit the pieces of streets between it and the one before, as lines of places."""
     found = [[] for _ in limits]
     for (one, other), street in streets.items():
         back = streets.get((other, one))
@@ -70,39 +86,38 @@ def pieces(streets, limits):
         for number, limit in enumerate(limits):
             until = min(end, limit)
             if begin < until:
-                found[number].append([part(street, begin), part(street, until)])
+                found[number].append(part(street, begin, until))
                 begin = until
     return found
 
 
-def part(street, cost):
-    """The place on a street that is reached at this cost."""
-    share = (cost - street.cost) / street.weight
-    return tuple(one + (other - one) * share for one, other in zip(street.begin, street.end))
+def part(street, begin, until):
+    """The part of a street that is reached from one cost to another."""
+    return cut(street.places, *((cost - street.cost) / street.weight for cost in (begin, until)))
 
 
 def features(found, words, start, unit):
-    """The features of the pieces, the last limit first, and the node where they begin."""
+    """The features of the pieces, the last limit first, and the place where they begin."""
     key = "minutes" if is_time(unit) else "metres"
     for lines, word in reversed(list(zip(found, words))):
         yield feature("MultiLineString", [[point(place) for place in line] for line in lines], **{key: float(word)})
-    node, place, metres = start
-    yield feature("Point", point(place), kind="start", node=node, metres_away=metres)
+    yield feature("Point", point(start.place), **map_files.spot_properties("start", start))
 
 
-def draw(options, nodes, found, start):
+def draw(options, streets, found, start):
     """The bytes of a picture of the pieces, in a colour for each limit; none where none is wanted."""
     if not options.picture:
         return b""
     import map_picture
 
-    around = [place for lines in found for line in lines for place in line] or [start[1]]
-    axes = map_picture.begin(map_files.streets(options.graph, nodes, around), around)
+    around = [place for lines in found for line in lines for place in line] or [start.place]
+    axes = map_picture.begin(list(streets.around(around)), around)
     unit = "min" if is_time(options.weight) else "m"
     for number, (lines, word) in enumerate(zip(found, options.limits)):
         map_picture.lines(axes, lines, map_picture.shade(number, len(found)), 2, f"up to {word} {unit}")
-    map_picture.dot(axes, start[1], "black", "start")
-    return map_picture.drawn(axes, map_files.form_of(options.picture), has_legend=True)
+    map_picture.dot(axes, start.place, "black", "start")
+    title = f"Streets within {', '.join(options.limits)} {unit}"
+    return map_picture.drawn(axes, map_files.form_of(options.picture), title, has_legend=True)
 
 
 def parse():
@@ -119,17 +134,15 @@ def parse():
 
 def main():
     options, limits = parse()
-    places = map_files.read_places(options)
-    here = (options.latitude, options.longitude)
-    start, _, node, metres = map_files.nearest_place(places, "isochrone.py", here, options.any)
+    here = map_files.asked_place((options.latitude, options.longitude))
     with map_files.kept(options.graph) as graph:
         nodes = map_files.Nodes(options.nodes, graph.n)
-        vertices, costs = graph.within(start - 1, limits[-1])
-    costs = {int(vertex) + 1: int(cost) for vertex, cost in zip(vertices, costs)}
-    found = pieces(reached_streets(options.graph, nodes, costs), limits)
-    begin = node, nodes.place(start), metres
-    picture = draw(options, nodes, found, begin)
-    shown = features(found, options.limits, begin, options.weight)
+        streets = map_files.streets_of(options, nodes, graph.m)
+        start = map_files.nearest_spot(streets, "isochrone.py", here, options.any)
+        costs = streets.within(graph, start, limits[-1])
+    found = pieces(reached_streets(streets, nodes, costs, start), limits)
+    picture = draw(options, streets, found, start)
+    shown = features(found, options.limits, start, options.weight)
     map_files.write_features(shown, options.picture, picture)
     print(f"isochrone.py: {len(costs)} of {len(nodes.numbers)} vertices", file=sys.stderr)
 

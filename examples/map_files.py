@@ -13,6 +13,7 @@ from array import array
 from collections import namedtuple
 
 from nearest import Places, degrees
+from streets import read_streets
 from osm_to_gr import UNITS
 from to_gr import Arguments, Refused, finished_only, unpacked
 
@@ -29,6 +30,7 @@ def arguments(text):
     parser.add_argument("--weight", choices=UNITS)
     parser.add_argument("--nodes", default="nodes.txt")
     parser.add_argument("--places", default="places.txt")
+    parser.add_argument("--lines", default="lines.txt")
     parser.add_argument("--any", action="store_true")
     parser.add_argument("--picture", type=picture_name)
     return parser
@@ -45,20 +47,33 @@ def parsed(parser):
     return options
 
 
-def written_unit(name):
-    """The unit that a line of a graph before its arcs says, as `c unit metres`; None if none does."""
+def comments(name):
+    """The comments of a graph before its arcs, as (line, words)."""
     try:
         with open(name, "rb") as stream:
             for line, text in enumerate(unpacked(stream), 1):
                 words = text.split()
                 if words[:1] == [b"a"]:
                     break
-                if words[:2] == [b"c", b"unit"] and len(words) == 3:
-                    return known_unit(words[2], f"{name}:{line}")
+                if words[:1] == [b"c"]:
+                    yield line, words[1:]
     except (EOFError, zlib.error, OSError) as fault:
         if getattr(fault, "errno", None) is not None:
             raise
-    return None  # what is wrong with a damaged file the program says
+        # What is wrong with a damaged file the program says.
+
+
+def written_unit(name):
+    """The unit that a comment of a graph says, as `c unit metres`; None if none does."""
+    for line, words in comments(name):
+        if words[:1] == [b"unit"] and len(words) == 2:
+            return known_unit(words[1], f"{name}:{line}")
+    return None
+
+
+def is_joined(name):
+    """Whether a comment of a graph says `c joined`, so that its arcs have lines."""
+    return any(words == [b"joined"] for _, words in comments(name))
 
 
 def known_unit(word, where):
@@ -116,11 +131,11 @@ def package():
 
 
 @contextlib.contextmanager
-def kept(name):
-    """The graph of a file, which the program keeps as long as a `with` lasts."""
+def kept(name, programs=1):
+    """The graph of a file, which one program or several keep as long as a `with` lasts."""
     hollowbowl = package()
     try:
-        with hollowbowl.Graph.from_gr(name) as graph:
+        with hollowbowl.Graph.from_gr(name, programs=programs) as graph:
             yield graph
     except FileNotFoundError as fault:
         if fault.filename:
@@ -190,28 +205,52 @@ def arcs(graph, ways, count):
         raise Refused(f"{ways}: not the ways of {graph}, which has {count} arcs")
 
 
-def streets(graph, nodes, around):
-    """The streets near some places, once in each direction that they have, as pairs of places."""
-    (south, north), (west, east) = ((min(each), max(each)) for each in zip(*around))
-    high, wide = north - south + 1e-3, east - west + 1e-3
-    found = []
-    for tail, head, _ in graph_arcs(graph):
-        one = nodes.place(tail)
-        if tail < head and south - high < one[0] < north + high and west - wide < one[1] < east + wide:
-            found.append((one, nodes.place(head)))
+def asked_place(words):
+    """The latitude and longitude of two words of the command line."""
+    try:
+        return degrees(*words)
+    except ValueError as fault:
+        raise Refused(f"the command line: {fault}") from None
+
+
+def nearest_spot(streets, name, here, is_any):
+    """The nearest place on a street. Standard error has one that is nearer and left out."""
+    found = streets.nearest(here, is_any)
+    if found is None:
+        raise Refused("the graph has no street" + ("" if is_any else " that is joined to others"))
+    other = found if is_any else streets.nearest(here, True)
+    if other.metres < found.metres - 0.5:
+        nodes = " to ".join(map(str, other.nodes))
+        said = f"left out the street at node {nodes}, {other.metres:.0f} m away, not joined to the largest part"
+        print(f"{name}: {here[0]} {here[1]}: {said} (--any takes it)", file=sys.stderr)
     return found
 
 
-def nearest_place(places, name, words, is_any):
-    """The place that is nearest to a latitude and longitude, as (start, end, node, metres)."""
-    try:
-        here = degrees(*words)
-    except ValueError as fault:
-        raise Refused(f"the command line: {fault}") from None
-    line, said = places.answer(here, is_any)
-    if said:
-        print(f"{name}: {said} (--any takes it)", file=sys.stderr)
-    return tuple(map(int, line.split()))
+def spot_properties(kind, spot):
+    """What GeoJSON says of a place on a street: its node, or the two nodes between which it is."""
+    where = {"node": spot.nodes[0]} if len(spot.nodes) == 1 else {"between": list(spot.nodes)}
+    return {"kind": kind, **where, "metres_away": round(spot.metres)}
+
+
+def streets_of(options, nodes, count):
+    """The streets of a graph of so many arcs, by the files beside it."""
+    inner = inner_places(options.lines) if is_joined(options.graph) else None
+    found = read_streets(options.graph, nodes, read_places(options), graph_arcs(options.graph), inner)
+    if inner and (len(found.tails) != count or next(inner, None) is not None):
+        raise Refused(f"{options.lines}: not the lines of {options.graph}, which has {count} arcs")
+    return found
+
+
+def inner_places(name):
+    """Of each arc of a joined graph the places between its ends."""
+    for line, text in text_lines(name):
+        words = text.split()
+        try:
+            if len(words) % 2:
+                raise ValueError("not LATITUDE LONGITUDE for each place, as osm_to_gr.py --join writes")
+            yield [degrees(*pair) for pair in zip(words[::2], words[1::2])]
+        except ValueError as fault:
+            raise Refused(f"{name}:{line}: {fault}") from None
 
 
 def read_places(options):

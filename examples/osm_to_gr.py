@@ -1,11 +1,11 @@
 #!/usr/bin/env python3
 """Writes a graph in the .gr format from a map of OpenStreetMap: osm_to_gr.py MAP.osm >map.gr
 
-A map is XML as the website, Overpass or osmium write it, also packed by gzip or bzip2; without MAP.osm it comes on
-standard input. The roads of a profile become arcs between their nodes, and nodes.txt says in line 3 which node vertex 3
-is, and its latitude and longitude. Needs to_gr.py, osm_turns.py and osm_parts.py beside it.
+A map is XML as the website, Overpass or osmium write it, also packed by gzip, bzip2 or xz, or PBF if Python has
+pyosmium; without MAP.osm it comes on standard input. The roads of a profile become arcs between their nodes, and nodes.txt says in line 3 which node vertex 3
+is, and its latitude and longitude. Needs to_gr.py, the files osm_*.py and the folder profiles beside it.
 
-    --profile car|foot   whose roads (car)
+    --profile NAME       whose roads: car, lorry, bicycle or foot, or a file with a slash in its name (car)
     --weight UNIT        lengths in metres or decimetres, times in seconds or deciseconds (decimetres). The first line
                          of the graph says which, as `c unit metres`
     --nodes FILE         in place of nodes.txt
@@ -14,21 +14,28 @@ is, and its latitude and longitude. Needs to_gr.py, osm_turns.py and osm_parts.p
     --places FILE        a line for each node that arcs join: NODE LATITUDE LONGITUDE START END JOINED. Routes from the
                          node begin at vertex START, and routes to it end at END; JOINED is yes if one can come from
                          the largest part of the map and go there, and else no. nearest.py reads it
+    --join               nodes at which a road only goes on are no vertices. Their places are in lines.txt, a line for
+                         each arc: LATITUDE LONGITUDE of each node between its ends
+    --lines FILE         in place of lines.txt
     --turns              keeps turn restrictions with a node as via, and writes places.txt if no --places names another
-                         file. A node then can have several vertices, and START and END differ
+                         file. Nobody turns round in the middle of a street. A node then can have several vertices,
+                         and START and END differ
+    --uturns SECONDS     with --turns: one may turn round anywhere, at this price
 
-Weights are rounded to the nearest whole number, and to 1 if that would be 0 between two places. The tables below say
-which roads a profile takes and how fast it is; docs/MAPS.md has them in words. What was left out and why is counted on
+Weights are rounded to the nearest whole number, and to 1 if that would be 0 between two places. The files of profiles
+say which roads there are and how fast; docs/MAPS.md has them in words. What was left out and why is counted on
 standard error. Nodes and ways may stand in any order: nodes wait in a temporary file, 24 bytes each, and memory grows
 with the nodes of roads alone, and with --places with the arcs too.
 
-A tab or a line break in a name is written as a blank, and such names are counted. With --turns the arcs of no cost
-that end at END have way 0 and no name.
+A tab or a line break in a name is written as a blank, and such names are counted. Arcs of no cost that end at END have
+way 0 and no name. A node with a barrier that closes the road has several vertices, too.
 
-A map that is no such XML, was cut off, or has no road is refused, with its line if it has one. Then the status is 1,
-and no file is written.
+A map that is no such XML, was cut off, or has no road is refused, with its line if it has one, and so is a profile
+with a line that is not understood. Then the status is 1, and no file is written.
 """
 
+import argparse
+import lzma
 import math
 import os
 import re
@@ -38,90 +45,16 @@ import sys
 import tempfile
 import zlib
 from array import array
-from collections import Counter, namedtuple
-from itertools import repeat
+from collections import Counter
 from xml.parsers import expat
 
 sys.dont_write_bytecode = True
-from osm_parts import largest_part
-from osm_turns import ROLES, Restrictions, Turns
+from osm_graph import UNITS, Graph, Road
+from osm_profiles import LeftOut, read_profile
+from osm_turns import ROLES, Restrictions
 from to_gr import Arguments, Refused, run, unpacked, write_graph
 
-# Which highways, in km/h; which of them only where a tag of the profile's own, not `access`, gives leave; which tags say
-# who may go there, and in which direction: of each the first that is there decides.
-Profile = namedtuple("Profile", "speeds with_leave access oneway")
-CAR = Profile(
-    speeds={
-        "motorway": 110, "motorway_link": 60, "trunk": 90, "trunk_link": 50, "primary": 65, "primary_link": 45,
-        "secondary": 55, "secondary_link": 40, "tertiary": 45, "tertiary_link": 35, "unclassified": 40,
-        "residential": 30, "road": 30, "living_street": 10, "service": 15,
-    },
-    with_leave={"track": 15, "pedestrian": 10},
-    access=("motorcar", "motor_vehicle", "vehicle", "access"),
-    oneway=("oneway:motorcar", "oneway:motor_vehicle", "oneway"),
-)
-FOOT = Profile(
-    speeds={
-        "primary": 5, "primary_link": 5, "secondary": 5, "secondary_link": 5, "tertiary": 5, "tertiary_link": 5,
-        "unclassified": 5, "residential": 5, "road": 5, "living_street": 5, "service": 5, "pedestrian": 5,
-        "footway": 5, "path": 5, "track": 5, "platform": 5, "corridor": 5, "steps": 2,
-    },
-    with_leave={"trunk": 5, "trunk_link": 5, "cycleway": 5, "bridleway": 5},
-    access=("foot", "access"),
-    oneway=("oneway:foot",),
-)
-PROFILES = {"car": CAR, "foot": FOOT}
-LEAVE = {"yes", "designated", "permissive", "official"}
-ALLOWED = LEAVE | {"public", "destination", "customers", "unknown"}
-FORWARD, BACK, BOTH = (True, False), (False, True), (True, True)
-ONEWAY = {
-    "yes": FORWARD, "true": FORWARD, "1": FORWARD, "-1": BACK, "reverse": BACK,
-    "no": BOTH, "false": BOTH, "0": BOTH, "alternating": BOTH,
-}
-MAXSPEED = re.compile(r"([0-9]{1,3}(?:\.[0-9]+)?) ?(km/h|kmh|mph|knots|)")
-KMH = {"": 1, "km/h": 1, "kmh": 1, "mph": 1.609344, "knots": 1.852}
-UNITS = {"metres": (1, False), "decimetres": (10, False), "seconds": (1, True), "deciseconds": (10, True)}
-EARTH = 6371008.8  # the mean radius, in metres
 BLANKS = str.maketrans("\t\n\r", "   ")  # what a line of --ways cannot have
-
-Road = namedtuple("Road", "way name speed forward back size")
-
-
-class LeftOut(Exception):
-    """Why a way is no road of the profile."""
-
-
-def speed_of(tags, profile):
-    """The speed on a way by its highway and by who may use it."""
-    key = next((key for key in profile.access if key in tags), None)
-    if key and tags[key] not in ALLOWED:
-        raise LeftOut(f"{key}={tags[key]}")
-    highway = tags["highway"]
-    has_leave = key not in (None, "access") and tags[key] in LEAVE
-    speed = profile.speeds.get(highway) or (has_leave and profile.with_leave.get(highway))
-    if not speed:
-        raise LeftOut(highway)
-    if profile is CAR and tags.get("area") == "yes":
-        raise LeftOut("area=yes")
-    return speed
-
-
-def directions(tags, profile):
-    """Whether a way goes forward, and back."""
-    for key in profile.oneway:
-        if key in tags:
-            if tags[key] not in ONEWAY:
-                raise LeftOut(f"{key}={tags[key]}")
-            return ONEWAY[tags[key]]
-    is_implied = tags["highway"] == "motorway" or tags.get("junction") in ("roundabout", "circular")
-    return FORWARD if profile is CAR and is_implied else BOTH
-
-
-def length(one, other):
-    """The length of the great circle between two places, in metres (the haversine formula)."""
-    (lat1, lon1), (lat2, lon2) = ([math.radians(x) for x in place] for place in (one, other))
-    h = math.sin((lat2 - lat1) / 2) ** 2 + math.cos(lat1) * math.cos(lat2) * math.sin((lon2 - lon1) / 2) ** 2
-    return 2 * EARTH * math.asin(math.sqrt(min(h, 1)))
 
 
 def is_deleted(attributes):
@@ -132,16 +65,17 @@ class Map:
     """The roads of a map. Of other ways only counts are kept, and nodes wait in a temporary file."""
 
     def __init__(self, options):
-        self.profile = PROFILES[options.profile]
+        self.profile = options.profile
         self.roads = []
         self.refs = array("I")  # the nodes of the roads one after the other, by their numbers
         self.numbers = {}  # of nodes that roads name, from 0
         self.names, self.mended = {} if options.ways else None, 0  # of roads, where they are wanted
-        self.left_out, self.speeds_not_read = Counter(), Counter()
+        self.left_out, self.ferries, self.ferries_left_out = Counter(), 0, Counter()
         self.nodes = tempfile.TemporaryFile()
+        self.node, self.node_keys, self.closed = None, self.profile.node_keys(), set()
         self.way, self.refs_of_way, self.members = None, [], None
         self.tags, self.remark, self.depth = {}, None, 0
-        self.restrictions = Restrictions(self.profile.access[:-1]) if options.turns else None
+        self.restrictions = Restrictions(self.profile.vehicles) if options.turns else None
         self.restriction_count = 0
 
     def start(self, element, attributes):
@@ -160,6 +94,8 @@ class Map:
             self.members.append((attributes["type"], int(attributes["ref"]), attributes["role"]))
         elif element == "tag" and (self.way is not None or self.members is not None):
             self.tags[attributes["k"]] = attributes["v"].strip()
+        elif element == "tag" and self.node is not None and attributes["k"] in self.node_keys:
+            self.tags[attributes["k"]] = attributes["v"].strip()
         elif element == "remark":
             self.remark = ""
 
@@ -167,8 +103,15 @@ class Map:
         self.depth -= 1
         if element == "way" and self.way is not None:
             if "highway" in self.tags:
-                self.add_way()
+                self.add_way(self.left_out)
+            elif self.tags.get("route") == "ferry" and self.profile.ferry:
+                self.ferries += 1
+                self.add_way(self.ferries_left_out)
             self.way = None
+        elif element == "node" and self.node is not None:
+            if self.tags and "barrier" in self.tags and self.profile.closes(self.tags):
+                self.closed.add(self.node)
+            self.node = None
         elif element == "relation" and self.members is not None:
             if self.tags.get("type") == "restriction":
                 self.add_restriction()
@@ -201,23 +144,21 @@ class Map:
         if not (abs(latitude) <= 90 and abs(longitude) <= 180):
             raise ValueError(f"node {node} is not on the earth")
         self.nodes.write(struct.pack("=qdd", node, latitude, longitude))
+        self.node, self.tags = node, {}
 
-    def add_way(self):
+    def closed_nodes(self):
+        """The numbers of the nodes whose barriers close roads."""
+        return {self.numbers[node] for node in self.closed if node in self.numbers}
+
+    def add_way(self, left_out):
         try:
-            speed = speed_of(self.tags, self.profile)
-            forward, back = directions(self.tags, self.profile)
+            kind = self.profile.road(self.tags)
         except LeftOut as reason:
-            self.left_out[str(reason)] += 1
+            left_out[str(reason)] += 1
             return
-        if self.profile is CAR and "maxspeed" in self.tags:
-            found = MAXSPEED.fullmatch(self.tags["maxspeed"])
-            limit = float(found[1]) * KMH[found[2]] if found else 0
-            if 1 <= limit <= 200:
-                speed = limit
-            else:
-                self.speeds_not_read[self.tags["maxspeed"]] += 1
         self.refs.extend(self.numbers.setdefault(node, len(self.numbers)) for node in self.refs_of_way)
-        self.roads.append(Road(self.way, self.name(), speed, forward, back, len(self.refs_of_way)))
+        speed, forward, back, *others = kind
+        self.roads.append(Road(self.way, self.name(), speed, forward, back, len(self.refs_of_way), *others))
 
     def places(self):
         """The latitudes and longitudes of the nodes by their numbers, nan where the map lacks one."""
@@ -232,47 +173,60 @@ class Map:
         return latitudes, longitudes
 
 
-def check_kind(stream, name):
-    """Refuses a map in the format PBF, by its first bytes or by its name."""
-    is_named = name.lower().endswith(".pbf")
-    if not is_named and b"OSMHeader" not in stream.peek(32)[:32]:
-        return
-    source = name if is_named else "MAP.osm.pbf"
-    target = re.sub(r"(\.osm)?\.pbf$", ".osm", source, flags=re.IGNORECASE)
-    raise Refused(f"{name}: this is PBF, and not XML: osmium cat {shlex.quote(source)} -o {shlex.quote(target)}")
+def is_pbf(stream, name):
+    """Whether a map is in the format PBF, by its first bytes or by its name."""
+    return name.lower().endswith(".pbf") or b"OSMHeader" in stream.peek(32)[:32]
+
+
+def read_pbf(name, found, is_file):
+    """Reads a map in the format PBF, if Python has pyosmium."""
+    try:
+        if not is_file:
+            raise ImportError
+        import osm_pbf
+    except ImportError:
+        source = name if name.lower().endswith(".pbf") else "MAP.osm.pbf"
+        target = re.sub(r"(\.osm)?\.pbf$", ".osm", source, flags=re.IGNORECASE)
+        cure = f"osmium cat {shlex.quote(source)} -o {shlex.quote(target)}"
+        more = ", or install pyosmium (Debian: python3-pyosmium)" if is_file else ""
+        raise Refused(f"{name}: this is PBF, and not XML: {cure}{more}") from None
+    try:
+        osm_pbf.read(found, name)
+    except RuntimeError as fault:
+        raise Refused(f"{name}: {fault}") from None
+    return found
+
+
+def unpacked_map(stream, name):
+    """The bytes of a map, unpacked if its first bytes say that it is packed."""
+    first = stream.peek(32)
+    if first.startswith(b"\x28\xb5\x2f\xfd"):
+        raise Refused(f"{name}: this is packed by zstd: zstd -dc MAP.osm.zst | osm_to_gr.py")
+    return lzma.open(stream) if first.startswith(b"\xfd7zXZ\0") else unpacked(stream)
 
 
 def read_map(stream, name, options):
-    check_kind(stream, name)
     found = Map(options)
+    if is_pbf(stream, name):
+        return read_pbf(name, found, bool(options.map))
+    packed = unpacked_map(stream, name)
     parser = expat.ParserCreate()
     parser.buffer_text = True
     parser.StartElementHandler, parser.EndElementHandler = found.start, found.end
     parser.CharacterDataHandler = found.text
     try:
-        parser.ParseFile(unpacked(stream))
+        parser.ParseFile(packed)
     except expat.ExpatError as fault:
         raise Refused(f"{name}:{fault.lineno}: not well-formed XML: {expat.ErrorString(fault.code)}") from None
     except KeyError as fault:
         raise Refused(f"{name}:{parser.CurrentLineNumber}: an element without {fault.args[0]}") from None
     except (ValueError, OverflowError, struct.error) as fault:
         raise Refused(f"{name}:{parser.CurrentLineNumber}: {fault}") from None
-    except (EOFError, zlib.error, OSError) as fault:
+    except (EOFError, zlib.error, lzma.LZMAError, OSError) as fault:
         if getattr(fault, "errno", None) is not None:
             raise
         raise Refused(f"{name}: the packed file is damaged: {fault}") from None
     return found
-
-
-def stretches(roads, refs, latitudes):
-    """Each road from node to node whose places are known, as (road, node, node)."""
-    at = 0
-    for road in roads:
-        for i in range(at, at + road.size - 1):
-            one, other = refs[i], refs[i + 1]
-            if one != other and not math.isnan(latitudes[one]) and not math.isnan(latitudes[other]):
-                yield road, one, other
-        at += road.size
 
 
 def say(text):
@@ -287,116 +241,39 @@ def most(counter):
     return ", ".join(words)
 
 
+def reasons(counter):
+    return f": {most(counter)}" if counter else ""
+
+
 def report(found, lacking):
-    roads, others = len(found.roads), sum(found.left_out.values())
-    reasons = f": {most(found.left_out)}" if others else ""
-    say(f"{roads + others} ways with highway: {roads} roads, {others} left out{reasons}")
-    if found.speeds_not_read:
-        say(f"{sum(found.speeds_not_read.values())} maxspeed not read: {most(found.speeds_not_read)}")
+    others, ferries_left_out = (sum(each.values()) for each in (found.left_out, found.ferries_left_out))
+    ferries = found.ferries - ferries_left_out
+    roads = len(found.roads) - ferries
+    say(f"{roads + others} ways with highway: {roads} roads, {others} left out{reasons(found.left_out)}")
+    if found.ferries:
+        left_out = f"{ferries_left_out} left out{reasons(found.ferries_left_out)}"
+        say(f"{found.ferries} ferries: {ferries} roads, {left_out}")
+    if closed := len(found.closed_nodes()):
+        say(f"nodes of roads that barriers close: {closed}")
+    for what, counter in (("maxspeed", found.profile.speeds_not_read), ("other tags", found.profile.others_not_read)):
+        if counter:
+            say(f"{sum(counter.values())} {what} not read: {most(counter)}")
     if found.mended:
         say(f"names with a tab or a line break, which became a blank: {found.mended}")
     if found.restrictions:
-        kept, others = len(found.restrictions.kept), sum(found.restrictions.left_out.values())
-        reasons = f": {most(found.restrictions.left_out)}" if others else ""
-        say(f"{found.restriction_count} turn restrictions: {kept} kept, {others} left out{reasons}")
-    elif found.restriction_count and found.profile is CAR:
+        kept, left_out = len(found.restrictions.kept), found.restrictions.left_out
+        others = sum(left_out.values())
+        say(f"{found.restriction_count} turn restrictions: {kept} kept, {others} left out{reasons(left_out)}")
+    elif found.restriction_count and found.profile.vehicles:
         say(f"{found.restriction_count} turn restrictions not kept (see --turns)")
     if lacking:
         say(f"nodes of roads that the map lacks: {lacking} of {len(found.numbers)}")
 
 
-class Graph:
-    """The graph of a map. Its vertices are the nodes that arcs join, and then those that keep turn restrictions."""
-
-    def __init__(self, found):
-        self.found = found
-        self.latitudes, self.longitudes = found.places()
-        self.lacking = sum(map(math.isnan, self.latitudes))
-        self.vertices = array("I", [0]) * len(self.latitudes)  # by the numbers of nodes; 0 where no arc joins one
-        many, count = 0, 0
-        for road, one, other in self.stretches():
-            self.vertices[one] = self.vertices[other] = 1
-            many += road.forward + road.back
-        for node, is_joined in enumerate(self.vertices):
-            count += is_joined
-            self.vertices[node] = count if is_joined else 0
-        self.turns = Turns(self.vertices, count)
-        if found.restrictions:
-            self.turns.settle(found.restrictions, found, self.road_arcs)
-        self.many = many + self.turns.many()
-
-    def stretches(self):
-        return stretches(self.found.roads, self.found.refs, self.latitudes)
-
-    def road_arcs(self):
-        """Each arc of a road as (road, node, node)."""
-        for road, one, other in self.stretches():
-            if road.forward:
-                yield road, one, other
-            if road.back:
-                yield road, other, one
-
-    def arcs(self):
-        """Each arc of a road as (road, tails, head): the vertices where it begins, and the one where it ends."""
-        vertices, heads, tails = self.vertices, self.turns.heads, self.turns.tails
-        for number, (road, one, other) in enumerate(self.road_arcs()):
-            more = tails.get(number)
-            yield road, (vertices[one], *more) if more else (vertices[one],), heads.get(number) or vertices[other]
-
-    def weights(self, unit):
-        """The weight of each arc of a road."""
-        scale, is_time = UNITS[unit]
-        for road, one, other in self.stretches():
-            here, there = ((self.latitudes[node], self.longitudes[node]) for node in (one, other))
-            exact = length(here, there) * scale / (road.speed / 3.6 if is_time else 1)
-            yield from repeat(max(round(exact), int(here != there)), road.forward + road.back)
-
-    def lines(self, unit):
-        for (_, tails, head), weight in zip(self.arcs(), self.weights(unit)):
-            for tail in tails:
-                yield f"a {tail} {head} {weight}\n"
-        for tail, head in self.turns.closing:
-            yield f"a {tail} {head} 0\n"
-
-    def way_lines(self):
-        for road, tails, _ in self.arcs():
-            for _ in tails:
-                yield f"{road.way}\t{road.name}\n"
-        for _ in self.turns.closing:
-            yield "0\t\n"
-
-    def node_lines(self):
-        nodes = list(self.found.numbers) if self.turns.nodes else ()
-        for node, i in self.found.numbers.items():
-            if self.vertices[i]:
-                yield f"{node} {self.latitudes[i]} {self.longitudes[i]}\n"
-        for i in self.turns.nodes:
-            yield f"{nodes[i]} {self.latitudes[i]} {self.longitudes[i]}\n"
-
-    def joined(self):
-        """Of each node, by its number, whether a route leads from it to the largest part, and one back."""
-        tails, heads = array("I"), array("I")
-        for _, own, head in self.arcs():
-            tails.extend(own)
-            heads.extend(repeat(head, len(own)))
-        for tail, head in self.turns.closing:
-            tails.append(tail)
-            heads.append(head)
-        leads_there, is_reached = largest_part(self.turns.count, tails, heads)
-        ends = self.turns.ends
-        return bytes(leads_there[start] & is_reached[ends.get(i, start)] for i, start in enumerate(self.vertices))
-
-    def place_lines(self, joined):
-        for node, i in self.found.numbers.items():
-            if start := self.vertices[i]:
-                end, word = self.turns.ends.get(i, start), "yes" if joined[i] else "no"
-                yield f"{node} {self.latitudes[i]} {self.longitudes[i]} {start} {end} {word}\n"
-
-
 def check_files(parser, options):
     """Refuses to write a file over the map, or two over one another."""
     taken = {os.path.realpath(options.map): "map"} if options.map else {}
-    for option in ("nodes", "ways", "places"):
+    for option in ("nodes", "ways", "places", "lines"):
         name = getattr(options, option)
         if not name or name.startswith("/dev/"):
             continue
@@ -404,18 +281,45 @@ def check_files(parser, options):
             parser.error(f"--{option} would write over {name}")
 
 
+def seconds(word):
+    """The seconds of a word of the command line."""
+    if not re.fullmatch(r"[0-9]{1,4}(\.[0-9]+)?", word):
+        raise argparse.ArgumentTypeError(f"{word!r} is no number of seconds")
+    return float(word)
+
+
+def check_turns(parser, options):
+    """Refuses prices of turns that the graph can't have."""
+    is_time = UNITS[options.weight][1]
+    if options.uturns is not None and not options.turns:
+        parser.error("--uturns says what --turns does: call with both")
+    if options.uturns and not is_time:
+        parser.error("--uturns is in seconds: call with --weight seconds or deciseconds")
+    if options.turns and options.profile.turn_costs and not is_time:
+        parser.error("the profile's turns are in seconds: call with --weight seconds or deciseconds")
+
+
 def parse():
     parser = Arguments(__doc__)
     parser.add_argument("map", nargs="?")
-    parser.add_argument("--profile", choices=PROFILES, default="car")
+    parser.add_argument("--profile", default="car")
     parser.add_argument("--weight", choices=UNITS, default="decimetres")
     parser.add_argument("--nodes", default="nodes.txt")
     parser.add_argument("--ways")
     parser.add_argument("--places")
+    parser.add_argument("--join", action="store_true")
+    parser.add_argument("--lines")
     parser.add_argument("--turns", action="store_true")
+    parser.add_argument("--uturns", type=seconds, metavar="SECONDS")
     options = parser.parse_args()
-    if options.turns and options.profile == "foot":
-        parser.error("--turns keeps what holds for a car, and not on foot: leave it out")
+    options.profile = read_profile(options.profile)
+    if options.turns and not options.profile.vehicles:
+        parser.error(f"--turns keeps what holds for vehicles, and not for {options.profile.name}: leave it out")
+    check_turns(parser, options)
+    if options.lines and not options.join:
+        parser.error("--lines says where --join writes: call with both")
+    if options.join and not options.lines:
+        options.lines = "lines.txt"
     if options.turns and not options.places:
         options.places = "places.txt"
     check_files(parser, options)
@@ -427,11 +331,11 @@ def convert():
     name = options.map or "standard input"
     with open(options.map or 0, "rb") as stream:
         found = read_map(stream, name, options)
-    graph = Graph(found)
+    graph = Graph(found, options.weight, options.uturns, options.join)
     report(found, graph.lacking)
     if not graph.many:
         cure = ": in Overpass ask for (._;>;)" if graph.lacking else ""
-        raise Refused(f"{name}: no road of profile {options.profile} whose nodes are in the map{cure}")
+        raise Refused(f"{name}: no road of profile {options.profile.name} whose nodes are in the map{cure}")
     beside = [(options.nodes, graph.node_lines())]
     if options.ways:
         beside.append((options.ways, graph.way_lines()))
@@ -440,7 +344,11 @@ def convert():
         places = len(graph.vertices) - graph.vertices.count(0)
         say(f"places that are joined to the largest part: {sum(joined)} of {places}")
         beside.append((options.places, graph.place_lines(joined)))
-    write_graph(graph.turns.count, graph.many, graph.lines(options.weight), beside, options.weight)
+    comments = [f"unit {options.weight}"]
+    if options.join:
+        beside.append((options.lines, graph.line_lines()))
+        comments.append("joined")
+    write_graph(graph.turns.count, graph.many, graph.lines(), beside, comments)
 
 
 if __name__ == "__main__":

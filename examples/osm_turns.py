@@ -1,12 +1,19 @@
-"""Keeps the turn restrictions of a map, for osm_to_gr.py --turns.
+"""Keeps the turn restrictions of a map, its barriers, and the rules of turning round, for osm_to_gr.py.
 
-A restriction says of two ways that meet at a node whether the one may be followed by the other there. Where an arc
-may not be followed by all arcs that leave its node, the node gets more vertices. The arc then ends at one that only
-the arcs leave which may follow it. Arcs that the same ones may follow share a vertex. Each of these, and the vertex
-that the node has anyway, has an arc of no cost to the last vertex of the node, which no arc leaves. So a route begins
-at the first vertex of its node, and ends at the last.
+A restriction says of two ways that meet at a node whether the one may be followed by the other there. A barrier lets
+nobody go on but back. Where an arc may not be followed by all arcs that leave its node, or not at no cost, the node
+gets more vertices. The arc then ends at one that only the arcs leave which may follow it. Arcs that the same ones may
+follow at the same costs share a vertex. Each of these, and the vertex that the node has anyway, has an arc of no cost
+to the last vertex of the node, which no arc leaves. So a route begins at the first vertex of its node, and ends at the
+last.
+
+Turning round at a node of two arms is left out if the way on is open. A cheapest route does so only to come back to a
+node of several vertices. So only the streets that lead to such nodes get more vertices for it, up to their next node
+of more than two arms.
 """
 
+import math
+from array import array
 from collections import Counter, namedtuple
 
 NO = {"no_left_turn", "no_right_turn", "no_straight_on", "no_u_turn", "no_entry", "no_exit"}
@@ -110,68 +117,183 @@ def settle_ways(restrictions, found):
     restrictions.keep(on_roads)
 
 
+# An arc at a node: its number among those of the roads, its way, the node at its other end, and the next one on it.
+Arm = namedtuple("Arm", "number way node near")
+
+# What a node of two arms lets through, by its first neighbour and its second: a part of a mask.
+FROM_FIRST, TO_FIRST, FROM_SECOND, TO_SECOND, MORE = 1, 2, 4, 8, 16
+BOTH_WAYS = FROM_FIRST | TO_FIRST | FROM_SECOND | TO_SECOND
+OPEN_FROM_FIRST = FROM_FIRST | TO_FIRST | TO_SECOND
+OPEN_FROM_SECOND = FROM_SECOND | TO_FIRST | TO_SECOND
+
+
+class Arms:
+    """The neighbours of each node: the first two, and which arcs there are between it and them."""
+
+    def __init__(self, count, arcs):
+        # By node; a neighbour is its number and 1, and 0 is none.
+        self.first, self.second, self.masks = array("I", [0]) * count, array("I", [0]) * count, bytearray(count)
+        for _, tail, head, _, _ in arcs:
+            self.masks[head] |= self.part(head, tail + 1, FROM_FIRST)
+            self.masks[tail] |= self.part(tail, head + 1, TO_FIRST)
+
+    def part(self, node, neighbour, of_first):
+        if self.first[node] in (0, neighbour):
+            self.first[node] = neighbour
+            return of_first
+        if self.second[node] in (0, neighbour):
+            self.second[node] = neighbour
+            return of_first * FROM_SECOND
+        return MORE
+
+    def is_of_two(self, node):
+        return self.second[node] != 0 and not self.masks[node] & MORE
+
+    def may_turn_back(self, node):
+        """Whether at this node of two arms somebody can turn round where the way on is open."""
+        own = self.masks[node]
+        return own & OPEN_FROM_FIRST == OPEN_FROM_FIRST or own & OPEN_FROM_SECOND == OPEN_FROM_SECOND
+
+    def streets(self, nodes, closed):
+        """The nodes of two arms at which one can turn back, along the streets that begin with some nodes."""
+        found, ahead = {}, list(nodes)
+        while ahead:
+            node = ahead.pop()
+            if node in found or node in closed or not self.is_of_two(node) or not self.may_turn_back(node):
+                continue
+            found[node] = True
+            # Along a street that is one way nobody comes back.
+            if self.masks[node] & BOTH_WAYS == BOTH_WAYS:
+                ahead += [self.first[node] - 1, self.second[node] - 1]
+        return found
+
+
+class Rules:
+    """What turns at nodes cost beside restrictions, in weights."""
+
+    def __init__(self, place, price, costs):
+        """`place` gives where a node is, `price` is that of turning round or None, and `costs` those by angle."""
+        self.place, self.price, self.costs = place, price, costs
+
+    def angle(self, tail, node, head):
+        """The angle of a turn in degrees, from -180 to 180: to the right it is above 0."""
+        (lat1, lon1), (lat2, lon2), (lat3, lon3) = map(self.place, (tail, node, head))
+        narrow = math.cos(math.radians(lat2))
+        before, after = math.atan2((lon2 - lon1) * narrow, lat2 - lat1), math.atan2((lon3 - lon2) * narrow, lat3 - lat2)
+        return math.remainder(math.degrees(after - before), 360)
+
+    def cost(self, before, node, after, is_of_two):
+        """What it costs to go on at a node from an arm to another."""
+        if before.node == after.node:
+            return self.price or 0
+        if is_of_two or not self.costs:
+            return 0
+        angle = self.angle(before.near, node, after.near)
+        return sum(cost for least, most, cost in self.costs if least <= angle < most)
+
+
 def crossings(arcs, nodes):
-    """The arcs that arrive at each of these nodes, and those that leave it, as (number, way)."""
+    """The arcs that arrive at each of these nodes, and those that leave it."""
     arriving, leaving = {node: [] for node in nodes}, {node: [] for node in nodes}
-    for number, (road, tail, head) in enumerate(arcs):
+    for number, (way, tail, head, after, before) in enumerate(arcs):
         if tail in leaving:
-            leaving[tail].append((number, road.way))
+            leaving[tail].append(Arm(number, way, head, after))
         if head in arriving:
-            arriving[head].append((number, road.way))
+            arriving[head].append(Arm(number, way, tail, before))
     return arriving, leaving
 
 
 def allowed(way, restrictions, leaving):
-    """The numbers of the arcs that may follow an arc of a way at a node."""
+    """The arcs that may follow an arc of a way at a node, by its restrictions."""
     own = [each for each in restrictions if way in each.sources]
-    return tuple(number for number, other in leaving if all((other in each.targets) == each.is_only for each in own))
+    return [arm for arm in leaving if all((arm.way in each.targets) == each.is_only for each in own)]
 
 
 class Turns:
-    """The vertices and arcs that keep the restrictions of a map."""
+    """The vertices and arcs that keep the turns of a map."""
 
     def __init__(self, vertices, count):
         self.vertices, self.count = vertices, count
         self.nodes = []  # of the vertices that are added, in their order
         self.heads = {}  # by the number of an arc, where it ends in place of a node
-        self.tails = {}  # by the number of an arc, where it begins beside a node
+        self.tails = {}  # by the number of an arc, where it begins beside a node, and what it costs more from there
         self.ends = {}  # by a node, where routes end
         self.closing = []  # the arcs of no cost, as (tail, head)
+        self.rules, self.arms, self.closed = None, None, frozenset()
 
     def add_vertex(self, node):
         self.count += 1
         self.nodes.append(node)
         return self.count
 
+    def following(self, arm, node, restrictions, leaving):
+        """What may follow an arc that arrives at a node: the numbers of arcs, each with what the turn costs."""
+        found = allowed(arm.way, restrictions, leaving)
+        is_of_two = bool(self.arms) and self.arms.is_of_two(node)
+        if node in self.closed:
+            found = [each for each in found if each.node == arm.node]
+        elif is_of_two and self.rules.price is None:
+            # Nobody turns round where the way on is open.
+            found = [each for each in found if each.node != arm.node] or found
+        return tuple((each.number, self.rules.cost(arm, node, each, is_of_two)) for each in found)
+
     def add_node(self, node, restrictions, arriving, leaving):
-        """Adds what keeps the restrictions at a node, where these arcs arrive and leave, as (number, way)."""
-        turns = [(number, allowed(way, restrictions, leaving)) for number, way in arriving]
-        turns = [(number, following) for number, following in turns if len(following) < len(leaving)]
+        """Adds what keeps the turns at a node, where these arcs arrive and leave."""
+        free = tuple((arm.number, 0) for arm in leaving)
+        turns = [(arm.number, self.following(arm, node, restrictions, leaving)) for arm in arriving]
+        turns = [(number, following) for number, following in turns if following != free]
         if not turns:
             return
         copies = {following: self.add_vertex(node) for following in dict.fromkeys(own for _, own in turns) if following}
         end = self.ends[node] = self.add_vertex(node)
         for following, copy in copies.items():
-            for number in following:
-                self.tails.setdefault(number, []).append(copy)
+            for number, cost in following:
+                self.tails.setdefault(number, []).append((copy, cost))
         for number, following in turns:
             self.heads[number] = copies.get(following, end)
         self.closing.extend((vertex, end) for vertex in (self.vertices[node], *copies.values()))
+
+    def add_nodes(self, nodes, restrictions, road_arcs):
+        """Adds what keeps the turns at some nodes, if it isn't there. Gives the neighbours of those that need it."""
+        nodes = [node for node in nodes if node not in self.ends and self.vertices[node]]
+        arriving, leaving = crossings(road_arcs(), nodes)
+        beside = {}
+        for node in nodes:
+            self.add_node(node, restrictions.get(node, ()), arriving[node], leaving[node])
+            if node in self.ends and node not in self.closed:
+                beside.update(dict.fromkeys(arm.node for arm in (*arriving[node], *leaving[node])))
+        return beside
 
     def many(self):
         """How many arcs are added."""
         return sum(map(len, self.tails.values())) + len(self.closing)
 
-    def settle(self, restrictions, found, road_arcs):
-        """Adds what keeps the restrictions of a map. `road_arcs` gives its arcs as (road, node, node)."""
-        settle_ways(restrictions, found)
-        arriving, leaving = crossings(road_arcs(), restrictions.by_node())
+    def settle(self, rules, found, road_arcs):
+        """Adds what keeps the turns and barriers of a map. `road_arcs` gives its arcs (`Graph.road_arcs`)."""
+        self.rules, self.closed = rules, found.closed_nodes()
+        by_node = {}
+        if found.restrictions:
+            self.arms = Arms(len(self.vertices), road_arcs())
+            by_node = settled_restrictions(found.restrictions, found, road_arcs)
+        beside = self.add_nodes(dict.fromkeys((*by_node, *sorted(self.closed))), by_node, road_arcs)
+        if not found.restrictions:
+            return
+        if rules.price or rules.costs:
+            others = (node for node in range(len(self.vertices)) if rules.price or not self.arms.is_of_two(node))
+            beside.update(self.add_nodes(others, by_node, road_arcs))
+        if rules.price is None:
+            self.add_nodes(self.arms.streets(beside, self.closed), by_node, road_arcs)
 
-        def on_arcs(each):
-            if each.is_only and not any(way in each.targets for _, way in leaving[each.via]):
-                raise NotKept("only to a way that cannot be entered")
-            return each
 
-        restrictions.keep(on_arcs)
-        for node, own in restrictions.by_node().items():
-            self.add_node(node, own, arriving[node], leaving[node])
+def settled_restrictions(restrictions, found, road_arcs):
+    """The restrictions of a map by node, once those are left out that its roads can't have."""
+    settle_ways(restrictions, found)
+    _, leaving = crossings(road_arcs(), restrictions.by_node())
+
+    def on_arcs(each):
+        if each.is_only and not any(arm.way in each.targets for arm in leaving[each.via]):
+            raise NotKept("only to a way that cannot be entered")
+        return each
+
+    restrictions.keep(on_arcs)
+    return restrictions.by_node()

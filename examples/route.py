@@ -10,11 +10,12 @@ lengths it says how many metres do. Standard error has the sum.
     --nodes FILE      in place of nodes.txt
     --ways FILE       in place of ways.txt
     --places FILE     in place of places.txt
+    --lines FILE      in place of lines.txt, which a graph of --join has
     --any             begins and ends at places, too, that are not joined to the largest part of the map
     --picture FILE    draws the route on the streets around it, as FILE.png, FILE.svg or FILE.pdf. Needs matplotlib
 
 Needs the Python package hollowbowl (docs/PYTHON.md), the program, and the scripts beside it. A route begins and ends at
-the nearest nodes of the map.
+the nearest places on streets. Of the arcs there it has a share, of their length and of their weight.
 
 A file that is not understood is refused, with its line, and so are files of another map, a --weight that is not that
 of the graph, and places between which no route leads. Then the status is 2, and nothing is written.
@@ -32,45 +33,38 @@ from to_gr import run
 Step = namedtuple("Step", "name ways places metres cost")
 
 
-def route_vertices(graph, nodes, start, end):
-    """The vertices of a cheapest route, from 1 as in the file, and its cost."""
-    hollowbowl = map_files.package()
-    try:
-        return [vertex + 1 for vertex in graph.path(start - 1, end - 1)], graph.distance(start - 1, end - 1)
-    except hollowbowl.NoPath:
-        raise Refused(f"no route leads from node {nodes.number(start)} to node {nodes.number(end)}") from None
+def cheapest(graph, streets, spots):
+    """The cheapest route between two places on streets."""
+    found = streets.route(graph, map_files.package(), spots["start"], spots["end"])
+    if found is None:
+        start, end = (" to ".join(map(str, spots[kind].nodes)) for kind in ("start", "end"))
+        raise Refused(f"no route leads from node {start} to node {end}")
+    return found
 
 
-def route_arcs(graph, ways, count, vertices):
-    """The arcs between the vertices of a route: of several between the same two the cheapest."""
-    wanted = dict.fromkeys(zip(vertices, vertices[1:]))
-    for arc in map_files.arcs(graph, ways, count):
-        pair = arc.tail, arc.head
-        if pair in wanted and (wanted[pair] is None or arc.weight < wanted[pair].weight):
-            wanted[pair] = arc
-    return [wanted[pair] for pair in zip(vertices, vertices[1:])]
+def arcs_by_number(graph, ways, count, pieces):
+    """The arcs along which the pieces of a route go, with their ways, by number."""
+    wanted = {piece.arc for piece in pieces}
+    return {number: arc for number, arc in enumerate(map_files.arcs(graph, ways, count)) if number in wanted}
 
 
-def steps(arcs, nodes):
-    """The route, street by street. Arcs of no way join the vertices of one node, and are no part of it."""
+def steps(pieces, arcs):
+    """The route, street by street."""
     found = []
-    for arc in arcs:
-        if arc.way == 0:
-            continue
-        places = [nodes.place(arc.tail), nodes.place(arc.head)]
+    for piece in pieces:
+        arc, places = arcs[piece.arc], piece.places
+        metres = sum(map(length, places, places[1:]))
         if not found or found[-1].name != arc.name:
-            found.append(Step(arc.name, [arc.way], places, length(*places), arc.weight))
+            found.append(Step(arc.name, [arc.way], places, metres, piece.cost))
             continue
         last = found[-1]
         ways = last.ways if last.ways[-1] == arc.way else [*last.ways, arc.way]
-        found[-1] = Step(
-            arc.name, ways, [*last.places, places[1]], last.metres + length(*places), last.cost + arc.weight
-        )
+        found[-1] = Step(arc.name, ways, [*last.places, *places[1:]], last.metres + metres, last.cost + piece.cost)
     return found
 
 
 def features(found, ends, unit):
-    """The features of a route: its streets in order, and the nodes where it begins and ends."""
+    """The features of a route: its streets in order, and the places where it begins and ends."""
     after = 0
     for number, step in enumerate(found, 1):
         measures = {"metres": round(step.metres, 1)}
@@ -81,8 +75,8 @@ def features(found, ends, unit):
             "LineString", line, step=number, name=step.name, ways=step.ways, **measures, after=as_unit(after, unit)
         )
         after += step.cost
-    for kind, (node, place, metres) in ends.items():
-        yield feature("Point", point(place), kind=kind, node=node, metres_away=metres)
+    for kind, spot in ends.items():
+        yield feature("Point", point(spot.place), **map_files.spot_properties(kind, spot))
 
 
 def summary(found, cost, unit):
@@ -92,20 +86,19 @@ def summary(found, cost, unit):
     return f"{metres:.0f} m{seconds}, streets: {len(found)}"
 
 
-def draw(options, nodes, found, ends, title):
+def draw(options, streets, found, ends, title):
     """The bytes of a picture of a route on the streets around it; none where none is wanted."""
     if not options.picture:
         return b""
     import map_picture
 
-    around = [place for step in found for place in step.places] or [ends["start"][1]]
-    axes = map_picture.begin(map_files.streets(options.graph, nodes, around), around)
+    around = [place for step in found for place in step.places] or [ends["start"].place]
+    axes = map_picture.begin(list(streets.around(around)), around)
     for step in found:
         map_picture.line(axes, step.places, "tab:red", 2.5)
-        if step.name:
-            map_picture.label(axes, step.places, step.name)
-    for kind, (_, place, _) in ends.items():
-        map_picture.dot(axes, place, "tab:green" if kind == "start" else "tab:red", kind)
+    map_picture.labels(axes, [(step.name, step.places) for step in found])
+    for kind, spot in ends.items():
+        map_picture.dot(axes, spot.place, "tab:green" if kind == "start" else "tab:red", kind)
     return map_picture.drawn(axes, map_files.form_of(options.picture), title)
 
 
@@ -119,24 +112,18 @@ def parse():
 
 def main():
     options = parse()
-    places = map_files.read_places(options)
-    near = {
-        kind: map_files.nearest_place(places, "route.py", words, options.any)
-        for kind, words in (
-            ("start", (options.latitude, options.longitude)),
-            ("end", (options.end_latitude, options.end_longitude)),
-        )
+    here = {
+        "start": map_files.asked_place((options.latitude, options.longitude)),
+        "end": map_files.asked_place((options.end_latitude, options.end_longitude)),
     }
     with map_files.kept(options.graph) as graph:
         nodes = map_files.Nodes(options.nodes, graph.n)
-        vertices, cost = route_vertices(graph, nodes, near["start"][0], near["end"][1])
-        found = steps(route_arcs(options.graph, options.ways, graph.m, vertices), nodes)
-    ends = {
-        kind: (near[kind][2], nodes.place(vertex), near[kind][3])
-        for kind, vertex in (("start", vertices[0]), ("end", vertices[-1]))
-    }
-    title = summary(found, cost, options.weight)
-    picture = draw(options, nodes, found, ends, title)
+        streets = map_files.streets_of(options, nodes, graph.m)
+        ends = {kind: map_files.nearest_spot(streets, "route.py", place, options.any) for kind, place in here.items()}
+        route = cheapest(graph, streets, ends)
+        found = steps(route.pieces, arcs_by_number(options.graph, options.ways, graph.m, route.pieces))
+    title = summary(found, route.cost, options.weight)
+    picture = draw(options, streets, found, ends, title)
     map_files.write_features(features(found, ends, options.weight), options.picture, picture)
     print(f"route.py: {title}", file=sys.stderr)
 

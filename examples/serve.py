@@ -6,9 +6,25 @@
     GET /within?from=1&cost=10      {"vertices": [1, 2, 3, 5], "costs": [0, 10, 10, 10]}
     GET /health                     {"process": 4711, "vertices": 6, "arcs": 8}
 
+With --streets it is asked by coordinates too, as OSRM is (docs/COOKBOOK.md), of a map that osm_to_gr.py wrote with
+--weight deciseconds, --places and --ways:
+
+    GET /route/v1/car/8.001,50.002;8.03,50.01?geometries=geojson
+    GET /table/v1/car/8.001,50.002;8.03,50.01;8.02,50.01?sources=0
+    GET /nearest/v1/car/8.001,50.002
+    GET /isochrone/v1/car/8.001,50.002?minutes=5,10
+    POST /close/v1/car/8.001,50.002      closes the nearest street; with ?factor=3 it is slower. DELETE opens it
+
+    --nodes FILE, --places FILE, --ways FILE, --lines FILE
+                         in place of nodes.txt, places.txt, ways.txt and lines.txt
+    --closed FILE        streets that are closed, LATITUDE LONGITUDE a line, or slower with a FACTOR behind. The file is
+                         looked at before each question, and /close writes it
+    --any                takes streets, too, that are not joined to the largest part of the map
+    --programs COUNT     how many programs a process has (1). With several near questions don't wait for far ones
+
     --port NUMBER        in place of 8080; 0 takes a free one
     --address ADDRESS    in place of 127.0.0.1, which this machine alone can ask
-    --processes COUNT    how many processes answer (2). Each has a program of its own, and so a graph in memory
+    --processes COUNT    how many processes answer (2). Each has programs of its own, and so a graph in memory
 
 Vertices count from 1, as in the file. A question that is none has the status 400, a vertex that is not there 404, and
 503 a question for which memory lacks or whose program ended twice. /health asks the program: 200 says that it answers.
@@ -42,8 +58,8 @@ class BadQuestion(Exception):
 class Answers:
     """A graph, and what each page answers."""
 
-    def __init__(self, graph, hollowbowl):
-        self.graph, self.hollowbowl = graph, hollowbowl
+    def __init__(self, graph, hollowbowl, streets=None):
+        self.graph, self.hollowbowl, self.streets = graph, hollowbowl, streets
         self.pages = {
             "/distance": (self.distance, ["from", "to"]),
             "/path": (self.path, ["from", "to"]),
@@ -51,13 +67,16 @@ class Answers:
             "/health": (self.health, []),
         }
 
-    def answer(self, target):
-        """The status and the answer to the target of a request."""
+    def answer(self, method, target):
+        """The status and the answer to a request."""
         url = urlsplit(target)
-        if url.path not in self.pages:
-            return 404, {"error": f"no page {url.path}: there are {', '.join(self.pages)}"}
-        page, keys = self.pages[url.path]
         try:
+            found = self.streets and self.ask(self.streets.answer, (method, url.path, url.query))
+            if found:
+                return found
+            if url.path not in self.pages or method != "GET":
+                return 404, {"error": f"no page {url.path}: there are {', '.join(self.pages)}"}
+            page, keys = self.pages[url.path]
             return 200, self.ask(page, numbers_of(url.query, keys))
         except BadQuestion as fault:
             return 400, {"error": str(fault)}
@@ -68,14 +87,14 @@ class Answers:
         except (self.hollowbowl.Error, OSError) as fault:
             return 503, {"error": str(fault)}
 
-    def ask(self, page, numbers):
+    def ask(self, page, words):
         """What a page answers. If the program has ended meanwhile, another one begins at the second try."""
         try:
-            return page(*numbers)
+            return page(*words)
         except self.hollowbowl.Closed:
             raise
         except self.hollowbowl.Ended:
-            return page(*numbers)
+            return page(*words)
 
     def distance(self, source, target):
         try:
@@ -111,7 +130,16 @@ def numbers_of(query, keys):
 
 class Handler(BaseHTTPRequestHandler):
     def do_GET(self):
-        status, answer = self.server.answers.answer(self.path)
+        self.reply("GET")
+
+    def do_POST(self):
+        self.reply("POST")
+
+    def do_DELETE(self):
+        self.reply("DELETE")
+
+    def reply(self, method):
+        status, answer = self.server.answers.answer(method, self.path)
         body = json.dumps(answer).encode() + b"\n"
         self.send_response(status)
         self.send_header("Content-Type", "application/json")
@@ -143,20 +171,25 @@ class Server(ThreadingHTTPServer):
             raise SystemExit(0)
 
 
-def child(shared, graph_name):
+def child(shared, options):
     """What one process does until it is ended."""
     signal.signal(signal.SIGTERM, lambda *_: sys.exit(0))
-    with map_files.kept(graph_name) as graph:
-        Server(shared, Answers(graph, map_files.package())).serve_forever()
+    with map_files.kept(options.graph, options.programs) as graph:
+        hollowbowl, streets = map_files.package(), None
+        if options.streets:
+            from street_pages import StreetPages
+
+            streets = StreetPages(graph, hollowbowl, options)
+        Server(shared, Answers(graph, hollowbowl, streets)).serve_forever()
 
 
-def begin(shared, graph_name):
+def begin(shared, options):
     """Begins a process, and gives its number."""
     number = os.fork()
     if number:
         return number
     try:
-        run("serve.py", lambda: child(shared, graph_name), status=2)
+        run("serve.py", lambda: child(shared, options), status=2)
     except SystemExit as end:
         os._exit(end.code if isinstance(end.code, int) else 0)
     except BaseException as fault:
@@ -164,12 +197,12 @@ def begin(shared, graph_name):
     os._exit(1)
 
 
-def keep(shared, graph_name, count):
+def keep(shared, options):
     """Keeps so many processes, until a signal comes or one can't begin."""
     born = {}
     try:
-        for _ in range(count):
-            born[begin(shared, graph_name)] = time.monotonic()
+        for _ in range(options.processes):
+            born[begin(shared, options)] = time.monotonic()
         while True:
             number, status = os.wait()
             age = time.monotonic() - born.pop(number)
@@ -177,7 +210,7 @@ def keep(shared, graph_name, count):
                 raise SystemExit(2)
             print(f"serve.py: process {number} has ended; another begins", file=sys.stderr)
             time.sleep(max(0, QUIET - age))
-            born[begin(shared, graph_name)] = time.monotonic()
+            born[begin(shared, options)] = time.monotonic()
     finally:
         for number in born:
             os.kill(number, signal.SIGTERM)
@@ -185,13 +218,26 @@ def keep(shared, graph_name, count):
             os.waitpid(number, 0)
 
 
-def main():
+def parse():
     parser = Arguments(__doc__)
     parser.add_argument("graph")
+    parser.add_argument("--streets", action="store_true")
+    for name in ("nodes", "places", "ways", "lines"):
+        parser.add_argument(f"--{name}", default=f"{name}.txt")
+    parser.add_argument("--closed")
+    parser.add_argument("--any", action="store_true")
+    parser.add_argument("--programs", type=map_files.number_from(1, 64), default=1)
     parser.add_argument("--port", type=map_files.number_from(0, 65535), default=8080)
     parser.add_argument("--address", default="127.0.0.1")
     parser.add_argument("--processes", type=map_files.number_from(1, 64), default=2)
     options = parser.parse_args()
+    if options.closed and not options.streets:
+        parser.error("--closed is of --streets: call with both")
+    return options
+
+
+def main():
+    options = parse()
     if not os.access(options.graph, os.R_OK):
         raise Refused(f"{options.graph} can't be read")
     signal.signal(signal.SIGTERM, lambda *_: sys.exit(0))
@@ -203,7 +249,7 @@ def main():
         shared.setblocking(False)
         address, port = shared.getsockname()
         print(f"serve.py: http://{address}:{port}, {options.processes} processes", file=sys.stderr, flush=True)
-        keep(shared, options.graph, options.processes)
+        keep(shared, options)
 
 
 if __name__ == "__main__":

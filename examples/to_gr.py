@@ -413,18 +413,18 @@ def write_lines(out, name, lines):
         raise
 
 
-def write_graph(count, many, arcs, beside, unit=None):
+def write_graph(count, many, arcs, beside, comments=()):
     """Writes a graph to standard output, and files beside it, as (name, lines), that are there once all is written.
 
-    Of weights that have a unit the first line says which.
+    Comments come first, each in a line.
     """
     if sys.stdout is None:
         raise Refused("standard output is closed")
     with contextlib.ExitStack() as files:
         for name, lines in beside:
             write_lines(files.enter_context(finished_only(name)), name, lines)
-        if unit:
-            print("c unit", unit)
+        for comment in comments:
+            print("c", comment)
         print("p sp", count, many)
         sys.stdout.writelines(arcs)
         sys.stdout.flush()

@@ -1,6 +1,7 @@
 """The web service of examples/serve.py: service.py PROGRAM prints what differs from what is written here.
 
-It asks each page, kills a program and a process, asks again, and looks at the end that nothing is left.
+It asks each page, kills a program and a process, asks again, and looks at the end that nothing is left. Then it asks by
+coordinates, of the town that draw_town.py draws, and closes a street.
 """
 
 import json
@@ -9,6 +10,7 @@ import re
 import signal
 import subprocess
 import sys
+import tempfile
 import time
 import urllib.error
 import urllib.request
@@ -28,6 +30,8 @@ PAGES = [
 ]
 
 REFUSED = [
+    (["examples/six.gr", "--streets"], "examples/six.gr: --streets wants times"),
+    (["examples/six.gr", "--closed", "x"], "--closed is of --streets: call with both"),
     (["examples/roads.csv"], "examples/roads.csv: line 1: "),
     (["examples/none.gr"], "examples/none.gr can't be read"),
     (["examples/six.gr", "--processes", "0"], "argument --processes: '0' is no whole number from 1 to 64"),
@@ -36,15 +40,43 @@ REFUSED = [
 ]
 
 
+# Coordinates: of each page the code, and what stands at some places of the answer.
+A, B, C = "8.002,50.001", "8.02,50.01", "8.036,50.018"
+STREETS = [
+    (f"/route/v1/car/{A};{C}?overview=false", {"code": "Ok", "routes 0 duration": 311.7, "routes 0 distance": 4414.3}),
+    (f"/route/v1/car/{A};{B};{C}.json?geometries=geojson", {
+        "code": "Ok", "routes 0 legs 0 duration": 169.6, "routes 0 legs 1 duration": 142.6,
+        "routes 0 geometry coordinates 0": [8.0018155, 50.0010064], "waypoints 1 name": "North Avenue",
+    }),
+    (f"/route/v1/car/{A};8.004,50.001?steps=true&overview=simplified", {
+        "routes 0 legs 0 steps 1 name": "Mill Lane",
+        "routes 0 legs 0 steps 2 maneuver type": "arrive",
+    }),
+    (f"/table/v1/driving/{A};{B};{C}", {"durations 0": [0, 169.6, 311.7], "durations 1": [176.6, 0, 142.6]}),
+    (f"/table/v1/driving/{A};{B};{C}?sources=1&destinations=2;0", {"durations": [[142.6, 176.6]]}),
+    (f"/nearest/v1/car/{A}", {"waypoints 0 distance": 13.2, "waypoints 0 nodes": [1001, 1025]}),
+    (f"/isochrone/v1/car/{A}?minutes=0.2,1", {"code": "Ok", "features 1 properties": {"minutes": 0.2}}),
+    (f"/route/v1/car/{A}", {"code": "InvalidQuery", "message": "a route wants two places or more"}),
+    (f"/route/v1/car/{A};9", {"code": "InvalidQuery", "message": "place 1 is not LONGITUDE,LATITUDE: 9"}),
+    (f"/route/v1/car/{A};181,5", {"code": "InvalidQuery"}),
+    (f"/route/v1/car/{A};{B}?bearings=1", {"code": "InvalidOptions"}),
+    (f"/table/v1/car/{A};{B}?annotations=distance", {"code": "InvalidValue"}),
+    (f"/table/v1/car/{A};{B}?sources=2", {"code": "InvalidOptions"}),
+    (f"/isochrone/v1/car/{A}?minutes=5,4", {"code": "InvalidQuery"}),
+    (f"/close/v1/car/{A}", {"code": "InvalidQuery"}),
+]
+
+
 def begin(graph, *words):
     command = [sys.executable, "-B", "examples/serve.py", "--port", "0", *words, graph]
     return subprocess.Popen(command, stderr=subprocess.PIPE, text=True)
 
 
-def ask(port, page):
+def ask(port, page, method="GET"):
     """The status and the answer of a page."""
+    request = urllib.request.Request(f"http://127.0.0.1:{port}{page}", method=method)
     try:
-        with urllib.request.urlopen(f"http://127.0.0.1:{port}{page}", timeout=20) as reply:
+        with urllib.request.urlopen(request, timeout=20) as reply:
             return reply.status, json.load(reply)
     except urllib.error.HTTPError as reply:
         return reply.code, json.load(reply)
@@ -103,8 +135,103 @@ def check(server, port):
     expect("the other process does not answer", within_seconds(lambda: answering(port) == set(children(server.pid))))
 
 
+def part_of(answer, path):
+    """What stands in an answer at some keys and numbers."""
+    for key in path.split():
+        answer = answer[int(key)] if isinstance(answer, list) else answer.get(key)
+    return answer
+
+
+def script(name, *words):
+    command = [sys.executable, "-B", f"examples/{name}", *words]
+    return subprocess.run(command, stdout=subprocess.PIPE, stderr=subprocess.PIPE, text=True, check=True)
+
+
+def write(name, text, mode="w"):
+    with open(name, mode, encoding="utf-8") as out:
+        out.write(text)
+
+
+def town(folder):
+    """The words by which the town's files are named."""
+    write(f"{folder}/map.osm", script("draw_town.py").stdout)
+    words = [word for name in ("nodes", "places", "ways") for word in (f"--{name}", f"{folder}/{name}.txt")]
+    graph = script("osm_to_gr.py", "--weight", "deciseconds", *words, f"{folder}/map.osm").stdout
+    write(f"{folder}/map.gr", graph)
+    return words
+
+
+def seconds_without(folder, words, node, other):
+    """The seconds of the route from A to C without the arcs between two nodes, as route.py says them."""
+    numbers = {line.split()[0]: at for at, line in enumerate(open(f"{folder}/nodes.txt", encoding="utf-8"), 1)}
+    gone = {numbers[node], numbers[other]}
+    arcs = [line.split()[1:3] for line in open(f"{folder}/map.gr", encoding="utf-8") if line.startswith("a")]
+    is_kept = [{*map(int, arc)} != gone for arc in arcs]
+    write(f"{folder}/changes", "".join(" ".join(arc) + "\n" for arc, kept in zip(arcs, is_kept) if not kept))
+    write(f"{folder}/changed.gr", script("close_roads.py", f"{folder}/changes", f"{folder}/map.gr").stdout)
+    ways = open(f"{folder}/ways.txt", encoding="utf-8").readlines()
+    write(f"{folder}/ways.txt", "".join(way for way, kept in zip(ways, is_kept) if kept))
+    here = [word for place in (A, C) for word in reversed(place.split(","))]
+    said = script("route.py", *words, f"{folder}/changed.gr", *here).stderr
+    return int(re.search(r" in (\d+) s,", said)[1])
+
+
+def check_closings(port, folder, words):
+    """Closes a street of the route, and opens it again."""
+    street = "/close/v1/car/8.0045,50.0013"  # Mill Lane between the nodes 1026 and 1027
+
+    def seconds():
+        return {ask(port, f"/route/v1/car/{A};{C}?overview=false")[1]["routes"][0]["duration"] for _ in range(10)}
+
+    expect("no street is closed", ask(port, street, "POST") == (200, {"code": "Ok", "closings": 1}))
+    closed = seconds()
+    wanted = seconds_without(folder, words, "1026", "1027")
+    expect(f"closed: {closed}, wanted {wanted}", len(closed) == 1 and round(max(closed)) == wanted != 312)
+    write(f"{folder}/closed", "x 8\n50 8 0 0\n", "a")
+    now = seconds()
+    expect(f"lines that are not understood change what is closed: {now}, {closed}", now == closed)
+    write(f"{folder}/closed", "50.0013 8.0045 1.2 # slower\n")
+    slower = seconds()
+    expect(f"a slower street: {slower}, closed {closed}", len(slower) == 1 and 311.7 < max(slower) < max(closed))
+    expect("not opened", ask(port, street, "DELETE") == (200, {"code": "Ok", "closings": 0}) and seconds() == {311.7})
+
+
+def check_polyline():
+    """The example of Google's page on encoded polylines."""
+    sys.path.insert(0, "examples")
+    from street_pages import polyline
+
+    text = polyline([(38.5, -120.2), (40.7, -120.95), (43.252, -126.453)], 5)
+    expect(f"a line as text: {text}", text == "_p~iF~ps|U_ulLnnqC_mqNvxq`@")
+
+
+def check_streets():
+    check_polyline()
+    with tempfile.TemporaryDirectory() as folder:
+        words = town(folder)
+        server = begin(f"{folder}/map.gr", "--streets", *words, "--closed", f"{folder}/closed", "--programs", "2")
+        port = re.search(r":(\d+), 2 processes", server.stderr.readline())[1]
+        try:
+            for page, wanted in STREETS:
+                status, answer = ask(port, page)
+                found = {path: part_of(answer, path) for path in wanted}
+                is_ok = status == (200 if answer["code"] == "Ok" else 400)
+                expect(f"{page}: {status} {found}, wanted {wanted}", is_ok and found == wanted)
+            check_closings(port, folder, words)
+        finally:
+            server.terminate()
+            _, said = server.communicate(timeout=30)
+        lines = set(said.splitlines())
+        wanted = {
+            f"serve.py: {folder}/closed:2: 'x' is no decimal number: the line is left out",
+            f"serve.py: {folder}/closed:3: not LATITUDE LONGITUDE or with a FACTOR: the line is left out",
+        }
+        expect(f"said {lines}", lines == wanted)
+
+
 def main():
     os.environ["HOLLOWBOWL"] = sys.argv[1]
+    check_streets()
     server = begin("examples/six.gr", "--processes", "2")
     port = re.search(r":(\d+), 2 processes", server.stderr.readline())[1]
     left = []

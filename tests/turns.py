@@ -2,8 +2,9 @@
 """Compares graphs that osm_to_gr.py makes of random maps, with --turns and without, with what the maps mean.
 
 turns.py [MANY] draws MANY maps, 200 where none is given, with turn restrictions right and wrong, and prints the first
-difference. The least cost of each pair of nodes is compared with that of a search from arc to arc of the map. So are
-each arc's way and name, which places are joined, how many restrictions are kept, and the nearest places.
+difference. The least cost of each pair of nodes is compared with that of a search from arc to arc of the map: without
+--turns, with it, and with a price of turning round. So are each arc's way and name, which places are joined, how many
+restrictions are kept, and the nearest places.
 """
 
 import contextlib
@@ -42,19 +43,28 @@ class Drawn:
         nodes = chance.sample(range(1, 1000), chance.randrange(3, 9))
         self.places = {node: [first + round(chance.random() / 50, digits) for first in (50, 8)] for node in nodes}
         numbers = chance.sample(range(1, 1000), len(nodes) + chance.choice([0, 1, 2, 4, 8]))
-        self.ways = [self.draw_way(chance, number, nodes, at) for at, number in enumerate(numbers)]
+        bend = chance.choice([0, 0.3, 0.5])
+        self.ways = [self.draw_way(chance, number, nodes, at, bend) for at, number in enumerate(numbers)]
         if chance.random() < 0.2:
             self.places.pop(chance.choice(nodes))
         # Most stand at two nodes, so that several meet.
         nodes = chance.sample(nodes, 2) * 3 + nodes
         self.relations = [self.draw_restriction(chance, nodes) for _ in range(chance.randrange(1, 20))]
 
-    def draw_way(self, chance, number, nodes, at):
-        """A way between neighbours of a list, so that routes have several arcs; a node can come twice."""
+    def draw_way(self, chance, number, nodes, at, bend):
+        """A way between neighbours of a list, so that routes have several arcs; a node can come twice.
+
+        `bend` is the chance of a node of its own between two of them, so that streets have nodes of two arms.
+        """
         at = [at % len(nodes)]
         for _ in range(chance.choice([1, 1, 1, 1, 1, 3])):
             at.append((at[-1] + chance.choice([1, 1, 1, 1, 1, 2, 2, -1, 0])) % len(nodes))
-        refs = [nodes[i] for i in at]
+        refs = [nodes[at[0]]]
+        for i in at[1:]:
+            while chance.random() < bend and self.places.get(nodes[i]):
+                refs.append(1000 + len(self.places))
+                self.places[refs[-1]] = [x + round(chance.random() / 500, 3) for x in self.places[nodes[i]]]
+            refs.append(nodes[i])
         highway = "footway" if chance.random() < 0.1 else "residential"
         return number, chance.choice(NAMES), refs, chance.choice(["no", "no", "yes", "-1"]), highway
 
@@ -109,8 +119,11 @@ def metres(one, other):
 class Model:
     """What a map means: `arcs` as (way, name, tail, head, weight), and which may follow which."""
 
-    def __init__(self, drawn):
-        self.arcs = []
+    vehicles = ("motorcar", "motor_vehicle", "vehicle")
+
+    def __init__(self, drawn, scale=10):
+        """`scale` is what a metre weighs."""
+        self.arcs, self.scale = [], scale
         for number, name, refs, oneway, highway in drawn.ways:
             if highway == "residential":
                 self.add_road(number, name, refs, oneway, drawn.places)
@@ -122,7 +135,7 @@ class Model:
         for tail, head in zip(refs, refs[1:]):
             if tail == head or tail not in places or head not in places:
                 continue
-            weight = max(round(10 * metres(places[tail], places[head])), int(places[tail] != places[head]))
+            weight = max(round(self.scale * metres(places[tail], places[head])), int(places[tail] != places[head]))
             if oneway != "-1":
                 self.arcs.append((number, name, tail, head, weight))
             if oneway != "yes":
@@ -130,8 +143,10 @@ class Model:
 
     def ban(self, tags, members):
         """The ways from, the node and the ways to of a restriction for a car, and whether it commands; else None."""
-        value = tags.get("restriction:motorcar") or tags.get("restriction:motor_vehicle") or tags.get("restriction", "")
-        if "motorcar" in tags.get("except", "") or "day_on" in tags or value in ("none", "give_way", ""):
+        keys = [f"restriction:{vehicle}" for vehicle in self.vehicles] + ["restriction"]
+        value = next((tags[key] for key in keys if key in tags), "")
+        is_exempt = any(vehicle in tags.get("except", "") for vehicle in self.vehicles)
+        if is_exempt or "day_on" in tags or value in ("none", "give_way", ""):
             return None
         if any(member[0] == "way" and member[2] == "via" for member in members):
             return None
@@ -160,43 +175,91 @@ class Model:
                 return False
         return True
 
-    def costs(self, source, is_free=False):
-        """The least cost of each node that a route from a node reaches, by a search from arc to arc."""
-        best, costs = {}, {source: 0}
+    def arms(self, node):
+        """How many other nodes a road joins to a node."""
+        return len({arc[3] for arc in self.arcs if arc[2] == node} | {arc[2] for arc in self.arcs if arc[3] == node})
+
+    def turn(self, one, other, price):
+        """What it costs that an arc follows one that ends where it begins, or None if it may not."""
+        if not self.may_follow(one, other):
+            return None
+        if other[3] != one[2]:
+            return 0
+        if price is not None:
+            return price
+        others = (arc for arc in self.arcs if arc[2] == one[3] and arc[3] != one[2])
+        is_open = any(self.may_follow(one, arc) for arc in others)
+        return None if is_open and self.arms(one[3]) == 2 else 0
+
+    def free_turn(self, one, other):
+        """What a turn costs without --turns."""
+        return 0
+
+    def successors(self, price, is_free):
+        """Of each arc the numbers of those that may follow it, with what the turn costs."""
+        found = []
+        for one in self.arcs:
+            follow = [(k, other) for k, other in enumerate(self.arcs) if other[2] == one[3]]
+            costs = [self.free_turn(one, other) if is_free else self.turn(one, other, price) for _, other in follow]
+            found.append([(k, cost) for (k, _), cost in zip(follow, costs) if cost is not None])
+        return found
+
+    def costs(self, source, successors):
+        """The least cost of each node that a route from a node reaches."""
+        costs = {source: 0}
         queue = [(arc[4], i) for i, arc in enumerate(self.arcs) if arc[2] == source]
+        for i, cost in self.search(queue, successors).items():
+            head = self.arcs[i][3]
+            costs[head] = min(cost, costs.get(head, cost))
+        return costs
+
+    def search(self, queue, successors):
+        """The least cost at the end of each arc, from (cost, arc) of those that come first, from arc to arc."""
+        best = {}
         heapq.heapify(queue)
         while queue:
             cost, i = heapq.heappop(queue)
             if i in best:
                 continue
             best[i] = cost
-            here = self.arcs[i]
-            costs[here[3]] = min(cost, costs.get(here[3], cost))
-            for k, other in enumerate(self.arcs):
-                if other[2] == here[3] and k not in best and (is_free or self.may_follow(here, other)):
-                    heapq.heappush(queue, (cost + other[4], k))
-        return costs
+            for k, more in successors[i]:
+                if k not in best:
+                    heapq.heappush(queue, (cost + more + self.arcs[k][4], k))
+        return best
+
+    def all_costs(self, price=None, is_free=False):
+        """The least costs from each node that an arc joins, by that node."""
+        successors = self.successors(price, is_free)
+        return {node: self.costs(node, successors) for arc in self.arcs for node in arc[2:4]}
 
 
 class Written:
     """What the script wrote of a map, and what it said."""
 
-    def __init__(self, name, *arguments):
-        names = [f"{name}{''.join(arguments)}.{each}" for each in ("nodes", "places", "ways")]
-        sys.argv = ["osm_to_gr.py", name, *arguments, "--nodes", names[0], "--places", names[1], "--ways", names[2]]
+    def __init__(self, name, *arguments, unit="decimetres", to=None):
+        """`to` is where the files beside the graph begin."""
+        names = [f"{to or name + ''.join(arguments)}.{each}" for each in ("nodes", "places", "ways", "lines")]
+        beside = ["--nodes", names[0], "--places", names[1], "--ways", names[2]]
+        if "--join" in arguments:
+            beside += ["--lines", names[3]]
+        sys.argv = ["osm_to_gr.py", name, *arguments, *beside, "--weight", unit]
         out, error = io.StringIO(), io.StringIO()
         with contextlib.redirect_stdout(out), contextlib.redirect_stderr(error):
             osm_to_gr.convert()
-        nodes, places, ways = map(lines_of, names)
+        nodes, places, ways = map(lines_of, names[:3])
+        self.lines = lines_of(names[3]) if "--join" in arguments else None
         self.said, self.places_file = error.getvalue(), names[1]
         self.vertices = [None] + [int(line.split(" ")[0]) for line in nodes]
         self.places = [line.split(" ") for line in places]
         self.ways = [line.split("\t") for line in ways]
-        unit, head, *lines = out.getvalue().splitlines()
+        first, *lines = out.getvalue().splitlines()
+        if "--join" in arguments and lines.pop(0) != "c joined":
+            raise AssertionError("the graph does not say that it is joined")
+        head, *lines = lines
         self.arcs = [tuple(map(int, line.split(" ")[1:])) for line in lines]
-        is_right = (unit, head) == ("c unit decimetres", f"p sp {len(nodes)} {len(lines)}")
+        is_right = (first, head) == (f"c unit {unit}", f"p sp {len(nodes)} {len(lines)}")
         if not is_right or len(ways) != len(lines):
-            raise AssertionError(f"{unit!r} and {head!r} of {len(nodes)} nodes, {len(lines)} arcs and {len(ways)} ways")
+            raise AssertionError(f"{first!r} and {head!r} of {len(nodes)} nodes, {len(lines)} arcs and {len(ways)} ways")
 
     def costs(self, source):
         """The least costs of the vertices that walks from one reach."""
@@ -218,29 +281,30 @@ def lines_of(name):
         return lines.read().split("\n")[:-1]
 
 
-def check_arcs(model, written):
-    """Each arc of a way stands in the graph, and the others join vertices of one node."""
+def check_arcs(model, written, price):
+    """Each arc of a way stands in the graph, with the price of turning or not; the others join vertices of one node."""
     wanted, found = set(model.arcs), set()
     for (tail, head, weight), (way, name) in zip(written.arcs, written.ways):
         arc = (int(way), name, written.vertices[tail], written.vertices[head], weight)
         if arc[0]:
-            found.add(arc)
+            found.add(arc if arc in wanted else (*arc[:4], weight - price))
         elif (name, weight) != ("", 0) or arc[2] != arc[3]:
             raise AssertionError(f"arc {tail} {head} {weight} of no way")
     if found != wanted:
         raise AssertionError(f"arcs {found ^ wanted} are not on both sides")
 
 
-def check_costs(model, written, is_free):
+def check_costs(model, written, all_costs):
     """The least costs of all pairs, and which places are joined."""
     starts, ends = ({int(place[0]): int(place[at]) for place in written.places} for at in (3, 4))
-    if set(starts) != {node for arc in model.arcs for node in arc[2:4]}:
+    nodes = {node for arc in model.arcs for node in arc[2:4]}
+    if set(starts) != nodes and not (written.lines and set(starts) < nodes):
         raise AssertionError(f"places {sorted(starts)}")
     costs = {vertex: written.costs(vertex) for vertex in range(1, len(written.vertices))}
     for source, start in starts.items():
         if written.vertices[start] != source or written.vertices[ends[source]] != source:
             raise AssertionError(f"place {source} is at other vertices")
-        wanted = model.costs(source, is_free)
+        wanted = {target: cost for target, cost in all_costs[source].items() if target in starts}
         found = {target: costs[start][end] for target, end in ends.items() if end in costs[start]}
         if found != wanted:
             raise AssertionError(f"from node {source}: {found}, wanted {wanted}")
@@ -250,6 +314,26 @@ def check_costs(model, written, is_free):
         is_joined = any(vertex in costs[int(start)] and int(end) in costs[vertex] for vertex in largest)
         if word != ("yes" if is_joined else "no"):
             raise AssertionError(f"place {node} is joined: {word}")
+
+
+def check_lines(model, written):
+    """Each arc of a joined graph weighs what the pieces of its line do, and no two that bend join the same nodes."""
+    places = {int(place[0]): (float(place[1]), float(place[2])) for place in written.places}
+    shapes = {}
+    if len(written.lines) != len(written.arcs):
+        raise AssertionError(f"{len(written.lines)} lines of {len(written.arcs)} arcs")
+    for (tail, head, weight), line in zip(written.arcs, written.lines):
+        numbers = list(map(float, line.split()))
+        inner = list(zip(numbers[::2], numbers[1::2]))
+        along = [places[written.vertices[tail]], *inner, places[written.vertices[head]]]
+        pieces = [max(round(model.scale * metres(*pair)), int(pair[0] != pair[1])) for pair in zip(along, along[1:])]
+        if sum(pieces) != weight:
+            raise AssertionError(f"arc {tail} {head} {weight} along {along}: {pieces}")
+        if inner:
+            ends = written.vertices[tail], written.vertices[head]
+            shapes.setdefault(frozenset(ends), set()).add(min(tuple(inner), tuple(inner[::-1])))
+    if any(len(lines) > 1 or len(ends) == 1 for ends, lines in shapes.items()):
+        raise AssertionError(f"lines {shapes}")
 
 
 def check_nearest(chance, written):
@@ -272,19 +356,25 @@ def check_nearest(chance, written):
 
 
 def check(chance, name, drawn):
-    """Compares both graphs of a map with it, and gives whether restrictions change a cost."""
-    model = Model(drawn)
+    """Compares the graphs of a map with it, and gives if restrictions change a cost, and if turning round does."""
+    model, timed = Model(drawn), Model(drawn, 10 * 3.6 / 30)
+    price = chance.choice([0, 3, 50, 1000])
     with open(name, "w", encoding="utf-8") as out:
         out.write(drawn.text(chance))
     try:
         free, bound = Written(name), Written(name, "--turns")
+        priced = Written(name, "--turns", "--uturns", str(price / 10), unit="deciseconds")
     except to_gr.Refused as fault:
         if model.arcs or "no road of profile car" not in str(fault):
             raise
-        return False
-    for written, is_free in ((free, True), (bound, False)):
-        check_arcs(model, written)
-        check_costs(model, written, is_free)
+        return False, False
+    unbound, turned, paid = model.all_costs(is_free=True), model.all_costs(), timed.all_costs(price)
+    joined = Written(name, "--turns", "--join")
+    check_lines(model, joined)
+    check_costs(model, joined, turned)
+    for written, own, costs in ((free, model, unbound), (bound, model, turned), (priced, timed, paid)):
+        check_arcs(own, written, price)
+        check_costs(own, written, costs)
         check_nearest(chance, written)
     others = len(drawn.relations) - len(model.bans)
     if f" turn restrictions: {len(model.bans)} kept, {others} left out" not in bound.said:
@@ -292,7 +382,7 @@ def check(chance, name, drawn):
     blanks = sum(has_blank(way) for way in drawn.ways)
     if f"became a blank: {blanks}\n" not in f"{bound.said}became a blank: 0\n":
         raise AssertionError(f"names with a blank: {bound.said}")
-    return any(model.costs(node) != model.costs(node, True) for node in drawn.places)
+    return unbound != turned, turned != model.all_costs(0)
 
 
 def has_blank(way):
@@ -301,18 +391,20 @@ def has_blank(way):
 
 def main():
     many = int(sys.argv[1]) if len(sys.argv) > 1 else 200
-    changed = 0
+    changed, turned = 0, 0
     with tempfile.TemporaryDirectory() as folder:
         for seed in range(many):
             chance = random.Random(seed)
             drawn = Drawn(chance)
             try:
-                changed += check(chance, os.path.join(folder, "map.osm"), drawn)
+                by_restrictions, by_turning = check(chance, os.path.join(folder, "map.osm"), drawn)
             except (AssertionError, to_gr.Refused, ValueError) as fault:
                 print(f"map {seed}: {fault!r}"[:3000])
                 return
-    if changed < many // 8:
-        print(f"restrictions changed costs in {changed} maps only")
+            changed += by_restrictions
+            turned += by_turning
+    if changed < many // 8 or turned < many // 40:
+        print(f"restrictions changed costs in {changed} maps only, and turning round in {turned}")
 
 
 if __name__ == "__main__":
