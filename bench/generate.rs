@@ -1,4 +1,4 @@
-//! Writes a large job to standard output: `generate KIND SIZE [SOURCES]`.
+//! Writes a large job to standard output: `generate KIND SIZE [SOURCES [SEED]]`.
 //!
 //! Grids:
 //!
@@ -10,6 +10,12 @@
 //! - `near SIDE`: a grid with weights from 1000 to 9000, and from its last vertex an arc to the first of a
 //!   grid with weights from 1 to 9;
 //! - `far SIDE`: the same, and the grid with the small weights is the first.
+//!
+//! A map:
+//!
+//! - `towns VERTICES`: towns of many sizes, few of them great, with gaps between their streets, rivers with few
+//!   bridges, roads to the five nearest towns and motorways. One street in twenty is one way, and weights are
+//!   tenths of a second. Vertices are numbered as in a file that grew: 64 side by side, and these in no order.
 //!
 //! Other graphs:
 //!
@@ -25,12 +31,16 @@
 //! Sources are drawn from all vertices; for `power` from those that arcs leave, as GAP draws them, and for
 //! `cut` from those that are not cut off. For `near`, `far` and `star` it is the first vertex, and for `path`
 //! and `mixed` the one where the path begins. The numbers are drawn by a fixed rule, so each run writes the
-//! same job.
+//! same job. Another SEED than 0 gives another map of `towns`.
 
 mod grids;
+mod roads;
+mod town;
+mod towns;
 
 use grids::{between, cut, grid, joined, lengths, spike};
 use std::io::{self, BufWriter, Write};
+use towns::towns;
 
 /// Knuth's multiplier and increment for numbers of 64 bits.
 struct Draw(u64);
@@ -141,7 +151,7 @@ fn lonely(out: &mut impl Write, vertices: u64) -> io::Result<Vertices> {
 }
 
 /// Writes the graph, and gives what sources are drawn from.
-fn graph(out: &mut impl Write, kind: &str, size: u64) -> io::Result<Vertices> {
+fn graph(out: &mut impl Write, kind: &str, size: u64, seed: u64) -> io::Result<Vertices> {
     let (small, large) = (between(7, 1, 9), between(8, 1000, 9000));
     match kind {
         "grid" => grid(out, size, lengths()),
@@ -152,6 +162,7 @@ fn graph(out: &mut impl Write, kind: &str, size: u64) -> io::Result<Vertices> {
         "spike" => spike(out, size),
         "near" => joined(out, size, large, small),
         "far" => joined(out, size, small, large),
+        "towns" => towns(out, size, seed),
         "random" => random(out, size),
         "power" => power(out, size),
         "path" => path(out, &all(size + 1)),
@@ -164,8 +175,8 @@ fn graph(out: &mut impl Write, kind: &str, size: u64) -> io::Result<Vertices> {
 }
 
 fn usage() -> ! {
-    eprintln!("usage: generate KIND SIZE [SOURCES], where KIND is one of");
-    eprintln!("grid cut zero unit greatest spike near far random power path mixed star cliques lonely");
+    eprintln!("usage: generate KIND SIZE [SOURCES [SEED]], where KIND is one of");
+    eprintln!("grid cut zero unit greatest spike near far towns random power path mixed star cliques lonely");
     std::process::exit(2);
 }
 
@@ -174,7 +185,7 @@ fn main() -> io::Result<()> {
     let number = |at: usize| words.get(at).and_then(|word| word.parse::<u64>().ok());
     let (Some(kind), Some(size)) = (words.first(), number(1)) else { usage() };
     let mut out = BufWriter::with_capacity(1 << 20, io::stdout().lock());
-    let vertices = graph(&mut out, kind, size)?;
+    let vertices = graph(&mut out, kind, size, number(3).unwrap_or(0))?;
     let sources = number(2).unwrap_or(0);
     let mut draw = Draw(3);
     writeln!(out, "p aux sp ss {sources}")?;
