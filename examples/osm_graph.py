@@ -2,18 +2,18 @@
 
 import math
 from array import array
-from collections import namedtuple
-from itertools import repeat
+from bisect import bisect_left
+from itertools import accumulate, chain, compress, count, repeat
 from math import asin, cos, sin, sqrt
+from operator import or_
 
 from osm_parts import largest_part
 from osm_turns import Rules, Turns
+from processes import in_shares
 
 UNITS = {"metres": (1, False), "decimetres": (10, False), "seconds": (1, True), "deciseconds": (10, True)}
 EARTH = 6371008.8  # the mean radius, in metres
-
-# A way of the map as a road: how many nodes it has, the factor of its weights, and its seconds if it says them.
-Road = namedtuple("Road", "way name speed forward back size factor seconds", defaults=(1, None))
+ROADS, LINES = 4096, 1 << 16  # in a share of the work
 
 
 def length(one, other):
@@ -23,16 +23,67 @@ def length(one, other):
     return 2 * EARTH * math.asin(math.sqrt(min(h, 1)))
 
 
-def lengths(latitudes, longitudes, nodes):
-    """The lengths between neighbours of a list of nodes that differ and are known, as (metres, node, node).
+class Spots:
+    """Where nodes are, by their numbers, as what the formula of `length` takes."""
 
-    Latitudes and longitudes are by node, in radians. The formula is that of `length`.
-    """
-    for one, other in zip(nodes, nodes[1:]):
-        lat1, lat2 = latitudes[one], latitudes[other]
-        h = sin((lat2 - lat1) / 2) ** 2 + cos(lat1) * cos(lat2) * sin((longitudes[other] - longitudes[one]) / 2) ** 2
-        if one != other and h == h:  # which is no nan
-            yield 2 * EARTH * asin(sqrt(min(h, 1))), one, other
+    def __init__(self, latitudes, longitudes):
+        self.latitudes, self.longitudes = (array("d", map(math.radians, each)) for each in (latitudes, longitudes))
+        self.cosines = array("d", map(cos, self.latitudes))
+
+    def pieces(self, nodes):
+        """The lengths between neighbours of a list of nodes that differ and are known, as (metres, node, node)."""
+        latitudes, longitudes, cosines = self.latitudes, self.longitudes, self.cosines
+        return [
+            (2 * EARTH * asin(sqrt(min(h, 1))), one, other)
+            for one, other in zip(nodes, nodes[1:])
+            for h in (
+                sin((latitudes[other] - latitudes[one]) / 2) ** 2
+                + cosines[one] * cosines[other] * sin((longitudes[other] - longitudes[one]) / 2) ** 2,
+            )
+            if one != other and h == h  # which is no nan
+        ]
+
+
+def alternate(ones, others):
+    """The first of each list, the second of each, and so on."""
+    return chain.from_iterable(zip(ones, others))
+
+
+class Arcs:
+    """Arcs of roads, one after the other."""
+
+    def __init__(self):
+        # Of each arc the road by its place, the nodes by their numbers, and the weight.
+        self.roads, self.tails, self.heads, self.weights = array("I"), array("I"), array("I"), array("Q")
+        # Of a joined graph the nodes between the ends of each arc, and how many these are.
+        self.inner, self.inner_counts = array("I"), array("I")
+
+    def add(self, number, road, one, other, weight, inner):
+        """Adds the arcs of a road between two nodes, with the nodes between."""
+        for is_open, tail, head, step in ((road.forward, one, other, 1), (road.back, other, one, -1)):
+            if is_open:
+                self.roads.append(number)
+                self.tails.append(tail)
+                self.heads.append(head)
+                self.weights.append(weight)
+                self.inner.extend(inner[::step])
+                self.inner_counts.append(len(inner))
+
+    def add_pieces(self, number, road, ones, others, weights):
+        """Adds the arcs of a road between neighbours."""
+        if road.forward and road.back:
+            weights = list(alternate(weights, weights))
+            ones, others = list(alternate(ones, others)), alternate(others, ones)
+        elif road.back:
+            ones, others = others, ones
+        self.tails.extend(ones)
+        self.heads.extend(others)
+        self.weights.extend(weights)
+        self.roads.extend(repeat(number, len(weights)))
+
+    def take(self, others):
+        for name, column in vars(others).items():
+            getattr(self, name).extend(column)
 
 
 def kept_nodes(found, latitudes):
@@ -93,16 +144,13 @@ class Graph:
         self.latitudes, self.longitudes = found.places()
         self.lacking = sum(map(math.isnan, self.latitudes))
         self.settle_durations()
-        # Of each arc of a road the road by its place, the nodes by their numbers, and the weight.
-        self.roads, self.tails, self.heads, self.weights = array("I"), array("I"), array("I"), array("Q")
-        # Of each arc of a joined graph where its inner nodes begin in their list; the last number is behind the last.
-        self.inner, self.inner_at = array("I"), array("Q", [0])
         self.kept = kept_nodes(found, self.latitudes) if is_joined else None
+        self.arcs = Arcs()
         self.add_arcs()
+        # Where the inner nodes of each arc begin in their list; the last number is behind the last.
+        self.inner_at = array("Q", accumulate(self.arcs.inner_counts, initial=0))
         self.vertices = array("I", [0]) * len(self.latitudes)  # by the numbers of nodes; 0 where no arc joins one
-        for node in self.tails:
-            self.vertices[node] = 1
-        for node in self.heads:
+        for node in chain(self.arcs.tails, self.arcs.heads):
             self.vertices[node] = 1
         count = 0
         for node, is_joined in enumerate(self.vertices):
@@ -110,8 +158,9 @@ class Graph:
                 count += 1
                 self.vertices[node] = count
         self.turns = Turns(self.vertices, count)
-        self.turns.settle(self.rules(price), found, self.road_arcs)
-        self.many = len(self.tails) + self.turns.many()
+        self.turns.settle(self.rules(price), found, RoadArcs(self))
+        self.many = len(self.arcs.tails) + self.turns.many()
+        self.split = sorted(self.turns.tails)  # the arcs that stand in the graph more than once
 
     def rules(self, price):
         """What turns cost, in weights."""
@@ -136,92 +185,113 @@ class Graph:
 
     def add_arcs(self):
         """Adds the arcs of each road from node to node whose places are known."""
-        refs, at = self.found.refs, 0
+        roads, spots = self.found.roads, Spots(self.latitudes, self.longitudes)
+        begins = array("Q", accumulate((road.size for road in roads), initial=0))
+
+        def arcs_of(first, last):
+            found = Arcs()
+            for number in range(first, last):
+                self.add_road(found, number, spots.pieces(self.found.refs[begins[number] : begins[number + 1]]))
+            return found
+
+        for arcs in in_shares(len(roads), arcs_of, ROADS):
+            self.arcs.take(arcs)
+
+    def add_road(self, arcs, number, pieces):
+        """Adds the arcs of a road to others."""
+        road = self.found.roads[number]
         scale, is_time = UNITS[self.unit]
-        radians = [array("d", map(math.radians, each)) for each in (self.latitudes, self.longitudes)]
-        for number, road in enumerate(self.found.roads):
-            metres = lengths(*radians, refs[at : at + road.size])
-            pace = road.speed / 3.6 if is_time else 1
-            begin, inner, cost = None, [], 0
-            for exact, one, other in metres:
-                weight = round(exact * scale * road.factor / pace)
-                if not weight and self.place(one) != self.place(other):
-                    weight = 1
-                begin, cost = one if begin is None else begin, cost + weight
-                if self.kept and not self.kept[other]:
-                    inner.append(other)
-                    continue
-                self.add_arc(number, road, begin, other, cost, inner)
-                begin, inner, cost = None, [], 0
-            at += road.size
-
-    def add_arc(self, number, road, one, other, weight, inner):
-        """Adds the arcs of a road between two nodes, with the nodes between."""
-        for is_open, tail, head, step in ((road.forward, one, other, 1), (road.back, other, one, -1)):
-            if is_open:
-                self.roads.append(number)
-                self.tails.append(tail)
-                self.heads.append(head)
-                self.weights.append(weight)
-                if self.kept:
-                    self.inner.extend(inner[::step])
-                    self.inner_at.append(len(self.inner))
-
-    def road_arcs(self):
-        """Each arc of a road as (way, node, node), and the nodes that are next to these on it."""
-        ways = [road.way for road in self.found.roads]
-        numbers, tails, heads, after, before = self.roads, self.tails, self.heads, self.heads, self.tails
+        pace = road.speed / 3.6 if is_time else 1
+        weights = [
+            round(exact * scale * road.factor / pace) or int(self.place(one) != self.place(other))
+            for exact, one, other in pieces
+        ]
         if self.kept:
-            after, before = array("I", heads), array("I", tails)
-            for arc, (first, last) in enumerate(zip(self.inner_at, self.inner_at[1:])):
-                if first < last:
-                    after[arc], before[arc] = self.inner[first], self.inner[last - 1]
-        return ((ways[number], *nodes) for number, *nodes in zip(numbers, tails, heads, after, before))
+            self.add_joined(arcs, number, pieces, weights)
+        else:
+            arcs.add_pieces(number, road, [one for _, one, _ in pieces], [other for _, _, other in pieces], weights)
 
-    def line_lines(self):
-        """Of each arc the latitudes and longitudes of the nodes between its ends."""
-        more = self.turns.tails
-        for number, (first, last) in enumerate(zip(self.inner_at, self.inner_at[1:])):
-            text = " ".join(f"{self.latitudes[i]} {self.longitudes[i]}" for i in self.inner[first:last]) + "\n"
-            for _ in range(1 + len(more.get(number, ()))):
-                yield text
-        for _ in self.turns.closing:
-            yield "\n"
+    def add_joined(self, arcs, number, pieces, weights):
+        """Adds the arcs of a road between nodes that are kept."""
+        begin, inner, cost = None, [], 0
+        for (_, one, other), weight in zip(pieces, weights):
+            begin, cost = one if begin is None else begin, cost + weight
+            if not self.kept[other]:
+                inner.append(other)
+                continue
+            arcs.add(number, self.found.roads[number], begin, other, cost, inner)
+            begin, inner, cost = None, [], 0
 
     def arc_ends(self):
         """Where each arc begins, at the vertex that its node has anyway, and where it ends, in order."""
-        vertices, heads = self.vertices, self.turns.heads
-        begins, ends = (array("I", map(vertices.__getitem__, nodes)) for nodes in (self.tails, self.heads))
-        for number, vertex in heads.items():
+        vertices = self.vertices
+        begins, ends = (array("I", map(vertices.__getitem__, nodes)) for nodes in (self.arcs.tails, self.arcs.heads))
+        for number, vertex in self.turns.heads.items():
             ends[number] = vertex
         return begins, ends
 
+    def texts(self, text_of, text_of_more):
+        """The lines of all arcs of roads, many at once, and behind an arc those of the arcs made of it.
+
+        `text_of` gives the lines of the arcs from a first to one behind the last, and `text_of_more` those behind one.
+        """
+
+        def text(first, last):
+            found, at = [], first
+            for number in self.split[bisect_left(self.split, first) : bisect_left(self.split, last)]:
+                found += text_of(at, number + 1), text_of_more(number)
+                at = number + 1
+            return "".join((*found, text_of(at, last)))
+
+        return in_shares(len(self.arcs.tails), text, LINES)
+
+    def line_lines(self):
+        """Of each arc the latitudes and longitudes of the nodes between its ends."""
+
+        def text(first, last):
+            lines = []
+            for begin, end in zip(self.inner_at[first:last], self.inner_at[first + 1 : last + 1]):
+                inner = self.arcs.inner[begin:end]
+                lines.append(" ".join([f"{self.latitudes[i]} {self.longitudes[i]}" for i in inner]) + "\n")
+            return "".join(lines)
+
+        yield from self.texts(text, lambda number: text(number, number + 1) * len(self.turns.tails[number]))
+        yield "\n" * len(self.turns.closing)
+
     def lines(self):
-        more = self.turns.tails
-        for number, (tail, head, weight) in enumerate(zip(*self.arc_ends(), self.weights)):
-            yield f"a {tail} {head} {weight}\n"
-            if number in more:
-                for other, cost in more[number]:
-                    yield f"a {other} {head} {weight + cost}\n"
-        for tail, head in self.turns.closing:
-            yield f"a {tail} {head} 0\n"
+        begins, ends = self.arc_ends()
+        weights, more = self.arcs.weights, self.turns.tails
+
+        def text(first, last):
+            columns = zip(begins[first:last], ends[first:last], weights[first:last])
+            return "".join([f"a {tail} {head} {weight}\n" for tail, head, weight in columns])
+
+        def text_of_more(number):
+            return "".join(f"a {tail} {ends[number]} {weights[number] + cost}\n" for tail, cost in more[number])
+
+        yield from self.texts(text, text_of_more)
+        yield "".join(f"a {tail} {head} 0\n" for tail, head in self.turns.closing)
 
     def way_lines(self):
-        texts, more = [f"{road.way}\t{road.name}\n" for road in self.found.roads], self.turns.tails
-        for number, road in enumerate(self.roads):
-            yield texts[road]
-            for _ in more.get(number, ()):
-                yield texts[road]
-        for _ in self.turns.closing:
-            yield "0\t\n"
+        texts, roads = [f"{road.way}\t{road.name}\n" for road in self.found.roads], self.arcs.roads
+
+        def text(first, last):
+            return "".join(map(texts.__getitem__, roads[first:last]))
+
+        yield from self.texts(text, lambda number: texts[roads[number]] * len(self.turns.tails[number]))
+        yield "0\t\n" * len(self.turns.closing)
 
     def node_lines(self):
-        nodes = list(self.found.numbers) if self.turns.nodes else ()
-        for node, i in self.found.numbers.items():
-            if self.vertices[i]:
-                yield f"{node} {self.latitudes[i]} {self.longitudes[i]}\n"
-        for i in self.turns.nodes:
-            yield f"{nodes[i]} {self.latitudes[i]} {self.longitudes[i]}\n"
+        nodes = array("q", self.found.numbers)
+
+        def line(i):
+            return f"{nodes[i]} {self.latitudes[i]} {self.longitudes[i]}\n"
+
+        def text(first, last):
+            return "".join([line(i) for i in range(first, last) if self.vertices[i]])
+
+        yield from in_shares(len(nodes), text, LINES)
+        yield from map(line, self.turns.nodes)
 
     def joined(self):
         """Of each node, by its number, whether a route leads from it to the largest part, and one back."""
@@ -237,7 +307,37 @@ class Graph:
         return bytes(leads_there[start] & is_reached[ends.get(i, start)] for i, start in enumerate(self.vertices))
 
     def place_lines(self, joined):
-        for node, i in self.found.numbers.items():
-            if start := self.vertices[i]:
-                end, word = self.turns.ends.get(i, start), "yes" if joined[i] else "no"
-                yield f"{node} {self.latitudes[i]} {self.longitudes[i]} {start} {end} {word}\n"
+        nodes, ends = array("q", self.found.numbers), self.turns.ends
+
+        def line(i, start):
+            end, word = ends.get(i, start), "yes" if joined[i] else "no"
+            return f"{nodes[i]} {self.latitudes[i]} {self.longitudes[i]} {start} {end} {word}\n"
+
+        def text(first, last):
+            return "".join([line(i, self.vertices[i]) for i in range(first, last) if self.vertices[i]])
+
+        return in_shares(len(nodes), text, LINES)
+
+
+class RoadArcs:
+    """The arcs of the roads of a graph, for what keeps its turns."""
+
+    def __init__(self, graph):
+        self.graph, self.tails, self.heads = graph, graph.arcs.tails, graph.arcs.heads
+
+    def arc(self, number):
+        """The way of an arc, its nodes, and the nodes that are next to these on it."""
+        graph, tail, head = self.graph, self.tails[number], self.heads[number]
+        after, before = head, tail
+        first, last = graph.inner_at[number : number + 2] if graph.kept else (0, 0)
+        if first < last:
+            after, before = graph.arcs.inner[first], graph.arcs.inner[last - 1]
+        return graph.found.roads[graph.arcs.roads[number]].way, tail, head, after, before
+
+    def at(self, nodes):
+        """The numbers of the arcs that begin or end at some nodes, in order."""
+        is_wanted = bytearray(len(self.graph.vertices))
+        for node in nodes:
+            is_wanted[node] = 1
+        marks = (map(is_wanted.__getitem__, each) for each in (self.tails, self.heads))
+        return compress(count(), map(or_, *marks))

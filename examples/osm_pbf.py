@@ -4,7 +4,7 @@ import osmium
 
 
 class Reader(osmium.SimpleHandler):
-    """Gives the elements of a map to a `Map`, as the parser of XML does."""
+    """Gives the elements of a map to a `Handler`, as the parser of XML does."""
 
     def __init__(self, found):
         super().__init__()

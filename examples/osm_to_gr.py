@@ -2,8 +2,9 @@
 """Writes a graph in the .gr format from a map of OpenStreetMap: osm_to_gr.py MAP.osm >map.gr
 
 A map is XML as the website, Overpass or osmium write it, also packed by gzip, bzip2 or xz, or PBF if Python has
-pyosmium; without MAP.osm it comes on standard input. The roads of a profile become arcs between their nodes, and nodes.txt says in line 3 which node vertex 3
-is, and its latitude and longitude. Needs to_gr.py, the files osm_*.py and the folder profiles beside it.
+pyosmium; without MAP.osm it comes on standard input. The roads of a profile become arcs between their nodes, and
+nodes.txt says in line 3 which node vertex 3 is, and its latitude and longitude. As many processes share the work as
+there are processors. Needs to_gr.py, processes.py, the files osm_*.py and the folder profiles beside it.
 
     --profile NAME       whose roads: car, lorry, bicycle or foot, or a file with a slash in its name (car)
     --weight UNIT        lengths in metres or decimetres, times in seconds or deciseconds (decimetres). The first line
@@ -43,131 +44,66 @@ import shlex
 import struct
 import sys
 import tempfile
-import zlib
 from array import array
-from collections import Counter
+from collections import Counter, defaultdict
+from itertools import count
 from xml.parsers import expat
 
 sys.dont_write_bytecode = True
-from osm_graph import UNITS, Graph, Road
-from osm_profiles import LeftOut, read_profile
-from osm_turns import ROLES, Restrictions
+from osm_blocks import DAMAGED, Reading
+from osm_elements import Collector, Wanted
+from osm_graph import UNITS, Graph
+from osm_profiles import read_profile
+from osm_turns import Restrictions
+from osm_xml import Handler
 from to_gr import Arguments, Refused, run, unpacked, write_graph
-
-BLANKS = str.maketrans("\t\n\r", "   ")  # what a line of --ways cannot have
-
-
-def is_deleted(attributes):
-    return attributes.get("action") == "delete" or attributes.get("visible") == "false"
-
 
 class Map:
     """The roads of a map. Of other ways only counts are kept, and nodes wait in a temporary file."""
 
     def __init__(self, options):
-        self.profile = options.profile
-        self.roads = []
+        self.wanted = Wanted(options.profile, bool(options.ways), options.turns)
+        self.profile, self.roads = options.profile, []
         self.refs = array("I")  # the nodes of the roads one after the other, by their numbers
-        self.numbers = {}  # of nodes that roads name, from 0
-        self.names, self.mended = {} if options.ways else None, 0  # of roads, where they are wanted
+        self.numbers = defaultdict(count().__next__)  # of nodes that roads name, from 0
+        self.closed, self.mended = set(), 0
         self.left_out, self.ferries, self.ferries_left_out = Counter(), 0, Counter()
+        self.speeds_not_read, self.others_not_read = Counter(), Counter()
         self.nodes = tempfile.TemporaryFile()
-        self.node, self.node_keys, self.closed = None, self.profile.node_keys(), set()
-        self.way, self.refs_of_way, self.members = None, [], None
-        self.tags, self.remark, self.depth = {}, None, 0
         self.restrictions = Restrictions(self.profile.vehicles) if options.turns else None
         self.restriction_count = 0
 
-    def start(self, element, attributes):
-        self.depth += 1
-        if self.depth == 1 and element != "osm":
-            raise ValueError(f"the file is of {element}, and not of osm")
-        if element == "node":
-            self.add_node(attributes)
-        elif element == "way" and not is_deleted(attributes):
-            self.way, self.refs_of_way, self.tags = int(attributes["id"]), [], {}
-        elif element == "nd" and self.way is not None:
-            self.refs_of_way.append(int(attributes["ref"]))
-        elif element == "relation" and not is_deleted(attributes):
-            self.members, self.tags = [], {}
-        elif element == "member" and self.members is not None and attributes.get("role") in ROLES:
-            self.members.append((attributes["type"], int(attributes["ref"]), attributes["role"]))
-        elif element == "tag" and (self.way is not None or self.members is not None):
-            self.tags[attributes["k"]] = attributes["v"].strip()
-        elif element == "tag" and self.node is not None and attributes["k"] in self.node_keys:
-            self.tags[attributes["k"]] = attributes["v"].strip()
-        elif element == "remark":
-            self.remark = ""
-
-    def end(self, element):
-        self.depth -= 1
-        if element == "way" and self.way is not None:
-            if "highway" in self.tags:
-                self.add_way(self.left_out)
-            elif self.tags.get("route") == "ferry" and self.profile.ferry:
-                self.ferries += 1
-                self.add_way(self.ferries_left_out)
-            self.way = None
-        elif element == "node" and self.node is not None:
-            if self.tags and "barrier" in self.tags and self.profile.closes(self.tags):
-                self.closed.add(self.node)
-            self.node = None
-        elif element == "relation" and self.members is not None:
-            if self.tags.get("type") == "restriction":
-                self.add_restriction()
-            self.members = None
-        elif element == "remark":
-            raise ValueError(f"the map was cut off: {' '.join(self.remark.split())}")
-
-    def text(self, text):
-        if self.remark is not None:
-            self.remark += text
-
-    def add_restriction(self):
-        self.restriction_count += 1
+    def take(self, elements):
+        """Takes the elements of the next piece of the map."""
+        self.roads += elements.roads
+        self.refs.extend(map(self.numbers.__getitem__, elements.refs))
+        self.closed.update(elements.closed)
+        for name in ("left_out", "ferries_left_out", "speeds_not_read", "others_not_read"):
+            getattr(self, name).update(getattr(elements, name))
+        for name in ("mended", "ferries", "restriction_count"):
+            setattr(self, name, getattr(self, name) + getattr(elements, name))
         if self.restrictions:
-            self.restrictions.add(self.tags, self.members)
-
-    def name(self):
-        """The name of a road by its tags, or None where no names are wanted."""
-        if self.names is None:
-            return None
-        name = self.tags.get("name") or self.tags.get("ref", "")
-        mended = name.translate(BLANKS)
-        self.mended += mended != name
-        return self.names.setdefault(mended, mended)
-
-    def add_node(self, attributes):
-        if is_deleted(attributes):
-            return
-        node, latitude, longitude = int(attributes["id"]), float(attributes["lat"]), float(attributes["lon"])
-        if not (abs(latitude) <= 90 and abs(longitude) <= 180):
-            raise ValueError(f"node {node} is not on the earth")
-        self.nodes.write(struct.pack("=qdd", node, latitude, longitude))
-        self.node, self.tags = node, {}
+            self.restrictions.take(elements.restrictions)
+        if elements.nodes:
+            self.nodes.write(struct.pack("=Q", len(elements.nodes)))
+            for numbers in (elements.nodes, elements.latitudes, elements.longitudes):
+                self.nodes.write(numbers)
 
     def closed_nodes(self):
         """The numbers of the nodes whose barriers close roads."""
         return {self.numbers[node] for node in self.closed if node in self.numbers}
-
-    def add_way(self, left_out):
-        try:
-            kind = self.profile.road(self.tags)
-        except LeftOut as reason:
-            left_out[str(reason)] += 1
-            return
-        self.refs.extend(self.numbers.setdefault(node, len(self.numbers)) for node in self.refs_of_way)
-        speed, forward, back, *others = kind
-        self.roads.append(Road(self.way, self.name(), speed, forward, back, len(self.refs_of_way), *others))
 
     def places(self):
         """The latitudes and longitudes of the nodes by their numbers, nan where the map lacks one."""
         latitudes = array("d", [math.nan]) * len(self.numbers)
         longitudes = array("d", latitudes)
         self.nodes.seek(0)
-        while block := self.nodes.read(24 * 4096):
-            for node, latitude, longitude in struct.iter_unpack("=qdd", block):
-                number = self.numbers.get(node)
+        while head := self.nodes.read(8):
+            (many,) = struct.unpack("=Q", head)
+            columns = [array(kind) for kind in "qdd"]
+            for column in columns:
+                column.frombytes(self.nodes.read(8 * many))
+            for number, latitude, longitude in zip(map(self.numbers.get, columns[0]), *columns[1:]):
                 if number is not None:
                     latitudes[number], longitudes[number] = latitude, longitude
         return latitudes, longitudes
@@ -191,7 +127,9 @@ def read_pbf(name, found, is_file):
         more = ", or install pyosmium (Debian: python3-pyosmium)" if is_file else ""
         raise Refused(f"{name}: this is PBF, and not XML: {cure}{more}") from None
     try:
-        osm_pbf.read(found, name)
+        collector = Collector(found.wanted, found.take)
+        osm_pbf.read(Handler(collector), name)
+        collector.hand_over()
     except RuntimeError as fault:
         raise Refused(f"{name}: {fault}") from None
     return found
@@ -209,20 +147,17 @@ def read_map(stream, name, options):
     found = Map(options)
     if is_pbf(stream, name):
         return read_pbf(name, found, bool(options.map))
-    packed = unpacked_map(stream, name)
-    parser = expat.ParserCreate()
-    parser.buffer_text = True
-    parser.StartElementHandler, parser.EndElementHandler = found.start, found.end
-    parser.CharacterDataHandler = found.text
+    reading = Reading(unpacked_map(stream, name), found.wanted, found.take)
     try:
-        parser.ParseFile(packed)
+        reading.read()
     except expat.ExpatError as fault:
-        raise Refused(f"{name}:{fault.lineno}: not well-formed XML: {expat.ErrorString(fault.code)}") from None
+        line = reading.lines + fault.lineno
+        raise Refused(f"{name}:{line}: not well-formed XML: {expat.ErrorString(fault.code)}") from None
     except KeyError as fault:
-        raise Refused(f"{name}:{parser.CurrentLineNumber}: an element without {fault.args[0]}") from None
+        raise Refused(f"{name}:{reading.line}: an element without {fault.args[0]}") from None
     except (ValueError, OverflowError, struct.error) as fault:
-        raise Refused(f"{name}:{parser.CurrentLineNumber}: {fault}") from None
-    except (EOFError, zlib.error, lzma.LZMAError, OSError) as fault:
+        raise Refused(f"{name}:{reading.line}: {fault}") from None
+    except DAMAGED as fault:
         if getattr(fault, "errno", None) is not None:
             raise
         raise Refused(f"{name}: the packed file is damaged: {fault}") from None
@@ -255,7 +190,7 @@ def report(found, lacking):
         say(f"{found.ferries} ferries: {ferries} roads, {left_out}")
     if closed := len(found.closed_nodes()):
         say(f"nodes of roads that barriers close: {closed}")
-    for what, counter in (("maxspeed", found.profile.speeds_not_read), ("other tags", found.profile.others_not_read)):
+    for what, counter in (("maxspeed", found.speeds_not_read), ("other tags", found.others_not_read)):
         if counter:
             say(f"{sum(counter.values())} {what} not read: {most(counter)}")
     if found.mended:

@@ -15,6 +15,9 @@ of more than two arms.
 import math
 from array import array
 from collections import Counter, namedtuple
+from itertools import chain, compress, cycle
+
+from processes import in_shares, processor_count
 
 NO = {"no_left_turn", "no_right_turn", "no_straight_on", "no_u_turn", "no_entry", "no_exit"}
 ONLY = {"only_left_turn", "only_right_turn", "only_straight_on", "only_u_turn"}
@@ -74,6 +77,11 @@ class Restrictions:
         except NotKept as reason:
             self.left_out[str(reason)] += 1
 
+    def take(self, others):
+        """Takes those of another piece of the map."""
+        self.kept += others.kept
+        self.left_out.update(others.left_out)
+
     def keep(self, find):
         """Replaces each restriction by what `find` gives of it, or counts why that is none."""
         kept, self.kept = self.kept, []
@@ -125,26 +133,45 @@ FROM_FIRST, TO_FIRST, FROM_SECOND, TO_SECOND, MORE = 1, 2, 4, 8, 16
 BOTH_WAYS = FROM_FIRST | TO_FIRST | FROM_SECOND | TO_SECOND
 OPEN_FROM_FIRST = FROM_FIRST | TO_FIRST | TO_SECOND
 OPEN_FROM_SECOND = FROM_SECOND | TO_FIRST | TO_SECOND
+PARTS = FROM_FIRST, TO_FIRST  # of the head of an arc, and of its tail
+NODES = 1 << 16  # in a share of the work at least
+
+
+def neighbours(pairs, base, count):
+    """The first two neighbours of so many nodes from one on, and their masks; pairs are ((node, neighbour), part)."""
+    first, second, masks = array("I", [0]) * count, array("I", [0]) * count, bytearray(count)
+    for (node, neighbour), of_first in pairs:
+        node -= base
+        if first[node] in (0, neighbour + 1):
+            first[node] = neighbour + 1
+            masks[node] |= of_first
+        elif second[node] in (0, neighbour + 1):
+            second[node] = neighbour + 1
+            masks[node] |= of_first * FROM_SECOND
+        else:
+            masks[node] |= MORE
+    return first, second, masks
 
 
 class Arms:
     """The neighbours of each node: the first two, and which arcs there are between it and them."""
 
     def __init__(self, count, arcs):
+        """Takes the number of nodes, and arcs as `osm_graph.RoadArcs` has them."""
         # By node; a neighbour is its number and 1, and 0 is none.
-        self.first, self.second, self.masks = array("I", [0]) * count, array("I", [0]) * count, bytearray(count)
-        for _, tail, head, _, _ in arcs:
-            self.masks[head] |= self.part(head, tail + 1, FROM_FIRST)
-            self.masks[tail] |= self.part(tail, head + 1, TO_FIRST)
+        self.first, self.second, self.masks = array("I"), array("I"), bytearray()
 
-    def part(self, node, neighbour, of_first):
-        if self.first[node] in (0, neighbour):
-            self.first[node] = neighbour
-            return of_first
-        if self.second[node] in (0, neighbour):
-            self.second[node] = neighbour
-            return of_first * FROM_SECOND
-        return MORE
+        def share(first, last):
+            is_own = bytes(first) + b"\1" * (last - first) + bytes(count - last)
+            ends = chain.from_iterable(zip(arcs.heads, arcs.tails))
+            others = chain.from_iterable(zip(arcs.tails, arcs.heads))
+            both = chain.from_iterable(zip(arcs.heads, arcs.tails))
+            pairs = zip(zip(both, others), cycle(PARTS))
+            return neighbours(compress(pairs, map(is_own.__getitem__, ends)), first, last - first)
+
+        for columns in in_shares(count, share, max(NODES, -(-count // processor_count()))):
+            for own, column in zip((self.first, self.second, self.masks), columns):
+                own.extend(column)
 
     def is_of_two(self, node):
         return self.second[node] != 0 and not self.masks[node] & MORE
@@ -195,7 +222,8 @@ class Rules:
 def crossings(arcs, nodes):
     """The arcs that arrive at each of these nodes, and those that leave it."""
     arriving, leaving = {node: [] for node in nodes}, {node: [] for node in nodes}
-    for number, (way, tail, head, after, before) in enumerate(arcs):
+    for number in arcs.at(nodes):
+        way, tail, head, after, before = arcs.arc(number)
         if tail in leaving:
             leaving[tail].append(Arm(number, way, head, after))
         if head in arriving:
@@ -256,7 +284,7 @@ class Turns:
     def add_nodes(self, nodes, restrictions, road_arcs):
         """Adds what keeps the turns at some nodes, if it isn't there. Gives the neighbours of those that need it."""
         nodes = [node for node in nodes if node not in self.ends and self.vertices[node]]
-        arriving, leaving = crossings(road_arcs(), nodes)
+        arriving, leaving = crossings(road_arcs, nodes)
         beside = {}
         for node in nodes:
             self.add_node(node, restrictions.get(node, ()), arriving[node], leaving[node])
@@ -269,11 +297,11 @@ class Turns:
         return sum(map(len, self.tails.values())) + len(self.closing)
 
     def settle(self, rules, found, road_arcs):
-        """Adds what keeps the turns and barriers of a map. `road_arcs` gives its arcs (`Graph.road_arcs`)."""
+        """Adds what keeps the turns and barriers of a map. `road_arcs` are its arcs (`osm_graph.RoadArcs`)."""
         self.rules, self.closed = rules, found.closed_nodes()
         by_node = {}
         if found.restrictions:
-            self.arms = Arms(len(self.vertices), road_arcs())
+            self.arms = Arms(len(self.vertices), road_arcs)
             by_node = settled_restrictions(found.restrictions, found, road_arcs)
         beside = self.add_nodes(dict.fromkeys((*by_node, *sorted(self.closed))), by_node, road_arcs)
         if not found.restrictions:
@@ -288,7 +316,7 @@ class Turns:
 def settled_restrictions(restrictions, found, road_arcs):
     """The restrictions of a map by node, once those are left out that its roads can't have."""
     settle_ways(restrictions, found)
-    _, leaving = crossings(road_arcs(), restrictions.by_node())
+    _, leaving = crossings(road_arcs, restrictions.by_node())
 
     def on_arcs(each):
         if each.is_only and not any(arm.way in each.targets for arm in leaving[each.via]):

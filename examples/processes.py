@@ -1,0 +1,107 @@
+"""Shares work among as many processes as there are processors to run on, for osm_to_gr.py.
+
+Results come in order, so nothing depends on how many processes there are. One that ends too early, as for want of
+memory, is done without.
+"""
+
+import multiprocessing
+import os
+import signal
+from collections import deque
+
+SHARES = multiprocessing.get_context("fork")  # so that a process has all that was there before
+
+
+def processor_count():
+    return len(os.sched_getaffinity(0))
+
+
+def begin(target, *arguments):
+    """A process that is called with one end of a connection, and the other end."""
+    here, there = SHARES.Pipe()
+    process = SHARES.Process(target=work, args=(target, here, there, *arguments), daemon=True)
+    process.start()
+    there.close()
+    return process, here
+
+
+def work(target, here, there, *arguments):
+    # Who interrupts the script ends it, and then the connection.
+    signal.signal(signal.SIGINT, signal.SIG_IGN)
+    here.close()
+    try:
+        target(there, *arguments)
+    except (EOFError, BrokenPipeError, MemoryError):
+        pass
+
+
+def end(processes):
+    for process, connection in processes:
+        connection.close()
+        process.terminate()
+        process.join()
+
+
+def answer(connection, ask):
+    while True:
+        connection.send(ask(connection.recv_bytes()))
+
+
+class Crew:
+    """Processes that each answer questions of bytes, one at a time. With one processor there are none."""
+
+    def __init__(self, ask, count=None):
+        """Has so many processes call `ask`, which gives what is no `None`."""
+        self.ask, self.waiting, self.count = ask, deque(), count or processor_count()
+        self.processes = [begin(answer, ask) for _ in range(self.count)] if self.count > 1 else []
+        self.free = deque(self.processes)
+
+    def give(self, question):
+        """Gives a question to a process that is free, of which there has to be one."""
+        process = self.free.popleft() if self.processes else None
+        if process:
+            try:
+                process[1].send_bytes(question)
+            except OSError:  # it has ended, and so it is found below
+                pass
+        self.waiting.append((process, question))
+
+    def take(self):
+        """The answer to the question that was given first, or None if its process ended, and the question."""
+        process, question = self.waiting.popleft()
+        if not process:
+            return self.ask(question), question
+        self.free.append(process)
+        try:
+            return process[1].recv(), question
+        except (EOFError, OSError):
+            return None, question
+
+    def __enter__(self):
+        return self
+
+    def __exit__(self, *_):
+        end(self.processes)
+
+
+def send_shares(connection, make, shares):
+    for share in shares:
+        connection.send(make(*share))
+
+
+def in_shares(many, make, size):
+    """What `make(first, last)` gives of shares of so many things, in order. `size` is that of a share."""
+    shares = [(first, min(many, first + size)) for first in range(0, many, size)]
+    count = min(processor_count(), len(shares))
+    if count < 2:
+        yield from (make(*share) for share in shares)
+        return
+    processes = [begin(send_shares, make, shares[at::count]) for at in range(count)]
+    try:
+        for at, share in enumerate(shares):
+            try:
+                yield processes[at % count][1].recv()
+            except (EOFError, OSError):
+                yield make(*share)
+    finally:
+        end(processes)
