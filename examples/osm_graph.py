@@ -267,7 +267,7 @@ class Graph:
             return "".join([f"a {tail} {head} {weight}\n" for tail, head, weight in columns])
 
         def text_of_more(number):
-            return "".join(f"a {tail} {ends[number]} {weights[number] + cost}\n" for tail, cost in more[number])
+            return "".join(f"a {tail} {end} {weights[number] + cost}\n" for tail, cost, end in more[number])
 
         yield from self.texts(text, text_of_more)
         yield "".join(f"a {tail} {head} 0\n" for tail, head in self.turns.closing)
@@ -296,9 +296,9 @@ class Graph:
     def joined(self):
         """Of each node, by its number, whether a route leads from it to the largest part, and one back."""
         tails, heads = self.arc_ends()
-        for number, more in self.turns.tails.items():
-            tails.extend(tail for tail, _ in more)
-            heads.extend(repeat(heads[number], len(more)))
+        for tail, _, head in chain.from_iterable(self.turns.tails.values()):
+            tails.append(tail)
+            heads.append(head)
         for tail, head in self.turns.closing:
             tails.append(tail)
             heads.append(head)
@@ -333,6 +333,14 @@ class RoadArcs:
         if first < last:
             after, before = graph.arcs.inner[first], graph.arcs.inner[last - 1]
         return graph.found.roads[graph.arcs.roads[number]].way, tail, head, after, before
+
+    def along(self, road, node):
+        """The numbers of the arcs of a road from one of its ends to the other, in order; none if nobody may go so."""
+        numbers, own = self.graph.arcs.roads, self.graph.found.roads[road]
+        arcs = range(bisect_left(numbers, road), bisect_left(numbers, road + 1))
+        if own.forward and own.back:
+            return arcs[::2] if arcs and self.tails[arcs[0]] == node else arcs[1::2][::-1]
+        return arcs if own.forward else arcs[::-1]
 
     def at(self, nodes):
         """The numbers of the arcs that begin or end at some nodes, in order."""

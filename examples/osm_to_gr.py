@@ -18,9 +18,9 @@ there are processors. Needs to_gr.py, processes.py, the files osm_*.py and the f
     --join               nodes at which a road only goes on are no vertices. Their places are in lines.txt, a line for
                          each arc: LATITUDE LONGITUDE of each node between its ends
     --lines FILE         in place of lines.txt
-    --turns              keeps turn restrictions with a node as via, and writes places.txt if no --places names another
-                         file. Nobody turns round in the middle of a street. A node then can have several vertices,
-                         and START and END differ
+    --turns              keeps turn restrictions, and writes places.txt if no --places names another file. Nobody turns
+                         round in the middle of a street. A node then can have several vertices, and START and END
+                         differ
     --uturns SECONDS     with --turns: one may turn round anywhere, at this price
 
 Weights are rounded to the nearest whole number, and to 1 if that would be 0 between two places. The files of profiles

@@ -17,6 +17,7 @@ from array import array
 from collections import Counter, namedtuple
 from itertools import chain, compress, cycle
 
+from osm_via_ways import NOWHERE, Trail, Trails, chain_of, path_of
 from processes import in_shares, processor_count
 
 NO = {"no_left_turn", "no_right_turn", "no_straight_on", "no_u_turn", "no_entry", "no_exit"}
@@ -25,7 +26,8 @@ TIMES = {"day_on", "day_off", "hour_on", "hour_off"}
 ROLES = {"from", "via", "to"}
 OTHERS = "not for this vehicle"
 
-Restriction = namedtuple("Restriction", "is_only sources via targets")
+# The via is a node, or there are ways in its place.
+Restriction = namedtuple("Restriction", "is_only sources via targets ways", defaults=((),))
 
 
 class NotKept(Exception):
@@ -52,17 +54,16 @@ def value_of(tags, vehicles):
 
 def restriction_of(value, members):
     """The restriction of a value, by the members (type, number, role) of its relation."""
-    if any(kind == "way" and role == "via" for kind, _, role in members):
-        raise NotKept("way as via")
     wanted = {"from": "way", "via": "node", "to": "way"}
     sources, vias, targets = (
         {number for kind, number, role in members if role == each and kind == wanted[each]} for each in wanted
     )
-    if not sources or not targets or len(vias) != 1:
+    ways = tuple(number for kind, number, role in members if (kind, role) == ("way", "via"))
+    if not sources or not targets or len(vias) != (not ways):
         raise NotKept("from, via or to missing")
     if (len(sources) > 1 and value != "no_entry") or (len(targets) > 1 and value != "no_exit"):
         raise NotKept("several from or to")
-    return Restriction(value in ONLY, sources, vias.pop(), targets)
+    return Restriction(value in ONLY, sources, None if ways else vias.pop(), targets, ways)
 
 
 class Restrictions:
@@ -92,35 +93,51 @@ class Restrictions:
                 self.left_out[str(reason)] += 1
 
     def by_node(self):
+        """Those with a node as via."""
         found = {}
         for each in self.kept:
-            found.setdefault(each.via, []).append(each)
+            if isinstance(each, Restriction):
+                found.setdefault(each.via, []).append(each)
         return found
+
+    def trails(self):
+        """Those with ways as via."""
+        return Trails(each for each in self.kept if isinstance(each, Trail))
 
 
 def ends_of(roads, refs, ways):
-    """The first and the last nodes of these ways."""
-    at, ends = 0, {}
-    for road in roads:
+    """The first and the last nodes of these ways, and the places of these among the roads."""
+    at, ends, places = 0, {}, {}
+    for place, road in enumerate(roads):
         if road.way in ways and road.size:
             ends.setdefault(road.way, set()).update((refs[at], refs[at + road.size - 1]))
+            places[road.way] = place
         at += road.size
-    return ends
+    return ends, places
 
 
-def settle_ways(restrictions, found):
+def settle_ways(restrictions, found, road_arcs):
     """Keeps the restrictions whose ways are roads of the map and begin or end at the via, which becomes its number."""
-    ways = set().union(*(each.sources | each.targets for each in restrictions.kept))
-    ends = ends_of(found.roads, found.refs, ways)
+    ways = set().union(*(each.sources | each.targets | set(each.ways) for each in restrictions.kept))
+    ends, places = ends_of(found.roads, found.refs, ways)
 
     def on_roads(each):
         via = found.numbers.get(each.via)
         sources, targets = (ways & ends.keys() for ways in (each.sources, each.targets))
-        if via is None or not sources or not targets:
+        if not sources or not targets or (via is None if not each.ways else not ends.keys() >= set(each.ways)):
             raise NotKept("no road as member")
+        if each.ways:
+            return along_ways(each, sources, targets)
         if any(via not in ends[way] for way in sources | targets):
             raise NotKept("via at no end of a way")
         return Restriction(each.is_only, sources, via, targets)
+
+    def along_ways(each, sources, targets):
+        chain = chain_of(sources, each.ways, targets, ends)
+        path = chain and path_of(chain, road_arcs, places)
+        if not path:
+            raise NotKept("no one way along the via")
+        return Trail(each.is_only, sources, chain[0][1], path, targets)
 
     restrictions.keep(on_roads)
 
@@ -244,41 +261,75 @@ class Turns:
         self.vertices, self.count = vertices, count
         self.nodes = []  # of the vertices that are added, in their order
         self.heads = {}  # by the number of an arc, where it ends in place of a node
-        self.tails = {}  # by the number of an arc, where it begins beside a node, and what it costs more from there
+        # By the number of an arc, where it begins beside a node, what it costs more from there, and where it ends then.
+        self.tails = {}
         self.ends = {}  # by a node, where routes end
         self.closing = []  # the arcs of no cost, as (tail, head)
         self.rules, self.arms, self.closed = None, None, frozenset()
+        self.trails, self.watched = Trails(), {}  # by a node, the arcs by which one comes there on a trail, and states
+        self.watched_heads = {}  # by the number of an arc and a state, where it ends
 
     def add_vertex(self, node):
         self.count += 1
         self.nodes.append(node)
         return self.count
 
-    def following(self, arm, node, restrictions, leaving):
-        """What may follow an arc that arrives at a node: the numbers of arcs, each with what the turn costs."""
-        found = allowed(arm.way, restrictions, leaving)
+    def following(self, arm, node, restrictions, leaving, state):
+        """What may follow an arc that arrives at a node in a state.
+
+        These are the numbers of arcs, each with what the turn costs, and the state if it isn't that of who is on no
+        trail before.
+        """
+        found = [each for each in allowed(arm.way, restrictions, leaving) if self.trails.allow(state, each)]
         is_of_two = bool(self.arms) and self.arms.is_of_two(node)
         if node in self.closed:
             found = [each for each in found if each.node == arm.node]
         elif is_of_two and self.rules.price is None:
             # Nobody turns round where the way on is open.
             found = [each for each in found if each.node != arm.node] or found
-        return tuple((each.number, self.rules.cost(arm, node, each, is_of_two)) for each in found)
+        costs = (self.rules.cost(arm, node, each, is_of_two) for each in found)
+        return tuple((each.number, cost, self.next(state, each)) for each, cost in zip(found, costs))
+
+    def next(self, state, arm):
+        """The state after an arc, or None if it is that of who is on no trail before."""
+        after = self.trails.after(state, arm) if state else None
+        return after if after != self.trails.begun(arm.way, arm.node) else None
+
+    def watch(self, restrictions, arriving, leaving):
+        """Finds the arcs of trails by which one comes to nodes, and in which states, from arcs at these nodes."""
+        ahead = [(node, arm, self.trails.begun(arm.way, node)) for node in arriving for arm in arriving[node]]
+        while ahead:
+            node, arm, state = ahead.pop()
+            following = self.following(arm, node, restrictions.get(node, ()), leaving[node], state) if state else ()
+            arms = {each.number: each for each in leaving[node]}
+            for number, _, after in following:
+                own = self.watched.setdefault(arms[number].node, {})
+                if after is not None and (number, after) not in own:
+                    own[number, after] = True
+                    come = next(each for each in arriving[arms[number].node] if each.number == number)
+                    ahead.append((arms[number].node, come, after))
 
     def add_node(self, node, restrictions, arriving, leaving):
         """Adds what keeps the turns at a node, where these arcs arrive and leave."""
-        free = tuple((arm.number, 0) for arm in leaving)
-        turns = [(arm.number, self.following(arm, node, restrictions, leaving)) for arm in arriving]
-        turns = [(number, following) for number, following in turns if following != free]
+        free = tuple((arm.number, 0, None) for arm in leaving)
+        arms = {arm.number: arm for arm in arriving}
+        come = [(arm.number, self.trails.begun(arm.way, node), self.heads, arm.number) for arm in arriving]
+        come += [(*key, self.watched_heads, key) for key in self.watched.get(node, ())]
+        turns = [
+            (self.following(arms[number], node, restrictions, leaving, state), heads, key)
+            for number, state, heads, key in come
+        ]
+        turns = [turn for turn in turns if turn[0] != free]
         if not turns:
             return
-        copies = {following: self.add_vertex(node) for following in dict.fromkeys(own for _, own in turns) if following}
+        kinds = dict.fromkeys(own for own, *_ in turns)
+        copies = {following: self.add_vertex(node) for following in kinds if following}
         end = self.ends[node] = self.add_vertex(node)
         for following, copy in copies.items():
-            for number, cost in following:
-                self.tails.setdefault(number, []).append((copy, cost))
-        for number, following in turns:
-            self.heads[number] = copies.get(following, end)
+            for number, cost, state in following:
+                self.tails.setdefault(number, []).append((copy, cost, state))
+        for following, heads, key in turns:
+            heads[key] = copies.get(following, end)
         self.closing.extend((vertex, end) for vertex in (self.vertices[node], *copies.values()))
 
     def add_nodes(self, nodes, restrictions, road_arcs):
@@ -303,9 +354,26 @@ class Turns:
         if found.restrictions:
             self.arms = Arms(len(self.vertices), road_arcs)
             by_node = settled_restrictions(found.restrictions, found, road_arcs)
-        beside = self.add_nodes(dict.fromkeys((*by_node, *sorted(self.closed))), by_node, road_arcs)
-        if not found.restrictions:
-            return
+            self.trails = found.restrictions.trails()
+        along = self.trails.nodes(road_arcs.heads)
+        if along:
+            self.watch(by_node, *crossings(road_arcs, along))
+        beside = self.add_nodes(dict.fromkeys((*by_node, *along, *sorted(self.closed))), by_node, road_arcs)
+        if found.restrictions:
+            self.add_others(beside, by_node, road_arcs)
+        self.settle_heads(road_arcs)
+
+    def settle_heads(self, road_arcs):
+        """Says of each arc that begins beside a node where it ends."""
+        for number, more in self.tails.items():
+            head = self.vertices[road_arcs.heads[number]]
+            own = self.heads.get(number, head)
+            ends = [own if state is None else self.watched_heads.get((number, state), head) for _, _, state in more]
+            self.tails[number] = [(tail, cost, end) for (tail, cost, _), end in zip(more, ends)]
+
+    def add_others(self, beside, by_node, road_arcs):
+        """Adds what keeps the rules of turning round, beside nodes that have more vertices, and prices of turns."""
+        rules = self.rules
         if rules.price or rules.costs:
             others = (node for node in range(len(self.vertices)) if rules.price or not self.arms.is_of_two(node))
             beside.update(self.add_nodes(others, by_node, road_arcs))
@@ -315,11 +383,13 @@ class Turns:
 
 def settled_restrictions(restrictions, found, road_arcs):
     """The restrictions of a map by node, once those are left out that its roads can't have."""
-    settle_ways(restrictions, found)
-    _, leaving = crossings(road_arcs, restrictions.by_node())
+    settle_ways(restrictions, found, road_arcs)
+    lasts = {each.path[-1]: road_arcs.heads[each.path[-1]] for each in restrictions.kept if isinstance(each, Trail)}
+    _, leaving = crossings(road_arcs, dict.fromkeys((*restrictions.by_node(), *lasts.values())))
 
     def on_arcs(each):
-        if each.is_only and not any(arm.way in each.targets for arm in leaving[each.via]):
+        last = lasts[each.path[-1]] if isinstance(each, Trail) else each.via
+        if each.is_only and not any(arm.way in each.targets for arm in leaving[last]):
             raise NotKept("only to a way that cannot be entered")
         return each
 

@@ -74,10 +74,11 @@ def wanted_cost(model, successors, start, end):
     best = model.search(start.queue(model), successors)
     found = []
     if end.node is not None:
-        found = [cost for i, cost in best.items() if model.arcs[i][3] == end.node] + [0] * (start.node == end.node)
+        found = [cost for come, cost in best.items() if model.arcs[come[-1]][3] == end.node]
+        found += [0] * (start.node == end.node)
     for i, share in end.shares.items():
         part = round(model.arcs[i][4] * share)
-        found += [best[k] + more + part for k in best for j, more in successors[k] if j == i]
+        found += [best[come] + more + part for come in best for j, more in successors(come) if j == i]
         if start.node == model.arcs[i][2]:
             found.append(part)
         if start.shares.get(i, 2) <= share:

@@ -149,7 +149,7 @@ class Roads(turns.Model):
             if road:
                 self.roads[number] = nodes
                 self.add_arcs(number, nodes, *road, tags)
-        self.bans = [ban for ban in (self.ban(*relation) for relation in drawn.relations) if ban]
+        self.settle_bans(drawn)
         self.closed = {node for node, tags in drawn.barriers.items() if self.is_closed(tags)}
 
     def access(self, tags):
@@ -226,13 +226,14 @@ class Roads(turns.Model):
             return self.is_too_large(tags) or not is_allowed
         return tags["barrier"] in TABLES.closed[self.profile]
 
-    def free_turn(self, one, other):
-        return None if one[3] in self.closed and other[3] != one[2] else 0
+    def free_turn(self, come, other):
+        return None if come[-1][3] in self.closed and other[3] != come[-1][2] else 0
 
-    def turn(self, one, other, price):
+    def turn(self, come, other, price):
+        one = come[-1]
         if one[3] in self.closed:
-            return (price or 0) if other[3] == one[2] and self.may_follow(one, other) else None
-        cost = super().turn(one, other, price)
+            return (price or 0) if other[3] == one[2] and self.may_follow(come, other) else None
+        cost = super().turn(come, other, price)
         if cost is None or other[3] == one[2] or self.arms(one[3]) < 3:
             return cost
         return cost + sum(more for least, most, more in self.by_angle if least <= self.angle(one, other) < most)

@@ -8,8 +8,10 @@ restrictions are kept, and the nearest places.
 """
 
 import contextlib
+import functools
 import heapq
 import io
+import itertools
 import math
 import os
 import random
@@ -68,8 +70,30 @@ class Drawn:
         highway = "footway" if chance.random() < 0.1 else "residential"
         return number, chance.choice(NAMES), refs, chance.choice(["no", "no", "yes", "-1"]), highway
 
+    def draw_long(self, chance):
+        """The tags and the members of a restriction with one way as via or two, mostly between ways at its ends."""
+        ends = {way[0]: (way[2][0], way[2][-1]) for way in self.ways if way[4] != "footway"} or {1: (1, 2)}
+        ways = [chance.choice([*ends])]
+        one, other = ends[ways[0]] if chance.random() < 0.5 else ends[ways[0]][::-1]
+        on = [way for way, own in ends.items() if other in own and way not in ways]
+        if on and chance.random() < 0.4:
+            ways.append(chance.choice(on))
+            other = ends[ways[1]][ends[ways[1]][0] == other]
+        near = [[way for way, own in ends.items() if end in own and way not in ways] or [*ends] for end in (one, other)]
+        members = [("way", chance.choice(near[0]), "from"), ("way", chance.choice(near[1]), "to")]
+        members += [("way", way, "via") for way in (ways if chance.random() < 0.7 else ways[::-1])]
+        kind = chance.choice(["no_left_turn", "no_u_turn", "only_straight_on", "no_entry", "no_exit"])
+        if kind in ("no_entry", "no_exit"):
+            members.append(("way", chance.choice(near[kind == "no_exit"]), "from" if kind == "no_entry" else "to"))
+        if chance.random() < 0.05:
+            members.append(("node", one, "via"))
+        chance.shuffle(members)
+        return {"restriction": kind}, members
+
     def draw_restriction(self, chance, nodes):
         """The tags and the members of one, mostly at an end that two ways share."""
+        if chance.random() < 0.4:
+            return self.draw_long(chance)
         via = chance.choice(nodes)
         near = [way[0] for way in self.ways if via in (way[2][0], way[2][-1]) and way[4] != "footway"]
         if not near or chance.random() < 0.1:
@@ -128,7 +152,13 @@ class Model:
             if highway == "residential":
                 self.add_road(number, name, refs, oneway, drawn.places)
         self.roads = {way[0]: way[2] for way in drawn.ways if way[4] == "residential"}
+        self.settle_bans(drawn)
+
+    def settle_bans(self, drawn):
+        self.known = drawn.places.keys()
         self.bans = [ban for ban in (self.ban(*relation) for relation in drawn.relations) if ban]
+        # The arcs of each restriction with ways as via, behind the ways from which one comes.
+        self.long_bans = [(sources, path) for _, sources, path, _ in self.bans if isinstance(path[0], tuple)]
 
     def add_road(self, number, name, refs, oneway, places):
         name = "".join(" " if letter in "\t\n\r" else letter for letter in name.strip())
@@ -148,83 +178,138 @@ class Model:
         is_exempt = any(vehicle in tags.get("except", "") for vehicle in self.vehicles)
         if is_exempt or "day_on" in tags or value in ("none", "give_way", ""):
             return None
-        if any(member[0] == "way" and member[2] == "via" for member in members):
-            return None
         sources = {ref for kind, ref, role in members if (kind, role) == ("way", "from")}
         vias = {ref for kind, ref, role in members if (kind, role) == ("node", "via")}
         targets = {ref for kind, ref, role in members if (kind, role) == ("way", "to")}
-        if not sources or len(vias) != 1 or not targets:
+        between = [ref for kind, ref, role in members if (kind, role) == ("way", "via")]
+        if not sources or not targets or len(vias) + bool(between) != 1:
             return None
         if len(sources) > 1 and value != "no_entry" or len(targets) > 1 and value != "no_exit":
             return None
+        sources, targets = sources & self.roads.keys(), targets & self.roads.keys()
+        if between:
+            return self.long_ban(value.startswith("only"), sources, between, targets)
         return self.ban_of_roads(value.startswith("only"), sources, vias.pop(), targets)
 
+    def long_ban(self, commands, sources, between, targets):
+        """A restriction with ways as via, by each order and direction of these, if one alone fits."""
+        if not sources or not targets or not self.roads.keys() >= {*between} or len({*between}) < len(between):
+            return None
+        if (sources | targets) & {*between}:
+            return None
+        fits = set()
+        for ways in itertools.permutations(between):
+            for turned in itertools.product((1, -1), repeat=len(ways)):
+                lines = [self.roads[way][::step] for way, step in zip(ways, turned)]
+                meets = all(line[-1] == after[0] for line, after in zip(lines, lines[1:]))
+                begins = all(lines[0][0] in (self.roads[way][0], self.roads[way][-1]) for way in sources)
+                ends = all(lines[-1][-1] in (self.roads[way][0], self.roads[way][-1]) for way in targets)
+                if meets and begins and ends and all(line[0] != line[-1] for line in lines):
+                    fits.add((ways, tuple(map(tuple, lines))))
+        path = self.path(*fits.pop()) if len(fits) == 1 else None
+        if not path or commands and not any(arc[0] in targets and arc[2] == path[-1][3] for arc in self.arcs):
+            return None
+        return commands, sources, path, targets
+
+    def path(self, ways, lines):
+        """The arcs along ways, or None if one can't go so, or comes to a node twice."""
+        steps = [(way, *pair) for way, line in zip(ways, lines) for pair in zip(line, line[1:]) if pair[0] != pair[1]]
+        steps = [step for step in steps if step[1] in self.known and step[2] in self.known]
+        arcs = [next((arc for arc in self.arcs if (arc[0], *arc[2:4]) == step), None) for step in steps]
+        nodes = [lines[0][0], *(step[2] for step in steps)]
+        is_whole = [step[1] for step in steps] == nodes[:-1] and nodes[-1] == lines[-1][-1]
+        return arcs if is_whole and None not in arcs and len({*nodes}) == len(nodes) else None
+
     def ban_of_roads(self, commands, sources, via, targets):
-        sources, targets = sources & self.roads.keys(), targets & self.roads.keys()
         ends = [(self.roads[way][0], self.roads[way][-1]) for way in sources | targets]
         if not sources or not targets or not all(via in each for each in ends):
             return None
         if commands and not any(arc[0] in targets and arc[2] == via for arc in self.arcs):
             return None
-        return commands, sources, via, targets
+        # Without arcs between.
+        return commands, sources, [via], targets
 
-    def may_follow(self, one, other):
-        """Whether no restriction stands between two arcs that meet."""
-        for commands, sources, via, targets in self.bans:
-            if one[0] in sources and one[3] == via and (other[0] in targets) != commands:
-                return False
-        return True
+    def may_follow(self, come, other):
+        """Whether no restriction stands between the arcs by which one has come and one that goes on."""
+        return not any(self.is_banned(come, other, *ban) for ban in self.bans)
+
+    def is_banned(self, come, other, commands, sources, path, targets):
+        if not isinstance(path[0], tuple):
+            return come[-1][0] in sources and come[-1][3] == path[0] and (other[0] in targets) != commands
+        for many in range(min(len(come), len(path) + 1)):
+            if self.is_begun(come[-many - 1 :], sources, path):
+                if (other[0] in targets) != commands if many == len(path) else commands and other != path[many]:
+                    return True
+        return False
+
+    def is_begun(self, come, sources, path):
+        """Whether arcs are one from which one comes, and then the first ones of a path."""
+        return come[0][0] in sources and come[0][3] == path[0][2] and come[1:] == path[: len(come) - 1]
+
+    def last_of(self, come):
+        """The last arcs, by their numbers, that can matter to a restriction."""
+        for at in range(len(come) - 1):
+            arcs = [self.arcs[i] for i in come[at:]]
+            if any(len(arcs) <= len(path) + 1 and self.is_begun(arcs, ways, path) for ways, path in self.long_bans):
+                return come[at:]
+        return come[-1:]
 
     def arms(self, node):
         """How many other nodes a road joins to a node."""
         return len({arc[3] for arc in self.arcs if arc[2] == node} | {arc[2] for arc in self.arcs if arc[3] == node})
 
-    def turn(self, one, other, price):
-        """What it costs that an arc follows one that ends where it begins, or None if it may not."""
-        if not self.may_follow(one, other):
+    def turn(self, come, other, price):
+        """What it costs that an arc follows those by which one has come to where it begins, or None if it may not."""
+        one = come[-1]
+        if not self.may_follow(come, other):
             return None
         if other[3] != one[2]:
             return 0
         if price is not None:
             return price
         others = (arc for arc in self.arcs if arc[2] == one[3] and arc[3] != one[2])
-        is_open = any(self.may_follow(one, arc) for arc in others)
+        is_open = any(self.may_follow(come, arc) for arc in others)
         return None if is_open and self.arms(one[3]) == 2 else 0
 
-    def free_turn(self, one, other):
+    def free_turn(self, come, other):
         """What a turn costs without --turns."""
         return 0
 
     def successors(self, price, is_free):
-        """Of each arc the numbers of those that may follow it, with what the turn costs."""
-        found = []
-        for one in self.arcs:
-            follow = [(k, other) for k, other in enumerate(self.arcs) if other[2] == one[3]]
-            costs = [self.free_turn(one, other) if is_free else self.turn(one, other, price) for _, other in follow]
-            found.append([(k, cost) for (k, _), cost in zip(follow, costs) if cost is not None])
-        return found
+        """What gives of arcs by which one has come, by their numbers, those that may follow, and at what cost."""
+
+        @functools.lru_cache(maxsize=None)
+        def after(come):
+            arcs = [self.arcs[i] for i in come]
+            follow = [(k, other) for k, other in enumerate(self.arcs) if other[2] == arcs[-1][3]]
+            costs = [self.free_turn(arcs, other) if is_free else self.turn(arcs, other, price) for _, other in follow]
+            return [(k, cost) for (k, _), cost in zip(follow, costs) if cost is not None]
+
+        return after
 
     def costs(self, source, successors):
         """The least cost of each node that a route from a node reaches."""
         costs = {source: 0}
         queue = [(arc[4], i) for i, arc in enumerate(self.arcs) if arc[2] == source]
-        for i, cost in self.search(queue, successors).items():
-            head = self.arcs[i][3]
+        for come, cost in self.search(queue, successors).items():
+            head = self.arcs[come[-1]][3]
             costs[head] = min(cost, costs.get(head, cost))
         return costs
 
     def search(self, queue, successors):
-        """The least cost at the end of each arc, from (cost, arc) of those that come first, from arc to arc."""
+        """The least cost by the last arcs of which one has come, from (cost, arc) of those that come first."""
         best = {}
+        queue = [(cost, (i,)) for cost, i in queue]
         heapq.heapify(queue)
         while queue:
-            cost, i = heapq.heappop(queue)
-            if i in best:
+            cost, come = heapq.heappop(queue)
+            if come in best:
                 continue
-            best[i] = cost
-            for k, more in successors[i]:
-                if k not in best:
-                    heapq.heappush(queue, (cost + more + self.arcs[k][4], k))
+            best[come] = cost
+            for k, more in successors(come):
+                after = self.last_of((*come, k))
+                if after not in best:
+                    heapq.heappush(queue, (cost + more + self.arcs[k][4], after))
         return best
 
     def all_costs(self, price=None, is_free=False):
