@@ -1,7 +1,7 @@
 """Shares work among as many processes as there are processors to run on, for osm_to_gr.py.
 
-Results come in order, so nothing depends on how many processes there are. One that ends too early, as for want of
-memory, is done without.
+Results come in order, so nothing depends on how many processes there are. One that can't begin or ends too early, as
+for want of memory, is done without.
 """
 
 import multiprocessing
@@ -17,10 +17,14 @@ def processor_count():
 
 
 def begin(target, *arguments):
-    """A process that is called with one end of a connection, and the other end."""
+    """A process that is called with one end of a connection, and the other end, which is closed if none can begin."""
     here, there = SHARES.Pipe()
     process = SHARES.Process(target=work, args=(target, here, there, *arguments), daemon=True)
-    process.start()
+    try:
+        process.start()
+    except OSError:
+        here.close()
+        process = None
     there.close()
     return process, here
 
@@ -38,8 +42,9 @@ def work(target, here, there, *arguments):
 def end(processes):
     for process, connection in processes:
         connection.close()
-        process.terminate()
-        process.join()
+        if process:
+            process.terminate()
+            process.join()
 
 
 def answer(connection, ask):
@@ -51,7 +56,7 @@ class Crew:
     """Processes that each answer questions of bytes, one at a time. With one processor there are none."""
 
     def __init__(self, ask, count=None):
-        """Has so many processes call `ask`, which gives what is no `None`."""
+        """Has so many processes call `ask`."""
         self.ask, self.waiting, self.count = ask, deque(), count or processor_count()
         self.processes = [begin(answer, ask) for _ in range(self.count)] if self.count > 1 else []
         self.free = deque(self.processes)
@@ -62,12 +67,12 @@ class Crew:
         if process:
             try:
                 process[1].send_bytes(question)
-            except OSError:  # it has ended, and so it is found below
+            except OSError:  # `take` finds that it has ended
                 pass
         self.waiting.append((process, question))
 
     def take(self):
-        """The answer to the question that was given first, or None if its process ended, and the question."""
+        """The answer to the question that was given first, and the question."""
         process, question = self.waiting.popleft()
         if not process:
             return self.ask(question), question
@@ -75,7 +80,7 @@ class Crew:
         try:
             return process[1].recv(), question
         except (EOFError, OSError):
-            return None, question
+            return self.ask(question), question
 
     def __enter__(self):
         return self

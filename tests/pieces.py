@@ -93,6 +93,14 @@ def written(options):
     return texts
 
 
+def answer_once(connection, ask):
+    connection.send(ask(connection.recv_bytes()))
+
+
+def send_first(connection, make, shares):
+    connection.send(make(*shares[0]))
+
+
 class Counted:
     """Counts how many pieces the regular expression reads."""
 
@@ -114,11 +122,15 @@ def check(seed, is_head):
     osm_blocks.is_head = lambda text: False
     wanted = written(options)
     osm_blocks.is_head = is_head
+    # In some runs the processes end after their first answer.
+    whole = processes.answer, processes.send_shares
     for count in (1, 3) if seed % 3 == 0 else (1,):
         processes.processor_count = osm_turns.processor_count = lambda: count
+        processes.answer, processes.send_shares = (answer_once, send_first) if seed % 6 == 3 else whole
         found = written(options)
         if found != wanted:
             raise AssertionError(f"map {seed} by {count} processes, {options}: {found}, wanted {wanted}")
+    processes.answer, processes.send_shares = whole
     return "refused:" in wanted[1]
 
 
