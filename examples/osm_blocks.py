@@ -27,8 +27,8 @@ DAMAGED = (EOFError, zlib.error, lzma.LZMAError, OSError)
 class Pieces:
     """The pieces of a stream one after another. `fault` is what went wrong as it was read, and so ended them."""
 
-    def __init__(self, stream, size=None):
-        self.stream, self.size, self.fault = stream, size or PIECE, None
+    def __init__(self, stream):
+        self.stream, self.size, self.fault = stream, PIECE, None
         self.left, self.has_ended = b"", False
 
     def read(self):
@@ -42,7 +42,7 @@ class Pieces:
         self.left += more
 
     def head(self):
-        """What comes before the first element."""
+        """The text before the first element."""
         while not self.has_ended and not any(each in self.left for each in FIRST) and len(self.left) < self.size:
             self.read()
         at = min((at for at in map(self.left.find, FIRST) if at >= 0), default=len(self.left))
@@ -53,7 +53,7 @@ class Pieces:
         return self
 
     def __next__(self):
-        """The next piece, and if it is the last one."""
+        """The next piece. The last one is what is left."""
         self.read()
         cut = self.cut()
         while not self.has_ended and not cut and len(self.left) < LONGEST * self.size:
@@ -65,7 +65,7 @@ class Pieces:
         return piece
 
     def cut(self):
-        """Where the last element begins, if it isn't the first one."""
+        """The place where the last element begins, or 0."""
         return max(0, *map(self.left.rfind, FIRST))
 
 
@@ -130,7 +130,10 @@ class Reading:
         return ahead or None
 
     def give(self, crew, piece):
-        """Gives a crew pieces as long as one is free. Gives the piece that can't be the last one, or else is."""
+        """Gives a crew pieces, from one on, as long as it has room.
+
+        Returns a piece that ends the map though more come, or doesn't though it is the last one.
+        """
         while piece is not None:
             if bool(LAST.search(piece)) != self.pieces.has_ended:
                 return [piece]

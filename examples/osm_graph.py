@@ -24,7 +24,7 @@ def length(one, other):
 
 
 class Spots:
-    """Where nodes are, by their numbers, as what the formula of `length` takes."""
+    """The places of nodes, by their numbers, in the form that the formula of `length` takes."""
 
     def __init__(self, latitudes, longitudes):
         self.latitudes, self.longitudes = (array("d", map(math.radians, each)) for each in (latitudes, longitudes))

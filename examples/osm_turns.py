@@ -275,7 +275,7 @@ class Turns:
         return self.count
 
     def following(self, arm, node, restrictions, leaving, state):
-        """What may follow an arc that arrives at a node in a state.
+        """Gives what may follow an arc that arrives at a node in a state.
 
         These are the numbers of arcs, each with what the turn costs, and the state if it isn't that of who is on no
         trail before.

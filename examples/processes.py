@@ -95,7 +95,7 @@ def send_shares(connection, make, shares):
 
 
 def in_shares(many, make, size):
-    """What `make(first, last)` gives of shares of so many things, in order. `size` is that of a share."""
+    """The results of `make(first, last)` for shares of so many things, in order. `size` is that of a share."""
     shares = [(first, min(many, first + size)) for first in range(0, many, size)]
     count = min(processor_count(), len(shares))
     if count < 2:

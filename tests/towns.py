@@ -26,7 +26,7 @@ def read(text):
 
 
 def reached(count, arcs, source=1):
-    """How many vertices walks from a source reach."""
+    """The number of vertices that walks from a source reach."""
     heads = [[] for _ in range(count + 1)]
     for tail, head in arcs:
         heads[tail].append(head)
@@ -39,7 +39,7 @@ def reached(count, arcs, source=1):
 
 
 def faults_of(size, seed):
-    """What is wrong with a map."""
+    """The faults of a map, in words."""
     text = job(size, 0, seed)
     count, arcs = read(text)
     ends = [arc[:2] for arc in arcs]

@@ -230,7 +230,7 @@ class Model:
         return commands, sources, [via], targets
 
     def may_follow(self, come, other):
-        """Whether no restriction stands between the arcs by which one has come and one that goes on."""
+        """Tells if no restriction stands between the arcs by which one has come and one that goes on."""
         return not any(self.is_banned(come, other, *ban) for ban in self.bans)
 
     def is_banned(self, come, other, commands, sources, path, targets):
@@ -243,7 +243,7 @@ class Model:
         return False
 
     def is_begun(self, come, sources, path):
-        """Whether arcs are one from which one comes, and then the first ones of a path."""
+        """Tells if arcs are one from which one comes, and then the first ones of a path."""
         return come[0][0] in sources and come[0][3] == path[0][2] and come[1:] == path[: len(come) - 1]
 
     def last_of(self, come):
@@ -276,7 +276,7 @@ class Model:
         return 0
 
     def successors(self, price, is_free):
-        """What gives of arcs by which one has come, by their numbers, those that may follow, and at what cost."""
+        """A function from the numbers of arcs by which one has come to the arcs that may follow, with their costs."""
 
         @functools.lru_cache(maxsize=None)
         def after(come):
