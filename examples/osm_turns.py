@@ -17,7 +17,7 @@ from array import array
 from collections import Counter, namedtuple
 from itertools import chain, compress, cycle
 
-from osm_via_ways import NOWHERE, Trail, Trails, chain_of, path_of
+from osm_via_ways import Trail, Trails, chain_of, path_of
 from processes import in_shares, processor_count
 
 NO = {"no_left_turn", "no_right_turn", "no_straight_on", "no_u_turn", "no_entry", "no_exit"}
