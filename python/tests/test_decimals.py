@@ -1,6 +1,7 @@
 """Decimals: weights and costs of a graph with a scale, beside exact fractions."""
 
 import random
+import re
 import tempfile
 import unittest
 from decimal import Decimal
@@ -82,9 +83,11 @@ class Weights(unittest.TestCase):
         halves = [0.5, 2.5, 0.0]
         for code in "efdg":
             self.assertEqual(ints(_columns.as_weights(numpy.array(halves, dtype=code), 2)), [1, 5, 0])
-        # The float of 4 bytes next to 0.1 is no double next to it.
-        with self.assertRaisesRegex(ValueError, r"^weights\[1\] is 0.10000000149"):
-            _columns.as_weights(numpy.array([0.5, 0.1], dtype="f"), 10)
+        # A float of 4 bytes or 2 is beside its own kind: 0.1 is the nearest of each to a tenth.
+        for code in "ef":
+            self.assertEqual(ints(_columns.as_weights(numpy.array([0.5, 0.1, 19.7], dtype=code), 10)), [5, 1, 197])
+            with self.assertRaisesRegex(ValueError, r"^weights\[1\] is 0.\d*, which times 2 .*: scale=10 would do$"):
+                _columns.as_weights(numpy.array([0.5, 0.1], dtype=code), 2)
         tenth = numpy.longdouble("0.1")
         if tenth != 0.1:
             with self.assertRaisesRegex(ValueError, r"^weights\[0\] is "):
@@ -100,11 +103,17 @@ class Weights(unittest.TestCase):
             ([1, 0.5], None, 1, ": scale=10 would do"),
             ([0.5, 5e7], 100, 1, ": scale=10 would do"),
             ([0.25, Decimal("0.001")], 100, 1, ": scale=1000 would do"),
-            ([0.25, 1 / 3], 100, 1, ""),
+            ([0.25, 1 / 3], 100, 1, ": Graph(.., rounded=True) rounds it"),
+            ([1, 12.345678901234], None, 1, ": Graph(.., scale=1000, rounded=True) rounds it"),
+            ([0.1 + 0.2], 10, 0, ": Graph(.., rounded=True) rounds it"),
+            ([0.25, 1e-10], 100, 1, ": Graph(.., rounded=True) rounds it"),
+            ([0.001, 5e6 + 0.5], 100, 0, ": Graph(.., rounded=True) rounds it"),
             ([0.25, -1.5], 100, 1, ""),
-            ([0.25, 1e-10], 100, 1, ""),
-            ([0.001, 5e6 + 0.5], 100, 0, ""),
+            ([0.25, FAR], 100, 1, ""),
+            ([0.25, 5e7], 100, 1, ""),
+            ([0.25, "0.1"], 100, 1, ""),
         ):
+            hint = re.escape(hint)
             with self.assertRaisesRegex(ValueError, rf"^weights\[{place}\] is .* from 0 to 4294967295{hint}$"):
                 Graph([0] * len(weights), [1] * len(weights), weights, scale=scale)
         for scale in (0, -1, 2.5, "100", FAR, 2**32, [1]):
@@ -183,6 +192,81 @@ class Scaled(Case):
             file.flush()
             with Graph.from_gr(file.name, scale=100) as graph:
                 self.assertEqual((graph.scale, graph.distance(0, 1), graph.distance(0, 1, whole=True)), (100, 0.07, 7))
+
+
+# A weight, the scale, and the whole number that it is rounded to and by how much; None and 0 if it is refused.
+ROUNDED = [
+    (0.1 + 0.2, 10, 3, float(Fraction(0.1 + 0.2) - Fraction(3, 10))),
+    (0.15, 10, 2, 0.05),
+    (0.25, 10, 2, 0.05),
+    (12.345678901234, 1000, 12346, float(Fraction(12346, 1000) - Fraction(12.345678901234))),
+    (1 / 3, None, 0, 1 / 3),
+    (0.07, 100, 7, 0.0),
+    (7, 100, 700, 0.0),
+    (Decimal("0.126"), 100, 13, 0.004),
+    (Fraction(1, 3), 100, 33, float(Fraction(1, 300))),
+    (42949672.954, 100, 2**32 - 1, float(Fraction(42949672.954) - Fraction(2**32 - 1, 100))),
+    (42949672.956, 100, None, 0.0),
+    (-0.001, 10, None, 0.0),
+    (Decimal("-0.001"), 10, None, 0.0),
+    (float("nan"), 100, None, 0.0),
+    (FAR, 100, None, 0.0),
+    ("0.1", 10, None, 0.0),
+    (None, 10, None, 0.0),
+]
+
+
+class Rounded(Case):
+    """Weights that are rounded, and by how much they are told to be."""
+
+    def test_table(self):
+        for weight, scale, wanted, most in ROUNDED:
+            for weights in ([weight], (each for each in [weight])):
+                with self.subTest(weight=weight, scale=scale):
+                    if wanted is None:
+                        with self.assertRaisesRegex(ValueError, r"^weights\[0\] is .* from 0 to 4294967295$"):
+                            Graph([0], [1], weights, scale=scale, rounded=True)
+                        continue
+                    with Graph([0], [1], weights, scale=scale, rounded=True) as graph:
+                        self.assertEqual((graph.distance(0, 1, whole=True), graph.rounding), (wanted, most))
+
+    @unittest.skipIf(numpy is None, "no numpy")
+    def test_floats_of_4_bytes(self):
+        with Graph([0, 0], [1, 2], numpy.array([0.1, 2.5], dtype="f"), scale=10, rounded=True) as graph:
+            self.assertEqual((list(graph.distances(0)), graph.rounding), ([0.0, 0.1, 2.5], 0.0))
+        with Graph([0], [1], numpy.array([0.126], dtype="f"), scale=100, rounded=True) as graph:
+            self.assertEqual((graph.distance(0, 1), round(graph.rounding, 6)), (0.13, 0.004))
+
+    def test_each_way_to_give_weights(self):
+        third = 1 / 3
+        edges = [("a", "b", third), ("b", "c", 0.5)]
+        table = dict(zip(("source", "target", "weight"), map(list, zip(*edges))))
+        for make in (lambda **how: Graph.from_edges(edges, **how), lambda **how: Graph.from_columns(table, **how)):
+            with make(scale=10, rounded=True) as graph:
+                self.assertEqual((graph.distance("a", "c"), round(graph.rounding, 9)), (0.8, 0.033333333))
+                graph.set_weights([("a", "b", 0.26)])
+                graph.add_edges([("a", "c", 0.64)])
+                self.assertEqual((graph.distance("a", "c"), round(graph.rounding, 9)), (0.6, 0.04))
+                with graph.changed(set=[("a", "c", 0.05)]):
+                    self.assertEqual(graph.distance("a", "c"), 0.0)
+                self.assertEqual(graph.rounding, 0.05)
+        with Graph([0], [1], [3]) as graph:
+            self.assertIsNone(graph.rounding)
+        with tempfile.NamedTemporaryFile(suffix=".gr") as file:
+            file.write(b"p sp 2 1\na 1 2 7\n")
+            file.flush()
+            with Graph.from_gr(file.name, rounded=True) as graph:
+                graph.add([1], [0], [2.75])
+                self.assertEqual((graph.rounding, graph.distance(1, 0)), (0.25, 3))
+
+    def test_bounds(self):
+        """A bound between two costs takes those below it."""
+        with Graph([0, 0, 0], [1, 2, 3], [0.1, 0.3, 0.4], scale=10, rounded=True) as graph:
+            for bound, wanted in ((0.1 + 0.2, [0, 1, 2]), (0.3, [0, 1, 2]), (0.35, [0, 1, 2]), (0.29, [0, 1]), (Fraction(1, 3), [0, 1, 2])):
+                self.assertEqual(ints(graph.within(0, bound)[0]), wanted)
+            for bound in (-0.01, FAR, float("nan"), "1"):
+                with self.assertRaisesRegex(ValueError, "^the cost is "):
+                    graph.within(0, bound)
 
 
 class Large(unittest.TestCase):

@@ -152,8 +152,8 @@ class Matrices(Case):
             (sparse.csr_matrix([[0, 1.5], [0, 0]]), ValueError, r"^weights\[0\] is 1.5, .*: scale=10 would do$"),
             (sparse.csr_matrix([[0, -1], [0, 0]]), ValueError, r"^weights\[0\] is -1, "),
             (sparse.csr_matrix([[0, 1j], [0, 0]]), ValueError, r"^weights\[0\] is 1j, "),
-            (numpy.eye(2), TypeError, "^matrix is array(?s:.*), which is no sparse matrix of scipy$"),
-            (None, TypeError, "^matrix is None"),
+            (numpy.eye(2), TypeError, "^matrix is array(?s:.*), which is no sparse matrix of scipy: scipy.sparse.csr_matrix\(matrix\) is one$"),
+            (None, TypeError, "^matrix is None, which is no sparse matrix of scipy$"),
         ):
             with self.assertRaisesRegex(kind, words):
                 Graph.from_scipy(matrix)

@@ -34,14 +34,30 @@ class Columns(Case):
             self.assertEqual(graph.distance(0, 1), 2)
 
     def test_no_columns(self):
-        for weights in ({7}, 7):
+        for weights in ({7}, 7, {0: 7}, b"7", bytearray(b"7"), "7"):
             with self.assertRaisesRegex(ValueError, "^weights is "):
                 Graph([0], [1], weights)
+        for tails, kind in (({0: 1}, "dict"), (b"\0", "bytes")):
+            with self.assertRaisesRegex(ValueError, f"^tails is .*, a {kind} and no list of numbers$"):
+                Graph(tails, [1])
+            with Graph([0], [1]) as graph, self.assertRaisesRegex(TypeError, "^tails is "):
+                graph.add(tails, [1])
         weights = {"a": 7, "b": 6}
         with Graph([0, 1], (head for head in (1, 2)), weights.values()) as graph:
             self.assertEqual(graph.distance(0, 2), 13)
         with Graph(array("I", [0]), range(1, 2), array("Q", [2**32 - 1])) as graph:
             self.assertEqual(graph.distance(0, 1), 2**32 - 1)
+
+    def test_ids_that_are_no_small_numbers(self):
+        """The fault names the calls that take other names."""
+        for tails in ([10**10], ["a"], [-1], [0.5]):
+            with self.assertRaisesRegex(ValueError, r"^tails\[0\] is .* to 268435455: Graph.from_edges and Graph.from_columns take any names$"):
+                Graph(tails, [1])
+        if numpy is not None:
+            with self.assertRaisesRegex(ValueError, r"^heads\[1\] is 10000000000, .* take any names$"):
+                Graph([0, 0], numpy.array([1, 10**10]))
+            with self.assertRaisesRegex(ValueError, "^tails is an array of bools: numpy.flatnonzero"):
+                Graph(numpy.array([False, True]), [0, 1])
 
     def test_how_many_vertices(self):
         for n in (3.5, "3", None.__class__, -1, 1, 2**28 + 1, float("nan")):
@@ -161,6 +177,62 @@ class Vertices(Case):
     def test_bool(self):
         with Graph([0], [1], [3]) as graph:
             self.assertEqual((graph.distance(False, True), graph.path(False, True)), (3, [0, 1]))
+
+    def test_masks(self):
+        """Several bools are a mask, and no vertices 0 and 1."""
+        masks = [[False, True, True]]
+        masks += [] if numpy is None else [numpy.array(masks[0]), [numpy.bool_(True)]]
+        masks += [] if pandas is None or numpy is None else [pandas.Series(masks[0]), pandas.Series(masks[0], dtype="boolean")]
+        with Graph([0, 1], [1, 2], [3, 4]) as graph, Graph([0, 1], [1, 2], names="abc") as named:
+            for mask in masks:
+                for ask in (graph.distances, graph.totals, lambda mask: graph.matrix([0], mask), lambda mask: graph.pairs(mask, mask), lambda mask: graph.add(mask, mask)):
+                    with self.assertRaisesRegex(TypeError, "^(sources|targets|tails) has .*bool"):
+                        ask(mask)
+            for mask in masks[1:]:
+                with self.assertRaisesRegex(TypeError, "^sources has .*bool"):
+                    named.distances(mask)
+            if numpy is not None:
+                for ask in (graph.distances, graph.within, named.distances):
+                    with self.assertRaisesRegex(TypeError, "^sources? has True, a bool of numpy and no vertex$"):
+                        ask(numpy.bool_(True), *([3] if ask == graph.within else []))
+                self.assertEqual(graph.distances(numpy.flatnonzero(masks[1])).shape, (2, 3))
+        with Graph.from_edges([(True, False, 1)]) as graph:
+            self.assertEqual(graph.distance(True, False), 1)
+
+    def test_several_in_place_of_one(self):
+        """The fault names the call that takes several."""
+        with Graph([0, 1], [1, 2], [3, 4]) as graph, Graph([0, 1], [1, 2], names="abc") as named:
+            for ask, call in (
+                (lambda graph, some: graph.within(some, 7), "within_many"),
+                (lambda graph, some: graph.distance(some, 0), "pairs"),
+                (lambda graph, some: graph.path(some, 0), "paths"),
+            ):
+                for some in ([0, 1], *([] if numpy is None else [numpy.array([0, 1])])):
+                    with self.assertRaisesRegex(TypeError, f"^source has .*: {call} takes several$"):
+                        ask(graph, some)
+                with self.assertRaisesRegex(TypeError, f"^source has .*: {call} takes several$"):
+                    ask(named, ["a", "b"])
+
+    def test_pairs_in_other_forms(self):
+        with Graph([0, 1], [1, 2], [3, 4]) as graph:
+            self.assertEqual(ints(graph.pairs([(0, 2), (1, 2)])), [7, 4])
+            with self.assertRaisesRegex(ValueError, r"^pairs\[1\] is \(1,\), which is no \(source, target\)"):
+                graph.pairs([(0, 2), (1,)])
+            tables = [] if pandas is None else [pandas.DataFrame({"a": [0, 1], "b": [2, 2]}, index=[7, 3])]
+            arrow, polar = (type("Column", (list,), {name: lambda self: list(self)}) for name in ("to_pylist", "to_list"))
+            tables.append(type("Arrow", (), {"columns": [arrow([0, 1]), arrow([2, 2])]})())
+            tables.append(type("Polar", (), {"columns": ["a", "b"], "get_columns": lambda _: [polar([0, 1]), polar([2, 2])]})())
+            for table in tables:
+                self.assertEqual(list(graph.paths(table)), [[0, 1, 2], [1, 2]])
+                self.assertEqual(ints(graph.pairs(table)), [7, 4])
+                self.assertEqual(graph.edges_between(table), [(1, 2, 4)])
+                with self.assertRaisesRegex(ValueError, r"^edges is a table of 2 columns, where \(tail, head, weight\) has 3"):
+                    graph.add_edges(table)
+            if pandas is not None:
+                with self.assertRaisesRegex(TypeError, "^sources is a table, where one of its columns is wanted$"):
+                    graph.distances(tables[0])
+                graph.set_weights(pandas.DataFrame({"a": [0], "b": [1], "c": [1]}))
+                self.assertEqual(graph.distance(0, 2), 5)
 
     @unittest.skipIf(numpy is None, "no numpy")
     def test_numbers_of_numpy(self):

@@ -39,7 +39,7 @@ class Stub(unittest.TestCase):
             real = getattr(hollowbowl, name)
             bases = ["tuple" if base.id == "NamedTuple" else base.id for base in stub.bases]
             # What a graph is made of is no part of what the package has.
-            public = [base for base in real.__bases__ if base is not object and base.__name__ not in ("Costs", "Paths", "Measures", "Arcs")]
+            public = [base for base in real.__bases__ if base is not object and base.__name__ not in ("Making", "Costs", "Paths", "Measures", "Arcs")]
             self.assertEqual(bases, [base.__name__ for base in public])
 
     def test_functions(self):
@@ -64,7 +64,8 @@ class Stub(unittest.TestCase):
 RIGHT = """
 from fractions import Fraction
 from hollowbowl import INF, Graph, NoPath, NotKept, Totals
-graph = Graph([0], [1], [Fraction(1, 2)], scale=10, names=("a", "b"))
+graph = Graph([0], [1], [Fraction(1, 2)], scale=10, rounded=True, names=("a", "b"))
+most: float | None = graph.rounding
 cost: float = graph.distance("a", "b")
 label: int = graph.distance("a", "b", whole=True)
 both: tuple[float, list[str]] = graph.distance_and_path("a", "b")

@@ -27,42 +27,42 @@ class Totals(NamedTuple):
 
 class Graph:
     def __init__(
-        self, tails: Iterable[int], heads: Iterable[int], weights: Iterable[_Number] | None = None, n: int | None = None, *,
-        scale: int | None = None, workers: _Workers = None, landmarks: int | None = None, programs: int = 1,
-        names: Iterable[Hashable] | None = None, keep: bool = True,
+        self, tails: Iterable[int], heads: Iterable[int], weights: Iterable[_Number] | None = None,
+        n: int | None = None, *, scale: int | None = None, rounded: bool = False, workers: _Workers = None,
+        landmarks: int | None = None, programs: int = 1, names: Iterable[Hashable] | None = None, keep: bool = True,
     ) -> None: ...
     @classmethod
     def from_edges(
         cls, edges: Iterable[tuple[Any, Any, _Number] | tuple[Any, Any]], *, nodes: Iterable[Hashable] = (),
-        default: _Number | None = None, scale: int | None = None, workers: _Workers = None,
+        default: _Number | None = None, scale: int | None = None, rounded: bool = False, workers: _Workers = None,
         landmarks: int | None = None, programs: int = 1, keep: bool = True,
     ) -> Graph: ...
     @classmethod
     def from_gr(
-        cls, path: str | PathLike[str], *, scale: int | None = None, workers: _Workers = None,
+        cls, path: str | PathLike[str], *, scale: int | None = None, rounded: bool = False, workers: _Workers = None,
         landmarks: int | None = None, programs: int = 1, keep: bool = True,
     ) -> Graph: ...
     @classmethod
     def from_columns(
         cls, table: Any, source: Any = "source", target: Any = "target", weight: Any = "weight", *,
-        nodes: Iterable[Hashable] = (), scale: int | None = None, workers: _Workers = None,
+        nodes: Iterable[Hashable] = (), scale: int | None = None, rounded: bool = False, workers: _Workers = None,
         landmarks: int | None = None, programs: int = 1, keep: bool = True,
     ) -> Graph: ...
     @classmethod
     def from_pandas(
         cls, frame: Any, source: Any = "source", target: Any = "target", weight: Any = "weight", *,
-        nodes: Iterable[Hashable] = (), scale: int | None = None, workers: _Workers = None,
+        nodes: Iterable[Hashable] = (), scale: int | None = None, rounded: bool = False, workers: _Workers = None,
         landmarks: int | None = None, programs: int = 1, keep: bool = True,
     ) -> Graph: ...
     @classmethod
     def from_networkx(
-        cls, other: Any, weight: str | None = "weight", *, scale: int | None = None, workers: _Workers = None,
-        landmarks: int | None = None, programs: int = 1, keep: bool = True,
+        cls, other: Any, weight: str | None = "weight", *, scale: int | None = None, rounded: bool = False,
+        workers: _Workers = None, landmarks: int | None = None, programs: int = 1, keep: bool = True,
     ) -> Graph: ...
     @classmethod
     def from_scipy(
-        cls, matrix: Any, *, scale: int | None = None, workers: _Workers = None, landmarks: int | None = None,
-        programs: int = 1, keep: bool = True,
+        cls, matrix: Any, *, scale: int | None = None, rounded: bool = False, workers: _Workers = None,
+        landmarks: int | None = None, programs: int = 1, keep: bool = True,
     ) -> Graph: ...
     @property
     def n(self) -> int: ...
@@ -74,6 +74,8 @@ class Graph:
     def names(self) -> tuple[Any, ...] | None: ...
     @property
     def scale(self) -> int | None: ...
+    @property
+    def rounding(self) -> float | None: ...
     @property
     def is_closed(self) -> bool: ...
     def __len__(self) -> int: ...
@@ -132,7 +134,7 @@ class Graph:
         whole: bool = False, timeout: _Seconds = None, progress: _Progress = None,
     ) -> Any: ...
     def pairs(
-        self, sources: Iterable[Any], targets: Iterable[Any], *, hops: bool = False, dtype: Any = None,
+        self, sources: Iterable[Any], targets: Iterable[Any] | None = None, *, hops: bool = False, dtype: Any = None,
         whole: bool = False, timeout: _Seconds = None, progress: _Progress = None,
     ) -> Any: ...
     def within(

@@ -3,7 +3,7 @@
 from ._asked import Asked
 from ._changed import Changed
 from ._changes import Addition, Removal, Setting
-from ._columns import as_weights, ones
+from ._columns import ones
 from ._edges import taken_apart
 from ._errors import NoArc
 from ._numbers import as_seconds
@@ -41,7 +41,7 @@ class Arcs(Asked):
         After an interrupt all of them are there, or none; of more than 2**20 arcs so many times 2**20.
         """
         tails, heads = self._names.places("tails", tails), self._names.places("heads", heads)
-        weights = ones(len(tails), self._scale) if weights is None else as_weights(weights, self._scale)
+        weights = ones(len(tails), self._scale) if weights is None else self._whole_weights(weights)
         check_lengths(tails, heads, weights)
         self._change(Addition([tails, heads, weights]), False, timeout)
 
@@ -97,7 +97,7 @@ class Arcs(Asked):
     def _arcs(self, argument, edges):
         *ends, weights = taken_apart(argument, edges, "(tail, head, weight)")
         places = [self._names.places(argument, each) for each in ends]
-        return [*places, as_weights(weights, self._scale, argument + "[{}] has the weight")]
+        return [*places, self._whole_weights(weights, argument + "[{}] has the weight")]
 
     def _change(self, change, is_needed, timeout):
         wanted = Wanted(_pairs(change.columns)) if is_needed else None

@@ -1,5 +1,6 @@
 """What all questions of a graph stand on: its vertices, its program, and the unit of its costs."""
 
+from ._columns import as_weights
 from ._numbers import as_seconds, is_float
 from ._questions import DISTANCES, LEVELS
 from ._stream import Stream
@@ -12,6 +13,7 @@ class Asked:
     # _names    its vertices
     # _wire     the way to its program
     # _scale    what weights were multiplied by; None if they are whole numbers
+    # _rounding by how much they were rounded; None if they are not
 
     def _ask(self, question, timeout, progress=None):
         """Asks a question, which has the answer then."""
@@ -24,6 +26,10 @@ class Asked:
         sizes = self._wire.state.sizes
         stream = Stream(self._wire, count, lambda: min(sizes.size(kind, form), most), make, answers)
         return stream.each(as_seconds(timeout), None if progress is None else _as_function(progress))
+
+    def _whole_weights(self, weights, which="weights[{}] is"):
+        """The weights times the scale, as a column; of a fault `which` says where it is."""
+        return as_weights(weights, self._scale, self._rounding, which)
 
     def _divisor(self, hops, dtype=None, whole=False):
         """What labels are divided by to be costs, which are floats then; None where they are costs as they are."""

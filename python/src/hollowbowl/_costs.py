@@ -2,6 +2,7 @@
 
 from ._asked import Asked, kind_of
 from ._columns import as_bound
+from ._edges import taken_apart
 from ._errors import NoPath, fault_of
 from ._numbers import INF, as_float_rows, as_floats, as_rows, check_room, labels_for, reached_in, rows_for
 from ._questions import Matrix, Near, Pairs, Rows
@@ -29,7 +30,7 @@ class Costs(Asked):
         return self._label(source, target, False, timeout) != INF
 
     def _label(self, source, target, hops, timeout):
-        ends = [self._names.place("source", source)], [self._names.place("target", target)]
+        ends = [self._names.place("source", source, "pairs")], [self._names.place("target", target, "pairs")]
         return int(self._ask(Matrix(kind_of(hops), *ends), timeout).costs[0])
 
     def distances(self, sources, *, hops=False, dtype=None, whole=False, timeout=None, progress=None):
@@ -95,9 +96,14 @@ class Costs(Asked):
         rows = as_rows(costs, len(sources), len(targets))
         return rows if divisor is None else as_float_rows(rows, divisor)
 
-    def pairs(self, sources, targets, *, hops=False, dtype=None, whole=False, timeout=None, progress=None):
-        """The least cost from each source to the target at its place: a row, as in `distances`."""
+    def pairs(self, sources, targets=None, *, hops=False, dtype=None, whole=False, timeout=None, progress=None):
+        """The least cost from each source to the target at its place: a row, as in `distances`.
+
+        Without targets `sources` are pairs (source, target), as `paths` takes them.
+        """
         divisor = self._divisor(hops, dtype, whole)
+        if targets is None:
+            sources, targets = taken_apart("pairs", sources, "(source, target)", True)
         sources, targets = self._names.places("sources", sources), self._names.places("targets", targets)
         if len(sources) != len(targets):
             raise ValueError(f"{len(sources)} sources and {len(targets)} targets")
@@ -110,7 +116,7 @@ class Costs(Asked):
         The source is solved no further, so a small bound in a large graph takes little. Arrays are as in `distances`;
         vertices with names come as a list of these.
         """
-        places = [self._names.place("source", source)]
+        places = [self._names.place("source", source, "within_many")]
         question = self._ask(Near(kind_of(hops), places, self._bound(cost, hops)), timeout)
         return self._near(question.found[0], self._divisor(hops, None, whole))
 
@@ -129,7 +135,7 @@ class Costs(Asked):
         return self._each(kind, Near.form, len(places), make, answers, timeout, progress)
 
     def _bound(self, cost, hops):
-        return as_bound(cost, None if hops else self._scale)
+        return as_bound(cost, None) if hops else as_bound(cost, self._scale, self._rounding)
 
     def _near(self, found, divisor):
         vertices, labels = found

@@ -1,5 +1,6 @@
 """The arcs of graphs that others have made, as tails, heads, weights and the names of vertices."""
 
+from ._edges import entries_of
 from ._numbers import numpy
 
 
@@ -38,7 +39,7 @@ def columns(table, source, target, weight):
     """The edges of a table's rows, by the names of its columns; of two entries if that of weights is None."""
     names = [source, target] if weight is None else [source, target, weight]
     try:
-        found = [_entries(table[name]) for name in names]
+        found = [entries_of(table[name]) for name in names]
     except TypeError:
         raise TypeError(f"table is {table!r}, which has no columns {_in_words(map(repr, names))}") from None
     counts = list(map(len, found))
@@ -52,18 +53,11 @@ def _in_words(parts):
     return f"{', '.join(first)} and {last}"
 
 
-def _entries(column):
-    """The entries of a column as a list of Python's own, which can be names."""
-    for name in ("to_pylist", "tolist", "to_list"):
-        if hasattr(column, name):
-            return getattr(column, name)()
-    return list(column)
-
-
 def scipy(matrix):
     """Those of a sparse matrix, with the number of vertices in place of names."""
     if not hasattr(matrix, "tocsr"):
-        raise TypeError(f"matrix is {matrix!r}, which is no sparse matrix of scipy")
+        hint = ": scipy.sparse.csr_matrix(matrix) is one" if len(getattr(matrix, "shape", ())) == 2 else ""
+        raise TypeError(f"matrix is {matrix!r}, which is no sparse matrix of scipy{hint}")
     if len(matrix.shape) != 2 or matrix.shape[0] != matrix.shape[1]:
         raise ValueError(f"matrix has the shape {matrix.shape}, where a square one is wanted")
     rows = matrix.tocsr()

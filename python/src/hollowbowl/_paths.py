@@ -19,7 +19,7 @@ class Paths(Asked):
         return label if hops or whole or self._scale is None else label / self._scale, vertices
 
     def _walk(self, source, target, hops, timeout):
-        ends = [self._names.place("source", source)], [self._names.place("target", target)]
+        ends = [self._names.place("source", source, "paths")], [self._names.place("target", target, "paths")]
         label, vertices = self._ask(Walks(kind_of(hops), *ends), timeout).found[0]
         if vertices is None:
             raise fault_of(NoPath, source, target)
