@@ -70,7 +70,7 @@ class Ends(Case):
                 self.assertEqual((ints(graph.distances(0)), ints(graph.levels(0)), graph.m), ([0, 3, 5], [0, 1, 1], 3))
                 session = graph._wire.state.session
                 self.assertEqual(len(session.log.columns[0]), 0)
-                self.assertIsNone(getattr(session._kept, "_columns", None))
+                self.assertIsNone(getattr(session.kept, "_columns", None))
                 os.kill(the_program(), signal.SIGKILL)
                 for ask in every_question(graph):
                     with self.assertRaisesRegex(Ended, "signal 9"):

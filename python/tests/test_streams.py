@@ -229,6 +229,30 @@ class Sizes(unittest.TestCase):
             sizes.learn(walks, count, seconds, length)
             self.assertEqual(sizes.of(walks), wanted, (count, seconds, length))
 
+    def test_where_requests_end(self):
+        """A source of several pairs is not cut, since it would be solved again."""
+        from hollowbowl import _columns, _questions
+
+        sources = _columns.column([2, 0, 1, 0, 2, 0])
+        pairs = _questions.SortedPairs(b"distances", sources, sources)
+        matrix = _questions.Matrix(b"distances", sources[:3], sources[:4])
+        for question, size, wanted in (
+            (pairs, 1, [3, 4, 6]),
+            (pairs, 2, [3, 4, 6]),
+            (pairs, 3, [3, 6]),
+            (pairs, 4, [4, 6]),
+            (pairs, 5, [4, 6]),
+            (pairs, 6, [6]),
+            (matrix, 1, [4, 8, 12]),
+            (matrix, 7, [4, 8, 12]),
+            (matrix, 8, [8, 12]),
+            (matrix, 99, [12]),
+        ):
+            ends = [0]
+            while ends[-1] < question.count:
+                ends.append(question.end(ends[-1], size))
+            self.assertEqual(ends[1:], wanted, (question, size))
+
     def test_of_first_requests(self):
         from hollowbowl import _asking
 
@@ -250,7 +274,7 @@ class Progress(Case):
         yield lambda: graph.closeness([0] * 6, **how)
         yield lambda: graph.eccentricity([0] * 6, **how)
         yield lambda: graph.matrix([0, 1, 2], [0, 1], **how)
-        yield lambda: graph.pairs([0] * 6, [1] * 6, **how)
+        yield lambda: graph.pairs([0, 1, 2] * 2, [1] * 6, **how)
         yield lambda: list(graph.rows([0] * 6, **how))
         yield lambda: list(graph.paths([(0, 1)] * 6, **how))
         yield lambda: list(graph.within_many([0] * 6, 9, **how))
@@ -263,8 +287,9 @@ class Progress(Case):
                     for place, call in enumerate(self.each_call(graph, progress=lambda *step: told.append(step))):
                         told.clear()
                         call()
-                        # A matrix of two columns is cut at its rows.
-                        self.assertEqual(told, [(done, 6) for done in wanted], (size, place))
+                        # A matrix of two columns is cut at its rows, and pairs at the sources, which have two each.
+                        is_cut_so = size == 1 and place in (5, 6)
+                        self.assertEqual(told, [(done, 6) for done in ([2, 4, 6] if is_cut_so else wanted)], (size, place))
 
     def test_what_it_raises(self):
         def fails(done, count):

@@ -28,13 +28,14 @@ class Totals(NamedTuple):
 class Graph:
     def __init__(
         self, tails: Iterable[int], heads: Iterable[int], weights: Iterable[_Number] | None = None,
-        n: int | None = None, *, scale: int | None = None, rounded: bool = False, workers: _Workers = None,
-        landmarks: int | None = None, programs: int = 1, names: Iterable[Hashable] | None = None, keep: bool = True,
+        n: int | None = None, *, directed: bool = True, scale: int | None = None, rounded: bool = False,
+        workers: _Workers = None, landmarks: int | None = None, programs: int = 1,
+        names: Iterable[Hashable] | None = None, keep: bool = True,
     ) -> None: ...
     @classmethod
     def from_edges(
         cls, edges: Iterable[tuple[Any, Any, _Number] | tuple[Any, Any]], *, nodes: Iterable[Hashable] = (),
-        default: _Number | None = None, scale: int | None = None, rounded: bool = False, workers: _Workers = None,
+        default: _Number | None = None, directed: bool = True, scale: int | None = None, rounded: bool = False, workers: _Workers = None,
         landmarks: int | None = None, programs: int = 1, keep: bool = True,
     ) -> Graph: ...
     @classmethod
@@ -45,13 +46,13 @@ class Graph:
     @classmethod
     def from_columns(
         cls, table: Any, source: Any = "source", target: Any = "target", weight: Any = "weight", *,
-        nodes: Iterable[Hashable] = (), scale: int | None = None, rounded: bool = False, workers: _Workers = None,
+        nodes: Iterable[Hashable] = (), directed: bool = True, scale: int | None = None, rounded: bool = False, workers: _Workers = None,
         landmarks: int | None = None, programs: int = 1, keep: bool = True,
     ) -> Graph: ...
     @classmethod
     def from_pandas(
         cls, frame: Any, source: Any = "source", target: Any = "target", weight: Any = "weight", *,
-        nodes: Iterable[Hashable] = (), scale: int | None = None, rounded: bool = False, workers: _Workers = None,
+        nodes: Iterable[Hashable] = (), directed: bool = True, scale: int | None = None, rounded: bool = False, workers: _Workers = None,
         landmarks: int | None = None, programs: int = 1, keep: bool = True,
     ) -> Graph: ...
     @classmethod
@@ -61,7 +62,7 @@ class Graph:
     ) -> Graph: ...
     @classmethod
     def from_scipy(
-        cls, matrix: Any, *, scale: int | None = None, rounded: bool = False, workers: _Workers = None,
+        cls, matrix: Any, *, directed: bool = True, scale: int | None = None, rounded: bool = False, workers: _Workers = None,
         landmarks: int | None = None, programs: int = 1, keep: bool = True,
     ) -> Graph: ...
     @property
@@ -72,6 +73,8 @@ class Graph:
     def version(self) -> int: ...
     @property
     def names(self) -> tuple[Any, ...] | None: ...
+    @property
+    def directed(self) -> bool: ...
     @property
     def scale(self) -> int | None: ...
     @property
@@ -84,24 +87,27 @@ class Graph:
     def __iter__(self) -> Iterator[Any]: ...
     def __enter__(self) -> Graph: ...
     def __exit__(self, *_: BaseException | type[BaseException] | TracebackType | None) -> None: ...
+    def reversed(self, *, timeout: _Seconds = None) -> Graph: ...
     def restart(self, *, timeout: _Seconds = None) -> None: ...
     def close(self) -> None: ...
     def add(
         self, tails: Iterable[Any], heads: Iterable[Any], weights: Iterable[_Number] | None = None, *,
-        timeout: _Seconds = None,
+        directed: bool | None = None, timeout: _Seconds = None,
     ) -> None: ...
-    def add_edges(self, edges: Iterable[tuple[Any, Any, _Number]], *, timeout: _Seconds = None) -> None: ...
+    def add_edges(
+        self, edges: Iterable[tuple[Any, Any, _Number]], *, directed: bool | None = None, timeout: _Seconds = None
+    ) -> None: ...
     def remove(
         self, edges: Iterable[tuple[Any, Any]], *, missing: Literal["raise", "ignore"] = "raise",
-        timeout: _Seconds = None,
+        directed: bool | None = None, timeout: _Seconds = None,
     ) -> int: ...
     def set_weights(
         self, edges: Iterable[tuple[Any, Any, _Number]], *, missing: Literal["raise", "add"] = "raise",
-        timeout: _Seconds = None,
+        directed: bool | None = None, timeout: _Seconds = None,
     ) -> None: ...
     def changed(
         self, *, remove: Iterable[tuple[Any, Any]] = (), set: Iterable[tuple[Any, Any, _Number]] = (),
-        add: Iterable[tuple[Any, Any, _Number]] = (), timeout: _Seconds = None,
+        add: Iterable[tuple[Any, Any, _Number]] = (), directed: bool | None = None, timeout: _Seconds = None,
     ) -> AbstractContextManager[Graph]: ...
     def edges_between(
         self, pairs: Iterable[tuple[Any, Any]], *, whole: bool = False, timeout: _Seconds = None,
@@ -115,18 +121,19 @@ class Graph:
     def hops(self, source: Any, target: Any, *, timeout: _Seconds = None) -> int: ...
     def has_path(self, source: Any, target: Any, *, timeout: _Seconds = None) -> bool: ...
     def distances(
-        self, sources: Any, *, hops: bool = False, dtype: Any = None, whole: bool = False, timeout: _Seconds = None,
+        self, sources: Any, *, hops: bool = False, to: bool = False, dtype: Any = None, whole: bool = False, timeout: _Seconds = None,
         progress: _Progress = None,
     ) -> Any: ...
     def levels(
-        self, sources: Any, *, dtype: Any = None, timeout: _Seconds = None, progress: _Progress = None
+        self, sources: Any, *, to: bool = False, dtype: Any = None, timeout: _Seconds = None,
+        progress: _Progress = None,
     ) -> Any: ...
     def rows(
-        self, sources: Any, *, hops: bool = False, dtype: Any = None, whole: bool = False, timeout: _Seconds = None,
+        self, sources: Any, *, hops: bool = False, to: bool = False, dtype: Any = None, whole: bool = False, timeout: _Seconds = None,
         progress: _Progress = None,
     ) -> Iterator[tuple[Any, Any]]: ...
     def frame(
-        self, sources: Any, *, hops: bool = False, whole: bool = False, timeout: _Seconds = None,
+        self, sources: Any, *, hops: bool = False, to: bool = False, whole: bool = False, timeout: _Seconds = None,
         progress: _Progress = None,
     ) -> Any: ...
     def matrix(
@@ -138,10 +145,10 @@ class Graph:
         whole: bool = False, timeout: _Seconds = None, progress: _Progress = None,
     ) -> Any: ...
     def within(
-        self, source: Any, cost: _Number, *, hops: bool = False, whole: bool = False, timeout: _Seconds = None
+        self, source: Any, cost: _Number, *, hops: bool = False, to: bool = False, whole: bool = False, timeout: _Seconds = None
     ) -> tuple[Any, Any]: ...
     def within_many(
-        self, sources: Any, cost: _Number, *, hops: bool = False, whole: bool = False, timeout: _Seconds = None,
+        self, sources: Any, cost: _Number, *, hops: bool = False, to: bool = False, whole: bool = False, timeout: _Seconds = None,
         progress: _Progress = None,
     ) -> Iterator[tuple[Any, Any, Any]]: ...
     def path(self, source: Any, target: Any, *, hops: bool = False, timeout: _Seconds = None) -> list[Any]: ...
@@ -159,15 +166,15 @@ class Graph:
         progress: _Progress = None,
     ) -> Iterator[list[Any] | None]: ...
     def totals(
-        self, sources: Any, *, hops: bool = False, whole: bool = False, timeout: _Seconds = None,
+        self, sources: Any, *, hops: bool = False, to: bool = False, whole: bool = False, timeout: _Seconds = None,
         progress: _Progress = None,
     ) -> Any: ...
     def closeness(
-        self, sources: Any = None, *, hops: bool = False, wf_improved: bool = False, timeout: _Seconds = None,
+        self, sources: Any = None, *, hops: bool = False, to: bool = False, wf_improved: bool = False, timeout: _Seconds = None,
         progress: _Progress = None,
     ) -> Any: ...
     def eccentricity(
-        self, sources: Any = None, *, hops: bool = False, dtype: Any = None, whole: bool = False,
+        self, sources: Any = None, *, hops: bool = False, to: bool = False, dtype: Any = None, whole: bool = False,
         timeout: _Seconds = None, progress: _Progress = None,
     ) -> Any: ...
     def components(self, *, timeout: _Seconds = None) -> Any: ...

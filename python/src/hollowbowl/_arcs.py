@@ -9,6 +9,7 @@ from ._errors import NoArc
 from ._numbers import as_seconds
 from ._owed import Wanted
 from ._questions import Between
+from ._stand import both_ways
 
 
 class Arcs(Asked):
@@ -35,38 +36,42 @@ class Arcs(Asked):
             raise NoArc([(tail, head)])
         return min(weight for _, _, weight in edges)
 
-    def add(self, tails, heads, weights=None, *, timeout=None):
+    # Of an undirected graph each edge that is given stands for itself and the edge the other way; `directed` says
+    # otherwise for a call.
+
+    def add(self, tails, heads, weights=None, *, directed=None, timeout=None):
         """Adds arcs between vertices that are there, of weight 1 without weights. If one is refused, none is added.
 
-        After an interrupt all of them are there, or none; of more than 2**20 arcs so many times 2**20.
+        With `directed=False` each goes both ways; without it as in the graph. So it is in the other changes. After an
+        interrupt all of them are there, or none; of more than 2**20 arcs so many times 2**20.
         """
         tails, heads = self._names.places("tails", tails), self._names.places("heads", heads)
         weights = ones(len(tails), self._scale) if weights is None else self._whole_weights(weights)
         check_lengths(tails, heads, weights)
-        self._change(Addition([tails, heads, weights]), False, timeout)
+        self._change(Addition(self._ways(directed, tails, heads, weights)), False, timeout)
 
-    def add_edges(self, edges, *, timeout=None):
+    def add_edges(self, edges, *, directed=None, timeout=None):
         """Adds edges (tail, head, weight) between vertices that are there, as `add` does."""
-        self._change(Addition(self._arcs("edges", edges)), False, timeout)
+        self._change(Addition(self._arcs("edges", edges, directed)), False, timeout)
 
-    def remove(self, edges, *, missing="raise", timeout=None):
+    def remove(self, edges, *, missing="raise", directed=None, timeout=None):
         """Removes all arcs between the ends of each edge (tail, head), and gives how many went.
 
         If some of these have no arc, that is a NoArc and none goes; with `missing="ignore"` the others go.
         """
         is_needed = _is_needed(missing, "ignore")
-        return self._change(Removal(self._ends("edges", edges)), is_needed, timeout).gone
+        return self._change(Removal(self._ends("edges", edges, directed)), is_needed, timeout).gone
 
-    def set_weights(self, edges, *, missing="raise", timeout=None):
+    def set_weights(self, edges, *, missing="raise", directed=None, timeout=None):
         """Puts edges (tail, head, weight) in place of all arcs between their ends.
 
         Several edges between the same ends stand side by side. If some have no arc to replace, that is a NoArc and
         nothing is done; with `missing="add"` they are added.
         """
         is_needed = _is_needed(missing, "add")
-        self._change(Setting(self._arcs("edges", edges)), is_needed, timeout)
+        self._change(Setting(self._arcs("edges", edges, directed)), is_needed, timeout)
 
-    def changed(self, *, remove=(), set=(), add=(), timeout=None):
+    def changed(self, *, remove=(), set=(), add=(), directed=None, timeout=None):
         """A context manager that removes edges, sets others and adds others, in this order, and gives the graph.
 
         At its end the arcs between the ends of all of these are again what they were before, also after an exception
@@ -81,7 +86,8 @@ class Arcs(Asked):
         20
         13
         """
-        gone, others, come = self._ends("remove", remove), self._arcs("set", set), self._arcs("add", add)
+        gone = self._ends("remove", remove, directed)
+        others, come = self._arcs("set", set, directed), self._arcs("add", add, directed)
         wanted = Wanted([*_pairs(gone), *_pairs(others)], _pairs(come))
         changes = [
             kind(columns)
@@ -90,14 +96,18 @@ class Arcs(Asked):
         ]
         return Changed(self, wanted, changes, as_seconds(timeout))
 
-    def _ends(self, argument, edges):
+    def _ends(self, argument, edges, directed):
         ends = taken_apart(argument, edges, "(tail, head)")
-        return [self._names.places(argument, each) for each in ends]
+        return self._ways(directed, *(self._names.places(argument, each) for each in ends))
 
-    def _arcs(self, argument, edges):
+    def _arcs(self, argument, edges, directed):
         *ends, weights = taken_apart(argument, edges, "(tail, head, weight)")
         places = [self._names.places(argument, each) for each in ends]
-        return [*places, self._whole_weights(weights, argument + "[{}] has the weight")]
+        return self._ways(directed, *places, self._whole_weights(weights, argument + "[{}] has the weight"))
+
+    def _ways(self, directed, *columns):
+        """Columns of arcs, and these the other way too unless they are directed."""
+        return list(columns) if (self._is_directed if directed is None else directed) else both_ways(*columns)
 
     def _change(self, change, is_needed, timeout):
         wanted = Wanted(_pairs(change.columns)) if is_needed else None

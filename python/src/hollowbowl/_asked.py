@@ -12,19 +12,24 @@ class Asked:
 
     # _names    its vertices
     # _wire     the way to its program
+    # _is_directed whether arcs that are given lead one way
     # _scale    what weights were multiplied by; None if they are whole numbers
+    # _asked    gives the graph that answers, which is another for costs to vertices, and the version that it is of
     # _rounding by how much they were rounded; None if they are not
 
-    def _ask(self, question, timeout, progress=None):
-        """Asks a question, which has the answer then."""
+    def _ask(self, question, timeout, progress=None, to=False):
+        """Asks a question, which has the answer then; `to` asks it of the reversed graph."""
         progress = None if progress is None else _as_function(progress)
-        self._wire.ask("ask", question, seconds=as_seconds(timeout), progress=progress, is_near=question.is_near())
+        wire, seconds = self._asked(to, timeout)[0]._wire, as_seconds(timeout)
+        wire.ask("ask", question, seconds=seconds, progress=progress, is_near=question.is_near())
         return question
 
-    def _each(self, kind, form, count, make, answers, timeout, progress, most=MOST_ITEMS):
+    def _each(self, kind, form, count, make, answers, timeout, progress, most=MOST_ITEMS, to=False):
         """The answers for so many items in turn (`Stream`), by requests of a kind and form, of `most` items each."""
-        sizes = self._wire.state.sizes
-        stream = Stream(self._wire, count, lambda: min(sizes.size(kind, form), most), make, answers)
+        asked, version = self._asked(to, timeout)
+        sizes = asked._wire.state.sizes
+        size = lambda: min(sizes.size(kind, form), most)
+        stream = Stream(asked._wire, count, size, make, answers, lambda: self._wire.version == version)
         return stream.each(as_seconds(timeout), None if progress is None else _as_function(progress))
 
     def _whole_weights(self, weights, which="weights[{}] is"):

@@ -35,9 +35,8 @@ class Sizes:
         return first if form == "arcs" else max(1, min(first, _VERTICES // max(1, self.n)))
 
     def of(self, question):
-        """The size of the next request of a question, which ends at its steps if it can."""
-        size = self.size(question.kind, question.form)
-        return size // question.step * question.step or size
+        """The size of the next request of a question."""
+        return self.size(question.kind, question.form)
 
     def learn(self, question, count, seconds, length):
         """Takes in how long the reply to a request took, and how long it is."""
@@ -53,7 +52,7 @@ class _Part:
     """The items of a question from `first` up to `last`, and the request for them."""
 
     def __init__(self, question, first, sizes):
-        self.first, self.last = first, min(first + sizes.of(question), question.count)
+        self.first, self.last = first, question.end(first, sizes.of(question))
         self.request = question.request(first, self.last)
         self._start = None
 
@@ -87,7 +86,7 @@ def ask(process, session, question, sizes, exchange, between=lambda: None):
             between()
             following.send(process)
         _in_words(question.take, body, part)
-        exchange.step(part.last, question.count)
+        exchange.step(part.last * question.items, question.count * question.items)
         part = following
 
 

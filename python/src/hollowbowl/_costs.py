@@ -4,11 +4,26 @@ from ._asked import Asked, kind_of
 from ._columns import as_bound
 from ._edges import taken_apart
 from ._errors import NoPath, fault_of
-from ._numbers import INF, as_float_rows, as_floats, as_rows, check_room, labels_for, reached_in, rows_for
-from ._questions import Matrix, Near, Pairs, Rows
+from ._numbers import (
+    INF,
+    as_float_rows,
+    as_floats,
+    as_rows,
+    check_room,
+    count_of,
+    labels_for,
+    reached_in,
+    rows_for,
+    turned_rows,
+)
+from ._questions import Matrix, Near, Rows, RowsAt, SortedPairs
 
 # How many bytes of rows a request of `rows` has, if it has more than one row.
 _BYTES = 1 << 26
+
+# A matrix is taken from whole rows if more of the vertices than one in so many are targets, and they are not few: a
+# request and a reply for a pair take as long as some vertices of a run.
+_PART, _FEW = 6, 16
 
 
 class Costs(Asked):
@@ -33,26 +48,30 @@ class Costs(Asked):
         ends = [self._names.place("source", source, "pairs")], [self._names.place("target", target, "pairs")]
         return int(self._ask(Matrix(kind_of(hops), *ends), timeout).costs[0])
 
-    def distances(self, sources, *, hops=False, dtype=None, whole=False, timeout=None, progress=None):
+    def distances(self, sources, *, hops=False, to=False, dtype=None, whole=False, timeout=None, progress=None):
         """The least costs from each of the sources to all vertices: a row for each, 2**64 - 1 where no walk leads.
 
         A single source gives a single row. Rows are numpy arrays of uint64 if numpy is there, and else `array('Q')`.
         With `dtype=float`, and of a graph with a scale, they are of floats, with `inf` where no walk leads. Rows that
         would take more than half of the memory that is left are a ValueError: ask for `rows`.
+
+        With `to=True` they are the costs from all vertices to each of the sources. The reversed graph that has them is
+        kept, with a program of its own.
         """
         divisor = self._divisor(hops, dtype, whole)
         is_one, places = self._names.one_or_several("sources", sources)
-        check_room(len(places), self._names.n)
+        what = f"sources has {len(places)} vertices, whose rows"
+        check_room(what, len(places) * self._names.n, "rows(), totals() or within()")
         question = Rows(kind_of(hops), places, rows_for(len(places), self._names.n))
-        rows = self._ask(question, timeout, progress).rows
+        rows = self._ask(question, timeout, progress, to).rows
         rows = rows if divisor is None else as_float_rows(rows, divisor)
         return rows[0] if is_one else rows
 
-    def levels(self, sources, *, dtype=None, timeout=None, progress=None):
+    def levels(self, sources, *, to=False, dtype=None, timeout=None, progress=None):
         """As `distances`, the fewest arcs of a walk in place of the least cost."""
-        return self.distances(sources, hops=True, dtype=dtype, timeout=timeout, progress=progress)
+        return self.distances(sources, hops=True, to=to, dtype=dtype, timeout=timeout, progress=progress)
 
-    def rows(self, sources, *, hops=False, dtype=None, whole=False, timeout=None, progress=None):
+    def rows(self, sources, *, hops=False, to=False, dtype=None, whole=False, timeout=None, progress=None):
         """Gives (source, row) for each of the sources in turn, with rows as in `distances`.
 
         Rows of two requests are in memory at a time, each of a quarter of a second and 64 MiB at most. If arcs come
@@ -72,34 +91,54 @@ class Costs(Asked):
                 yield self._names.name(int(place)), labels if divisor is None else as_floats(labels, divisor)
 
         most = max(1, _BYTES // max(8 * n, 1))
-        return self._each(kind, Rows.form, len(places), make, answers, timeout, progress, most)
+        return self._each(kind, Rows.form, len(places), make, answers, timeout, progress, most, to)
 
-    def frame(self, sources, *, hops=False, whole=False, timeout=None, progress=None):
-        """A DataFrame of pandas: a line (source, target, cost) for each vertex that a walk from a source reaches."""
+    def frame(self, sources, *, hops=False, to=False, whole=False, timeout=None, progress=None):
+        """A DataFrame of pandas: a line (source, target, cost) for each vertex that a walk from a source reaches.
+
+        With `to=True` those of walks to the sources, which stand under `target` then.
+        """
         import pandas  # It is no part of the package's own needs.
 
         starts, targets, costs = [], [], []
-        for source, row in self.rows(sources, hops=hops, whole=True, timeout=timeout, progress=progress):
+        for source, row in self.rows(sources, hops=hops, to=to, whole=True, timeout=timeout, progress=progress):
             reached, labels = reached_in(row)
             starts += [source] * len(reached)
             targets += self._names.several(reached)
             costs += labels
         divisor = self._divisor(hops, None, whole)
         costs = costs if divisor is None else [label / divisor for label in costs]
-        return pandas.DataFrame({"source": starts, "target": targets, "cost": costs})
+        ends = (targets, starts) if to else (starts, targets)
+        return pandas.DataFrame({"source": ends[0], "target": ends[1], "cost": costs})
 
     def matrix(self, sources, targets, *, hops=False, dtype=None, whole=False, timeout=None, progress=None):
-        """The least costs from each source to each target: a row for each source, as in `distances`."""
+        """The least costs from each source to each target: a row for each source, as in `distances`.
+
+        They are found from whichever are fewer: from the targets by the reversed graph, which is kept.
+        """
         divisor = self._divisor(hops, dtype, whole)
         sources, targets = self._names.places("sources", sources), self._names.places("targets", targets)
-        costs = self._ask(Matrix(kind_of(hops), sources, targets), timeout, progress).costs
-        rows = as_rows(costs, len(sources), len(targets))
+        check_room(f"matrix has {len(sources)} x {len(targets)} costs, which", len(sources) * len(targets), "rows()")
+        if self._goes_back(len(sources), len(targets), timeout):
+            rows = turned_rows(self._costs_of(targets, sources, hops, timeout, progress, True))
+        else:
+            rows = self._costs_of(sources, targets, hops, timeout, progress, False)
         return rows if divisor is None else as_float_rows(rows, divisor)
+
+    def _costs_of(self, sources, targets, hops, timeout, progress, to):
+        """The costs as rows: by whole rows of labels where these are found sooner than so many pairs."""
+        kind, n = kind_of(hops), self._names.n
+        if len(targets) > max(_FEW, n // _PART):
+            question = RowsAt(kind, sources, targets, n)
+        else:
+            question = Matrix(kind, sources, targets)
+        return as_rows(self._ask(question, timeout, progress, to).costs, len(sources), len(targets))
 
     def pairs(self, sources, targets=None, *, hops=False, dtype=None, whole=False, timeout=None, progress=None):
         """The least cost from each source to the target at its place: a row, as in `distances`.
 
-        Without targets `sources` are pairs (source, target), as `paths` takes them.
+        Without targets `sources` are pairs (source, target), as `paths` takes them. They are found from the sources or
+        from the targets, as in `matrix`.
         """
         divisor = self._divisor(hops, dtype, whole)
         if targets is None:
@@ -107,20 +146,23 @@ class Costs(Asked):
         sources, targets = self._names.places("sources", sources), self._names.places("targets", targets)
         if len(sources) != len(targets):
             raise ValueError(f"{len(sources)} sources and {len(targets)} targets")
-        costs = self._ask(Pairs(kind_of(hops), sources, targets), timeout, progress).costs
+        to = self._goes_back(count_of(sources), count_of(targets), timeout)
+        ends = (targets, sources) if to else (sources, targets)
+        question = self._ask(SortedPairs(kind_of(hops), *ends), timeout, progress, to)
+        costs = question.in_order()
         return costs if divisor is None else as_floats(costs, divisor)
 
-    def within(self, source, cost, *, hops=False, whole=False, timeout=None):
+    def within(self, source, cost, *, hops=False, to=False, whole=False, timeout=None):
         """The vertices that cost at most `cost` from the source, in rising order, and the cost of each: two arrays.
 
         The source is solved no further, so a small bound in a large graph takes little. Arrays are as in `distances`;
-        vertices with names come as a list of these.
+        vertices with names come as a list of these. With `to=True` the costs are those from the vertices to the source.
         """
         places = [self._names.place("source", source, "within_many")]
-        question = self._ask(Near(kind_of(hops), places, self._bound(cost, hops)), timeout)
+        question = self._ask(Near(kind_of(hops), places, self._bound(cost, hops)), timeout, to=to)
         return self._near(question.found[0], self._divisor(hops, None, whole))
 
-    def within_many(self, sources, cost, *, hops=False, whole=False, timeout=None, progress=None):
+    def within_many(self, sources, cost, *, hops=False, to=False, whole=False, timeout=None, progress=None):
         """Gives (source, vertices, costs) for each of the sources in turn, as `within` and by requests as `rows`."""
         divisor, kind, bound = self._divisor(hops, None, whole), kind_of(hops), self._bound(cost, hops)
         _, places = self._names.one_or_several("sources", sources)
@@ -132,7 +174,7 @@ class Costs(Asked):
             for place, found in zip(question.sources, question.found):
                 yield (self._names.name(int(place)), *self._near(found, divisor))
 
-        return self._each(kind, Near.form, len(places), make, answers, timeout, progress)
+        return self._each(kind, Near.form, len(places), make, answers, timeout, progress, to=to)
 
     def _bound(self, cost, hops):
         return as_bound(cost, None) if hops else as_bound(cost, self._scale, self._rounding)

@@ -49,7 +49,7 @@ class Follower(Session):
     """A program that makes the changes of the first. Its version is None while it isn't there."""
 
     def __init__(self, first):
-        super().__init__(first._kept, first.options, True, first._why)
+        super().__init__(first.kept, first.options, True, first._why)
         self.version = None
         #: One that was killed so that another begins.
         self.killed = None

@@ -25,12 +25,10 @@ def edges(given, nodes, default):
 
 
 def networkx(other, weight):
-    """Those of a networkx graph, in which an edge without a weight has 1. Undirected edges go both ways."""
+    """Those of a networkx graph, in which an edge without a weight has 1. Undirected edges come once."""
     names = {name: place for place, name in enumerate(other)}
     given = ((*ends, 1) for ends in other.edges()) if weight is None else other.edges(data=weight, default=1)
     arcs = [(names[tail], names[head], size) for tail, head, size in given]
-    if not other.is_directed():
-        arcs += [(head, tail, size) for tail, head, size in arcs]
     tails, heads, weights = zip(*arcs) if arcs else ((), (), ())
     return tails, heads, weights, names
 

@@ -1,14 +1,14 @@
 """A directed graph that the program keeps: what it is, and how it ends."""
 
 from ._arcs import Arcs
+from ._beside import Beside
 from ._costs import Costs
-from ._making import Making
 from ._measures import Measures
 from ._numbers import as_seconds
 from ._paths import Paths
 
 
-class Graph(Making, Costs, Paths, Measures, Arcs):
+class Graph(Beside, Costs, Paths, Measures, Arcs):
     """A directed graph with whole-number weights from 0 to 2**32 - 1, kept by the program `obim_query`.
 
     Vertices are numbers from 0, or the names that `from_edges` and its kin were given. Threads may ask at the same
@@ -50,6 +50,11 @@ class Graph(Making, Costs, Paths, Measures, Arcs):
         return self._names.names
 
     @property
+    def directed(self):
+        """False if each arc that the graph is given leads the other way too."""
+        return self._is_directed
+
+    @property
     def scale(self):
         """The number by which weights were multiplied; None if they are whole numbers."""
         return self._scale
@@ -89,10 +94,12 @@ class Graph(Making, Costs, Paths, Measures, Arcs):
         Whoever waits for an answer of one that is killed has an Ended, and a change that it had not made is lost. With
         `keep=False` that is a NotKept.
         """
+        self._drop_others()
         self._wire.restart(as_seconds(timeout))
 
     def close(self):
         """Ends its programs. Whatever is asked from then on, or waits, is a Closed."""
+        self._drop_others()
         self._wire.close()
 
     def __enter__(self):

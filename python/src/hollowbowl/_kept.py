@@ -8,7 +8,7 @@ import threading
 import zlib
 
 from ._errors import BadGraph, GraphChanged
-from ._text import graph_text
+from ._text import arcs_of_lines, columns_of_arcs, graph_text
 
 _READ = 1 << 20
 
@@ -29,6 +29,10 @@ class Columns:
     def pieces(self):
         """The text of the graph, in pieces of bytes."""
         return graph_text(self.n, *self._columns)
+
+    def columns(self):
+        """The tails, heads and weights."""
+        return self._columns
 
     def close(self):
         """Lets go of the columns."""
@@ -63,6 +67,16 @@ class File:
         self.check()
         yield from self._unpacked() if self._is_packed else self._plain()
         self.check()
+
+    def columns(self):
+        """The tails, heads and weights of its arcs, read anew. It is known to be a graph."""
+        found, rest = [], b""
+        for piece in self.pieces():
+            text = rest + piece
+            whole = text.rfind(b"\n") + 1
+            found.append(arcs_of_lines(text[:whole]))
+            rest = text[whole:]
+        return columns_of_arcs([*found, arcs_of_lines(rest)])
 
     def section_line(self):
         """The number of the first line that begins a section; None if no line does."""

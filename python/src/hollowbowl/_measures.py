@@ -23,28 +23,32 @@ class Totals(NamedTuple):
 class Measures(Asked):
     """A graph as far as such numbers are asked of it."""
 
-    def totals(self, sources, *, hops=False, whole=False, timeout=None, progress=None):
-        """For each of the sources what the costs from it come to; a single source gives a single one."""
+    def totals(self, sources, *, hops=False, to=False, whole=False, timeout=None, progress=None):
+        """For each of the sources what the costs from it come to; a single source gives a single one.
+
+        With `to=True` they are the costs to it, of the vertices from which a walk leads there.
+        """
         divisor = self._divisor(hops, None, whole)
-        is_one, found = self._totals(sources, hops, timeout, progress)
+        is_one, found = self._totals(sources, hops, to, timeout, progress)
         totals = [
             Totals(reached, as_cost(total, divisor), as_cost(greatest, divisor), self._names.name(place))
             for reached, total, greatest, place in found
         ]
         return totals[0] if is_one else totals
 
-    def _totals(self, sources, hops, timeout, progress):
+    def _totals(self, sources, hops, to, timeout, progress):
         is_one, places = self._names.one_or_several("sources", sources)
-        return is_one, self._ask(_questions.Totals(kind_of(hops), places), timeout, progress).found
+        return is_one, self._ask(_questions.Totals(kind_of(hops), places), timeout, progress, to).found
 
-    def closeness(self, sources=None, *, hops=False, wf_improved=False, timeout=None, progress=None):
+    def closeness(self, sources=None, *, hops=False, to=False, wf_improved=False, timeout=None, progress=None):
         """The closeness of each of the sources, or of all vertices: a row of floats, and for a single source a number.
 
         It is (reached - 1) / sum of the costs from the source, and 0 where that is no number. With `wf_improved` it is
         multiplied by (reached - 1) / (n - 1), as Wasserman and Faust do, so that a vertex that reaches few others isn't
-        the closest. Both are what networkx gives for the reversed graph.
+        the closest. With `to=True` the costs are those to the source, as networkx has them; else both are what networkx
+        gives for the reversed graph.
         """
-        is_one, found = self._totals(self if sources is None else sources, hops, timeout, progress)
+        is_one, found = self._totals(self if sources is None else sources, hops, to, timeout, progress)
         scale = 1 if hops or self._scale is None else self._scale
         others = max(self._names.n - 1, 1)
         each = [
@@ -53,13 +57,15 @@ class Measures(Asked):
         ]
         return each[0] if is_one else floats_of(each)
 
-    def eccentricity(self, sources=None, *, hops=False, dtype=None, whole=False, timeout=None, progress=None):
+    def eccentricity(
+        self, sources=None, *, hops=False, to=False, dtype=None, whole=False, timeout=None, progress=None
+    ):
         """The greatest cost from each of the sources, or of all vertices: a row, and for a single source a number.
 
         It is 2**64 - 1, or as a float `inf`, where no walk leads to some vertex. `totals` has the greatest of the rest.
         """
         divisor = self._divisor(hops, dtype, whole)
-        is_one, found = self._totals(self if sources is None else sources, hops, timeout, progress)
+        is_one, found = self._totals(self if sources is None else sources, hops, to, timeout, progress)
         labels = [greatest if reached == self._names.n else INF for reached, _, greatest, _ in found]
         if is_one:
             return as_cost(labels[0], divisor)

@@ -94,17 +94,14 @@ def rows_for(count, n):
     return [labels_for(n) for _ in range(count)]
 
 
-def check_room(count, n):
-    """Goes on if so many rows of n labels take at most half of the memory that is left, as Linux tells it."""
-    size = 8 * count * n
+def check_room(what, count, others):
+    """Goes on if so many labels take at most half of the memory that is left; `others` are calls that take less."""
+    size = 8 * count
     if size <= _FEW_BYTES:
         return
     left = _bytes_left()
     if left is not None and size > left // 2:
-        raise ValueError(
-            f"sources has {count} vertices, whose rows take {size >> 20} MiB where {left >> 20} MiB are left: "
-            "rows(), totals() or within() take less"
-        )
+        raise ValueError(f"{what} take {size >> 20} MiB where {left >> 20} MiB are left: {others} take less")
 
 
 def _bytes_left():
@@ -132,6 +129,34 @@ def as_rows(labels, count, width):
     if numpy is not None:
         return labels.reshape(count, width)
     return [labels[place * width : (place + 1) * width] for place in range(count)]
+
+
+def turned_rows(rows):
+    """Rows whose columns are these rows."""
+    if numpy is not None:
+        return numpy.ascontiguousarray(rows.T)
+    return [array("Q", column) for column in zip(*rows)]
+
+
+def count_of(column):
+    """How many numbers a column has that differ."""
+    return len(set(column)) if numpy is None else len(numpy.unique(column))
+
+
+def order_of(column):
+    """The places of a column in the order of its numbers, equal ones in their own; None if they are in order."""
+    if numpy is None:
+        order = sorted(range(len(column)), key=column.__getitem__)
+        return None if order == list(range(len(column))) else order
+    column = numpy.asarray(column)
+    return None if (column[1:] >= column[:-1]).all() else numpy.argsort(column, kind="stable")
+
+
+def picked(column, order):
+    """The numbers of a column at some places, or all where these are None."""
+    if order is None:
+        return column
+    return [column[place] for place in order] if numpy is None else numpy.asarray(column)[order]
 
 
 def is_float(dtype):

@@ -33,8 +33,9 @@ class Session:
         #: What other programs of the graph follow, if there are some; and a lock for who looks at that and at the log.
         self.made = None
         self.lock = threading.Lock()
-        self._kept = kept
-        self._is_kept = is_kept
+        #: What the graph was made of.
+        self.kept = kept
+        self.is_kept = is_kept
         self.options = options
         self._command = [program(), "--session", *options]
         self._why = why
@@ -61,16 +62,16 @@ class Session:
 
     def check_kept(self):
         """Goes on if another program can begin."""
-        if not self._is_kept:
+        if not self.is_kept:
             raise NotKept("the graph was made with keep=False, so no other program can begin with it")
-        self._kept.check()
+        self.kept.check()
 
     def let_go(self):
         """Closes this process's ends of the pipes, and the file."""
         process = self._process
         if process is not None:
             process.let_go()
-        self._kept.close()
+        self.kept.close()
 
     # ---- for the thread
 
@@ -88,8 +89,8 @@ class Session:
             except Error:
                 self._drop()
                 raise
-            if not self._is_kept:
-                self._kept.close()
+            if not self.is_kept:
+                self.kept.close()
         return self._process
 
     def restart(self, process):
@@ -101,7 +102,7 @@ class Session:
     def end(self):
         """Ends the program, and closes the file."""
         self._drop()
-        self._kept.close()
+        self.kept.close()
 
     def in_step(self, work, *words):
         """Does some work with the program. It goes on after a refusal; after all else a reply may be left of it."""
@@ -120,7 +121,7 @@ class Session:
         if process is None:
             return None, ""
         end = process.end(patience)
-        if not self._is_kept:
+        if not self.is_kept:
             self._last = end
         return end
 
@@ -130,24 +131,24 @@ class Session:
         if self._why() is not None:
             return self._why()
         if status == 2 and lines is not None:
-            return bad_graph(self._kept.path, text, lines)
+            return bad_graph(self.kept.path, text, lines)
         return OutOfMemory() if status == 3 else Ended(status, text)
 
     # ---- its beginning
 
     def _begin(self, process):
         """Gives a new program the graph, and makes its changes."""
-        if isinstance(self._kept, File):
+        if isinstance(self.kept, File):
             self._load(process)
         else:
-            for piece in self._kept.pieces():
+            for piece in self.kept.pieces():
                 process.write(piece)
             line = process.line()
-            if line == b"r %d %d\n" % (self.n, self._kept.m):
+            if line == b"r %d %d\n" % (self.n, self.kept.m):
                 raise self._too_old("replies name no line")
-            self.end_of(process, line, m=self._kept.m)
+            self.end_of(process, line, m=self.kept.m)
         self._probe(process)
-        m = self._kept.m
+        m = self.kept.m
         for change in self._changes_before():
             for part in change.parts(MOST_ITEMS):
                 gone, come = self._make(process, part, m)
@@ -164,19 +165,19 @@ class Session:
         line = process.line()
         if line.startswith(b"e ") and line.endswith(b" unknown line\n"):
             raise self._too_old("sessions know no 'raw p2p'")
-        if line != b"r %d %d %d\n" % (self.n, self._kept.m, process.lines - 1):
+        if line != b"r %d %d %d\n" % (self.n, self.kept.m, process.lines - 1):
             raise OutOfStep("a reply to nothing is none")
-        self.end_of(process, process.line(), m=self._kept.m)
+        self.end_of(process, process.line(), m=self.kept.m)
 
     def _load(self, process):
-        text = MarkedText(self._kept.path, self._kept.pieces())
+        text = MarkedText(self.kept.path, self.kept.pieces())
         try:
             size = process.load(text)
             if size is None:
                 raise self._too_old("replies name no line")
             if self.n is None:
-                self.n, self.m = self._kept.n, self._kept.m = size
-            if size == (self._kept.n, self._kept.m):
+                self.n, self.m = self.kept.n, self.kept.m = size
+            if size == (self.kept.n, self.kept.m):
                 return
             fault = None
         except EOFError:
@@ -184,14 +185,14 @@ class Session:
         except BadGraph as wrong:
             fault = self._with_line(wrong)
         if self.n is not None and (fault is None or isinstance(fault, BadGraph)):
-            fault = GraphChanged(f"{self._kept.path} is another graph than at first")
+            fault = GraphChanged(f"{self.kept.path} is another graph than at first")
         raise fault
 
     def _with_line(self, wrong):
         """The fault of a file, which names the first line behind the graph if the program's reply didn't."""
         if wrong.words != GOES_ON:
             return wrong
-        lines = [line for line in (wrong.line, self._kept.section_line()) if line is not None]
+        lines = [line for line in (wrong.line, self.kept.section_line()) if line is not None]
         return BadGraph(wrong.path, min(lines, default=None), GOES_ON)
 
     # ---- changes
@@ -210,7 +211,7 @@ class Session:
 
     def _take_in(self, part, gone, come):
         """Goes on with the graph after a change by which so many arcs went and came."""
-        if self._is_kept:
+        if self.is_kept:
             part.keep(self.log)
         if gone or come:
             self.m, self.version = self.m + come - gone, self.version + 1

@@ -197,6 +197,11 @@ class State:
             self._ask(loan.wanted.question, Exchange(None))
             self.owed.lend(self.session, loan, exchange.caller)
 
+    def stand(self, stand, exchange):
+        """Says what the arcs are made of, once all is undone that is owed to nobody any more."""
+        self.owed.settle(self.session)
+        stand.take(self.session)
+
     def settle(self, exchange):
         """Undoes what is owed to nobody any more."""
         self.owed.settle(self.session)

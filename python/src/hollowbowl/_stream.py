@@ -11,22 +11,22 @@ from ._exchange import Exchange
 class Stream:
     """Questions for some items each, which are asked in turn, and the answers for each item."""
 
-    def __init__(self, wire, count, size, make, answers):
+    def __init__(self, wire, count, size, make, answers, is_same):
         """A stream for so many items.
 
         `size` gives how many are next, `make` the question for those from one place up to another, and `answers` what
-        an answered question says of each.
+        an answered question says of each. `is_same` tells whether the graph is as it was at the call.
         """
         self._wire = wire
         self._count = count
         self._size = size
         self._make = make
         self._answers = answers
-        self._version = wire.version
+        self._is_same = is_same
 
     def _check(self):
         """Goes on if the graph is as it was at the call."""
-        if self._wire.version != self._version:
+        if not self._is_same():
             raise GraphChanged("the graph's arcs have changed since the call whose answers come")
 
     def _ask(self, first):

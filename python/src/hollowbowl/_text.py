@@ -1,6 +1,7 @@
 """The text of graphs and requests, and what replies say. Vertices count from 1 in text, and from 0 everywhere else."""
 
 from array import array
+from itertools import chain
 
 from ._errors import OutOfStep
 from ._numbers import INF, numpy
@@ -10,6 +11,9 @@ MOST_ITEMS = 1 << 20
 
 # Lines whose text is made at a time.
 _CHUNK = 1 << 14
+
+# All bytes of lines of arcs.
+_OF_ARCS = b"a0123456789 \t\r\n"
 
 # From how many lines on arrays are quicker than a loop.
 _MANY = 64
@@ -91,6 +95,25 @@ def _numbers(text, width):
     numbers = numpy.fromstring(text, dtype=numpy.uint64, sep=" ")
     _is(len(numbers) % width == 0)
     return numbers.reshape(-1, width)
+
+
+def arcs_of_lines(text):
+    """The numbers of the arcs in lines of a graph, three for each in turn; other lines are passed by."""
+    if text.translate(None, _OF_ARCS):
+        lines = [line for line in text.split(b"\n") if line.lstrip(b" \t").startswith(b"a")]
+        text = b"\n".join(lines)
+    if numpy is not None:
+        return numpy.fromstring(text.translate(None, b"a"), dtype=numpy.uint64, sep=" ")
+    return [int(word) for word in text.split() if word != b"a"]
+
+
+def columns_of_arcs(pieces):
+    """The tails, heads and weights of what `arcs_of_lines` has given, in columns."""
+    if numpy is not None:
+        numbers = numpy.concatenate(pieces)
+        return [(numbers[place::3] - numpy.uint64(place < 2)).astype(numpy.uint32) for place in range(3)]
+    numbers = array("Q", chain.from_iterable(pieces))
+    return [array("I", (number - (place < 2) for number in numbers[place::3])) for place in range(3)]
 
 
 def arcs_in(body, tails, heads):

@@ -48,6 +48,10 @@ class Wire:
         self.check()
         return self.state.session.version
 
+    def is_kept(self):
+        """Tells whether Python keeps what the graph was made of."""
+        return self.state.session.is_kept
+
     def is_ended(self):
         """Tells whether nothing is answered any more."""
         self.check()
