@@ -12,6 +12,7 @@ class Asked:
 
     # _names    its vertices
     # _wire     the way to its program
+    # _standing gives what its arcs are made of by now
     # _is_directed whether arcs that are given lead one way
     # _scale    what weights were multiplied by; None if they are whole numbers
     # _asked    gives the graph that answers, which is another for costs to vertices, and the version that it is of

@@ -9,7 +9,7 @@ from ._stand import Stand
 # A reversed graph is made for a matrix whose targets are fewer if it saves so many runs, and these go through so many
 # vertices in all: it takes about as long as these.
 _RUNS = 32
-_VERTICES = 1 << 21
+_VERTICES = 1 << 18
 
 
 class Beside(Making):

@@ -3,12 +3,13 @@
 from ._arcs import Arcs
 from ._beside import Beside
 from ._costs import Costs
+from ._listing import Listing
 from ._measures import Measures
 from ._numbers import as_seconds
 from ._paths import Paths
 
 
-class Graph(Beside, Costs, Paths, Measures, Arcs):
+class Graph(Beside, Costs, Paths, Measures, Arcs, Listing):
     """A directed graph with whole-number weights from 0 to 2**32 - 1, kept by the program `obim_query`.
 
     Vertices are numbers from 0, or the names that `from_edges` and its kin were given. Threads may ask at the same
