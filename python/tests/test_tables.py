@@ -2,9 +2,11 @@
 
 import unittest
 from array import array
+from unittest import mock
 
 from common import Case, columns, components_of, costs_from, drawn, ints, numpy, optional, pandas, scipy
 
+import hollowbowl
 from hollowbowl import INF, Graph
 
 sparse, polars, pyarrow = optional("scipy.sparse"), optional("polars"), optional("pyarrow")
@@ -80,6 +82,32 @@ class Tables(Case):
             with Graph(*columns(arcs), n) as graph:
                 self.assertEqual(list(graph.frame(graph).itertuples(index=False, name=None)), wanted)
 
+    @unittest.skipIf(pandas is None or numpy is None, "no pandas")
+    def test_arrays_of_frames(self):
+        with Graph.from_columns({**TABLE, "weight": [0.7, 20, 6]}, nodes=["z"], scale=10) as graph:
+            for given, costs in ((graph.frame(["a", "b"]), [0.0, 0.7, 6.7, 0.0, 6.0]), (graph.frame(["a", "b"], whole=True), [0, 7, 67, 0, 60])):
+                self.assertEqual(list(given["cost"]), costs)
+                self.assertEqual(list(given["source"].cat.categories), ["z", "a", "b", "c"])
+                self.assertEqual([str(given[name].dtype) for name in ("source", "target")], ["category", "category"])
+            self.assertEqual(str(given["cost"].dtype), "int64")
+        with Graph([0, 1], [1, 2], [7, 6]) as graph:
+            self.assertEqual([str(each) for each in graph.frame([0]).dtypes], ["int64"] * 3)
+            with mock.patch.object(hollowbowl._numbers, "_FEW_BYTES", 0):
+                for left, is_room in ((2 * 8 * 6 * 5, True), (2 * 8 * 6 * 5 - 1, False)):
+                    with mock.patch.object(hollowbowl._numbers, "_bytes_left", lambda left=left: left):
+                        if is_room:
+                            self.assertEqual(len(graph.frame([0, 1])), 5)
+                            continue
+                        with self.assertRaisesRegex(ValueError, r"^sources reach 5 vertices and more, .*: rows\(\) take less$"):
+                            graph.frame([0, 1])
+            self.assertEqual(graph.distance(0, 2), 13)
+        # What can be no category.
+        for names in ((None, "a"), (float("nan"), "a"), (("a", 1), None)):
+            with Graph([0], [1], names=names) as graph:
+                self.assertEqual(list(graph.frame([names[0]]).itertuples(index=False, name=None))[1], (names[0], names[1], 1))
+        with Graph([0], [1], names=[("a", 1), ("a", 2)]) as graph:
+            self.assertEqual(list(graph.frame([("a", 1)])["target"]), [("a", 1), ("a", 2)])
+
     def test_faults(self):
         for table, kind, words in (
             ({"source": [], "target": []}, KeyError, "weight"),
@@ -104,6 +132,43 @@ class Tables(Case):
         frame["weight"] = [0.7, None, 0.6]
         with self.assertRaisesRegex(ValueError, r"^weights\[1\] is nan, which times 10 "):
             Graph.from_columns(frame, scale=10)
+
+    @unittest.skipIf(pandas is None or numpy is None, "no pandas")
+    def test_pandas_as_others(self):
+        """Frames have the names, places and weights that lists of the same have."""
+        numbers, words = [30, 7, 30, 5, 7], ["b", "a", "b", "dd", "c"]
+        several = [
+            pandas.Series(numbers),
+            pandas.Series(numbers, dtype="u1"),
+            pandas.Series(numbers, dtype="Int64"),
+            pandas.Series(numbers, dtype="f4"),
+            pandas.Series(words),
+            pandas.Series(words, dtype="string"),
+            pandas.Series(words, dtype="category"),
+            pandas.Series(pandas.to_datetime(["2026-01-02", "2026-01-01", "2026-01-02", "2026-01-03", "2026-01-05"])),
+            pandas.Series([("a", 1), "a", ("a", 1), frozenset("a"), 1]),
+            pandas.Series([True, False, True, True, False]),
+            pandas.Series([1, True, 1.0, "1", 0]),
+            pandas.Series(["a", None, "a", "b", None]),
+            pandas.Series([1.5, float("inf"), 1.5, -0.0, 0.0]),
+        ]
+        for source in several:
+            for target in several:
+                for nodes in ((), ["b", ("q",), 7]):
+                    table = {"source": source, "target": target, "weight": pandas.Series([1, 2, 3, 4, 5])}
+                    lists = {name: column.tolist() for name, column in table.items()}
+                    found, wanted = ([*each] for each in (
+                        hollowbowl._from.columns(pandas.DataFrame(table), "source", "target", "weight", nodes),
+                        hollowbowl._from.columns(lists, "source", "target", "weight", nodes),
+                    ))
+                    for each in (found, wanted):
+                        each[:] = [list(map(int, column)) for column in each[:3]] + [[*map(repr, each[3])]]
+                    self.assertEqual(found, wanted, (source.dtype, target.dtype, nodes))
+        self.assertIsNotNone(hollowbowl._from._factorized(several[4:6], []))
+        with self.assertRaisesRegex(TypeError, r"^edges\[1\] is \(\['x'\], "):
+            Graph.from_pandas(pandas.DataFrame({"source": ["a", ["x"]], "target": ["b", "c"], "weight": [1, 2]}))
+        with Graph(*pandas.factorize(pandas.Series(["x", "y", "x"]))[0][[[0, 1], [1, 2]]], names="xy") as graph:
+            self.assertEqual(graph.path("x", "y"), ["x", "y"])
 
     @unittest.skipIf(numpy is None, "no numpy")
     def test_numpy(self):

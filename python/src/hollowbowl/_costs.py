@@ -12,7 +12,6 @@ from ._numbers import (
     check_room,
     count_of,
     labels_for,
-    reached_in,
     rows_for,
     turned_rows,
 )
@@ -77,8 +76,17 @@ class Costs(Asked):
         Rows of two requests are in memory at a time, each of a quarter of a second and 64 MiB at most. If arcs come
         before the last row, the next is a GraphChanged.
         """
-        divisor, kind, n = self._divisor(hops, dtype, whole), kind_of(hops), self._names.n
+        divisor = self._divisor(hops, dtype, whole)
         _, places = self._names.one_or_several("sources", sources)
+
+        def each(place, labels):
+            return self._names.name(place), labels if divisor is None else as_floats(labels, divisor)
+
+        return self._rows(places, kind_of(hops), to, each, timeout, progress)
+
+    def _rows(self, places, kind, to, each, timeout, progress):
+        """What a function of the place and the labels of a source gives, for each of the sources in turn."""
+        n = self._names.n
 
         def make(first, last):
             return Rows(kind, places[first:last], [labels_for(n) for _ in range(first, last)])
@@ -87,8 +95,7 @@ class Costs(Asked):
             rows = question.rows[::-1]
             question.rows = None
             for place in question.sources:
-                labels = rows.pop()
-                yield self._names.name(int(place)), labels if divisor is None else as_floats(labels, divisor)
+                yield each(int(place), rows.pop())
 
         most = max(1, _BYTES // max(8 * n, 1))
         return self._each(kind, Rows.form, len(places), make, answers, timeout, progress, most, to)
@@ -96,20 +103,16 @@ class Costs(Asked):
     def frame(self, sources, *, hops=False, to=False, whole=False, timeout=None, progress=None):
         """A DataFrame of pandas: a line (source, target, cost) for each vertex that a walk from a source reaches.
 
-        With `to=True` those of walks to the sources, which stand under `target` then.
+        With `to=True` those of walks to the sources, which stand under `target` then. Names are categories. Lines that
+        would take more than half of the memory that is left are a ValueError: ask for `rows`.
         """
-        import pandas  # It is no part of the package's own needs.
+        from . import _frame  # It needs pandas, which is no part of the package's own needs.
 
-        starts, targets, costs = [], [], []
-        for source, row in self.rows(sources, hops=hops, to=to, whole=True, timeout=timeout, progress=progress):
-            reached, labels = reached_in(row)
-            starts += [source] * len(reached)
-            targets += self._names.several(reached)
-            costs += labels
-        divisor = self._divisor(hops, None, whole)
-        costs = costs if divisor is None else [label / divisor for label in costs]
-        ends = (targets, starts) if to else (starts, targets)
-        return pandas.DataFrame({"source": ends[0], "target": ends[1], "cost": costs})
+        _, places = self._names.one_or_several("sources", sources)
+        lines = _frame.Lines()
+        for _ in self._rows(places, kind_of(hops), to, lines.take, timeout, progress):
+            pass
+        return lines.frame(self._names.names, self._divisor(hops, None, whole), to)
 
     def matrix(self, sources, targets, *, hops=False, dtype=None, whole=False, timeout=None, progress=None):
         """The least costs from each source to each target: a row for each source, as in `distances`.

@@ -1,5 +1,7 @@
 """The arcs of graphs that others have made, as tails, heads, weights and the names of vertices."""
 
+import sys
+
 from ._edges import entries_of
 from ._numbers import numpy
 
@@ -33,17 +35,59 @@ def networkx(other, weight):
     return tails, heads, weights, names
 
 
-def columns(table, source, target, weight):
-    """The edges of a table's rows, by the names of its columns; of two entries if that of weights is None."""
+def columns(table, source, target, weight, nodes):
+    """Those of a table's rows, by the names of its columns; each weighs 1 if that of weights is None."""
     names = [source, target] if weight is None else [source, target, weight]
     try:
-        found = [entries_of(table[name]) for name in names]
+        found = [table[name] for name in names]
     except TypeError:
         raise TypeError(f"table is {table!r}, which has no columns {_in_words(map(repr, names))}") from None
+    # Of an iterator the entries can be taken once.
+    found = [each if hasattr(each, "dtype") else entries_of(each) for each in found]
     counts = list(map(len, found))
     if len(set(counts)) > 1:
         raise ValueError(_in_words(f"{count} {what}" for count, what in zip(counts, ("sources", "targets", "weights"))))
-    return zip(*found)
+    factorized = _factorized(found[:2], list(dict.fromkeys(nodes)))
+    if factorized is None:
+        return edges(zip(*map(entries_of, found)), nodes, 1)
+    weights = found[2] if weight is not None else (1,) * counts[0]
+    return (*factorized[:2], weights if _is_plain(weights) else entries_of(weights), factorized[2])
+
+
+def _factorized(ends, nodes):
+    """The tails, the heads and the names of two columns of pandas, by its own means; None where these are others."""
+    pandas = sys.modules.get("pandas")
+    if pandas is None or not all(isinstance(each, pandas.Series) for each in ends):
+        return None
+    if any(each.isna().any() for each in ends):
+        # Missing names are all one to pandas, whatever they are.
+        return None
+    try:
+        codes, names = pandas.factorize(_in_turn(ends, nodes))
+    except TypeError:
+        # Some can't be names, and which is found one by one.
+        return None
+    names = names.tolist()
+    if len(set(names)) < len(names):
+        return None
+    return codes[len(nodes) :: 2], codes[len(nodes) + 1 :: 2], names
+
+
+def _in_turn(ends, nodes):
+    """The nodes, and after these the ends of each edge in turn."""
+    kinds = {each.dtype for each in ends}
+    is_plain = len(kinds) == 1 and not nodes and ends[0].dtype.kind in "iu" and _is_plain(ends[0])
+    found = numpy.empty(len(nodes) + 2 * len(ends[0]), dtype=ends[0].dtype if is_plain else object)
+    for place, node in enumerate(nodes):
+        found[place] = node
+    for place, each in enumerate(ends):
+        found[len(nodes) + place :: 2] = each.to_numpy() if is_plain else each.astype(object).to_numpy()
+    return found
+
+
+def _is_plain(column):
+    """Tells whether the entries are numbers of numpy."""
+    return numpy is not None and isinstance(getattr(column, "dtype", None), numpy.dtype) and column.dtype.kind in "biuf"
 
 
 def _in_words(parts):

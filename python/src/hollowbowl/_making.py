@@ -21,6 +21,7 @@ class Making(Asked):
         """The graph of these arcs among `n` vertices; without `n` up to the greatest that an arc has.
 
         With `directed=False` each arc leads the other way too, also those of later changes. Without weights each is 1.
+        With `names` vertices have these names in turn, as those that `pandas.factorize` gives beside its numbers.
         With `keep=False` Python keeps no arcs, so no other program can begin if this one is killed. With several
         programs near questions don't wait for far ones; each has the graph in memory. Up to `landmarks` vertices, 16 if
         that is None, serve far pairs once there were some; with 0 none do.
@@ -80,12 +81,12 @@ class Making(Asked):
         Of `nodes` see `from_edges`.
         A table is anything with `table[name]`: a DataFrame of pandas or polars, a table of Arrow, lists by name.
         """
-        edges = _from.columns(table, source, target, weight)
+        tails, heads, weights, names = _from.columns(table, source, target, weight, nodes)
         options = dict(
             directed=directed, scale=scale, rounded=rounded, workers=workers, landmarks=landmarks,
             programs=programs, keep=keep
         )
-        return cls.from_edges(edges, nodes=nodes, default=1, **options)
+        return cls(tails, heads, weights, len(names), names=names, **options)
 
     @classmethod
     def from_pandas(

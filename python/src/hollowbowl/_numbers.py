@@ -5,6 +5,8 @@ from array import array
 from numbers import Real
 from operator import index
 
+from ._memory import bytes_left as _bytes_left
+
 try:
     import numpy
 except ImportError:
@@ -102,26 +104,6 @@ def check_room(what, count, others):
     left = _bytes_left()
     if left is not None and size > left // 2:
         raise ValueError(f"{what} take {size >> 20} MiB where {left >> 20} MiB are left: {others} take less")
-
-
-def _bytes_left():
-    try:
-        with open("/proc/meminfo", encoding="ascii") as file:
-            for line in file:
-                if line.startswith("MemAvailable:"):
-                    return int(line.split()[1]) << 10
-    except OSError:
-        pass
-    return None
-
-
-def reached_in(row):
-    """The places of a row that a walk reaches, and their labels: two lists."""
-    if numpy is not None:
-        places = numpy.flatnonzero(row != INF)
-        return places.tolist(), row[places].tolist()
-    found = [(place, label) for place, label in enumerate(row) if label != INF]
-    return [place for place, _ in found], [label for _, label in found]
 
 
 def as_rows(labels, count, width):
