@@ -150,6 +150,10 @@ class Graph:
         self, sources: Iterable[Any], targets: Iterable[Any] | None = None, *, hops: bool = False, dtype: Any = None,
         whole: bool = False, timeout: _Seconds = None, progress: _Progress = None,
     ) -> Any: ...
+    def nearest(
+        self, targets: Any, sources: Iterable[Any], *, hops: bool = False, to: bool = False, dtype: Any = None,
+        whole: bool = False, timeout: _Seconds = None,
+    ) -> tuple[Any, Any]: ...
     def within(
         self, source: Any, cost: _Number, *, hops: bool = False, to: bool = False, whole: bool = False, timeout: _Seconds = None
     ) -> tuple[Any, Any]: ...

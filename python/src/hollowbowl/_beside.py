@@ -32,11 +32,12 @@ class Beside(Making):
         tails, heads, weights = stand.columns()
         return self._like(Columns(stand.n, heads, tails, weights), programs, seconds)
 
-    def _like(self, kept, programs, seconds):
-        """Another graph with options as this one, of other arcs."""
+    def _like(self, kept, programs, seconds, names=None):
+        """Another graph with options as this one, of other arcs; with other vertices its weights are whole."""
         graph = type(self).__new__(type(self))
-        graph._scale, graph._rounding, graph._is_directed = self._scale, self._rounding, self._is_directed
-        graph._names = self._names
+        graph._scale = self._scale if names is None else None
+        graph._rounding, graph._is_directed = self._rounding, self._is_directed
+        graph._names = self._names if names is None else names
         graph._begin(kept, self._workers, self._landmarks, programs, True, seconds)
         return graph
 
@@ -76,5 +77,5 @@ class Beside(Making):
     def _drop_others(self):
         """Ends the programs of graphs that are kept beside this one."""
         others, self._others = self._others, {}
-        for _, graph in others.values():
+        for *_, graph in others.values():
             graph.close()

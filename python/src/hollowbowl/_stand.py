@@ -60,6 +60,15 @@ def both_ways(*columns):
     return joined(columns, turned)
 
 
+def scaled(weights, times, are_ones):
+    """Weights times a number, or that number for each."""
+    if numpy is None:
+        return array("I", [times]) * len(weights) if are_ones else array("I", [weight * times for weight in weights])
+    if are_ones:
+        return numpy.full(len(weights), times, dtype=numpy.uint32)
+    return _as_column(weights) * numpy.uint32(times)
+
+
 def _without(columns, ends):
     """Columns of arcs without those between these ends."""
     if numpy is None:
