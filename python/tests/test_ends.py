@@ -9,13 +9,32 @@ import tempfile
 import threading
 import time
 import unittest
+from unittest import mock
 
 from common import Case, children, every_question, ints, is_alive, the_program, threads, waits_for
 from fake import Fake, fake
 
+import hollowbowl
 from hollowbowl import INF, Closed, Ended, Graph, GraphChanged, ProgramMissing, Refused
 
 ARC = ([0], [1], [7])
+
+# A program that has answered two sources when it is killed; if a file is there that it makes then, it answers on.
+KILLED = """
+read(2)
+say(b"r 2 1 2\\n")
+read(2)
+say(b"r 2 1 3\\nr 2 1 4\\n")
+line = 4
+while True:
+    read(3)
+    line += 3
+    if line > 7 and not os.path.isfile({here!r}):
+        if {here!r} != os.devnull:
+            open({here!r}, "w").close()
+        os.kill(os.getpid(), 9)
+    say(b"t 1 2 7 7 2\\n" * 2 + b"r 2 1 %d\\n" % line)
+"""
 
 
 class Ends(Case):
@@ -32,19 +51,33 @@ class Ends(Case):
             ):
                 self.assertEqual(ask(), wanted)
                 os.kill(the_program(), signal.SIGKILL)
-                with self.assertRaises(Ended) as caught:
-                    ask()
-                self.assertEqual(caught.exception.status, -9)
-                self.assertIn("memory", str(caught.exception))
-                self.assertEqual((ask(), ask(), graph.m), (wanted, wanted, 3))
+                with self.assertLogs("hollowbowl", "WARNING") as told:
+                    self.assertEqual((ask(), ask(), graph.m), (wanted, wanted, 3))
+                words = "a program with 3 arcs was begun again: the program was killed (signal 9), perhaps for want of memory"
+                self.assertEqual([record.getMessage() for record in told.records], [words])
+
+    def test_killed_again(self):
+        """A question is asked again once."""
+        with Fake(KILLED.format(here=os.devnull)), self.assertLogs("hollowbowl") as told:
+            with Graph([0], [1], [7]) as graph, self.assertRaises(Ended) as caught:
+                with mock.patch.object(hollowbowl._asking.Sizes, "of", lambda *_: 2):
+                    graph.totals([0, 0, 0, 0])
+            self.assertEqual((caught.exception.status, len(told.records)), (-9, 1))
+        with tempfile.TemporaryDirectory() as folder:
+            mark = os.path.join(folder, "mark")
+            with Fake(KILLED.format(here=mark)), Graph([0], [1], [7]) as graph, self.assertLogs("hollowbowl"):
+                # Before it was killed it had answered two of four.
+                with mock.patch.object(hollowbowl._asking.Sizes, "of", lambda *_: 2):
+                    self.assertEqual([each.sum for each in graph.totals([0, 0, 0, 0])], [7] * 4)
+                self.assertTrue(os.path.exists(mark))
 
     def test_killed_while_it_answers(self):
         n = 3000
         with Graph(range(n - 1), range(1, n), [1] * (n - 1)) as graph:
-            threading.Timer(0.2, os.kill, (the_program(), signal.SIGKILL)).start()
-            with self.assertRaises(Ended):
-                graph.distances([0] * 20000)
-            self.assertEqual(graph.distance(0, n - 1), n - 1)
+            threading.Timer(0.05, os.kill, (the_program(), signal.SIGKILL)).start()
+            with self.assertLogs("hollowbowl"):
+                rows = graph.distances([0] * 40)
+            self.assertTrue(all(ints(row) == list(range(n)) for row in rows))
 
     def test_killed_before_an_add(self):
         with Graph([0], [1], [3], 3) as graph:

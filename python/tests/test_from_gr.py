@@ -12,7 +12,7 @@ import warnings
 from common import Case, ints, the_program
 from fake import Fake
 
-from hollowbowl import BadGraph, Ended, Graph, GraphChanged, ProgramTooOld
+from hollowbowl import BadGraph, Graph, GraphChanged, ProgramTooOld
 
 SIX = """c a graph
 p sp 6 8
@@ -167,8 +167,6 @@ class Files(Case):
             self.assertEqual((ints(graph.levels(0)), ints(graph.components())), ([0, 1, 2], [0, 0, 0]))
             self.assertEqual((graph.totals(0), ints(graph.distances(0))), ((3, 20, 13, 2), [0, 7, 13]))
             os.kill(the_program(), signal.SIGKILL)
-            with self.assertRaises(Ended):
-                graph.distances(0)
             for _ in range(2):
                 with self.assertRaises(GraphChanged):
                     graph.distances(0)
@@ -182,8 +180,6 @@ class Files(Case):
         times = self.time
         with Graph.from_gr(self.path) as graph:
             os.kill(the_program(), signal.SIGKILL)
-            with self.assertRaises(Ended):
-                graph.levels(0)
             for text in ("p sp 3 1\na 1 2 7\nc 2 3 6\n", "p sp 3 2\na 1 2 7\na 2 9 6\n", "p sp 3 3\na 1 2 7\na 2 3 6\n", CHAIN):
                 self.write(text)
                 os.utime(self.path, ns=(times, times))
@@ -209,8 +205,6 @@ class Files(Case):
             self.write(SIX)
             self.assertEqual((graph.totals(0), graph.m), ((3, 12, 7, 1), 3))
             os.kill(the_program(), signal.SIGKILL)
-            with self.assertRaises(Ended):
-                graph.distance(0, 2)
             self.assertEqual(graph.distance(0, 2), 5)
 
 

@@ -79,15 +79,14 @@ class One(Case):
             number, other = the_program(), []
 
             def told(done, _):
-                if done == 1:
+                if done == 1 and not other:
                     other.append(asked(lambda: graph.distance(0, 2)))
                     os.kill(number, signal.SIGKILL)
 
-            with mock.patch.object(hollowbowl._asking.Sizes, "of", lambda *_: 1), self.assertRaises(Ended) as caught:
-                graph.totals([0] * self.COUNT, progress=told)
-            self.assertEqual(caught.exception.status, -9)
-            self.assertIn(other[0]()[0], (13, Ended))
-            self.assertEqual(graph.distance(0, 2), 13)
+            with mock.patch.object(hollowbowl._asking.Sizes, "of", lambda *_: 1), self.assertLogs("hollowbowl"):
+                found = graph.totals([0] * self.COUNT, progress=told)
+            self.assertEqual([each.sum for each in found], [20] * self.COUNT)
+            self.assertEqual(other[0]()[0], 13)
 
 
 class Programs(Case):
@@ -188,15 +187,9 @@ class Programs(Case):
         graph.add([0], [2], [5])
         for place, number in enumerate(numbers):
             os.kill(number, signal.SIGKILL)
-            faults = 0
             for _ in range(9):
                 for ask in (far, lambda: graph.distance(0, 2)):
-                    try:
-                        self.assertEqual(ask(), 5)
-                    except Ended as fault:
-                        self.assertEqual(fault.status, -9)
-                        faults += 1
-            self.assertLessEqual(faults, 1, place)
+                    self.assertEqual(ask(), 5, place)
         graph.restart()
         self.assertEqual([far() for _ in range(4)] + [graph.distance(0, 2)], [5] * 5)
         self.assertFalse(set(numbers) & set(children()))

@@ -143,8 +143,6 @@ class Refusals(Case):
             graph._names.n = 2
             self.assertEqual((ints(graph.levels(0)), ints(graph.distances(0)), graph.m), ([0, 1], [0, 3], 1))
             os.kill(the_program(), signal.SIGKILL)
-            with self.assertRaises(Ended):
-                graph.distance(0, 1)
             self.assertEqual((ints(graph.distances(0)), ints(graph.components()), graph.m), ([0, 3], [0, 0], 1))
 
     def test_memory(self):

@@ -73,6 +73,7 @@ def ask(process, session, question, sizes, exchange, between=lambda: None):
 
     Another may be asked `between` requests, while the program waits.
     """
+    question.begin()
     part = _Part(question, 0, sizes)
     part.send(process)
     while part is not None:

@@ -11,11 +11,14 @@ from ._errors import Ended, GraphChanged, OutOfMemory
 from ._kept import Columns
 from ._listing import numbers_of
 from ._names import Names
-from ._numbers import INF, MOST_VERTICES, MOST_WEIGHT, as_cost, as_floats, as_seconds, labels_of, numpy
+from ._numbers import INF, MOST_VERTICES, MOST_WEIGHT, as_cost, as_floats, as_seconds, labels_of, numpy, picked
 from ._stand import scaled
 
 # So many sources are solved one by one, and so many ranks there are at least.
 _FEW, _RANKS = 4, 64
+
+# A whole row is taken if more of the vertices than one in so many are targets: mostly all of the graph is gone through.
+_PART = 50
 
 
 class Nearest(Asked):
@@ -63,7 +66,10 @@ class Nearest(Asked):
         spare = self._names.n
         arcs = [(spare, source, rank) for rank, source in enumerate(sources)]
         with other.changed(add=arcs, directed=True, timeout=timeout):
-            labels = other.matrix([spare], targets, timeout=timeout)[0]
+            if len(targets) > spare // _PART:
+                labels = picked(other.distances(spare, timeout=timeout), targets)
+            else:
+                labels = other.matrix([spare], targets, timeout=timeout)[0]
         return _parted(labels, ranks, sources)
 
     def _ranked(self, count, hops, to, timeout):
@@ -94,7 +100,6 @@ class Nearest(Asked):
     def _one_by_one(self, targets, sources, hops, to, timeout):
         """The same by a row from each source in turn."""
         best, winners = labels_of([INF] * len(targets)), numbers_of([-1] * len(targets))
-        targets = targets if numpy is not None else list(targets)
 
         def take(source, labels):
             if numpy is not None:

@@ -153,8 +153,9 @@ class _Other(_Worker):
 
     def ask(self, question, exchange):
         """Asks a question, unless its caller has gone before. Gives True if that is put off."""
-        if exchange.is_left:
-            return False
+        return not exchange.is_left and self._session.again(self._try, question, exchange)
+
+    def _try(self, question, exchange):
         try:
             self._session.process()
         except Unsettled:

@@ -68,6 +68,8 @@ class Process:
         self._is_over = False
         self._end = None
         self._data, self._at = b"", 0
+        #: Whether it is killed on purpose.
+        self.is_given_up = False
         #: How many lines were written.
         self.lines = 0
 

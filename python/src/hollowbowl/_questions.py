@@ -31,6 +31,10 @@ class Question:
     items = 1
     most_bytes = 1 << 40
 
+    def begin(self):
+        """Forgets what was found: it is asked from its first item on."""
+        self.found = []
+
     def is_near(self):
         return self.count == 1 and self.form in _NEAR
 
@@ -98,7 +102,6 @@ class Totals(Question):
     def __init__(self, kind, sources):
         self.kind = kind
         self.count = len(sources)
-        self.found = []
         self._sources = sources
 
     def request(self, first, last):
@@ -172,7 +175,6 @@ class Walks(Pairs):
     def __init__(self, kind, sources, targets):
         self.kind = kind
         self.count = len(sources)
-        self.found = []
         self._sources, self._targets = sources, targets
 
     def request(self, first, last):
@@ -239,7 +241,6 @@ class Near(Question):
     def __init__(self, kind, sources, bound):
         self.kind = kind
         self.count = len(sources)
-        self.found = []
         self.sources, self._bound = sources, bound
 
     def request(self, first, last):
@@ -257,7 +258,6 @@ class Between(Question):
 
     def __init__(self, tails, heads):
         self.count = len(tails)
-        self.found = []
         self._tails, self._heads = tails, heads
 
     def request(self, first, last):

@@ -1,5 +1,6 @@
 """The program of a graph: how it begins, is told arcs, and ends."""
 
+import logging
 import re
 import threading
 
@@ -9,6 +10,8 @@ from ._log import Log
 from ._marked import GOES_ON, MarkedText
 from ._process import Process, bad_graph, program
 from ._text import MOST_ITEMS
+
+logger = logging.getLogger("hollowbowl")
 
 # How long a program that closed its pipes may take to end by itself, and so to have a status of its own.
 _MOMENT = 1
@@ -42,6 +45,8 @@ class Session:
         self._process = None
         # The status and the words of a program after which no other begins.
         self._last = None
+        #: The fault of a program that was killed by others, until another has begun.
+        self.lost = None
 
     # ---- for any thread
 
@@ -49,6 +54,7 @@ class Session:
         """Kills the program, if there is one, and gives it."""
         process = self._process
         if process is not None:
+            process.is_given_up = True
             process.kill()
         return process
 
@@ -91,6 +97,9 @@ class Session:
                 raise
             if not self.is_kept:
                 self.kept.close()
+            if self.lost is not None:
+                logger.warning("a program with %d arcs was begun again: %s", self.m, self.lost)
+                self.lost = None
         return self._process
 
     def restart(self, process):
@@ -103,6 +112,15 @@ class Session:
         """Ends the program, and closes the file."""
         self._drop()
         self.kept.close()
+
+    def again(self, work, *words):
+        """Does some work; once more if the program was killed by others meanwhile, or before."""
+        try:
+            return work(*words)
+        except Ended:
+            if self.lost is None:
+                raise
+        return work(*words)
 
     def in_step(self, work, *words):
         """Does some work with the program. It goes on after a refusal; after all else a reply may be left of it."""
@@ -127,9 +145,12 @@ class Session:
 
     def _early_end(self, lines=None):
         """The fault of a program that has ended; of one that reads a file, so many lines of it were written."""
+        is_ours = self._process.is_given_up
         status, text = self._drop(_MOMENT)
         if self._why() is not None:
             return self._why()
+        if status < 0 and self.is_kept and not is_ours:
+            self.lost = Ended(status, text)
         if status == 2 and lines is not None:
             return bad_graph(self.kept.path, text, lines)
         return OutOfMemory() if status == 3 else Ended(status, text)

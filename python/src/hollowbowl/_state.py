@@ -36,6 +36,8 @@ class State:
         self.owed = Owed()
         # What came while a far question was under way, and is done after it.
         self._aside = deque()
+        # Whether a near question is asked between requests of another.
+        self._is_between = False
         #: Held while something is asked of the first program.
         self.lock = threading.Lock()
         #: Who answers questions, if there are several programs.
@@ -158,8 +160,13 @@ class State:
 
     def ask(self, question, exchange):
         """Asks a question, unless its caller has gone before. Near ones may come between the requests of a far one."""
-        if not exchange.is_left:
-            self._ask(question, exchange, self._ask_near_ones)
+        if exchange.is_left:
+            return
+        words = question, exchange, self._ask_near_ones
+        if self._is_between:
+            self._ask(*words)
+        else:
+            self.session.again(self._ask, *words)
 
     def _ask(self, question, exchange, between=lambda: None):
         self.session.process()
@@ -176,11 +183,23 @@ class State:
             if exchange is not None and not exchange.is_near:
                 self._aside.append(exchange)
             elif exchange is not None:
-                self.do(exchange, self)
-                exchange.finish()
-                if self.session.has_none():
-                    # The far one has ended with it.
-                    raise copy.copy(exchange.fault)
+                self._ask_near_one(exchange)
+
+    def _ask_near_one(self, exchange):
+        self._is_between = True
+        try:
+            self.do(exchange, self)
+        finally:
+            self._is_between = False
+        if self.session.lost is not None:
+            # Both are asked again, the far one first.
+            fault, exchange.fault = exchange.fault, None
+            self.todo.put(exchange)
+            raise fault
+        exchange.finish()
+        if self.session.has_none():
+            # The far one has ended with it.
+            raise copy.copy(exchange.fault)
 
     def change(self, change, wanted, exchange):
         """Makes a change, whether or not its caller waits. It may want arcs that have to be there."""
