@@ -100,7 +100,11 @@ class Costs(Case):
         for seed in range(30):
             n, arcs = drawn(seed)
             with Graph(*columns(arcs), n) as graph:
-                self.assertEqual(ints(graph.components()), components_of(n, arcs))
+                labels = components_of(n, arcs)
+                self.assertEqual(ints(graph.components()), labels)
+                firsts = sorted(set(labels))
+                count, numbers = graph.components(counted=True)
+                self.assertEqual((count, ints(numbers)), (len(firsts), [firsts.index(label) for label in labels]))
 
     def test_added_arcs(self):
         for seed in range(20):

@@ -9,6 +9,8 @@ import sys
 import tempfile
 import unittest
 
+from common import numpy
+
 import hollowbowl
 
 STUB = os.path.join(os.path.dirname(hollowbowl.__file__), "__init__.pyi")
@@ -62,6 +64,8 @@ class Stub(unittest.TestCase):
 
 
 RIGHT = """
+import numpy
+from numpy.typing import NDArray
 from fractions import Fraction
 from hollowbowl import INF, Graph, NoPath, NotKept, Totals
 graph = Graph([0], [1], [Fraction(1, 2)], scale=10, rounded=True, names=("a", "b"))
@@ -87,8 +91,19 @@ graph.restart(timeout=1.0)
 graph.to_gr("graph.gr")
 print(graph.edges(), graph.neighbors("a"), graph.degrees(to=True), graph.to_scipy(), graph.to_networkx(whole=True))
 print(graph.nearest(graph, ["a"], to=True))
-one_way: bool = Graph([0], [1], directed=False).directed
+one_way: bool = Graph([0], [1], directed=False, workers="auto").directed
 back: Graph = graph.reversed()
+sums: float = graph.distances("a").sum() + graph.matrix(["a"], ["b"], dtype=float)[0, 0] + graph.pairs(["a"], ["b"]).max()
+fewest: NDArray[numpy.uint64] = graph.levels("a")
+levels: int = graph.distance("a", "b", hops=True) + graph.distance_and_path("a", "b", whole=True)[0]
+each: list[Totals] = graph.totals(["a", "b"])
+near: float = graph.closeness("a") + graph.eccentricity("a") + graph.closeness()[0] + graph.eccentricity(["a"])[0]
+labels: NDArray[numpy.int64] = graph.components(counted=True)[1]
+class Sub(Graph):
+    pass
+sub: Sub = Sub.from_gr("graph.gr")
+with Sub([0], [1]) as entered, entered.changed() as still:
+    other_sub: Sub = still
 print(graph.distances("b", to=True), graph.within("b", 0.5, to=True))
 graph.add(["a"], ["b"], directed=False)
 """
@@ -101,10 +116,14 @@ WRONG = (
     "path: str = graph.path('a', 'b')",
     "graph.remove([('a', 'b', 3)])",
     "graph.set_weights([('a', 'b', 3)], missing='ignore')",
+    "Graph([0], [1], workers='many')",
+    "several: Totals = graph.totals(['a'])",
+    "one: list[Totals] = graph.totals('a')",
+    "graph.degrees().append(3)",
 )
 
 
-@unittest.skipIf(importlib.util.find_spec("mypy") is None, "no mypy")
+@unittest.skipIf(importlib.util.find_spec("mypy") is None or numpy is None, "no mypy, or no numpy")
 class Checker(unittest.TestCase):
     """The stub as a type checker takes it."""
 

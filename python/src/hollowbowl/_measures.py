@@ -4,7 +4,7 @@ from typing import Hashable, NamedTuple
 
 from . import _questions
 from ._asked import Asked, kind_of
-from ._numbers import INF, as_cost, as_floats, floats_of, labels_of, numpy
+from ._numbers import INF, as_cost, as_floats, floats_of, labels_of, numbered, numpy
 
 
 class Totals(NamedTuple):
@@ -71,9 +71,14 @@ class Measures(Asked):
             return as_cost(labels[0], divisor)
         return labels_of(labels) if divisor is None else as_floats(labels_of(labels), divisor)
 
-    def components(self, *, timeout=None):
-        """For each vertex the place of the least vertex that arcs join to it, whichever way they point: a row."""
-        return self._ask(_questions.Components(self._names.n), timeout).labels
+    def components(self, *, counted=False, timeout=None):
+        """For each vertex the place of the least vertex that arcs join to it, whichever way they point: a row.
+
+        With `counted=True` how many components there are, and a row of their numbers from 0 on, in the order of their
+        least vertices: as scipy gives them.
+        """
+        labels = self._ask(_questions.Components(self._names.n), timeout).labels
+        return numbered(labels) if counted else labels
 
     def component_count(self, *, timeout=None):
         """The number of weak components."""

@@ -125,6 +125,16 @@ def count_of(column):
     return len(set(column)) if numpy is None else len(numpy.unique(column))
 
 
+def numbered(labels):
+    """How many labels there are of which each is the place of its first, and their numbers from 0 on, in 8 bytes."""
+    if numpy is not None:
+        firsts = numpy.flatnonzero(labels == numpy.arange(len(labels), dtype=numpy.uint64))
+        return len(firsts), numpy.searchsorted(firsts, labels.astype(numpy.int64))
+    numbers = {}
+    found = array("q", [numbers.setdefault(label, len(numbers)) for label in labels])
+    return len(numbers), found
+
+
 def order_of(column):
     """The places of a column in the order of its numbers, equal ones in their own; None if they are in order."""
     if numpy is None:
