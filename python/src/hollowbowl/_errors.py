@@ -85,7 +85,7 @@ class ChangeStays(Error, RuntimeError):
 
 
 class NotKept(Error, RuntimeError):
-    """The graph was made with `keep=False`, so no other program can begin with it."""
+    """The graph was made with `keep=False`, so Python has no arcs for another program, or to give out."""
 
 
 class Refused(Error, ValueError):

@@ -18,7 +18,9 @@ class Stand:
 
     def take(self, session):
         """Takes in what a session has. NotKept if Python keeps no arcs."""
-        session.check_kept()
+        if not session.is_kept:
+            raise NotKept("the graph was made with keep=False, so Python has no arcs of it")
+        session.kept.check()
         self.version = session.version
         if self.version != self._known:
             self.n, self.m, self._kept = session.n, session.m, session.kept
