@@ -11,7 +11,7 @@ from common import Case, columns, components_of, costs_from, ints, levels_from, 
 from fake import fake
 
 import hollowbowl
-from hollowbowl import Ended, Graph, GraphChanged, NoArc, NoVertex, NotKept, OutOfMemory, OutOfStep, ProgramTooOld
+from hollowbowl import Ended, Graph, GraphChanged, NoArc, NoVertex, NotKept, OutOfMemory, OutOfStep, ProgramTooOld, Timeout
 
 # The last two stand side by side.
 ARCS = [(0, 1, 7), (1, 2, 6), (0, 2, 20), (0, 2, 30)]
@@ -178,6 +178,21 @@ class Changes(Case):
                 change()
                 with self.assertRaises(GraphChanged):
                     next(rows)
+
+
+class Late(Case):
+    """What is asked after a change whose time was over."""
+
+    def test_answers_in_turn(self):
+        for programs in (1, 2):
+            with Graph([0, 1], [1, 2], [7, 6], programs=programs) as graph:
+                for count in range(1, 30):
+                    try:
+                        graph.add([0], [2], [9], timeout=1e-6)
+                    except Timeout:
+                        pass
+                    self.assertEqual([*graph.paths([(0, 2)]), ints(next(graph.rows([0]))[1])], [[0, 2], [0, 7, 9]])
+                    self.assertEqual(graph.version, count)
 
 
 class Kept(Case):

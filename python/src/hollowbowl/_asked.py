@@ -28,6 +28,9 @@ class Asked:
     def _each(self, kind, form, count, make, answers, timeout, progress, most=MOST_ITEMS, to=False):
         """The answers for so many items in turn (`Stream`), by requests of a kind and form, of `most` items each."""
         asked, version = self._asked(to, timeout)
+        if not to:
+            # A change whose caller has gone may be under way.
+            version = self._wire.moment(as_seconds(timeout))
         sizes = asked._wire.state.sizes
         size = lambda: min(sizes.size(kind, form), most)
         stream = Stream(asked._wire, count, size, make, answers, lambda: self._wire.version == version)

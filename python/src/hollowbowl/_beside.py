@@ -25,9 +25,7 @@ class Beside(Making):
     def _standing(self, timeout, known=None):
         """What the arcs are made of, unless the version is that which is known."""
         stand = Stand(known)
-        # The program isn't asked, so one thread alone may take it in between the requests of a far question.
-        is_near = True if self._wire.state.pool is None else None
-        self._wire.ask("stand", stand, seconds=as_seconds(timeout), is_near=is_near)
+        self._wire.look("stand", stand, as_seconds(timeout))
         return stand
 
     def _turned(self, stand, seconds, programs):

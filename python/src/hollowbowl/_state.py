@@ -216,6 +216,11 @@ class State:
             self._ask(loan.wanted.question, Exchange(None))
             self.owed.lend(self.session, loan, exchange.caller)
 
+    def moment(self, found, exchange):
+        """Says how many changes were made, once all is undone that is owed to nobody any more."""
+        self.owed.settle(self.session)
+        found.append(self.session.version)
+
     def stand(self, stand, exchange):
         """Says what the arcs are made of, once all is undone that is owed to nobody any more."""
         self.owed.settle(self.session)

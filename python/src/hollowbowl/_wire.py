@@ -87,6 +87,17 @@ class Wire:
             exchange = None
             raise
 
+    def look(self, work, found, seconds):
+        """Has the thread take something in for which no program is asked, once the changes before are made."""
+        # So one that alone uses a program may do it between the requests of a far question.
+        self.ask(work, found, seconds=seconds, is_near=True if self.state.pool is None else None)
+
+    def moment(self, seconds):
+        """The number of changes, those among them that are under way."""
+        found = []
+        self.look("moment", found, seconds)
+        return found[0]
+
     def restart(self, seconds):
         """Kills the program, whatever it does, and begins another."""
         self.check()
