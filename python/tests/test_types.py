@@ -41,7 +41,7 @@ class Stub(unittest.TestCase):
             real = getattr(hollowbowl, name)
             bases = ["tuple" if base.id == "NamedTuple" else base.id for base in stub.bases]
             # What a graph is made of is no part of what the package has.
-            public = [base for base in real.__bases__ if base is not object and base.__name__ not in ("Beside", "Costs", "Paths", "Measures", "Arcs", "Listing", "Nearest")]
+            public = [base for base in real.__bases__ if base is not object and base.__name__ not in ("Beside", "Costs", "Paths", "Measures", "Arcs", "Listing", "Nearest", "Tree")]
             self.assertEqual(bases, [base.__name__ for base in public])
 
     def test_functions(self):
@@ -90,7 +90,7 @@ edges: list[tuple[str, str, float]] = graph.edges_between([("a", "b")])
 graph.restart(timeout=1.0)
 graph.to_gr("graph.gr")
 print(graph.edges(), graph.neighbors("a"), graph.degrees(to=True), graph.to_scipy(), graph.to_networkx(whole=True))
-print(graph.nearest(graph, ["a"], to=True))
+print(graph.nearest(graph, ["a"], to=True), graph.predecessors("a"))
 one_way: bool = Graph([0], [1], directed=False, workers="auto").directed
 back: Graph = graph.reversed()
 sums: float = graph.distances("a").sum() + graph.matrix(["a"], ["b"], dtype=float)[0, 0] + graph.pairs(["a"], ["b"]).max()

@@ -232,6 +232,7 @@ class Graph:
     def paths(
         self, pairs: Any, *, hops: bool = False, missing: None, timeout: _Seconds = None, progress: _Progress = None,
     ) -> Iterator[list[Any] | None]: ...
+    def predecessors(self, source: Any, *, hops: bool = False, timeout: _Seconds = None) -> Any: ...
     @overload
     def totals(  # type: ignore[misc]  # a text is one, though it can be gone through
         self, sources: _One, *, hops: bool = False, to: bool = False, whole: bool = False, timeout: _Seconds = None,

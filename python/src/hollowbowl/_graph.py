@@ -8,9 +8,10 @@ from ._measures import Measures
 from ._nearest import Nearest
 from ._numbers import as_seconds
 from ._paths import Paths
+from ._tree import Tree
 
 
-class Graph(Beside, Costs, Paths, Measures, Arcs, Listing, Nearest):
+class Graph(Beside, Costs, Paths, Measures, Arcs, Listing, Nearest, Tree):
     """A directed graph with whole-number weights from 0 to 2**32 - 1, kept by the program `obim_query`.
 
     Vertices are numbers from 0, or the names that `from_edges` and its kin were given. Threads may ask at the same

@@ -5,7 +5,7 @@ import os
 from array import array
 
 from ._asked import Asked, kind_of
-from ._numbers import floats_of, numpy
+from ._numbers import floats_of, numbers_of, numpy
 from ._questions import Between, Near
 from ._text import graph_text
 
@@ -97,11 +97,6 @@ class Listing(Asked):
             except BaseException:
                 os.unlink(other)
                 raise
-
-
-def numbers_of(column):
-    """A column as whole numbers of 8 bytes, with which one may go on to calculate."""
-    return array("q", column) if numpy is None else numpy.array(column, dtype=numpy.int64)
 
 
 def _decimals(weights, divisor):

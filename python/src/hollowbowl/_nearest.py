@@ -9,9 +9,19 @@ from ._asked import Asked, kind_of
 from ._columns import column, most_of
 from ._errors import Ended, GraphChanged, OutOfMemory
 from ._kept import Columns
-from ._listing import numbers_of
 from ._names import Names
-from ._numbers import INF, MOST_VERTICES, MOST_WEIGHT, as_cost, as_floats, as_seconds, labels_of, numpy, picked
+from ._numbers import (
+    INF,
+    MOST_VERTICES,
+    MOST_WEIGHT,
+    as_cost,
+    as_floats,
+    as_seconds,
+    labels_of,
+    numbers_of,
+    numpy,
+    picked,
+)
 from ._stand import scaled
 
 # So many sources are solved one by one, and so many ranks there are at least.

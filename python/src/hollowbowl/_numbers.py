@@ -168,6 +168,11 @@ def labels_of(numbers):
     return array("Q", numbers) if numpy is None else numpy.array(numbers, dtype=numpy.uint64)
 
 
+def numbers_of(column):
+    """A column as whole numbers of 8 bytes, with which one may go on to calculate."""
+    return array("q", column) if numpy is None else numpy.array(column, dtype=numpy.int64)
+
+
 def floats_of(numbers):
     """A row of floats of these numbers."""
     return array("d", numbers) if numpy is None else numpy.array(numbers, dtype=numpy.float64)
