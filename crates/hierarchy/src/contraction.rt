@@ -19,13 +19,10 @@ const NONE: u32 = u32::MAX;
 /// The turns that a vertex may have, in the mean.
 const TURNS_A_VERTEX: usize = 64;
 
-/// The edges that may be looked at for each arc of the graph.
-const STEPS_AN_ARC: usize = 1 << 10;
-
 /// The shortcuts that may be added for each arc of the graph.
 const SHORTCUTS_AN_ARC: usize = 6;
 
-/// So many steps and shortcuts are allowed whatever the graph is.
+/// So many shortcuts are allowed whatever the graph is.
 const ANYWAY: usize = 1 << 10;
 
 /// The most ways over a vertex that are looked at.
@@ -53,12 +50,19 @@ struct Contraction {
     next: u32,
     /// The shortcuts that were added.
     added: usize,
+    /// The edges that may be looked at.
+    most_steps: usize,
 }
 
-/// Contracts all vertices of a graph, and returns the parts of a hierarchy. Returns `None` if the graph grows too dense, which
-/// road networks don't, or if a shortcut weighs 2^32 or more. Takes some 300 bytes a vertex for a while.
-pub fn contracted(alloc: Global, csr: &Csr) -> Result<Option<HierarchyParts>, Memory> {
-    let mut contraction = Contraction::new(alloc, csr)?;
+/// Contracts all vertices of a graph, and returns the parts of a hierarchy. Returns `None` if that takes a look at more than
+/// `most_steps` edges; if the graph grows too dense, which road networks don't; or if a shortcut weighs 2^32 or more. Takes some
+/// 300 bytes a vertex for a while.
+pub fn contracted(
+    alloc: Global,
+    csr: &Csr,
+    most_steps: usize,
+) -> Result<Option<HierarchyParts>, Memory> {
+    let mut contraction = Contraction::new(alloc, csr, most_steps)?;
     contraction.run(csr)?;
     if contraction.next != csr.n() {
         return Ok(None);
@@ -73,7 +77,7 @@ pub fn contracted(alloc: Global, csr: &Csr) -> Result<Option<HierarchyParts>, Me
 }
 
 impl Contraction {
-    fn new(alloc: Global, csr: &Csr) -> Result<Contraction, Memory> {
+    fn new(alloc: Global, csr: &Csr, most_steps: usize) -> Result<Contraction, Memory> {
         let n = csr.n();
         let mut out = EdgeRows::new(alloc, n)?;
         let mut into = EdgeRows::new(alloc, n)?;
@@ -91,12 +95,13 @@ impl Contraction {
             queue: BinaryHeap::new(alloc),
             next: 0,
             added: 0,
+            most_steps,
         })
     }
 
     /// Contracts vertices until none is left, or it takes too long.
     fn run(&mut self, csr: &Csr) -> Result<(), Memory> {
-        self.begin(csr.n(), csr.arc_count())?;
+        self.begin(csr.n())?;
         let turns = (csr.n() as usize).saturating_mul(TURNS_A_VERTEX);
         for _ in 0..turns {
             let Some(Reverse((_, v))) = self.queue.pop() else {
@@ -110,16 +115,21 @@ impl Contraction {
         Ok(())
     }
 
-    /// Lets each vertex wait by its importance.
-    fn begin(&mut self, n: u32, arcs: usize) -> Result<(), Memory> {
+    /// Lets each vertex wait by its importance as it seems without a search. It is looked at again in its turn.
+    fn begin(&mut self, n: u32) -> Result<(), Memory> {
         for v in 0..n {
-            if self.is_too_dense(n, arcs) {
-                return Ok(());
-            }
-            let priority = self.priority(v)?;
+            let priority = self.guess(v);
             self.queue.push(Reverse((priority, v)))?;
         }
         Ok(())
+    }
+
+    /// The importance of a vertex if each way over it needs a shortcut.
+    fn guess(&self, v: u32) -> u64 {
+        let (out, into) = (self.out.row(v).len(), self.into.row(v).len());
+        let degree = out.saturating_add(into).max(1) as u64;
+        let ways = out.saturating_mul(into) as u64;
+        ways.saturating_mul(2000) / degree
     }
 
     /// Tells if contraction takes too long, or leaves too many edges among the vertices that are left.
@@ -128,7 +138,7 @@ impl Contraction {
         let steps = steps.saturating_add(self.search.steps);
         let allowed = arcs.saturating_add(ANYWAY);
         let early = u64::from(self.next) < u64::from(n) / 5 * 4;
-        steps > allowed.saturating_mul(STEPS_AN_ARC)
+        steps > self.most_steps
             || self.added > allowed.saturating_mul(SHORTCUTS_AN_ARC)
             || (early && self.added > allowed)
     }

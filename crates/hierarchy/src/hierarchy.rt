@@ -17,6 +17,7 @@ use csr_graph::Csr;
 use near_labels::SearchSpace;
 use route_walks::INF;
 use std::alloc::Global;
+use std::fmt;
 use std::marker::Model;
 use std::snapshot::Snapshot;
 
@@ -42,6 +43,14 @@ impl Model for Hierarchy {
     } };
 
     ghost invariant = { λ h. IsHierarchyOf h.of.value h.places.items h.up h.down };
+}
+
+/// Says how many arcs it has.
+impl fmt::Debug for Hierarchy {
+    fn fmt<W: fmt::Write>(&self, f: &mut fmt::Formatter<W>) -> fmt::Result {
+        let arcs = self.up.arc_count().saturating_add(self.down.arc_count());
+        write!(f, "Hierarchy({arcs})")
+    }
 }
 
 impl Hierarchy {

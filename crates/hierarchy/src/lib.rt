@@ -6,7 +6,7 @@
 //!
 //! ```text
 //! let csr = Csr::build(alloc, 3, &arcs![(0, 1, 7), (1, 2, 5), (0, 2, 20)])?;
-//! if let Some(parts) = contracted(alloc, &csr)? {
+//! if let Some(parts) = contracted(alloc, &csr, usize::MAX)? {
 //!     if let Some(hierarchy) = Hierarchy::checked(alloc, &csr, parts) {
 //!         hierarchy.cost_between(&mut forward, &mut backward, 0, 2); // Some(12)
 //!         hierarchy.cost_between(&mut forward, &mut backward, 2, 0); // Some(INF)
@@ -15,7 +15,7 @@
 //! ```
 //!
 //! Costs to many targets, or to all vertices, come from a `TargetSweep`: a search upward from each source, and one pass over
-//! the places above the targets.
+//! the places above the targets. `Hierarchy::costs_to` takes whichever way is shorter for the targets of one source.
 //!
 //! Graphs that grow too dense as they are contracted, as random ones do, are given up. Hierarchies serve those with small
 //! cuts, as road networks have them.
@@ -34,6 +34,7 @@ mod placing;
 mod probe;
 mod rising;
 mod rows;
+mod search;
 mod toward;
 mod witness;
 

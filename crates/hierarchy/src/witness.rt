@@ -7,7 +7,7 @@ use std::cmp::Reverse;
 use std::collections::BinaryHeap;
 
 /// The most vertices that a search settles.
-const SETTLED: usize = 60;
+const SETTLED: usize = 24;
 
 /// The most edges of a walk that is looked for.
 const HOPS: u32 = 5;

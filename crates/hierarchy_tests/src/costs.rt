@@ -155,7 +155,7 @@ pub(crate) fn are_all_least(
 pub(crate) fn hierarchy_of(alloc: Global, csr: &Csr) -> Result<Option<Hierarchy>, Memory>
     ensures { IfOk result (λ made. IfSome made (λ hierarchy. hierarchy.graph ≡ csr.now)) }
 {
-    match contracted(alloc, csr)? {
+    match contracted(alloc, csr, usize::MAX)? {
         Some(parts) => Ok(Hierarchy::checked(alloc, csr, parts)),
         None => Ok(None),
     }
@@ -199,7 +199,7 @@ const CIRCLE: [ArcRec; 3] = arcs![(0, 1, 4294967295), (1, 2, 4294967295), (2, 0,
 fn of_great_weights(rt: HostRuntime) -> Result<(), Fail> {
     let alloc = rt.alloc();
     let circle = build(&rt, alloc, 3, &CIRCLE)?;
-    assert!(rt; contracted(alloc, &circle)?.is_none());
+    assert!(rt; contracted(alloc, &circle, usize::MAX)?.is_none());
     assert!(rt; is_right(&rt, alloc, 5, &STAR)?);
     Ok(())
 }
@@ -215,7 +215,7 @@ const DENSE: Kind = Kind {
 fn dense_graphs_are_given_up(rt: HostRuntime) -> Result<(), Fail> {
     let alloc = rt.alloc();
     let csr = build(&rt, alloc, DENSE.n, &draw_arcs(alloc, DENSE, 1)?)?;
-    assert!(rt; contracted(alloc, &csr)?.is_none());
+    assert!(rt; contracted(alloc, &csr, usize::MAX)?.is_none());
     Ok(())
 }
 

@@ -150,7 +150,7 @@ fn is_refused(
     change: Change,
 ) -> Result<Option<bool>, Fail> {
     let mut room = room_of(alloc, csr.n())?;
-    let Some(mut parts) = contracted(alloc, csr)? else {
+    let Some(mut parts) = contracted(alloc, csr, usize::MAX)? else {
         return Ok(None);
     };
     if !spoil(alloc, &mut parts, place, index, change)? {

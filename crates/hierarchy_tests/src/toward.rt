@@ -2,7 +2,7 @@
 
 ghost use Rattle.std.specs.Prelude.{◌≡◌, ◌<◌, true, All};
 
-use crate::costs::{KINDS, SEEDS, hierarchy_of};
+use crate::costs::{KINDS, Room, SEEDS, hierarchy_of, room_of};
 use crate::plain::{build, costs_from, draw_arcs};
 use csr_graph::Csr;
 use hierarchy::{Hierarchy, TargetSweep};
@@ -67,6 +67,88 @@ fn are_least_to(
         }
     }
     Ok(true)
+}
+
+/// The costs from a vertex to a list.
+pub(crate) fn list_from(
+    rt: &impl Abort,
+    alloc: Global,
+    csr: &Csr,
+    hierarchy: &Hierarchy,
+    room: &mut Room,
+    s: u32,
+    targets: &[u32],
+) -> Option<Vec<u64>>
+    requires { hierarchy.now.graph ≡ csr.now }
+{
+    let n = csr.n();
+    assert!(rt; s < n && are_below(n, targets) && room.forward.vertices() == n as usize);
+    assert!(rt; room.backward.vertices() == n as usize);
+    hierarchy.costs_to(alloc, &mut room.forward, &mut room.backward, s, targets)
+}
+
+/// Tells if the costs from a vertex to each list are those of the plain way.
+fn are_least_from(
+    rt: &impl Abort,
+    alloc: Global,
+    csr: &Csr,
+    hierarchy: &Hierarchy,
+    room: &mut Room,
+    s: u32,
+    lists: &[Vec<u32>],
+) -> Result<bool, Memory>
+    requires { hierarchy.now.graph ≡ csr.now }
+{
+    assert!(rt; s < csr.n());
+    let costs = costs_from(alloc, csr, s)?;
+    for list in lists {
+        match list_from(rt, alloc, csr, hierarchy, room, s, list) {
+            Some(found) if are_those(&found, list, &costs) => {}
+            _ => return Ok(false),
+        }
+    }
+    Ok(true)
+}
+
+/// Tells if the costs in a graph are right from each vertex to each list.
+fn are_right_to(
+    rt: &impl Abort,
+    alloc: Global,
+    n: u32,
+    arcs: &[ArcRec],
+    lists: &[Vec<u32>],
+) -> Result<bool, Fail> {
+    let csr = build(rt, alloc, n, arcs)?;
+    let mut room = room_of(alloc, n)?;
+    let Some(hierarchy) = hierarchy_of(alloc, &csr)? else {
+        return Ok(false);
+    };
+    for s in 0..n {
+        if !are_least_from(rt, alloc, &csr, &hierarchy, &mut room, s, lists)? {
+            return Ok(false);
+        }
+    }
+    Ok(true)
+}
+
+// Lists for which a sweep is made, a short one, and none.
+#[test]
+fn to_lists(rt: HostRuntime) -> Result<(), Fail> {
+    let alloc = rt.alloc();
+    let kind = KINDS[9];
+    let mut lists = Vec::new(alloc);
+    lists.push((0..kind.n).collect(alloc)?)?;
+    lists.push((0..kind.n).rev().collect(alloc)?)?;
+    lists.push((0..kind.n).filter(|v| *v % 5 == 1).collect(alloc)?)?;
+    lists.push(Vec::new(alloc))?;
+    for seed in 0..SEEDS {
+        let arcs = draw_arcs(alloc, kind, seed)?;
+        assert!(rt;
+            are_right_to(&rt, alloc, kind.n, &arcs, &lists)?,
+            "seed {seed}"
+        );
+    }
+    Ok(())
 }
 
 /// Tells if all costs in a graph are right, to all vertices, to one of three, to one twice, and to none.

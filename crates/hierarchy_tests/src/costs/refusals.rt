@@ -2,7 +2,7 @@
 
 use crate::costs::{hierarchy_of, room_of};
 use crate::plain::build;
-use crate::toward::{are_below, row_from};
+use crate::toward::{are_below, list_from, row_from};
 use hierarchy::{Hierarchy, TargetSweep, contracted};
 use route_walks::{EXAMPLE_ARCS, Memory, refusable, tried_again};
 use std::test::Fail;
@@ -11,7 +11,7 @@ use std::test::Fail;
 fn of_contracted(rt: HostRuntime) -> Result<(), Fail> {
     let alloc = rt.alloc();
     let csr = build(&rt, alloc, 6, &EXAMPLE_ARCS)?;
-    let parts = tried_again!(rt, alloc, Memory, contracted(alloc, &csr));
+    let parts = tried_again!(rt, alloc, Memory, contracted(alloc, &csr, usize::MAX));
     assert!(rt; parts.is_some());
     Ok(())
 }
@@ -21,8 +21,8 @@ fn of_contracted(rt: HostRuntime) -> Result<(), Fail> {
 fn of_hierarchy_checked(rt: HostRuntime) -> Result<(), Fail> {
     let alloc = rt.alloc();
     let csr = build(&rt, alloc, 6, &EXAMPLE_ARCS)?;
-    let again = contracted(alloc, &csr)?;
-    let Some(parts) = contracted(alloc, &csr)? else {
+    let again = contracted(alloc, &csr, usize::MAX)?;
+    let Some(parts) = contracted(alloc, &csr, usize::MAX)? else {
         return Ok(());
     };
     let checked = refusable!(alloc, Hierarchy::checked(alloc, &csr, parts));
@@ -88,5 +88,26 @@ fn of_search_space_costs_above(rt: HostRuntime) -> Result<(), Fail> {
         None => space.costs_above(alloc, &csr, &csr, 0, &[], &[]),
     };
     assert!(rt; again.is_some_and(|costs| costs.is_empty()));
+    Ok(())
+}
+
+#[test]
+fn of_hierarchy_costs_to(rt: HostRuntime) -> Result<(), Fail> {
+    let alloc = rt.alloc();
+    let csr = build(&rt, alloc, 6, &EXAMPLE_ARCS)?;
+    let mut room = room_of(alloc, 6)?;
+    let Some(hierarchy) = hierarchy_of(alloc, &csr)? else {
+        return Ok(());
+    };
+    let targets = vec![in alloc; 5_u32; 20]?;
+    let found = refusable!(
+        alloc,
+        list_from(&rt, alloc, &csr, &hierarchy, &mut room, 0, &targets)
+    );
+    let again = match found {
+        Some(costs) => Some(costs),
+        None => list_from(&rt, alloc, &csr, &hierarchy, &mut room, 0, &targets),
+    };
+    assert!(rt; again.is_some_and(|costs| costs.iter().all(|cost| *cost == 15)));
     Ok(())
 }
