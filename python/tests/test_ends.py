@@ -72,11 +72,17 @@ class Ends(Case):
                 self.assertTrue(os.path.exists(mark))
 
     def test_killed_while_it_answers(self):
-        n = 3000
+        n, left = 3000, []
+
+        def kill(_done, _all):
+            if left:
+                os.kill(left.pop(), signal.SIGKILL)
+
         with Graph(range(n - 1), range(1, n), [1] * (n - 1)) as graph:
-            threading.Timer(0.05, os.kill, (the_program(), signal.SIGKILL)).start()
+            left.append(the_program())
             with self.assertLogs("hollowbowl"):
-                rows = graph.distances([0] * 40)
+                rows = graph.distances([0] * 40, progress=kill)
+            self.assertEqual(left, [])
             self.assertTrue(all(ints(row) == list(range(n)) for row in rows))
 
     def test_killed_before_an_add(self):
