@@ -242,7 +242,9 @@ def main():
         server.terminate()
         _, said = server.communicate(timeout=30)
     expect(f"status {server.returncode}", server.returncode == 0)
-    expect(f"said {said!r}", re.fullmatch(r"serve.py: process \d+ has ended; another begins\n", said))
+    again = r"a program with 8 arcs was begun again: the program was killed \(signal 9\), perhaps for want of memory\n"
+    ended = r"serve.py: process \d+ has ended; another begins\n"
+    expect(f"said {said!r}", re.fullmatch(f"({again})+{ended}", said))
     expect("left behind", within_seconds(lambda: not any(os.path.exists(f"/proc/{number}") for number in left)))
 
     for words, wanted in REFUSED:
