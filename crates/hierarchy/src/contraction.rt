@@ -22,7 +22,7 @@ const TURNS_A_VERTEX: usize = 64;
 /// The shortcuts that may be added for each arc of the graph.
 const SHORTCUTS_AN_ARC: usize = 6;
 
-/// So many shortcuts are allowed whatever the graph is.
+/// The shortcuts that are allowed whatever the graph is.
 const ANYWAY: usize = 1 << 10;
 
 /// The most ways over a vertex that are looked at.

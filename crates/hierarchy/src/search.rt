@@ -9,7 +9,7 @@ use crate::toward::TargetSweep;
 use near_labels::SearchSpace;
 use std::alloc::Global;
 
-/// So many targets of a source are searched one by one. For more a sweep is made.
+/// The most targets of a source that are searched one by one. For more a sweep is made.
 const MAX_ONE_BY_ONE: usize = 16;
 
 impl Hierarchy {
