@@ -5,9 +5,9 @@ ghost use Rattle.near_labels.specs.UpDown.{HasUpDown};
 ghost use Rattle.csr_graph.specs.Graph.{targets_of};
 ghost use Rattle.hierarchy.specs.Checked.{AreBridged, AreKept, AreMet, HaveRoom};
 
-use crate::parts::HierarchyParts;
 use crate::probe::Probe;
 use crate::rows::leads;
+use contraction::HierarchyParts;
 use csr_graph::{Csr, Target};
 
 /// Tells if walks that meet above cost no more than each arc of the graph.

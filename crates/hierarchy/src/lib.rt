@@ -24,21 +24,16 @@
 #![tactic(auto)]
 
 mod bridges;
-mod contraction;
-mod edges;
 mod hierarchy;
 pub mod laws;
 mod made;
-mod parts;
-mod placing;
 mod probe;
 mod rising;
 mod rows;
 mod search;
 mod toward;
-mod witness;
 
-pub use contraction::contracted;
+pub use contraction::{HierarchyParts, contracted};
+pub use elimination::{eliminated, parts_of};
 pub use hierarchy::Hierarchy;
-pub use parts::HierarchyParts;
 pub use toward::TargetSweep;

@@ -4,8 +4,8 @@ ghost use Rattle.std.specs.Prelude.{◌≡◌, ◌<◌, true, All, slice_index};
 ghost use Rattle.csr_graph.specs.Graph.{targets_of};
 ghost use Rattle.hierarchy.specs.Checked.{HasArc, HaveRoom, IsMade, IsOver};
 
-use crate::parts::HierarchyParts;
 use crate::rows::{is_target, weight_to};
+use contraction::HierarchyParts;
 use csr_graph::Csr;
 
 /// Tells if each arc up costs no less than an arc of the graph, or than two arcs over a lower place.

@@ -4,9 +4,10 @@ ghost use Rattle.std.specs.Prelude.{◌≡◌, ◌<◌, IfOk, IfSome};
 
 mod refusals;
 
+use crate::makers::{MAKERS, Maker, parts_by};
 use crate::plain::{Kind, build, costs_from, draw_arcs};
 use csr_graph::Csr;
-use hierarchy::{Hierarchy, contracted};
+use hierarchy::{Hierarchy, parts_of};
 use near_labels::SearchSpace;
 use route_walks::{ArcRec, INF, Memory, arcs};
 use std::alloc::Global;
@@ -151,23 +152,35 @@ pub(crate) fn are_all_least(
     Ok(true)
 }
 
-/// The hierarchy of a graph that is contracted, if it is.
+/// The hierarchy of a graph, if it has one.
 pub(crate) fn hierarchy_of(alloc: Global, csr: &Csr) -> Result<Option<Hierarchy>, Memory>
     ensures { IfOk result (λ made. IfSome made (λ hierarchy. hierarchy.graph ≡ csr.now)) }
 {
-    match contracted(alloc, csr, usize::MAX)? {
+    match parts_of(alloc, csr, usize::MAX)? {
         Some(parts) => Ok(Hierarchy::checked(alloc, csr, parts)),
         None => Ok(None),
     }
 }
 
-/// Tells if a graph has a hierarchy, which tells all least costs.
-fn is_right(rt: &impl Abort, alloc: Global, n: u32, arcs: &[ArcRec]) -> Result<bool, Fail> {
+/// Tells if a hierarchy of a graph tells all least costs; `None` if no parts of one are made.
+pub(crate) fn is_right(
+    rt: &impl Abort,
+    alloc: Global,
+    maker: Maker,
+    n: u32,
+    arcs: &[ArcRec],
+) -> Result<Option<bool>, Fail> {
     let csr = build(rt, alloc, n, arcs)?;
     let mut room = room_of(alloc, n)?;
-    match hierarchy_of(alloc, &csr)? {
-        Some(hierarchy) => Ok(are_all_least(rt, alloc, &csr, &hierarchy, &mut room)?),
-        None => Ok(false),
+    let Some(parts) = parts_by(alloc, &csr, maker, usize::MAX)? else {
+        return Ok(None);
+    };
+    match Hierarchy::checked(alloc, &csr, parts) {
+        Some(hierarchy) => {
+            let right = are_all_least(rt, alloc, &csr, &hierarchy, &mut room)?;
+            Ok(Some(right))
+        }
+        None => Ok(Some(false)),
     }
 }
 
@@ -177,14 +190,27 @@ fn of_drawn_graphs(rt: HostRuntime) -> Result<(), Fail> {
     for kind in KINDS {
         for seed in 0..SEEDS {
             let arcs = draw_arcs(alloc, kind, seed)?;
-            let right = is_right(&rt, alloc, kind.n, &arcs)?;
-            assert!(rt; right, "{} vertices, seed {seed}", kind.n);
+            assert_right(&rt, alloc, kind.n, &arcs)?;
         }
     }
     Ok(())
 }
 
-/// Ways of the greatest weights over one vertex, which is contracted last.
+/// Asserts that each maker's hierarchy of a graph tells all least costs.
+pub(crate) fn assert_right(
+    rt: &impl Abort,
+    alloc: Global,
+    n: u32,
+    arcs: &[ArcRec],
+) -> Result<(), Fail> {
+    for maker in MAKERS {
+        let right = is_right(rt, alloc, maker, n, arcs)?;
+        assert!(rt; right == Some(true), "{maker:?}: {n} vertices, {arcs:?}");
+    }
+    Ok(())
+}
+
+/// Ways of the greatest weights over one vertex, which comes last.
 const STAR: [ArcRec; 4] = arcs![
     (1, 0, 4294967295),
     (0, 2, 4294967295),
@@ -192,20 +218,20 @@ const STAR: [ArcRec; 4] = arcs![
     (0, 4, 4294967295),
 ];
 
-/// A circle of the greatest weights: whatever is contracted first, a shortcut is too great.
+/// A circle of the greatest weights: whatever comes first, an arc over it is too great.
 const CIRCLE: [ArcRec; 3] = arcs![(0, 1, 4294967295), (1, 2, 4294967295), (2, 0, 4294967295),];
 
 #[test]
 fn of_great_weights(rt: HostRuntime) -> Result<(), Fail> {
     let alloc = rt.alloc();
-    let circle = build(&rt, alloc, 3, &CIRCLE)?;
-    assert!(rt; contracted(alloc, &circle, usize::MAX)?.is_none());
-    assert!(rt; is_right(&rt, alloc, 5, &STAR)?);
-    Ok(())
+    for maker in MAKERS {
+        assert!(rt; is_right(&rt, alloc, maker, 3, &CIRCLE)?.is_none());
+    }
+    assert_right(&rt, alloc, 5, &STAR)
 }
 
-/// A graph in which more and more shortcuts are added.
-const DENSE: Kind = Kind {
+/// A graph in which more and more arcs are added.
+pub(crate) const DENSE: Kind = Kind {
     n: 600,
     arcs: 3600,
     weights: 1000,
@@ -215,7 +241,9 @@ const DENSE: Kind = Kind {
 fn dense_graphs_are_given_up(rt: HostRuntime) -> Result<(), Fail> {
     let alloc = rt.alloc();
     let csr = build(&rt, alloc, DENSE.n, &draw_arcs(alloc, DENSE, 1)?)?;
-    assert!(rt; contracted(alloc, &csr, usize::MAX)?.is_none());
+    for maker in MAKERS {
+        assert!(rt; parts_by(alloc, &csr, maker, usize::MAX)?.is_none());
+    }
     Ok(())
 }
 

@@ -1,4 +1,4 @@
-//! Tests of what the public calls of `hierarchy` do that no contract says, and of the search of `near_labels` that it asks.
+//! Tests of what the public calls of `hierarchy`, `contraction` and `elimination` do that no contract says, and of the search of `near_labels` that it asks.
 //!
 //! A crate of tests is apart, since a crate with tests is proved once more for them.
 #![tactic(auto)]
@@ -7,6 +7,8 @@
 mod above;
 #[cfg(test)]
 mod costs;
+#[cfg(test)]
+mod makers;
 #[cfg(test)]
 mod plain;
 #[cfg(test)]

@@ -36,6 +36,45 @@ pub(crate) fn draw_arcs(alloc: Global, kind: Kind, seed: u64) -> Result<Vec<ArcR
     Ok(arcs)
 }
 
+/// Draws the streets of a square town, of which some are missing and some are one way.
+pub(crate) fn draw_streets(
+    alloc: Global,
+    side: u32,
+    weights: u32,
+    seed: u64,
+) -> Result<Vec<ArcRec>, Memory> {
+    let mut state = seed;
+    let mut arcs = Vec::new(alloc);
+    let count = side.saturating_mul(side);
+    for v in 0..count {
+        if v % side.max(1) != 0 {
+            draw_street(&mut arcs, &mut state, (v, v - 1), weights)?;
+        }
+        if v >= side {
+            draw_street(&mut arcs, &mut state, (v, v - side), weights)?;
+        }
+    }
+    Ok(arcs)
+}
+
+/// Draws a street: in one of eight cases none, and in two of eight one way.
+fn draw_street(
+    arcs: &mut Vec<ArcRec>,
+    state: &mut u64,
+    (u, v): (u32, u32),
+    weights: u32,
+) -> Result<(), Memory> {
+    let kind = draw(state, 8);
+    let weight = draw(state, weights);
+    if kind > 0 {
+        arcs.push(ArcRec::new(u, v, weight))?;
+    }
+    if kind > 2 {
+        arcs.push(ArcRec::new(v, u, weight))?;
+    }
+    Ok(())
+}
+
 pub(crate) fn build(rt: &impl Abort, alloc: Global, n: u32, arcs: &[ArcRec]) -> Result<Csr, Fail>
     ensures { IfOk result (λ csr. csr.n ≡ n) }
 {

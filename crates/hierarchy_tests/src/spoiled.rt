@@ -1,9 +1,10 @@
 //! Parts of a hierarchy with one number spoiled, or one arc left out: they are refused, or tell the same costs.
 
 use crate::costs::{are_all_least, room_of};
+use crate::makers::{MAKERS, Maker, parts_by};
 use crate::plain::build;
 use csr_graph::{Csr, MAX_ARCS, MAX_VERTICES};
-use hierarchy::{Hierarchy, HierarchyParts, contracted};
+use hierarchy::{Hierarchy, HierarchyParts};
 use route_walks::{ArcRec, EXAMPLE_ARCS, Memory, arcs, is_graph};
 use std::alloc::Global;
 use std::process::Abort;
@@ -145,12 +146,13 @@ fn is_refused(
     rt: &impl Abort,
     alloc: Global,
     csr: &Csr,
+    maker: Maker,
     place: (List, Part),
     index: usize,
     change: Change,
 ) -> Result<Option<bool>, Fail> {
     let mut room = room_of(alloc, csr.n())?;
-    let Some(mut parts) = contracted(alloc, csr, usize::MAX)? else {
+    let Some(mut parts) = parts_by(alloc, csr, maker, usize::MAX)? else {
         return Ok(None);
     };
     if !spoil(alloc, &mut parts, place, index, change)? {
@@ -160,7 +162,7 @@ fn is_refused(
         return Ok(Some(true));
     };
     let right = are_all_least(rt, alloc, csr, &hierarchy, &mut room)?;
-    assert!(rt; right, "{place:?} at {index}, {change:?}");
+    assert!(rt; right, "{maker:?}, {place:?} at {index}, {change:?}");
     Ok(Some(false))
 }
 
@@ -169,12 +171,13 @@ fn spoil_all(
     rt: &impl Abort,
     alloc: Global,
     csr: &Csr,
+    maker: Maker,
     place: (List, Part),
     change: Change,
 ) -> Result<(u32, u32), Fail> {
     let (mut refused, mut passed) = (0_u32, 0_u32);
     for index in 0..MOST {
-        match is_refused(rt, alloc, csr, place, index, change)? {
+        match is_refused(rt, alloc, csr, maker, place, index, change)? {
             Some(true) => refused = refused.saturating_add(1),
             Some(false) => passed = passed.saturating_add(1),
             None => {}
@@ -209,13 +212,22 @@ fn are_refused_or_tell_the_same(rt: HostRuntime) -> Result<(), Fail> {
     let alloc = rt.alloc();
     for (n, arcs) in [(6, EXAMPLE_ARCS.as_slice()), (7, TANGLED.as_slice())] {
         let csr = build(&rt, alloc, n, arcs)?;
-        for place in LISTS {
-            let mut refused = 0_u32;
-            for change in CHANGES {
-                refused = refused.saturating_add(spoil_all(&rt, alloc, &csr, place, change)?.0);
-            }
-            assert!(rt; refused > 0, "{place:?}");
+        for maker in MAKERS {
+            assert_seen(&rt, alloc, &csr, maker)?;
         }
+    }
+    Ok(())
+}
+
+/// Asserts that in each list something spoiled is refused.
+fn assert_seen(rt: &impl Abort, alloc: Global, csr: &Csr, maker: Maker) -> Result<(), Fail> {
+    for place in LISTS {
+        let mut refused = 0_u32;
+        for change in CHANGES {
+            let (seen, _) = spoil_all(rt, alloc, csr, maker, place, change)?;
+            refused = refused.saturating_add(seen);
+        }
+        assert!(rt; refused > 0, "{maker:?}, {place:?}");
     }
     Ok(())
 }
@@ -225,9 +237,12 @@ fn are_refused_or_tell_the_same(rt: HostRuntime) -> Result<(), Fail> {
 fn each_lower_weight_is_refused(rt: HostRuntime) -> Result<(), Fail> {
     let alloc = rt.alloc();
     let csr = build(&rt, alloc, 7, &TANGLED)?;
-    for list in [ArcsUp, ArcsDown] {
-        let (refused, passed) = spoil_all(&rt, alloc, &csr, (list, Weight), Change::Less)?;
-        assert!(rt; refused > 5 && passed == 0);
+    for maker in MAKERS {
+        for list in [ArcsUp, ArcsDown] {
+            let place = (list, Weight);
+            let (refused, passed) = spoil_all(&rt, alloc, &csr, maker, place, Change::Less)?;
+            assert!(rt; refused > 5 && passed == 0);
+        }
     }
     Ok(())
 }

@@ -3,7 +3,8 @@
 use crate::costs::{hierarchy_of, room_of};
 use crate::plain::build;
 use crate::toward::{are_below, list_from, row_from};
-use hierarchy::{Hierarchy, TargetSweep, contracted};
+use contraction::rows_of;
+use hierarchy::{Hierarchy, TargetSweep, contracted, eliminated, parts_of};
 use route_walks::{EXAMPLE_ARCS, Memory, refusable, tried_again};
 use std::test::Fail;
 
@@ -13,6 +14,32 @@ fn of_contracted(rt: HostRuntime) -> Result<(), Fail> {
     let csr = build(&rt, alloc, 6, &EXAMPLE_ARCS)?;
     let parts = tried_again!(rt, alloc, Memory, contracted(alloc, &csr, usize::MAX));
     assert!(rt; parts.is_some());
+    Ok(())
+}
+
+#[test]
+fn of_eliminated(rt: HostRuntime) -> Result<(), Fail> {
+    let alloc = rt.alloc();
+    let csr = build(&rt, alloc, 6, &EXAMPLE_ARCS)?;
+    let parts = tried_again!(rt, alloc, Memory, eliminated(alloc, &csr, usize::MAX));
+    assert!(rt; parts.is_some());
+    Ok(())
+}
+
+#[test]
+fn of_parts_of(rt: HostRuntime) -> Result<(), Fail> {
+    let alloc = rt.alloc();
+    let csr = build(&rt, alloc, 6, &EXAMPLE_ARCS)?;
+    let parts = tried_again!(rt, alloc, Memory, parts_of(alloc, &csr, usize::MAX));
+    assert!(rt; parts.is_some());
+    Ok(())
+}
+
+#[test]
+fn of_rows_of(rt: HostRuntime) -> Result<(), Fail> {
+    let alloc = rt.alloc();
+    let rows = tried_again!(rt, alloc, Memory, rows_of(alloc, 6, &EXAMPLE_ARCS));
+    assert!(rt; rows.is_some());
     Ok(())
 }
 

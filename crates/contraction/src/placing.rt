@@ -1,9 +1,9 @@
 //! The parts of a hierarchy, by the edges that each vertex had when it was contracted.
 
 use crate::edges::{Edge, EdgeRows};
-use crate::parts::HierarchyParts;
-use csr_graph::{Csr, MAX_ARCS, MAX_VERTICES};
-use route_walks::{ArcRec, Memory, is_graph};
+use crate::parts::{HierarchyParts, rows_of};
+use csr_graph::Csr;
+use route_walks::{ArcRec, Memory};
 use std::alloc::Global;
 
 /// The rows of a graph of places, and the origins of their arcs.
@@ -17,10 +17,10 @@ pub(crate) fn parts_of(
     places: Vec<u32>,
 ) -> Result<Option<HierarchyParts>, Memory> {
     let vertices = vertices_of(alloc, &places)?;
-    let Some((up, origins_up)) = rows_of(alloc, out, &vertices, &places)? else {
+    let Some((up, origins_up)) = sorted_rows(alloc, out, &vertices, &places)? else {
         return Ok(None);
     };
-    let Some((down, origins_down)) = rows_of(alloc, into, &vertices, &places)? else {
+    let Some((down, origins_down)) = sorted_rows(alloc, into, &vertices, &places)? else {
         return Ok(None);
     };
     Ok(Some(HierarchyParts {
@@ -47,7 +47,7 @@ fn vertices_of(alloc: Global, places: &[u32]) -> Result<Vec<u32>, Memory> {
 }
 
 /// The rows of these edges by place, the heads of each rising, and the origins of their arcs.
-fn rows_of(
+fn sorted_rows(
     alloc: Global,
     rows: &EdgeRows,
     vertices: &[u32],
@@ -64,10 +64,10 @@ fn rows_of(
         put_row(tail, &row, &mut arcs, &mut origins)?;
         tail = tail.saturating_add(1);
     }
-    if tail > MAX_VERTICES || arcs.len() > MAX_ARCS || !is_graph(tail, &arcs) {
-        return Ok(None);
+    match rows_of(alloc, tail, &arcs)? {
+        Some(rows) => Ok(Some((rows, origins))),
+        None => Ok(None),
     }
-    Ok(Some((Csr::build(alloc, tail, &arcs)?, origins)))
 }
 
 /// Makes `row` the heads, weights and origins of edges, by rising place. Returns false if a weight is too great.

@@ -1,6 +1,8 @@
 //! The parts of a hierarchy.
 
-use csr_graph::Csr;
+use csr_graph::{Csr, MAX_ARCS, MAX_VERTICES};
+use route_walks::{ArcRec, Memory, is_graph};
+use std::alloc::Global;
 
 /// The parts of a hierarchy, by whoever made them. Nothing is known of them until they are checked.
 #[derive(Debug, Drop)]
@@ -18,4 +20,12 @@ pub struct HierarchyParts {
     pub origins_up: Vec<u32>,
     /// As `origins_up`, of the arcs of `down`.
     pub origins_down: Vec<u32>,
+}
+
+/// Puts arcs between `n` places into rows. Returns `None` if one leads elsewhere, or they are too many.
+pub fn rows_of(alloc: Global, n: u32, arcs: &[ArcRec]) -> Result<Option<Csr>, Memory> {
+    if n > MAX_VERTICES || arcs.len() > MAX_ARCS || !is_graph(n, arcs) {
+        return Ok(None);
+    }
+    Ok(Some(Csr::build(alloc, n, arcs)?))
 }
