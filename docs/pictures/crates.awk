@@ -46,10 +46,12 @@ BEGIN {
     # The text, the worklist, the labels and the walks beside one another; above them what joins them.
     place("route_walks", 510)
     place("answer_lines", 190); place("obim_bags", 510); place("csr_graph", 715)
-    place("dimacs_text", 190); place("obim_pool", 510); place("relax_core", 715); place("walk_report", 900)
-    place("request_reader", 90); place("job_reader", 290); place("worklist_tests", 465); place("label_words", 715)
-    place("text_tests", 190); place("obim_engine", 650); place("near_labels", 880)
-    place("engine_tests", 420); place("least_costs", 590); place("graph_tests", 755); place("hierarchy", 920)
+    place("dimacs_text", 190); place("obim_pool", 510); place("relax_core", 675); place("walk_report", 840)
+    place("contraction", 1005)
+    place("request_reader", 90); place("job_reader", 290); place("worklist_tests", 465); place("label_words", 690)
+    place("elimination", 1005)
+    place("text_tests", 190); place("obim_engine", 650); place("near_labels", 850)
+    place("engine_tests", 420); place("least_costs", 590); place("graph_tests", 755); place("hierarchy", 930)
     place("job_answer", 395); place("cost_examples", 560); place("costs_tests", 725); place("hierarchy_tests", 890)
     place("session_answer", 90); place("command_line", 310); place("job_messages", 510)
     place("answer_tests", 190); place("obim_query", 410)
@@ -75,9 +77,9 @@ END {
         }
     }
     height = y(order[1]) + 30
-    print "<svg xmlns=\"http://www.w3.org/2000/svg\" viewBox=\"0 0 1000 " height "\" font-family=\"monospace\" font-size=\"15\">"
+    print "<svg xmlns=\"http://www.w3.org/2000/svg\" viewBox=\"0 0 1090 " height "\" font-family=\"monospace\" font-size=\"15\">"
     print "<defs><marker id=\"head\" viewBox=\"0 0 10 10\" refX=\"10\" refY=\"5\" markerWidth=\"8\" markerHeight=\"8\" orient=\"auto\"><path d=\"M0 0L10 5L0 10z\" fill=\"#777\"/></marker></defs>"
-    print "<rect width=\"1000\" height=\"" height "\" fill=\"white\"/>"
+    print "<rect width=\"1090\" height=\"" height "\" fill=\"white\"/>"
     for (i = 1; i <= crates; i++) {
         count = split(below_of[order[i]], parts, " ")
         for (j = 1; j <= count; j++) if (!follows(order[i], parts[j])) arrow(order[i], parts[j])

@@ -11,7 +11,7 @@ use std::alloc::Global;
 /// No element.
 const NONE: u32 = u32::MAX;
 
-/// Where the entries of a vertex stand: its elements, and behind them its neighbours.
+/// The entries of a vertex: its elements, and behind them its neighbours.
 #[derive(Clone, Copy, Debug)]
 struct Span {
     first: usize,
@@ -190,7 +190,7 @@ fn count_of(length: usize) -> u32 {
     length.min(u32::MAX as usize) as u32
 }
 
-/// Where elements begin and end.
+/// The indices at which elements begin and end.
 fn elements_of(span: Span) -> (usize, usize) {
     (
         span.first,
@@ -198,7 +198,7 @@ fn elements_of(span: Span) -> (usize, usize) {
     )
 }
 
-/// Where neighbours begin and end.
+/// The indices at which neighbours begin and end.
 fn neighbours_of(span: Span) -> (usize, usize) {
     let first = span.first.saturating_add(span.elements as usize);
     (first, first.saturating_add(span.neighbours as usize))

@@ -8,7 +8,7 @@ use route_walks::{ArcRec, Memory};
 use std::alloc::Global;
 use std::test::Fail;
 
-/// Who makes the parts.
+/// A way to make the parts.
 #[derive(Clone, Copy, Debug)]
 pub(crate) enum Maker {
     Contraction,
