@@ -58,7 +58,7 @@ impl QuotientGraph {
             fresh: Vec::new(alloc),
             steps: 0,
         };
-        for v in 0..n.min(reversed.n()) {
+        for v in 0..n {
             graph.add_vertex(v, csr.row(v), reversed.row(v))?;
         }
         graph.seen.fill(NONE);
@@ -111,12 +111,20 @@ impl QuotientGraph {
     pub(crate) fn eliminate(&mut self, v: u32, step: u32) -> Result<(), Memory> {
         set_seen(&mut self.seen, v, step);
         let span = self.span(v);
-        for w in list_at(&self.entries, neighbours_of(span)) {
-            add_member(&mut self.members, &mut self.seen, *w, step)?;
-        }
+        self.take_neighbours(span, step)?;
         self.take_elements(span, step)?;
         self.members.end_row()?;
         self.count_outside(step);
+        Ok(())
+    }
+
+    /// Makes the neighbours of an eliminated vertex members.
+    fn take_neighbours(&mut self, span: Span, step: u32) -> Result<(), Memory> {
+        let neighbours = list_at(&self.entries, neighbours_of(span));
+        self.steps = self.steps.saturating_add(neighbours.len());
+        for w in neighbours {
+            add_member(&mut self.members, &mut self.seen, *w, step)?;
+        }
         Ok(())
     }
 
@@ -146,6 +154,7 @@ impl QuotientGraph {
     /// besides the members are joined to it at most.
     pub(crate) fn renew(&mut self, v: u32, step: u32) -> Result<usize, Memory> {
         let span = self.span(v);
+        self.count(span);
         self.fresh.clear();
         let elements = list_at(&self.entries, elements_of(span));
         let beyond = keep_elements(&mut self.fresh, &self.outside, elements)?;
@@ -157,7 +166,6 @@ impl QuotientGraph {
         let neighbours = list_at(&self.entries, neighbours_of(span));
         keep_neighbours(&mut self.fresh, &self.seen, neighbours, step)?;
         let neighbours = self.fresh.len().saturating_sub(elements);
-        self.steps = self.steps.saturating_add(self.fresh.len());
         put_at(&mut self.entries, span.first, &self.fresh);
         if let Some(place) = self.spans.get_mut(v as usize) {
             *place = Span {
@@ -167,6 +175,12 @@ impl QuotientGraph {
             };
         }
         Ok(beyond.saturating_add(neighbours))
+    }
+
+    /// Counts the entries of a vertex.
+    fn count(&mut self, span: Span) {
+        let entries = u64::from(span.elements) + u64::from(span.neighbours);
+        self.steps = self.steps.saturating_add(entries as usize);
     }
 
     fn span(&self, v: u32) -> Span {
