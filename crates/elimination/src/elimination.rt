@@ -4,7 +4,6 @@
 //! As in Dibbelt, Strasser and Wagner, Customizable Contraction Hierarchies (2014), with an order as in Amestoy, Davis and Duff,
 //! An Approximate Minimum Degree Ordering Algorithm (1996). What it makes is checked, so no contract says anything of it.
 
-use crate::attempt::Attempt;
 use crate::completion::Completion;
 use crate::customizing::customize;
 use crate::metric::Metric;
@@ -25,9 +24,16 @@ const TRIANGLES_AN_ARC: usize = 1000;
 /// The triangles that are allowed whatever the graph is.
 const ANYWAY: usize = 1 << 20;
 
+/// The parts of a hierarchy, if they were made, and the steps that were taken.
+#[derive(Drop)]
+pub(crate) struct Attempt {
+    pub parts: Option<HierarchyParts>,
+    pub steps: usize,
+}
+
 /// Eliminates all vertices of a graph, and returns the parts of a hierarchy. Returns `None` if that takes more than `most_steps`
 /// looks at an entry or a triangle; if the graph grows too dense, which road networks with small cuts don't; or if an arc that
-/// is needed costs 2^32 - 1 or more. Takes some 150 bytes a vertex for a while.
+/// is needed costs 2^32 - 1 or more. Takes some 200 bytes a vertex of a map for a while.
 pub fn eliminated(
     alloc: Global,
     csr: &Csr,

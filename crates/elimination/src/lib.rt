@@ -9,17 +9,17 @@
 //! Stands on `contraction`, on rows of `csr_graph`, and on `route_walks`.
 #![tactic(auto)]
 
-mod attempt;
 mod completion;
 mod customizing;
 mod degrees;
 mod elimination;
 mod metric;
 mod order;
+mod parts;
 mod quotient;
 mod rows;
 mod tree;
 mod way;
 
-pub use attempt::parts_of;
 pub use elimination::eliminated;
+pub use parts::parts_of;

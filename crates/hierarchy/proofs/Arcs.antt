@@ -98,6 +98,26 @@ met-down ups downs u v most has = record {
   cheap = omega arith;
 }
 
+-- and over an arc up from each
+pub met-over : (ups downs : List ArcRec) (u v top a b most : ℕ) → HasArc ups u top a → HasArc downs v top b → a + b ≤ most
+    → HasUpDown ups downs u v most
+met-over ups downs u v top a b most has has' sum = record {
+  top = top;
+  rise = a;
+  fall = b;
+  up = record {
+    walk = has.arc ∷ [];
+    walks = (has.within, has.leaves, has.enters);
+    cheap = omega (arith, has.cheap);
+  };
+  down = record {
+    walk = has'.arc ∷ [];
+    walks = (has'.within, has'.leaves, has'.enters);
+    cheap = omega (arith, has'.cheap);
+  };
+  cheap = sum;
+}
+
 -- a target of each of two rows of a place make a way over it
 pub over-of_targets : (up down : Graph) → IsInRows up → IsInRows down → (v : ℕ) (rises falls : List Target)
     → rises ≡ targets_of up.arcs v → falls ≡ targets_of down.arcs v

@@ -113,7 +113,7 @@ fn is_row_met(probe: &mut Probe, parts: &HierarchyParts, u: u32, add: u32, row: 
     true
 }
 
-/// Tells if walks from `u` and to `v` that meet above cost no more than `most`: none, one arc, or more.
+/// Tells if walks from `u` and to `v` that meet above cost no more than `most`: none, one arc, two, or more.
 fn is_met(probe: &mut Probe, parts: &HierarchyParts, u: u32, v: u32, most: u64) -> bool
     requires room { HaveRoom probe.old parts.now.up parts.now.down }
     requires place { u < probe.old }
@@ -121,7 +121,9 @@ fn is_met(probe: &mut Probe, parts: &HierarchyParts, u: u32, v: u32, most: u64) 
     ensures probe { probe.new ≡ probe.old }
     ensures met { result ≡ true → HasUpDown parts.now.up.arcs parts.now.down.arcs u v most }
 {
-    is_near(&parts.up, &parts.down, u, v, most) || probe.finds(&parts.up, &parts.down, u, v, most)
+    is_near(&parts.up, &parts.down, u, v, most)
+        || is_over_top(&parts.up, &parts.down, u, v, most)
+        || probe.finds(&parts.up, &parts.down, u, v, most)
 }
 
 /// Tells if `u` is `v`, or one arc leads up from `u` to `v` or down, at no more than `most`.
@@ -138,4 +140,21 @@ fn is_near(up: &Csr, down: &Csr, u: u32, v: u32, most: u64) -> bool
         return leads(up.row(u), v, most);
     }
     leads(down.row(v), u, most)
+}
+
+/// Tells if an arc up from `u` and one down to `v` meet, at no more than `most`.
+fn is_over_top(up: &Csr, down: &Csr, u: u32, v: u32, most: u64) -> bool
+    requires vertices { down.now.n ≡ up.now.n }
+    requires place { u < up.now.n }
+    requires other { v < up.now.n }
+    ensures { result ≡ true → HasUpDown up.now.arcs down.now.arcs u v most }
+{
+    let falls = down.row(v);
+    for target in up.row(u) {
+        let weight = u64::from(target.weight);
+        if weight <= most && leads(falls, target.head, most - weight) {
+            return true;
+        }
+    }
+    false
 }

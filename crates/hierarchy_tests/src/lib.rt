@@ -10,6 +10,8 @@ mod costs;
 #[cfg(test)]
 mod makers;
 #[cfg(test)]
+mod making;
+#[cfg(test)]
 mod plain;
 #[cfg(test)]
 mod spoiled;

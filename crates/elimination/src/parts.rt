@@ -1,17 +1,10 @@
 //! Parts by whichever way is shorter.
 
-use crate::elimination::try_elimination;
+use crate::elimination::{Attempt, try_elimination};
 use contraction::{HierarchyParts, contracted};
 use csr_graph::Csr;
 use route_walks::Memory;
 use std::alloc::Global;
-
-/// The parts of a hierarchy, if they were made, and the steps that were taken.
-#[derive(Drop)]
-pub(crate) struct Attempt {
-    pub parts: Option<HierarchyParts>,
-    pub steps: usize,
-}
 
 /// Makes the parts of a hierarchy: by elimination, or by contraction if that gives up. Returns `None` if both give up, as
 /// `eliminated` and `contracted` do. The steps of both count towards `most_steps`.
