@@ -24,6 +24,7 @@ With --streets it is asked by coordinates too, as OSRM is (docs/COOKBOOK.md), of
 
     --port NUMBER        in place of 8080; 0 takes a free one
     --address ADDRESS    in place of 127.0.0.1, which this machine alone can ask
+    --origin ORIGIN      lets pages of a website read answers, as https://maps.example.org; * those of any
     --processes COUNT    how many processes answer (2). Each has programs of its own, and so a graph in memory
 
 Vertices count from 1, as in the file. A question that is none has the status 400, a vertex that is not there 404, and
@@ -35,8 +36,10 @@ its place; if it can't begin, as with a graph that is refused, all end with stat
 Needs the Python package hollowbowl (docs/PYTHON.md), the program, and the scripts beside it.
 """
 
+import argparse
 import json
 import os
+import re
 import signal
 import socket
 import sys
@@ -144,6 +147,8 @@ class Handler(BaseHTTPRequestHandler):
         self.send_response(status)
         self.send_header("Content-Type", "application/json")
         self.send_header("Content-Length", str(len(body)))
+        if self.server.origin:
+            self.send_header("Access-Control-Allow-Origin", self.server.origin)
         self.end_headers()
         self.wfile.write(body)
 
@@ -154,10 +159,10 @@ class Handler(BaseHTTPRequestHandler):
 class Server(ThreadingHTTPServer):
     """One process: it takes requests from a socket that all share, a thread for each, and ends with its parent."""
 
-    def __init__(self, shared, answers):
+    def __init__(self, shared, answers, origin):
         super().__init__(shared.getsockname(), Handler, bind_and_activate=False)
         self.socket.close()
-        self.socket, self.answers, self.parent = shared, answers, os.getppid()
+        self.socket, self.answers, self.origin, self.parent = shared, answers, origin, os.getppid()
 
     def get_request(self):
         try:
@@ -180,7 +185,7 @@ def child(shared, options):
             from street_pages import StreetPages
 
             streets = StreetPages(graph, hollowbowl, options)
-        Server(shared, Answers(graph, hollowbowl, streets)).serve_forever()
+        Server(shared, Answers(graph, hollowbowl, streets), options.origin).serve_forever()
 
 
 def begin(shared, options):
@@ -218,6 +223,12 @@ def keep(shared, options):
             os.waitpid(number, 0)
 
 
+def origin_of(word):
+    if not re.fullmatch(r"\*|https?://[A-Za-z0-9.:\[\]-]+", word):
+        raise argparse.ArgumentTypeError(f"{word!r} is no origin, as https://maps.example.org")
+    return word
+
+
 def parse():
     parser = Arguments(__doc__)
     parser.add_argument("graph")
@@ -229,6 +240,7 @@ def parse():
     parser.add_argument("--programs", type=map_files.number_from(1, 64), default=1)
     parser.add_argument("--port", type=map_files.number_from(0, 65535), default=8080)
     parser.add_argument("--address", default="127.0.0.1")
+    parser.add_argument("--origin", type=origin_of)
     parser.add_argument("--processes", type=map_files.number_from(1, 64), default=2)
     options = parser.parse_args()
     if options.closed and not options.streets:

@@ -6,80 +6,18 @@ refused. Coordinates are LONGITUDE,LATITUDE, and more than one have a semicolon 
 
 import fcntl
 import os
-import re
 import sys
 import threading
-from urllib.parse import parse_qsl, unquote
 
 import isochrone
 import map_files
 from map_files import Refused, as_unit, point
-from nearest import degrees, length
+from nearest import degrees
+from street_questions import PAGE, BadQuestion, asked_options, asked_places, radius_of
+from street_routes import RouteForm, metres_of
 
 MOST_CELLS = 4_000_000  # of a table
-DIGITS = {"polyline": 5, "polyline6": 6}
-# What a question may say beside its places: of each option a pattern of what is kept; others are refused.
-CHOICE = "all|[0-9]{1,9}(;[0-9]{1,9})*"
-COMMON = {"generate_hints": "true|false", "skip_waypoints": "false", "format": "json"}
-OPTIONS = {
-    "route": {
-        **COMMON, "overview": "full|simplified|false", "geometries": "geojson|polyline6?", "steps": "true|false",
-        "alternatives": "false|true|[0-9]", "annotations": "false", "continue_straight": "default|true|false",
-    },
-    "table": {**COMMON, "sources": CHOICE, "destinations": CHOICE, "annotations": "duration"},
-    "nearest": {**COMMON, "number": "1"},
-    "isochrone": {"minutes": r"[0-9]+(\.[0-9]+)?(,[0-9]+(\.[0-9]+)?)*"},
-    "close": {"factor": r"[0-9]+(\.[0-9]+)?"},
-}
-PAGE = re.compile(r"/(route|table|nearest|isochrone|close)/v1/([^/]+)/([^/]+?)(?:\.json)?")
-
-
-class BadQuestion(Exception):
-    """What is wrong with a question: a code of OSRM, and words."""
-
-
-def asked_places(text):
-    """The places of a question, as (latitude, longitude)."""
-    found = []
-    for number, words in enumerate(unquote(text).split(";")):
-        try:
-            longitude, latitude = words.split(",")
-            found.append(degrees(latitude, longitude))
-        except ValueError:
-            raise BadQuestion("InvalidQuery", f"place {number} is not LONGITUDE,LATITUDE: {words}") from None
-    return found
-
-
-def asked_options(page, query):
-    found = {}
-    for key, value in parse_qsl(query, keep_blank_values=True):
-        if key not in OPTIONS[page]:
-            raise BadQuestion("InvalidOptions", f"{key} is none of {', '.join(OPTIONS[page])}")
-        if not re.fullmatch(OPTIONS[page][key], value):
-            raise BadQuestion("InvalidValue", f"{key}={value} is not kept: {OPTIONS[page][key]}")
-        found[key] = value
-    return found
-
-
-def polyline(places, digits):
-    """A line as text, as Google's encoded polylines."""
-    text, last = [], (0, 0)
-    for place in places:
-        now = tuple(round(each * 10**digits) for each in place)
-        for step in (now[0] - last[0], now[1] - last[1]):
-            bits = ~(step << 1) if step < 0 else step << 1
-            while bits >= 0x20:
-                text.append(chr((bits & 0x1F | 0x20) + 63))
-                bits >>= 5
-            text.append(chr(bits + 63))
-        last = now
-    return "".join(text)
-
-
-def geometry(places, form):
-    if form == "geojson":
-        return {"type": "LineString", "coordinates": [point(place) for place in places]}
-    return polyline(places, DIGITS[form])
+MOST_ROUTES = 10_000  # of a table with distances, which wants the route of each cell
 
 
 def factor_of(words):
@@ -194,6 +132,7 @@ class StreetPages:
         names = {}
         for arc in map_files.arcs(options.graph, options.ways, graph.m):
             self.names.append(names.setdefault(arc.name, arc.name))
+        self.form = RouteForm(self.names, self.unit)
         self.closings = Closings(options.closed) if options.closed else None
 
     def answer(self, method, path, query):
@@ -203,7 +142,8 @@ class StreetPages:
             return None
         page, _, places = found.groups()
         try:
-            places, options = asked_places(places), asked_options(page, query)
+            places = asked_places(places)
+            options = asked_options(page, query, len(places))
             if self.closings:
                 self.closings.look(self.graph, self.streets)
             if page == "close":
@@ -215,14 +155,19 @@ class StreetPages:
             code, words = fault.args
             return 400, {"code": code, "message": words}
 
-    def spot(self, here, number=0):
+    def spot(self, here, options, number=0):
+        """The place on a street that stands for one that was asked."""
         found = self.streets.nearest(here, self.is_any)
-        if found is None:
+        radius = radius_of(options, number)
+        if found is None or (radius is not None and found.metres > radius):
             raise BadQuestion("NoSegment", f"no street is near place {number}")
         return found
 
-    def seconds(self, cost):
-        return round(as_unit(cost, self.unit), 1)
+    def waypoints(self, options, **spots):
+        """What is said of the places of a question, by the names of their lists; nothing if the question says so."""
+        if options.get("skip_waypoints") == "true":
+            return {}
+        return {key: [self.waypoint(spot) for spot in own] for key, own in spots.items()}
 
     def waypoint(self, spot, **more):
         arc = next((leg.arc for leg in spot.ends if leg.arc is not None), None)
@@ -232,16 +177,12 @@ class StreetPages:
     def route(self, places, options):
         if len(places) < 2:
             raise BadQuestion("InvalidQuery", "a route wants two places or more")
-        spots = [self.spot(here, number) for number, here in enumerate(places)]
-        form = options.get("geometries", "polyline")
+        spots = [self.spot(here, options, number) for number, here in enumerate(places)]
         routes = [self.leg(start, end) for start, end in zip(spots, spots[1:])]
-        legs = [self.leg_answer(route, options, form) for route in routes]
-        whole = {key: round(sum(leg[key] for leg in legs), 1) for key in ("distance", "duration")}
-        answer = {**whole, "weight": whole["duration"], "weight_name": "duration", "legs": legs}
-        if options.get("overview") != "false":
-            line = [place for route in routes for place in self.line(route.pieces)] or [spots[0].place, spots[-1].place]
-            answer["geometry"] = geometry(line, form)
-        return {"code": "Ok", "routes": [answer], "waypoints": [self.waypoint(spot) for spot in spots]}
+        return {
+            "code": "Ok", "routes": [self.form.answer(routes, spots, options)],
+            **self.waypoints(options, waypoints=spots),
+        }
 
     def leg(self, start, end):
         found = self.streets.route(self.graph, self.hollowbowl, start, end)
@@ -249,55 +190,34 @@ class StreetPages:
             raise BadQuestion("NoRoute", "no route leads from a place to the next")
         return found
 
-    def line(self, pieces):
-        return pieces[0].places[:1] + [place for piece in pieces for place in piece.places[1:]] if pieces else []
-
-    def leg_answer(self, route, options, form):
-        metres = round(metres_of(route.pieces), 1)
-        seconds = self.seconds(route.cost)
-        steps = list(self.steps(route.pieces, form)) if options.get("steps") == "true" else []
-        names = list(dict.fromkeys(self.names[piece.arc] for piece in route.pieces if self.names[piece.arc]))
-        summary = ", ".join(names[:2])
-        return {"distance": metres, "duration": seconds, "weight": seconds, "summary": summary, "steps": steps}
-
-    def steps(self, pieces, form):
-        """The streets of a route in order, and its end."""
-        streets = []
-        for piece in pieces:
-            if not streets or self.names[streets[-1][-1].arc] != self.names[piece.arc]:
-                streets.append([])
-            streets[-1].append(piece)
-        for number, own in enumerate(streets):
-            metres = metres_of(own)
-            kind = "new name" if number else "depart"
-            cost = sum(piece.cost for piece in own)
-            yield self.step(own[0].places[0], kind, self.line(own), (metres, cost), own[0].arc, form)
-        if pieces:
-            end = pieces[-1].places[-1]
-            yield self.step(end, "arrive", [end, end], (0, 0), pieces[-1].arc, form)
-
-    def step(self, place, kind, line, measures, arc, form):
-        """A step of a route, whose measures are its metres and its cost."""
-        metres, cost = measures
-        turn = {"type": kind, "location": point(place), "bearing_before": 0, "bearing_after": 0}
-        seconds = self.seconds(cost)
-        return {
-            "distance": round(metres, 1), "duration": seconds, "weight": seconds, "name": self.names[arc],
-            "mode": "driving", "geometry": geometry(line, form), "maneuver": turn, "intersections": [],
-        }
-
     def table(self, places, options):
         sources, targets = (self.chosen(options.get(key, "all"), places, key) for key in ("sources", "destinations"))
-        if len(sources) * len(targets) > MOST_CELLS:
-            raise BadQuestion("TooBig", f"a table has at most {MOST_CELLS} cells")
-        spots = {number: self.spot(places[number], number) for number in {*sources, *targets}}
+        kinds = options.get("annotations", "duration").split(",")
+        most = MOST_ROUTES if "distance" in kinds else MOST_CELLS
+        if len(sources) * len(targets) > most:
+            raise BadQuestion("TooBig", f"a table has at most {most} cells, of {' and '.join(kinds)}")
+        spots = {number: self.spot(places[number], options, number) for number in {*sources, *targets}}
         starts, ends = ([spots[number] for number in own] for own in (sources, targets))
         costs = self.streets.costs(self.graph, self.hollowbowl, starts, ends)
-        durations = [[None if cell is None else self.seconds(cell[0]) for cell in row] for row in costs]
-        return {
-            "code": "Ok", "durations": durations, "sources": [self.waypoint(spot) for spot in starts],
-            "destinations": [self.waypoint(spot) for spot in ends],
-        }
+        found = self.waypoints(options, sources=starts, destinations=ends)
+        return {"code": "Ok", **self.cells(kinds, costs, starts, ends), **found}
+
+    def cells(self, kinds, costs, starts, ends):
+        """The durations of a table, and the distances along the same routes."""
+        found = {}
+        if "duration" in kinds:
+            found["durations"] = [[cell and self.form.seconds(cell[0]) for cell in row] for row in costs]
+        if "distance" in kinds:
+            found["distances"] = [
+                [cell and self.metres((start, end), cell) for end, cell in zip(ends, row)]
+                for start, row in zip(starts, costs)
+            ]
+        return found
+
+    def metres(self, ends, cell):
+        """The length of the route of a cell; None if a road of it was closed meanwhile."""
+        found = self.streets.route_by(self.graph, self.hollowbowl, ends, cell)
+        return found and round(metres_of(found.pieces), 1)
 
     def chosen(self, text, places, key):
         """The numbers of the places that an option names."""
@@ -309,16 +229,17 @@ class StreetPages:
     def nearest(self, places, options):
         if len(places) != 1:
             raise BadQuestion("InvalidQuery", "nearest wants one place")
-        spot = self.spot(places[0])
+        spot = self.spot(places[0], options)
         nodes = [spot.nodes[0], spot.nodes[-1]]
-        return {"code": "Ok", "waypoints": [self.waypoint(spot, nodes=nodes)]}
+        waypoints = [] if options.get("skip_waypoints") == "true" else [self.waypoint(spot, nodes=nodes)]
+        return {"code": "Ok", "waypoints": waypoints}
 
     def isochrone(self, places, options):
         words = options.get("minutes", "").split(",")
         limits = [round(float(word or 0) * 60 * as_cost(self.unit)) for word in words]
         if len(places) != 1 or not limits[0] or limits != sorted(set(limits)) or limits[-1] >= 1 << 60:
             raise BadQuestion("InvalidQuery", "wanted: one place, and minutes that rise, as minutes=5,10")
-        spot = self.spot(places[0])
+        spot = self.spot(places[0], options)
         costs = self.streets.within(self.graph, spot, limits[-1])
         found = isochrone.pieces(isochrone.reached_streets(self.streets, self.nodes, costs, spot), limits)
         shown = isochrone.features(found, words, spot, self.unit)
@@ -336,10 +257,6 @@ class StreetPages:
         self.closings.write(places[0], factor)
         self.closings.look(self.graph, self.streets)
         return {"code": "Ok", "closings": len(self.closings.applied)}
-
-
-def metres_of(pieces):
-    return sum(length(*pair) for piece in pieces for pair in zip(piece.places, piece.places[1:]))
 
 
 def as_cost(unit):

@@ -253,15 +253,17 @@ class Streets:
     def route(self, graph, hollowbowl, start, end):
         """The cheapest route between two places, or None if there is none."""
         found = self.costs(graph, hollowbowl, [start], [end])[0][0]
-        if found is None:
-            return None
+        return found and self.route_by(graph, hollowbowl, (start, end), found)
+
+    def route_by(self, graph, hollowbowl, ends, found):
+        """The route between two places whose least cost and legs were found; None if a road was closed meanwhile."""
         cost, leave, come = found
         if leave is None:
-            return self.direct(start, end)
+            return self.direct(*ends)
         try:
             path = graph.path(leave.vertex - 1, come.vertex - 1)
         except hollowbowl.NoPath:
-            return None  # a road that was closed meanwhile
+            return None
         arcs = [self.cheapest(tail + 1, head + 1) for tail, head in zip(path, path[1:])]
         # Arcs of no way join the vertices of one node.
         pieces = [Piece(arc, self.line_of(arc), self.weights[arc]) for arc in arcs if not self.is_inside(arc)]

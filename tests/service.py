@@ -37,6 +37,7 @@ REFUSED = [
     (["examples/six.gr", "--processes", "0"], "argument --processes: '0' is no whole number from 1 to 64"),
     (["examples/six.gr", "--port", "65536"], "argument --port: '65536' is no whole number from 0 to 65535"),
     (["examples/six.gr", "--address", "256.0.0.1"], "256.0.0.1:0: "),
+    (["examples/six.gr", "--origin", "example.org"], "argument --origin: 'example.org' is no origin, as https://"),
 ]
 
 
@@ -50,17 +51,30 @@ STREETS = [
     }),
     (f"/route/v1/car/{A};8.004,50.001?steps=true&overview=simplified", {
         "routes 0 legs 0 steps 1 name": "Mill Lane",
+        "routes 0 legs 0 steps 1 maneuver modifier": "right",
+        "routes 0 legs 0 steps 1 intersections 0 bearings": [183, 85],
         "routes 0 legs 0 steps 2 maneuver type": "arrive",
+    }),
+    (f"/route/v1/car/{A};8.004,50.001?annotations=duration,speed&overview=false", {
+        "routes 0 legs 0 annotation": {"duration": [2.3, 14.9, 3.5], "speed": [8.407, 8.326, 8.343]},
     }),
     (f"/table/v1/driving/{A};{B};{C}", {"durations 0": [0, 169.6, 311.7], "durations 1": [176.6, 0, 142.6]}),
     (f"/table/v1/driving/{A};{B};{C}?sources=1&destinations=2;0", {"durations": [[142.6, 176.6]]}),
+    (f"/table/v1/car/{A};{C}?annotations=distance,duration&radiuses=20;unlimited&bearings=0,180;&hints=x;y", {
+        "durations 0": [0, 311.7], "distances 0": [0, 4414.3], "destinations 1 name": "Quarry Road",
+    }),
+    (f"/table/v1/car/{A};{C}?annotations=distance&skip_waypoints=true", {"distances 0 1": 4414.3, "sources": None}),
     (f"/nearest/v1/car/{A}", {"waypoints 0 distance": 13.2, "waypoints 0 nodes": [1001, 1025]}),
     (f"/isochrone/v1/car/{A}?minutes=0.2,1", {"code": "Ok", "features 1 properties": {"minutes": 0.2}}),
     (f"/route/v1/car/{A}", {"code": "InvalidQuery", "message": "a route wants two places or more"}),
     (f"/route/v1/car/{A};9", {"code": "InvalidQuery", "message": "place 1 is not LONGITUDE,LATITUDE: 9"}),
     (f"/route/v1/car/{A};181,5", {"code": "InvalidQuery"}),
-    (f"/route/v1/car/{A};{B}?bearings=1", {"code": "InvalidOptions"}),
-    (f"/table/v1/car/{A};{B}?annotations=distance", {"code": "InvalidValue"}),
+    (f"/route/v1/car/{A};{B}?exclude=toll", {"code": "InvalidOptions"}),
+    (f"/route/v1/car/{A};{B}?bearings=90,20;90,20", {"code": "InvalidValue"}),
+    (f"/route/v1/car/{A};{B}?radiuses=5", {"code": "InvalidOptions", "message": "radiuses has 1 values for 2 places"}),
+    (f"/route/v1/car/{A};{B}?radiuses=13;", {"code": "NoSegment", "message": "no street is near place 0"}),
+    (f"/route/v1/car/{A};{B}?annotations=nodes", {"code": "InvalidValue"}),
+    (f"/table/v1/car/{A};{B}?annotations=speed", {"code": "InvalidValue"}),
     (f"/table/v1/car/{A};{B}?sources=2", {"code": "InvalidOptions"}),
     (f"/isochrone/v1/car/{A}?minutes=5,4", {"code": "InvalidQuery"}),
     (f"/close/v1/car/{A}", {"code": "InvalidQuery"}),
@@ -199,7 +213,7 @@ def check_closings(port, folder, words):
 def check_polyline():
     """The example of Google's page on encoded polylines."""
     sys.path.insert(0, "examples")
-    from street_pages import polyline
+    from street_routes import polyline
 
     text = polyline([(38.5, -120.2), (40.7, -120.95), (43.252, -126.453)], 5)
     expect(f"a line as text: {text}", text == "_p~iF~ps|U_ulLnnqC_mqNvxq`@")
@@ -254,4 +268,5 @@ def main():
         expect(f"{words}: said {said!r}", wanted in said)
 
 
-main()
+if __name__ == "__main__":
+    main()
