@@ -6,7 +6,6 @@ and its line.
 """
 
 import lzma
-import re
 import zlib
 from functools import partial
 from itertools import chain
@@ -20,7 +19,8 @@ from processes import Crew
 PIECE = 1 << 21  # the bytes of a piece, but that it goes on to the next element
 LONGEST = 16  # as many pieces, without an element that begins, are no map
 FIRST = (b"<node ", b"<way ", b"<relation ")
-LAST = re.compile(rb"</osm>[ \t\n]*\Z")
+NEAR = 1 << 16  # the bytes at the end of a piece in which its last element mostly begins
+LAST = b"</osm>"
 DAMAGED = (EOFError, zlib.error, lzma.LZMAError, OSError)
 
 
@@ -66,12 +66,21 @@ class Pieces:
 
     def cut(self):
         """The place where the last element begins, or 0."""
-        return max(0, *map(self.left.rfind, FIRST))
+        near = max(0, len(self.left) - NEAR)
+        at = max(self.left.rfind(each, near) for each in FIRST)
+        return at if at > 0 else max(0, *map(self.left.rfind, FIRST))
+
+
+def before_end(piece):
+    """The part of a piece before the end of the map, or None if it doesn't have that."""
+    piece = piece.rstrip(b" \t\n")
+    return piece[: -len(LAST)] if piece.endswith(LAST) else None
 
 
 def elements_in(piece, wanted):
     """The elements of a piece, or None if it can't be read by itself."""
-    piece = LAST.sub(b"", piece)
+    lines, last = piece.count(b"\n"), before_end(piece)
+    piece = piece if last is None else last
     # A parser takes a carriage return as the end of a line, or as one with a line feed.
     if b"\r" in piece:
         return None
@@ -80,6 +89,7 @@ def elements_in(piece, wanted):
         if not scan(piece.decode(), collector):
             collector = Collector(wanted)
             parser_of(collector).Parse(b"<osm>" + piece + b"</osm>", True)
+        collector.elements.lines = lines
         return collector.elements
     except (expat.ExpatError, KeyError, ValueError, OverflowError):
         return None
@@ -125,7 +135,7 @@ class Reading:
                 if elements is None:
                     return [piece, *(piece for _, piece in crew.waiting), *ahead]
                 self.take(elements)
-                self.lines += piece.count(b"\n")
+                self.lines += elements.lines
                 ahead = ahead or self.give(crew, next(self.pieces, None))
         return ahead or None
 
@@ -135,7 +145,7 @@ class Reading:
         Returns a piece that ends the map though more come, or doesn't though it is the last one.
         """
         while piece is not None:
-            if bool(LAST.search(piece)) != self.pieces.has_ended:
+            if (before_end(piece) is not None) != self.pieces.has_ended:
                 return [piece]
             crew.give(piece)
             piece = next(self.pieces, None) if len(crew.waiting) < crew.count else None

@@ -26,6 +26,15 @@ class Elements:
         self.left_out, self.ferries, self.ferries_left_out = Counter(), 0, Counter()
         self.restrictions, self.restriction_count = restrictions, 0
         self.speeds_not_read, self.others_not_read = Counter(), Counter()
+        self.lines = 0  # of the piece
+
+    def __getstate__(self):
+        # Plain tuples go to another process in less time.
+        return {**vars(self), "roads": list(map(tuple, self.roads))}
+
+    def __setstate__(self, state):
+        vars(self).update(state)
+        self.roads = list(map(Road._make, self.roads))
 
 
 class Collector:

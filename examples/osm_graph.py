@@ -2,18 +2,32 @@
 
 import math
 from array import array
-from bisect import bisect_left
+from bisect import bisect_left, bisect_right
+from collections import namedtuple
 from itertools import accumulate, chain, compress, count, repeat
-from math import asin, cos, sin, sqrt
-from operator import or_
+from math import asin, cos, radians, sin, sqrt
+from operator import and_
 
 from osm_parts import largest_part
 from osm_turns import Rules, Turns
-from processes import in_shares
+from processes import in_shares, in_turn
 
 UNITS = {"metres": (1, False), "decimetres": (10, False), "seconds": (1, True), "deciseconds": (10, True)}
 EARTH = 6371008.8  # the mean radius, in metres
 ROADS, LINES = 4096, 1 << 16  # in a share of the work
+
+# The text of a file: `make` gives the lines of some of so many things, and `rest` comes behind them.
+Text = namedtuple("Text", "many make rest")
+
+
+def encoded(texts):
+    """The bytes of these texts, each piece by piece. They have to be gone through in order."""
+
+    def job(text):
+        return text.many, lambda first, last: text.make(first, last).encode("utf-8", "surrogateescape"), LINES
+
+    pieces = in_turn([job(text) for text in texts])
+    return [chain(own, [text.rest.encode("utf-8", "surrogateescape")]) for own, text in zip(pieces, texts)]
 
 
 def length(one, other):
@@ -24,22 +38,20 @@ def length(one, other):
 
 
 class Spots:
-    """The places of nodes, by their numbers, in the form that the formula of `length` takes."""
+    """The places of nodes, by their numbers, for the formula of `length`."""
 
     def __init__(self, latitudes, longitudes):
-        self.latitudes, self.longitudes = (array("d", map(math.radians, each)) for each in (latitudes, longitudes))
-        self.cosines = array("d", map(cos, self.latitudes))
+        self.latitudes, self.longitudes = latitudes, longitudes
 
     def pieces(self, nodes):
         """The lengths between neighbours of a list of nodes that differ and are known, as (metres, node, node)."""
-        latitudes, longitudes, cosines = self.latitudes, self.longitudes, self.cosines
+        latitudes = [*map(radians, map(self.latitudes.__getitem__, nodes))]
+        longitudes = map(radians, map(self.longitudes.__getitem__, nodes))
+        places = [*zip(nodes, latitudes, longitudes, map(cos, latitudes))]
         return [
             (2 * EARTH * asin(sqrt(min(h, 1))), one, other)
-            for one, other in zip(nodes, nodes[1:])
-            for h in (
-                sin((latitudes[other] - latitudes[one]) / 2) ** 2
-                + cosines[one] * cosines[other] * sin((longitudes[other] - longitudes[one]) / 2) ** 2,
-            )
+            for (one, lat1, lon1, cos1), (other, lat2, lon2, cos2) in zip(places, places[1:])
+            for h in (sin((lat2 - lat1) / 2) ** 2 + cos1 * cos2 * sin((lon2 - lon1) / 2) ** 2,)
             if one != other and h == h  # which is no nan
         ]
 
@@ -144,6 +156,8 @@ class Graph:
         self.latitudes, self.longitudes = found.places()
         self.lacking = sum(map(math.isnan, self.latitudes))
         self.settle_durations()
+        # Where the nodes of each road begin in their list; the last number is behind the last.
+        self.begins = array("Q", accumulate((road.size for road in found.roads), initial=0))
         self.kept = kept_nodes(found, self.latitudes) if is_joined else None
         self.arcs = Arcs()
         self.add_arcs()
@@ -161,6 +175,7 @@ class Graph:
         self.turns.settle(self.rules(price), found, RoadArcs(self))
         self.many = len(self.arcs.tails) + self.turns.many()
         self.split = sorted(self.turns.tails)  # the arcs that stand in the graph more than once
+        self.bent = sorted(self.turns.heads)  # those that end beside the vertex of their node
 
     def rules(self, price):
         """What turns cost, in weights."""
@@ -185,8 +200,7 @@ class Graph:
 
     def add_arcs(self):
         """Adds the arcs of each road from node to node whose places are known."""
-        roads, spots = self.found.roads, Spots(self.latitudes, self.longitudes)
-        begins = array("Q", accumulate((road.size for road in roads), initial=0))
+        roads, spots, begins = self.found.roads, Spots(self.latitudes, self.longitudes), self.begins
 
         def arcs_of(first, last):
             found = Arcs()
@@ -222,16 +236,27 @@ class Graph:
             arcs.add(number, self.found.roads[number], begin, other, cost, inner)
             begin, inner, cost = None, [], 0
 
-    def arc_ends(self):
-        """Where each arc begins, at the vertex that its node has anyway, and where it ends, in order."""
-        vertices = self.vertices
-        begins, ends = (array("I", map(vertices.__getitem__, nodes)) for nodes in (self.arcs.tails, self.arcs.heads))
-        for number, vertex in self.turns.heads.items():
-            ends[number] = vertex
+    def arc_ends(self, first, last):
+        """Where arcs begin, at the vertices that their nodes have anyway, and where they end, in order."""
+        nodes = self.arcs.tails[first:last], self.arcs.heads[first:last]
+        begins, ends = (array("I", map(self.vertices.__getitem__, each)) for each in nodes)
+        for number in self.bent[bisect_left(self.bent, first) : bisect_left(self.bent, last)]:
+            ends[number - first] = self.turns.heads[number]
         return begins, ends
 
-    def texts(self, text_of, text_of_more):
-        """The lines of all arcs of roads, many at once, and behind an arc those of the arcs made of it.
+    def all_ends(self):
+        """Where all arcs of the graph begin and end."""
+        begins, ends = self.arc_ends(0, len(self.arcs.tails))
+        for tail, _, head in chain.from_iterable(self.turns.tails.values()):
+            begins.append(tail)
+            ends.append(head)
+        for tail, head in self.turns.closing:
+            begins.append(tail)
+            ends.append(head)
+        return begins, ends
+
+    def arc_text(self, text_of, text_of_more, rest):
+        """The text of all arcs of roads, and behind an arc that of the arcs made of it.
 
         `text_of` gives the lines of the arcs from a first to one behind the last, and `text_of_more` those behind one.
         """
@@ -243,9 +268,9 @@ class Graph:
                 at = number + 1
             return "".join((*found, text_of(at, last)))
 
-        return in_shares(len(self.arcs.tails), text, LINES)
+        return Text(len(self.arcs.tails), text, rest)
 
-    def line_lines(self):
+    def line_text(self):
         """Of each arc the latitudes and longitudes of the nodes between its ends."""
 
         def text(first, last):
@@ -255,33 +280,31 @@ class Graph:
                 lines.append(" ".join([f"{self.latitudes[i]} {self.longitudes[i]}" for i in inner]) + "\n")
             return "".join(lines)
 
-        yield from self.texts(text, lambda number: text(number, number + 1) * len(self.turns.tails[number]))
-        yield "\n" * len(self.turns.closing)
+        more = lambda number: text(number, number + 1) * len(self.turns.tails[number])
+        return self.arc_text(text, more, "\n" * len(self.turns.closing))
 
-    def lines(self):
-        begins, ends = self.arc_ends()
+    def text(self):
         weights, more = self.arcs.weights, self.turns.tails
 
         def text(first, last):
-            columns = zip(begins[first:last], ends[first:last], weights[first:last])
+            columns = zip(*self.arc_ends(first, last), weights[first:last])
             return "".join([f"a {tail} {head} {weight}\n" for tail, head, weight in columns])
 
         def text_of_more(number):
             return "".join(f"a {tail} {end} {weights[number] + cost}\n" for tail, cost, end in more[number])
 
-        yield from self.texts(text, text_of_more)
-        yield "".join(f"a {tail} {head} 0\n" for tail, head in self.turns.closing)
+        return self.arc_text(text, text_of_more, "".join(f"a {tail} {head} 0\n" for tail, head in self.turns.closing))
 
-    def way_lines(self):
+    def way_text(self):
         texts, roads = [f"{road.way}\t{road.name}\n" for road in self.found.roads], self.arcs.roads
 
         def text(first, last):
             return "".join(map(texts.__getitem__, roads[first:last]))
 
-        yield from self.texts(text, lambda number: texts[roads[number]] * len(self.turns.tails[number]))
-        yield "0\t\n" * len(self.turns.closing)
+        more = lambda number: texts[roads[number]] * len(self.turns.tails[number])
+        return self.arc_text(text, more, "0\t\n" * len(self.turns.closing))
 
-    def node_lines(self):
+    def node_text(self):
         nodes = array("q", self.found.numbers)
 
         def line(i):
@@ -290,23 +313,17 @@ class Graph:
         def text(first, last):
             return "".join([line(i) for i in range(first, last) if self.vertices[i]])
 
-        yield from in_shares(len(nodes), text, LINES)
-        yield from map(line, self.turns.nodes)
+        return Text(len(nodes), text, "".join(map(line, self.turns.nodes)))
 
     def joined(self):
         """Of each node, by its number, whether a route leads from it to the largest part, and one back."""
-        tails, heads = self.arc_ends()
-        for tail, _, head in chain.from_iterable(self.turns.tails.values()):
-            tails.append(tail)
-            heads.append(head)
-        for tail, head in self.turns.closing:
-            tails.append(tail)
-            heads.append(head)
-        leads_there, is_reached = largest_part(self.turns.count, tails, heads)
-        ends = self.turns.ends
-        return bytes(leads_there[start] & is_reached[ends.get(i, start)] for i, start in enumerate(self.vertices))
+        leads_there, is_reached = largest_part(self.turns.count, self.all_ends)
+        found = bytearray(map(and_, *(map(each.__getitem__, self.vertices) for each in (leads_there, is_reached))))
+        for node, end in self.turns.ends.items():
+            found[node] = leads_there[self.vertices[node]] & is_reached[end]
+        return found
 
-    def place_lines(self, joined):
+    def place_text(self, joined):
         nodes, ends = array("q", self.found.numbers), self.turns.ends
 
         def line(i, start):
@@ -316,7 +333,7 @@ class Graph:
         def text(first, last):
             return "".join([line(i, self.vertices[i]) for i in range(first, last) if self.vertices[i]])
 
-        return in_shares(len(nodes), text, LINES)
+        return Text(len(nodes), text, "")
 
 
 class RoadArcs:
@@ -347,5 +364,9 @@ class RoadArcs:
         is_wanted = bytearray(len(self.graph.vertices))
         for node in nodes:
             is_wanted[node] = 1
-        marks = (map(is_wanted.__getitem__, each) for each in (self.tails, self.heads))
-        return compress(count(), map(or_, *marks))
+        named = compress(count(), map(is_wanted.__getitem__, self.graph.found.refs))
+        numbers = self.graph.arcs.roads
+        for road in dict.fromkeys(bisect_right(self.graph.begins, at) - 1 for at in named):
+            for number in range(bisect_left(numbers, road), bisect_left(numbers, road + 1)):
+                if is_wanted[self.tails[number]] or is_wanted[self.heads[number]]:
+                    yield number

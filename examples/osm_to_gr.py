@@ -52,7 +52,7 @@ from xml.parsers import expat
 sys.dont_write_bytecode = True
 from osm_blocks import DAMAGED, Reading
 from osm_elements import Collector, Wanted
-from osm_graph import UNITS, Graph
+from osm_graph import UNITS, Graph, encoded
 from osm_profiles import read_profile
 from osm_turns import Restrictions
 from osm_xml import Handler
@@ -271,19 +271,21 @@ def convert():
     if not graph.many:
         cure = ": in Overpass ask for (._;>;)" if graph.lacking else ""
         raise Refused(f"{name}: no road of profile {options.profile.name} whose nodes are in the map{cure}")
-    beside = [(options.nodes, graph.node_lines())]
+    beside = [(options.nodes, graph.node_text())]
     if options.ways:
-        beside.append((options.ways, graph.way_lines()))
+        beside.append((options.ways, graph.way_text()))
     if options.places:
         joined = graph.joined()
         places = len(graph.vertices) - graph.vertices.count(0)
         say(f"places that are joined to the largest part: {sum(joined)} of {places}")
-        beside.append((options.places, graph.place_lines(joined)))
+        beside.append((options.places, graph.place_text(joined)))
     comments = [f"unit {options.weight}"]
     if options.join:
-        beside.append((options.lines, graph.line_lines()))
+        beside.append((options.lines, graph.line_text()))
         comments.append("joined")
-    write_graph(graph.turns.count, graph.many, graph.lines(), beside, comments)
+    names, texts = zip(*beside)
+    *others, arcs = encoded([*texts, graph.text()])
+    write_graph(graph.turns.count, graph.many, arcs, zip(names, others), comments, None)
 
 
 if __name__ == "__main__":

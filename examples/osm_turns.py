@@ -218,6 +218,7 @@ class Rules:
     def __init__(self, place, price, costs):
         """`place` gives where a node is, `price` is that of turning round or None, and `costs` those by angle."""
         self.place, self.price, self.costs = place, price, costs
+        self.are_free = not price and not costs
 
     def angle(self, tail, node, head):
         """The angle of a turn in degrees, from -180 to 180: to the right it is above 0."""
@@ -280,19 +281,24 @@ class Turns:
         These are the numbers of arcs, each with what the turn costs, and the state if it isn't that of who is on no
         trail before.
         """
-        found = [each for each in allowed(arm.way, restrictions, leaving) if self.trails.allow(state, each)]
+        found = allowed(arm.way, restrictions, leaving) if restrictions else leaving
+        found = [each for each in found if self.trails.allow(state, each)] if state else found
         is_of_two = bool(self.arms) and self.arms.is_of_two(node)
         if node in self.closed:
             found = [each for each in found if each.node == arm.node]
         elif is_of_two and self.rules.price is None:
             # Nobody turns round where the way on is open.
             found = [each for each in found if each.node != arm.node] or found
+        if not state and self.rules.are_free:
+            return tuple((each.number, 0, None) for each in found)
         costs = (self.rules.cost(arm, node, each, is_of_two) for each in found)
         return tuple((each.number, cost, self.next(state, each)) for each, cost in zip(found, costs))
 
     def next(self, state, arm):
         """The state after an arc, or None if it is that of who is on no trail before."""
-        after = self.trails.after(state, arm) if state else None
+        if not state:
+            return None
+        after = self.trails.after(state, arm)
         return after if after != self.trails.begun(arm.way, arm.node) else None
 
     def watch(self, restrictions, arriving, leaving):

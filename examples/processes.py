@@ -8,6 +8,7 @@ import multiprocessing
 import os
 import signal
 from collections import deque
+from itertools import islice
 
 SHARES = multiprocessing.get_context("fork")  # so that a process has all that was there before
 
@@ -87,6 +88,16 @@ class Crew:
 
     def __exit__(self, *_):
         end(self.processes)
+
+
+def in_turn(jobs):
+    """The results of several jobs by the same processes, each an iterator. They have to be gone through in order.
+
+    A job is what `in_shares` takes.
+    """
+    shares = [(make, first, min(many, first + size)) for many, make, size in jobs for first in range(0, many, size)]
+    found = in_shares(len(shares), lambda at, _: shares[at][0](*shares[at][1:]), 1)
+    return [islice(found, -(-many // size)) for many, _, size in jobs]
 
 
 def send_shares(connection, make, shares):

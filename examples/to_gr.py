@@ -413,21 +413,23 @@ def write_lines(out, name, lines):
         raise
 
 
-def write_graph(count, many, arcs, beside, comments=()):
+def write_graph(count, many, arcs, beside, comments=(), encoding="utf-8"):
     """Writes a graph to standard output, and files beside it, as (name, lines), that are there once all is written.
 
-    Comments come first, each in a line.
+    Comments come first, each in a line. Without an encoding lines are bytes.
     """
     if sys.stdout is None:
         raise Refused("standard output is closed")
     with contextlib.ExitStack() as files:
         for name, lines in beside:
-            write_lines(files.enter_context(finished_only(name)), name, lines)
+            write_lines(files.enter_context(finished_only(name, encoding)), name, lines)
         for comment in comments:
             print("c", comment)
         print("p sp", count, many)
-        sys.stdout.writelines(arcs)
         sys.stdout.flush()
+        out = sys.stdout if encoding else sys.stdout.buffer
+        out.writelines(arcs)
+        out.flush()
 
 
 def end_quietly(name, fault=None, status=1):

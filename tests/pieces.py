@@ -80,13 +80,14 @@ def written(options):
         with contextlib.suppress(FileNotFoundError):
             os.remove(name)
     sys.argv = ["osm_to_gr.py", *options, "map.osm"]
-    out, error = io.StringIO(), io.StringIO()
+    out, error = io.TextIOWrapper(io.BytesIO(), encoding="utf-8"), io.StringIO()
     with contextlib.redirect_stdout(out), contextlib.redirect_stderr(error):
         try:
             osm_to_gr.convert()
         except to_gr.Refused as fault:
             print("refused:", fault, file=sys.stderr)
-    texts = [out.getvalue(), error.getvalue()]
+    out.flush()
+    texts = [out.buffer.getvalue().decode(), error.getvalue()]
     for name in filter(os.path.exists, FILES):
         with open(name, encoding="utf-8") as file:
             texts.append(f"{name}\n{file.read()}")

@@ -328,7 +328,7 @@ class Written:
         if "--join" in arguments:
             beside += ["--lines", names[3]]
         sys.argv = ["osm_to_gr.py", name, *arguments, *beside, "--weight", unit]
-        out, error = io.StringIO(), io.StringIO()
+        out, error = io.TextIOWrapper(io.BytesIO(), encoding="utf-8"), io.StringIO()
         with contextlib.redirect_stdout(out), contextlib.redirect_stderr(error):
             osm_to_gr.convert()
         nodes, places, ways = map(lines_of, names[:3])
@@ -337,7 +337,8 @@ class Written:
         self.vertices = [None] + [int(line.split(" ")[0]) for line in nodes]
         self.places = [line.split(" ") for line in places]
         self.ways = [line.split("\t") for line in ways]
-        first, *lines = out.getvalue().splitlines()
+        out.flush()
+        first, *lines = out.buffer.getvalue().decode().splitlines()
         if "--join" in arguments and lines.pop(0) != "c joined":
             raise AssertionError("the graph does not say that it is joined")
         head, *lines = lines
