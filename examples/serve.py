@@ -142,15 +142,20 @@ class Handler(BaseHTTPRequestHandler):
         self.reply("DELETE")
 
     def reply(self, method):
-        status, answer = self.server.answers.answer(method, self.path)
-        body = json.dumps(answer).encode() + b"\n"
+        origin = self.server.origin
+        headers = {"Access-Control-Allow-Origin": origin} if origin else {}
+        self.send_json(*self.server.answers.answer(method, self.path), headers)
+
+    def send_json(self, status, answer, headers=None):
+        self.send(status, "application/json", json.dumps(answer).encode() + b"\n", headers)
+
+    def send(self, status, kind, body, headers=None):
         self.send_response(status)
-        self.send_header("Content-Type", "application/json")
-        self.send_header("Content-Length", str(len(body)))
-        if self.server.origin:
-            self.send_header("Access-Control-Allow-Origin", self.server.origin)
+        for name, value in {"Content-Type": kind, "Content-Length": str(len(body)), **(headers or {})}.items():
+            self.send_header(name, value)
         self.end_headers()
-        self.wfile.write(body)
+        if self.command != "HEAD":
+            self.wfile.write(body)
 
     def log_message(self, *_):
         """Says nothing: what stands before a service logs its requests."""
