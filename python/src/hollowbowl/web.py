@@ -27,7 +27,8 @@ from urllib.parse import unquote, urlsplit
 
 HERE = Path(__file__).resolve().parent
 # The scripts of the folder examples, which read maps and answer by coordinates. They import one another by these names.
-SCRIPTS = HERE / "_scripts"
+# What is installed has them inside, and a clone in its own folder.
+SCRIPTS = next(folder for folder in (HERE / "_scripts", HERE.parents[2] / "examples") if folder.is_dir())
 sys.path.insert(0, str(SCRIPTS))
 
 import map_files  # noqa: E402
