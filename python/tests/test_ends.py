@@ -81,7 +81,7 @@ class Ends(Case):
         with Graph(range(n - 1), range(1, n), [1] * (n - 1)) as graph:
             left.append(the_program())
             with self.assertLogs("hollowbowl"):
-                rows = graph.distances([0] * 40, progress=kill)
+                rows = graph.distances([0] * 400, progress=kill)
             self.assertEqual(left, [])
             self.assertTrue(all(ints(row) == list(range(n)) for row in rows))
 
