@@ -28,7 +28,10 @@ from urllib.parse import unquote, urlsplit
 HERE = Path(__file__).resolve().parent
 # The scripts of the folder examples, which read maps and answer by coordinates. They import one another by these names.
 # What is installed has them inside, and a clone in its own folder.
-SCRIPTS = next(folder for folder in (HERE / "_scripts", HERE.parents[2] / "examples") if folder.is_dir())
+SCRIPTS = next((folder for folder in (HERE / "_scripts", HERE.parents[2] / "examples") if folder.is_dir()), None)
+if SCRIPTS is None:
+    print("hollowbowl.web: the scripts of the page are missing; the wheel and ./install have them", file=sys.stderr)
+    sys.exit(2)
 sys.path.insert(0, str(SCRIPTS))
 
 import map_files  # noqa: E402
